@@ -15,6 +15,8 @@ import time
 import pytest
 from support import ROOT, libxcrypt, missing
 
+signal.signal(signal.SIGINT, signal.default_int_handler)      # which is ignored in what a shell has begun behind it
+
 SALTED = "-m sha512crypt -R 20k -S saltsalt".split()
 QUICK = "-m md5crypt -S xxxxxxxx".split()
 
@@ -298,20 +300,20 @@ def test_resume_refuses(place):
 
 
 def test_two_runs(place):
-    save("lines", b"".join(b"user%d:x\n" % n for n in range(200)))
+    save("lines", b"".join(b"user%d:x\n" % n for n in range(2000)))
     words = ["file", *SALTED, "lines", "-o", "out"]
     child = subprocess.Popen(["bin/pwhash", *words])
     while not begun():
         time.sleep(0.01)
     assert b"another run" in run(*words)[2] and run(*words, "--resume")[0] == 2
-    assert child.wait() == 0 and open("out", "rb").read().count(b"\n") == 200
+    assert child.wait() == 0 and open("out", "rb").read().count(b"\n") == 2000
 
 
 @pytest.mark.parametrize("change", [lambda: os.remove("out.part"), lambda: os.rename(save("other", b""), "out.part"),
                                     lambda: open("lines", "ab").write(b"x"), lambda: os.rename(save("new", b""), "lines")])
 def test_changed_meanwhile(place, change):
     """Nobody takes a part for the whole, or old passwords for new ones."""
-    save("lines", b"".join(b"user%d:x\n" % n for n in range(200)))
+    save("lines", b"".join(b"user%d:x\n" % n for n in range(1000)))
     child = subprocess.Popen(["bin/pwhash", "file", *SALTED, "lines", "-o", "out"])
     while not begun():
         time.sleep(0.01)
