@@ -56,6 +56,10 @@ while ($mix =~ /\bfn (\w+)(.*?)(?=\bfn |\z)/gs) {
 # Meters. Each call for C or for a page that hashes makes its own.
 my @calls = search('-l', 'extern "C" fn', 'crypt_c/src', 'crypt_web/src');
 stands_only_in('only the program and the calls make a meter', '\bMeter::new\b', 'program/src/main.rt', @calls);
+for (map { split /\bextern "C" fn /, slurp("$root/crates/$_") =~ s{//.*}{}gr } @calls) {
+    my $meters = () = /\bMeter::new\b/g;
+    cmp_ok($meters, '<=', 1, (/^(\w+)\(/ ? $1 : 'what precedes the calls') . ' makes one meter at most');
+}
 
 # Memory. What has no allocator can't allocate; so a line is read, priced and refused without.
 my @prims = map { "prims_core/src/$_.rt" } qw(table scratch);

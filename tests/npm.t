@@ -111,9 +111,12 @@ subtest 'logins' => sub {
     is_deeply([map { $_->{result} } @$told], [map { $_->[2] ? { matches => $yes } : $no } @rows], 'login');
     is_deeply([map { $_->{alike} } @$told], [($yes) x @rows], 'loginAsync says the same');
     is_deeply([map { $_->{verified} } @$told], [map { $_->[3] ? "MKPASSWD_$_->[3]" : $_->[2] } @rows], 'verify');
+    is_deeply([map { $_->{wiped} } @$told], [($yes) x @rows], 'a login leaves nothing in the memory that it hashed in');
+    my $outdated = qr/^\$[157]\$|^\$6\$rounds=1000\$/;
     my @renewed = grep { $told->[$_]{renewed} } 0 .. $#rows;
-    my @outdated = grep { $rows[$_][2] && $rows[$_][1] =~ /^\$[15]\$|rounds=1000\$/ } 0 .. $#rows;
-    is_deeply(\@renewed, \@outdated, 'what is renewed');
+    is_deeply(\@renewed, [grep { $rows[$_][2] && $rows[$_][1] =~ $outdated } 0 .. $#rows], 'what is renewed');
+    my @rehash = map { ($_->[3] // '') =~ /UNKNOWN|BAD|SETTING/ ? "MKPASSWD_$_->[3]" : $_->[1] =~ $outdated ? $yes : $no } @rows;
+    is_deeply([map { $_->{outdated} } @$told], \@rehash, 'needsRehash');
     my @new = map { [$rows[$_][0], $told->[$_]{renewed}] } @renewed;
     is_deeply([map { crypt $_->[0], $_->[1] } @new], [map { $_->[1] } @new], 'by a hash of the password');
     is_deeply([grep { $_->[1] !~ /^\$6\$rounds=5000\$/ } @new], [], 'and by the policy');
@@ -131,6 +134,18 @@ subtest 'logins' => sub {
     is_deeply(\@said, \@named, 'an unknown name, half of a character, and arguments of other types');
     is_deeply([map { $_->{alike} } @$mistakes], [($yes) x @mistaken], 'also of loginAsync');
     is($mistakes->[0]{digests}, $made, 'an unknown name takes the work of a new hash');
+};
+
+# No clause keeps a compiler from dropping a hash that nobody reads.
+subtest 'steps of logins' => sub {
+    needs('wasm-opt' => 'binaryen') or return;
+    my ($module, $logged) = ("$site/logged.wasm", "$site/logged/mkpasswd.mjs");
+    mkdir "$site/logged" or die "$site/logged: $!";
+    run('wasm-opt', qw(--enable-bulk-memory --log-execution), "$root/build/mkpasswd.wasm", '-o', $module);
+    is_run(run("$root/tools/web", $module, $logged), 0, '', '', 'a module whose steps are counted');
+    my @fields = (undef, '!', '$y$x', '$7$46..../....s', '$6$rounds=999999999$s$x');
+    my ($wrong, @steps) = @{ told('steps.mjs', $json->encode([crypt('x', '$6$rounds=1000$' . 'x' x 16), @fields])) };
+    cmp_ok($steps[$_], '>', 0.9 * $wrong, $fields[$_] // 'an unknown name') for 0 .. $#fields;
 };
 
 subtest 'a worker that is killed' => sub {

@@ -45,10 +45,10 @@ export class TooCostly extends Refused {}
 /**
  * The method and rounds of a service's new hashes, and what a hash may cost. The functions below are those of `new Policy()`.
  *
- * `rounds` is 1000 to 999999999; undefined, null and 0 stand for 656000. md5crypt has none. `budget` is the most that a hash
- * may cost, as `cost` counts it: the bytes that are digested. Without one that is twice what a new hash costs with a password
- * of 64 bytes, and at least 150,000,000; for the recommended policy it is 253,921,472, which admits passwords of up to 168
- * bytes, and 1,300,000,000 admits all of them.
+ * `rounds` is 1000 to 999999999; undefined, null and 0 stand for 656000. md5crypt ignores it. `budget` is the most that a
+ * hash may cost, as `cost` counts it: the bytes that are digested. Without one that is twice what a new hash costs with a
+ * password of 64 bytes, and at least 150,000,000; for the recommended policy it is 253,921,472, which admits passwords of up
+ * to 168 bytes, and 1,300,000,000 admits all of them.
  *
  * Throws Refused for an unknown method or other rounds, RangeError for a budget below 1, and TypeError.
  */
@@ -74,9 +74,10 @@ export class Policy {
      * Checks the password of a login, at the same cost for every name. The field is what is stored for the name, and null for
      * a name that doesn't exist. The password comes first: swapped, whoever types a hash of what is stored gets in.
      *
-     * It is a match only if the password matches. If `needsRehash` is true of the field, `new` is a hash to store in its
-     * place. All else is false: a locked, malformed or empty field, another scheme, scrypt, a hash above the budget, and a
-     * password that no hash can have. No string, bytes or null throws; anything else is a TypeError.
+     * It is a match only if the password matches. If `needsRehash` is true of the field, and a new hash is within the budget,
+     * `new` is one to store in its place. All else is false: a locked, malformed or empty field, another scheme, scrypt, a
+     * hash above the budget, and a password that no hash can have. No string or bytes throw, nor does null as a field;
+     * anything else is a TypeError.
      *
      * A field that can't be checked costs what a new hash costs, so the time doesn't tell which names exist, as long as all
      * hashes are made by this policy. It blocks the thread for that time: a server calls `loginAsync`.
@@ -128,7 +129,7 @@ export const describe: Policy['describe'];
  */
 export function cost(stored: Text, passwordLength: number): number;
 
-/** A setting with a new salt. Throws Refused for an unknown method and rounds that it doesn't have. */
+/** A setting with a new salt. Throws Refused for an unknown method and rounds that it doesn't have; md5crypt ignores them. */
 export function setting(method?: Method, rounds?: number): string;
 
 /**

@@ -1,11 +1,15 @@
-// Reads rows of JSON, [password, field], and tells for each what a policy's login, loginAsync and verify say, how many digests
-// login made by the module's reports, and what it gave to store. tests/npm.t knows the answers.
+// Reads rows of JSON, [password, field], and tells for each what a policy's login, loginAsync, verify and needsRehash say, how
+// many digests login made by the module's reports, what it gave to store, and whether the module's memory is then as it was
+// before the first call. tests/npm.t knows the answers.
 import { readFileSync } from 'node:fs';
 
+const memories = [];
 let digests = 0n;
 const { Instance } = WebAssembly;
 WebAssembly.Instance = function (compiled) {
     const { exports } = new Instance(compiled);
+    const memory = Buffer.from(exports.memory.buffer);
+    memories.push({ memory, initial: Buffer.from(memory) });
     const counting = (call) => (...words) => {
         call(...words);
         digests += new DataView(exports.memory.buffer, Number(words.at(-1))).getBigUint64(16, true);
@@ -20,7 +24,14 @@ const why = (call) => { try { return call(); } catch ({ name, message, reason })
 const rows = JSON.parse(readFileSync(0, 'utf8')).map(([password, field]) => {
     digests = 0n;
     const result = why(() => policy.login(password, field));
-    const row = { result, digests: Number(digests), renewed: result.new, verified: why(() => policy.verify(password, field)) };
+    const row = {
+        result,
+        digests: Number(digests),
+        renewed: result.new,
+        wiped: memories.every(({ memory, initial }) => memory.equals(initial)),
+        verified: why(() => policy.verify(password, field)),
+        outdated: why(() => policy.needsRehash(field)),
+    };
     return policy.loginAsync(password, field).then(
         (verdict) => ({ ...row, alike: JSON.stringify(verdict) === JSON.stringify(result) && !verdict.new === !result.new }),
         ({ name, message }) => ({ ...row, alike: result === `${name}: ${message}` }));
