@@ -1,7 +1,7 @@
 //! mkpasswd for a web page: hashing and checking with md5crypt, sha256crypt and sha512crypt, without a heap.
 //!
-//! A web page calls the WebAssembly module built from this crate. A list of bytes is a pointer and a number of bytes. Pointers
-//! are valid, the report is aligned, and neither `out` nor the report overlaps another argument. Nothing is wiped.
+//! A web page or node calls the WebAssembly module built from this crate. A list of bytes is a pointer and a number of bytes.
+//! Pointers are valid, the report is aligned, and neither `out` nor the report overlaps another argument. Nothing is wiped.
 //!
 //! Each call returns 1 if it did what its name says, and 0 otherwise. It writes the whole report, which has the reason: above
 //! 0 in the first case, else the number of the first refusal that applies, in the order password, setting, method, rounds,
@@ -85,11 +85,12 @@ pub extern "C" fn web_verify(
 }
 
 /// Checks the password of a login, as `mkpasswd_login` does for C. Returns 1 exactly if a new hash can have the method and the
-/// rounds, and [`web_verify`] returns 1. The reason then tells whether [`web_needs_rehash`] would return 1.
+/// rounds, and [`web_verify`] with the same limit returns 1. The reason then tells whether [`web_needs_rehash`] would return 1.
 ///
-/// If the field has no setting, or one above the budget, the call hashes the password with the method, the rounds and a
+/// If the field has no setting, or one above the limit, the call hashes the password with the method, the rounds and a
 /// fixed salt, and returns 0. So such a name does the work of a new hash. A name that is not known has an empty field. The
-/// caller makes such a call for a stored hash of scrypt too: it is refused without work.
+/// caller makes such a call for a stored hash of scrypt too: it is refused without work. Whatever the field is, the call makes
+/// at most one hash, and digests no more bytes than the limit.
 ///
 /// Rounds of 0 are the recommended ones. A budget of 0 is the limit of the policy: twice what a new hash with the method and
 /// the rounds costs for a password of 64 bytes, and at least 150000000. A password whose new hash would be above it is
