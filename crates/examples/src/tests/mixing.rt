@@ -240,9 +240,9 @@ fn a_table(rt: HostRuntime) -> Result<(), Fail> {
     let mut table = Table::new(rt.alloc(), 3, 32, &mut meter)?;
     let (zeros, row) = ([0; 32], on_diagonals(&BLOCKS));
     table.set_row(1, &row);
-    want(&rt, table.row(0), zeros.as_slice(), "row 0");
-    want(&rt, table.row(1), row.as_slice(), "row 1");
-    want(&rt, table.row(2), zeros.as_slice(), "row 2");
+    want(&rt, table.row(0), zeros.as_slice(), "the first row");
+    want(&rt, table.row(1), row.as_slice(), "the second row");
+    want(&rt, table.row(2), zeros.as_slice(), "the third row");
     want(&rt, counts(&meter), [0, 0, 0, 384, 0], "memory");
     Ok(())
 }
@@ -252,9 +252,9 @@ fn a_table_of_long_rows(rt: HostRuntime) -> Result<(), Fail> {
     let mut table = Table::new(rt.alloc(), 3, 1025, &mut Meter::new())?;
     let (zeros, ones) = ([0; 1025], [1; 1025]);
     table.set_row(1, &ones);
-    want(&rt, table.row(0), zeros.as_slice(), "row 0");
-    want(&rt, table.row(1), ones.as_slice(), "row 1");
-    want(&rt, table.row(2), zeros.as_slice(), "row 2");
+    want(&rt, table.row(0), zeros.as_slice(), "the first row");
+    want(&rt, table.row(1), ones.as_slice(), "the second row");
+    want(&rt, table.row(2), zeros.as_slice(), "the third row");
     Ok(())
 }
 
