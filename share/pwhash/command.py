@@ -82,8 +82,6 @@ def arguments(words):
     return options
 
 def interrupt(number, frame):
-    for each in SIGNALS:
-        signal.signal(each, signal.SIG_IGN)
     raise Stop(f"{signal.Signals(number).name} ended the run.", -number)
 
 def end(options, text, status=3):
@@ -111,8 +109,12 @@ def main(options=None):
         if signal.getsignal(each) != signal.SIG_IGN:
             signal.signal(each, interrupt)
     try:
-        options = arguments(sys.argv[1:])
-        return int(bool(options.run(options)))
+        try:
+            options = arguments(sys.argv[1:])
+            return int(bool(options.run(options)))
+        finally:      # a signal that comes even here is caught below
+            for each in SIGNALS:
+                signal.signal(each, signal.SIG_IGN)
     except SystemExit as leave:      # of argparse's help
         sys.stdout.flush()
         return leave.code
