@@ -1,14 +1,15 @@
 """Runs mkpasswd over blocks of lines, and takes nothing but an answer for each, in order, with its name or its number.
 Blocks and answers are in memory, so that nobody waits for room in a pipe."""
-import collections, fcntl, functools, os, re, subprocess, types
+import collections, fcntl, functools, itertools, os, re, subprocess, types
 from lines import Stop, readable
 
 SECONDS = 0.5       # of a processor for a block; in less, scrypt's memory would be a tenth of it
 MOST = 1 << 15      # lines of a block
+ENDED = os.WEXITED | os.WNOHANG | os.WNOWAIT
 REFUSAL = re.compile(rb"mkpasswd: line ([1-9][0-9]*): ([a-z ]+)")
 HASH = rb"\$[!-9;-~]+"
 FORMS = {      # all that mkpasswd can write behind a name
-    "--batch": HASH, "--check": rb"ok|no|none|locked", "--rehash": rb"ok(?::" + HASH + rb")?|no|none|locked",
+    "--batch": HASH, "--check": rb"ok(?::" + HASH + rb")?|no|none|locked",
     "--audit": rb"[a-z0-9]+:[0-9]+(?:/[0-9]+/[0-9]+)?:[0-9]+:(?:over budget|dead|outdated|current)|"
                rb"locked|none|(?:[A-Za-z0-9-]+:)?unknown|malformed:[a-z ]+|no scheme"}
 processes = set()      # those that run
@@ -36,10 +37,11 @@ class Engine:
     def __init__(self, mode, words):
         self.command, self.jobs = [find_mkpasswd(), mode, *words], len(os.sched_getaffinity(0))
         self.bad, self.size = False, 1      # whether the status is 1, and the lines of a block
-        self.is_answer = functools.lru_cache()(re.compile(FORMS["--rehash" if "--rehash" in words else mode]).fullmatch)
+        self.is_answer = functools.lru_cache()(re.compile(FORMS[mode]).fullmatch)
 
-    def start(self, numbers, lines):
-        """Gives a block of lines to a mkpasswd, which Ctrl-C doesn't reach."""
+    def start(self, pairs):
+        """Gives a block of numbers and lines to a mkpasswd, which Ctrl-C doesn't reach."""
+        numbers, lines = zip(*pairs)
         data, said = b"\n".join([*lines, b""]), in_memory(4096 + 256 * len(lines))
         with in_memory(len(data), data) as file:
             process = subprocess.Popen([*self.command, f"--first-line={numbers[0]}"], stdin=file, stdout=said,
@@ -56,11 +58,9 @@ class Engine:
             *answers, rest = os.pread(file.fileno(), os.lseek(file.fileno(), 0, os.SEEK_CUR), 0).split(b"\n")
         said = readable((rest or b"".join(answers[-1:]))[:200])
         if code == 2:
-            raise Stop(f"{said} (its arguments: {' '.join(self.command[2:])}).", 2)
+            raise Stop(f"{said}, in {' '.join(self.command[2:])}. See -S and --budget of pwhash --help.", 2)
         if code not in (0, 1) or rest or len(answers) != len(block.lines):
-            at = block.numbers[min(len(answers), len(block.lines) - 1)]
-            how = f"status {code}, and said {said or 'nothing'}" if code >= 0 else f"signal {-code}"
-            raise Stop(f"mkpasswd ended near line {at} with {how}.")
+            raise Stop(f"mkpasswd ended near line {block.numbers[0]} with status {code}, and said {said or 'nothing'}.")
         block.answers, block.refusals = answers, {}      # refusals by place
         for place, (line, answer) in enumerate(zip(block.lines, answers)):
             name, colon, verdict = answer.partition(b":")
@@ -72,24 +72,17 @@ class Engine:
             block.refusals[place] = refusal[2].decode()
             answers[place] = b"mkpasswd: line %d: %b" % (number, refusal[2])
         self.bad |= code == 1 or bool(block.refusals)
-        growth = min(64, SECONDS / max(used.ru_utime + used.ru_stime, 1e-3))
-        self.size = max(1, min(MOST, int(len(answers) * growth)))
+        seconds = max(used.ru_utime + used.ru_stime, SECONDS / 64)
+        self.size = max(1, min(MOST, int(len(answers) * SECONDS / seconds)))
         return block
 
-    def answers(self, pieces, total=0):
+    def answers(self, pairs, total=0):
         """Gives blocks with their answers, in order; the last ones are smaller, so that processes end at once."""
-        order, most = collections.deque(), 2 * self.jobs      # all processors work while the first block is waited for
-        for numbers, lines in pieces:
-            while lines:
-                size = max(1, self.size // 8, min(self.size, (total - numbers[0]) // most if total else MOST))
-                order.append(self.start(numbers[:size], lines[:size]))
-                numbers, lines = numbers[size:], lines[size:]
-                yield from self.finished(order, most - 1)
-            yield from self.finished(order, most)
-        yield from self.finished(order, 0)
-
-    def finished(self, order, most):
-        """Gives the first blocks as long as their processes have ended, or there are more than so many."""
-        ended = os.WEXITED | os.WNOHANG | os.WNOWAIT
-        while order and (len(order) > most or os.waitid(os.P_PID, order[0].process.pid, ended)):
-            yield self.answered(order.popleft())
+        pairs, order, most = iter(pairs), collections.deque(), 2 * self.jobs
+        for pair in pairs:      # or None where lines come slowly
+            if pair:
+                size = max(1, self.size // 8, min(self.size, (total - pair[0]) // most if total else MOST))
+                order.append(self.start([pair, *itertools.islice(itertools.takewhile(bool, pairs), size - 1)]))
+            while order and (len(order) >= most or os.waitid(os.P_PID, order[0].process.pid, ENDED)):
+                yield self.answered(order.popleft())
+        yield from map(self.answered, order)

@@ -5,23 +5,16 @@ LONGEST = 1 << 17      # bytes of a line: more than mkpasswd or csv takes
 MARK = b"\xef\xbb\xbf"
 shown = False      # whether the terminal shows the progress
 
-def some_at_a_time(pairs):
-    """Pairs of a number and a line as numbers and lines."""
-    while some := list(itertools.islice(pairs, 1 << 12)):
-        yield [number for number, _ in some], [line for _, line in some]
-
 class Source:
     def __init__(self, options):
         self.options, self.absent, self.total, is_stdin = options, 0, 0, options.file == "-"
         self.name, self.fd = ("standard input", 0) if is_stdin else (options.file, os.open(options.file, os.O_RDONLY))
         self.regular = stat.S_ISREG(os.fstat(self.fd).st_mode)
-        self.begun = self.changed()
         if os.isatty(self.fd):
             say("reading lines from the terminal; Ctrl-D ends them.")
-        if self.regular:
-            self.start = os.lseek(self.fd, 0, os.SEEK_CUR)
-            if not options.quiet:
-                self.total = sum(piece.count(b"\n") for piece in iter(lambda: os.read(self.fd, 1 << 19), b""))
+        self.start, self.begun = self.regular and os.lseek(self.fd, 0, os.SEEK_CUR), self.changed()
+        if self.regular and not options.quiet:
+            self.total = sum(piece.count(b"\n") for piece in iter(lambda: os.read(self.fd, 1 << 19), b""))
 
     def changed(self):
         """When a file was changed last, in nanoseconds."""
@@ -29,11 +22,9 @@ class Source:
         return max(status.st_mtime_ns, status.st_ctime_ns) if self.regular else 0
 
     def lines(self):
-        """Numbers and lines, some at a time, from the beginning; none where they come slowly."""
-        if self.options.csv:
-            return some_at_a_time(self.rows())
-        lines = self.whole_lines(self.options.windows)
-        return self.with_fields(lines) if self.options.shadow else lines
+        """Pairs of a number and a line, from the beginning, and None where they come slowly."""
+        options = self.options
+        return self.rows() if options.csv else self.paired() if options.shadow else self.whole_lines(options.windows)
 
     def whole_lines(self, windows):
         """Lines as they come, of a long one only what makes it too long."""
@@ -41,8 +32,8 @@ class Source:
             os.lseek(self.fd, self.start, os.SEEK_SET)
         number, rest, piece = 1, b"", b"\n"
         while piece:
-            while not select.select([self.fd], [], [], 0.05)[0]:
-                yield (), []
+            while not select.select([self.fd], [], [], 0.02)[0]:
+                yield None
             piece = os.read(self.fd, 1 << 22)
             *lines, rest = (rest + piece).split(b"\n")
             lines += [rest] if rest and not piece else []
@@ -51,20 +42,22 @@ class Source:
                 lines[:1] = [line.removeprefix(MARK) if number == 1 else line for line in lines[:1]]
             if self.options.locked:      # without what is in front of a locked hash
                 lines = [re.sub(rb"^([^:]*:)[!*]+(?=\$)", rb"\1", line) for line in lines]
-            yield range(number, number + len(lines)), lines
+            yield from enumerate(lines, number)
             number, rest = number + len(lines), rest[:LONGEST]
 
     def rows(self):
-        """Rows of a table as numbers and lines `name:password`."""
-        texts = (line.decode("latin-1") + "\n" for _, lines in self.whole_lines(True) for line in lines)
+        """Rows of a table as lines `name:password`. Between columns is what comes first: a comma, semicolon or tab."""
+        texts = (pair[1].decode("latin-1") + "\n" for pair in self.whole_lines(True) if pair)
+        first = next(texts, "")
+        between = re.search("[,;\t]|$", re.sub('"[^"]*"', "", first))[0] or ","
         columns = os.fsencode(self.options.columns).decode("latin-1").lower().split(",")
         numbers = [str(each) for each in range(1, 1000)] if columns[0].isdecimal() else None
-        rows = csv.DictReader(texts, numbers, delimiter=self.options.delimiter, strict=True)
+        rows = csv.DictReader(itertools.chain([first], texts), numbers, delimiter=between, strict=True)
         try:
             rows.fieldnames = [each.strip().lower() for each in rows.fieldnames or ()]
-            if [each for each in columns if rows.fieldnames.count(each) != 1]:      # what the row has may be a password
-                raise Stop(f"the first row of {self.name} doesn't have each of {self.options.columns} once. Name those "
-                           "it has, --columns user,secret; if it has no names, --columns 1,2. See --delimiter.", 2)
+            if len(columns) != 2 or [each for each in columns if rows.fieldnames.count(each) != 1]:
+                raise Stop(f"--columns {self.options.columns}: give two names from the first row of {self.name}, as "
+                           "user,secret, or if it has no names, numbers, as 1,2. Save UTF-16 as UTF-8.", 2)
             for row in rows:
                 fields = [row[each] for each in columns if row[each] is not None]
                 if ":" in "".join(fields[:1]) or "\n" in "".join(fields):
@@ -73,18 +66,17 @@ class Source:
         except csv.Error as error:
             raise Stop(f"{self.name}, line {rows.line_num}: this is not CSV: {error}.") from None
 
-    def with_fields(self, pieces):
+    def paired(self):
         """Lines `name:password` as `name:field:password`; one without a name for each field of the file."""
         with open(self.options.shadow, "rb") as file:      # the first line of a name counts
             fields = dict(reversed([line.rstrip(b"\n").split(b":")[:2] for line in file if b":" in line]))
-        for numbers, lines in pieces:
-            named = (line if b":" in line else b":" + line for line in lines)      # a word is for every name
-            parts = [(number, *line.partition(b":")[::2]) for number, line in zip(numbers, named)]
-            self.absent += sum(name != b"" and name not in fields for _, name, _ in parts)
-            yield (), []
-            yield from some_at_a_time((number, b"%b:%b:%b" % (each, fields[each], password))
-                                      for number, name, password in parts
-                                      for each in ([name] if name else reversed(fields)) if each in fields)
+        def tried(number, line):
+            name, _, password = line.partition(b":") if b":" in line else (b"", b":", line)
+            names = [name] if name else reversed(fields)
+            self.absent += name != b"" and name not in fields
+            return [(number, b"%b:%b:%b" % (each, fields[each], password)) for each in names if each in fields]
+        for pair in self.whole_lines(self.options.windows):
+            yield from tried(*pair) if pair else [pair]
 
 class Stop(Exception):
     """Ends the run: a whole sentence, and the status if it isn't 3, or a signal as a negative number."""

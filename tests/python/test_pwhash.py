@@ -102,10 +102,11 @@ def test_one(place):
     ("htpasswd", "ann:HASH"),
     ("shadow", f"ann:HASH:{int(time.time() // 86400)}:0:99999:7:::")])
 def test_for(place, target, text):
-    out = run(*QUICK, "--for", target, "--name", "ann", stdin=b"password\n")[1].decode()
+    name = ["--name", "ann"] if "ann" in text else []
+    out = run(*QUICK, "--for", target, *name, stdin=b"password\n")[1].decode()
     assert out == text.replace("HASH", "$1$xxxxxxxx$UYCIxa628.9qXjpQCjM4a.") + "\n"
-    needs_name = run(*QUICK, "--for", target, "--name", "a:b", stdin=b"x\n")
-    assert needs_name[0] == (2 if "ann" in text else 0)
+    for wrong in ["--name", "a:b"], [] if name else ["--name", "ann"]:
+        assert run(*QUICK, "--for", target, *wrong, stdin=b"x\n")[:2] == (2, b"")
 
 
 @pytest.mark.parametrize("words, password, said", [
@@ -122,6 +123,7 @@ def test_terminal(place):
     status, shown = on_terminal(*QUICK, keys=keys)
     assert status == 0 and shown.split()[-1] == libxcrypt("secret", "$1$xxxxxxxx") and "secret" not in shown
     assert on_terminal(*QUICK, keys=[keys[0], (b"Again: ", b"other\n")])[0] == 2
+    assert on_terminal(*QUICK, keys=[(b"Password: ", b"\x04")])[0] == 2
     status, shown = on_terminal("--generate", *QUICK)
     password, made = shown.split()[-2:]
     assert len(password) == 20 and made == libxcrypt(password, "$1$xxxxxxxx")
@@ -132,6 +134,7 @@ def test_help(place):
     for words in [], ["file"], ["check"], ["audit"]:
         status, out, _ = run(*words, "--help")
         assert status == 0 and b"--method" in out and b"--budget" in out
+    assert run("--version") == (0, b"pwhash " + mkpasswd("-V", stdin=b"")[1].split()[1] + b"\n", b"")
 
 
 # Lines.
@@ -200,7 +203,7 @@ def test_look_first(place):
     assert (status, out) == (1, b"") and sorted(os.listdir()) == ["bin", "lines", "share"] and b"secret" not in err
     said = err.decode()
     for number, name, reason in [(2, "bob", "empty"), (3, "", "no name"), (4, "", "no password field"), (5, "carl", "carriage return"),
-                                 (6, "ann", "before"), (7, "\\xff", "UTF-8"), (8, "long", "over budget")]:
+                                 (6, "ann", "before, in line 1"), (7, "\\xff", "UTF-8"), (8, "long", "over budget")]:
         assert any(f"line {number}" in line and name in line and reason in line for line in said.split("\n")), (number, said)
     words = ["file", *SALTED, "--budget", "3000000", "lines", "-o", "out"]
     assert run(*words, "--skip-refused")[0] == run(*words, "--accept-doubtful")[0] == 1 and not os.path.exists("out")
@@ -208,6 +211,12 @@ def test_look_first(place):
     assert [line.split(b":")[0] for line in open("out", "rb")] == [b"ann", b"bob", b"carl", b"ann", b" \xff"]
     assert os.stat("out").st_mode & 0o777 == 0o600
     assert run(*words)[0] == 2 and b"there already" in run(*words)[2]
+    os.remove("out")
+    assert run(*words, "--skip-refused", "--skip-doubtful")[0] == 1 and open("out", "rb").read().split(b":")[0] == b"ann"
+    assert open("out", "rb").read().count(b"\n") == 1
+    os.remove("out")
+    assert run(*words, "--look")[0] == 1 and run("file", "--look", save("good", b"ann:x\n"), "-o", "out") == (0, b"", b"")
+    assert run("file", "--look", stdin=b"ann:x\n")[0] == 2 and not os.path.exists("out")
 
 
 @pytest.mark.parametrize("service, names", [
@@ -229,11 +238,15 @@ def test_windows_and_tables(place):
     assert run("file", *QUICK, "spanish.csv", "--csv", "--columns", "usuario,contraseña") == (0, expected, b"")
     assert run("file", *QUICK, "windows")[0] == 1
     assert run("file", *QUICK, "windows", "--windows") == (0, expected, b"")
-    assert run("file", *QUICK, "excel.csv", "--csv", "--delimiter", ";") == (0, expected, b"")
+    assert run("file", *QUICK, "excel.csv", "--csv") == (0, expected, b"")
+    assert run("file", *QUICK, save("tabs", b'"a,b"\tname\tpassword\nx,y;z\tann\tpassword\n\tbob\tpassword\n'), "--csv") == (0, expected, b"")
     assert run("file", *QUICK, "bare.csv", "--csv", "--columns", "1,2") == (0, expected, b"")
     status, _, err = run("file", *QUICK, "bare.csv", "--csv")
     assert status == 2 and b"--columns" in err and b"password\"" not in err
-    assert run("file", *QUICK, "excel.csv", "--csv", "--delimiter", ";;")[0] == 2
+    assert run("file", *QUICK, save("named.csv", b"user,password\nann,x\n"), "--csv", "--columns", "1,2")[:2] == (1, b"")
+    for words in ["excel.csv", "--csv", "--columns", "name"], [save("wide.csv", "name,password\nann,x\n".encode("utf-16")), "--csv"]:
+        status, _, err = run("file", *QUICK, *words)
+        assert status == 2 and b"--columns" in err
     for text in b'name,password\n"a:b",x\n', b'name,password\na,"x\ny"\n', b'name,password\n"a,x\n':
         assert run("file", *QUICK, "--csv", save("bad.csv", text))[0] == 3
 
@@ -290,7 +303,8 @@ def test_resume_refuses(place):
             os.remove("out")
     save("out.part", made[0] + b"\n")
     assert run(*words[:-2], "--skip-refused")[0] == 2      # without --resume
-    assert run("file", "-m", "sha256crypt", "lines", "-o", "out", "--resume", "--skip-refused")[0] == 2
+    for other in ["-m", "sha256crypt"], ["-m", "md5crypt", "-S", "yyyyyyyy"]:
+        assert run("file", *other, "lines", "-o", "out", "--resume", "--skip-refused")[0] == 2
     time.sleep(0.05)
     save("lines", lines)
     assert run(*words)[0] == 2      # the input is newer
@@ -348,25 +362,28 @@ def test_known_passwords(place):
     words = ["check", "--shadow", "shadow", "--rehash", "-m", "sha256crypt", "-R", "2000", "-S", "ab", "list"]
     assert run(*words, "-o", "new")[:2] == (1, b"")
     assert open("new").read() == "ann:" + libxcrypt("password", "$5$rounds=2000$ab") + "\n"
+    save("shadow", b"ann:$1$xxxxxxxx$UYCIxa628.9qXjpQCjM4a.:1\nyes:$y$j9T$x$y:1\n")
+    assert run("check", "--shadow", "shadow", stdin=b"a\npassword\nb\n") == (
+        1, b"ann:no\nann:ok\nann:no\n", b"pwhash: yes isn't checked: unknown scheme\n")
 
 
 SHADOW = (b"ann:$6$rounds=656000$abcdefgh$" + b"a" * 85 + b".:1:::\nbob:$6$rounds=656000$abcdefgh$short:1:::\nold:$1$xxxxxxxx$UYCIxa628.9qXjpQCjM4a.:1:::\n"
           b"eve:$6$rounds=999999999$a$b:1:::\nopen::1:::\nshut:!:1:::\nshut2:!$1$xxxxxxxx$UYCIxa628.9qXjpQCjM4a.:1:::\n"
-          b"mal:$6$rounds=x$a$b:1:::\nbare:secret:1:::\ny:$y$j9T$a$b:1:::\n\x1b[2J:!:1:::\nsecret line\n")
+          b"mal:$6$rounds=x$a$b:1:::\nbare:secret:1:::\ny:$y$j9T$a$b:1:::\n\x1b[2J:!:1:::\nsecret line\ndes:abcdefghijklm:1:::\nodd:$9$x:1:::\n")
 
 
 def test_audit(place):
     save("shadow", SHADOW)
     status, out, err = run("audit", "shadow")
     rows = [" ".join(line.split()) for line in out.decode().split("\n")]
-    assert (status, err) == (1, b"") and rows[:13] == [
+    assert (status, err) == (1, b"") and rows[:15] == [
         "NAME METHOD ROUNDS FINDING", "ann sha512crypt 656000 current", "bob sha512crypt 656000 dead", "old md5crypt 1000 outdated",
         "eve sha512crypt 999999999 over budget", "open no password", "shut locked", "shut2 locked", "mal malformed bad rounds", "bare no scheme",
-        "y yescrypt unknown", "\\x1b[2J locked", "line 12 refused no password field"]
+        "y yescrypt unknown", "\\x1b[2J locked", "line 12 refused no password field", "des descrypt unknown", "odd unknown"]
     assert any(row.startswith("3 locked") for row in rows) and b"secret" not in out
     found = [json.loads(line) for line in run("audit", "--json", "--only-problems", "--locked", "shadow")[1].split(b"\n")[:-1]]
-    assert [each["name"] for each in found] == ["bob", "old", "eve", "open", "shut2", "mal", "bare", "line 12"]
-    assert found[1]["rounds"] == 1000 and found[5]["message"] == "bad rounds"
+    assert [each["name"] for each in found] == ["bob", "old", "eve", "open", "shut2", "mal", "bare", "line 12", "des", "odd"]
+    assert found[1]["rounds"] == 1000 and found[5]["message"] == "bad rounds" and found[5]["rounds"] is None and found[9]["method"] is None
     assert run("audit", "--only-problems", stdin=b"", program="bin/pwhash")[0] in (0, 1)      # of /etc/shadow
     assert run("audit", "--only-problems", save("fine", SHADOW.split(b"\n")[0] + b"\n")) == (0, b"", b"")
 
