@@ -1,5 +1,5 @@
 """The command line of pwhash: its options, and how a run ends."""
-import argparse, os, re, shlex, signal, sys
+import argparse, gc, os, shlex, signal, sys
 import engine, tasks
 from lines import Stop, clear, on_terminal, say
 
@@ -100,6 +100,7 @@ def end(options, text, status=3):
 def main(options=None):
     while os.open("/", os.O_RDONLY) < 3:      # nothing else gets a descriptor that was closed
         pass
+    gc.set_threshold(1 << 20)      # it would visit all the lines again and again
     signal.signal(signal.SIGCHLD, signal.SIG_DFL)
     signal.pthread_sigmask(signal.SIG_SETMASK, [])
     for each in SIGNALS:

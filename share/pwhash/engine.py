@@ -72,8 +72,7 @@ class Engine:
             block.refusals[place] = refusal[2].decode()
             answers[place] = b"mkpasswd: line %d: %b" % (number, refusal[2])
         self.bad |= code == 1 or bool(block.refusals)
-        seconds = max(used.ru_utime + used.ru_stime, SECONDS / 64)
-        self.size = max(1, min(MOST, int(len(answers) * SECONDS / seconds)))
+        self.size = max(1, min(MOST, int(len(answers) * SECONDS / max(used.ru_utime + used.ru_stime, SECONDS / 64))))
         return block
 
     def answers(self, pairs, total=0):

@@ -102,9 +102,8 @@ def say(sentence):
 
 def on_terminal(text):
     """Writes on the terminal, if there is one and this is not in the background. Returns whether it did."""
-    with contextlib.suppress(OSError), open("/dev/tty", "wb", 0) as terminal:
-        in_front = os.tcgetpgrp(terminal.fileno()) == os.getpgrp()
-        return in_front and bool(terminal.write(text.encode("utf-8", "surrogateescape")))
+    with contextlib.suppress(OSError), open("/dev/tty", "wb", 0) as tty:
+        return os.tcgetpgrp(tty.fileno()) == os.getpgrp() and tty.write(text.encode("utf-8", "surrogateescape"))
 
 def clear():
     global shown

@@ -1,5 +1,5 @@
 """What pwhash does: it hashes a password or a file of them, checks passwords, and audits stored hashes."""
-import collections, contextlib, fcntl, itertools, json, os, re, string, time
+import collections, contextlib, fcntl, json, os, re, string, time
 from engine import HASH, Engine
 from lines import MARK, Source, Stop, on_terminal, progress, readable, say, write
 
@@ -142,11 +142,12 @@ def file(options):
 
 def show(fd, block, new=False):
     """Writes answers, or of them only new hashes, and refusals where mkpasswd does, in the order of their lines."""
-    for refused, places in itertools.groupby(range(len(block.answers)), block.refusals.__contains__):
-        answers = [block.answers[place] for place in places]
-        if new and not refused:
-            answers = [each.replace(b":ok:", b":", 1) for each in answers if b":ok:$" in each]
-        write(2 if refused else fd, filter(None, answers))
+    begin = 0
+    for place in [*block.refusals, len(block.answers)]:
+        answers = [each for each in block.answers[begin:place] if not new or b":ok:$" in each]
+        write(fd, [each.replace(b":ok:", b":", 1) for each in answers] if new else answers)
+        write(2, filter(None, block.answers[place:place + 1]))
+        begin = place + 1
 
 def check(options):
     """Checks lines name:field:password, where the field is what is stored: a hash, ! or nothing."""
@@ -170,7 +171,7 @@ FINDINGS = {      # the colour of each, red or yellow for a problem, and what to
     "dead": (31, "no password matches, since the hash was cut or changed: set a new password"),
     "no scheme": (31, "a password stored as it is, or a damaged hash: set a new password"),
     "outdated": (33, "few rounds or another method: a new password renews it, and chage -d 0 NAME asks for one"),
-    "refused": (33, "no line of an account"), "unknown": (36, "another scheme, not judged; NT and DES are soon guessed"),
+    "refused": (33, "no line of an account"), "unknown": (36, "another scheme, not judged; NT and DES are weak"),
     "current": (32, "as it should be"), "locked": (0, "no password logs in")}
 
 def judged(number, answer, refusal):

@@ -340,7 +340,8 @@ def test_several_machines(place):
     if not shutil.which("parallel"):
         missing("parallel is missing (Debian package parallel)")
     recipe = re.search("<!-- tested: several machines -->\n```sh\n(.*?)```", (ROOT / "docs/GUIDE.md").read_text(), re.S)[1]
-    recipe = recipe.replace("-R 656000", "-R 1000").replace("pwhash file", "cut=$(wc -c < hashes.part); truncate -s $((cut / 2)) hashes.part; pwhash file -R 1000")
+    recipe = recipe.replace("-R 656000", "-R 1000").replace(" -o hashes", " -R 1000 -o hashes")
+    recipe = recipe.replace("pwhash file passwords -R", "cut=$(wc -c < hashes.part); truncate -s $((cut / 2)) hashes.part; pwhash file passwords -R")
     save("hosts", b"2/:\n")
     save("passwords", b"".join(b"user%d:password%d\n" % (n, n) for n in range(1500)))
     env = dict(os.environ, PATH=f"{place}/bin:{os.environ['PATH']}", HOME=str(place))
