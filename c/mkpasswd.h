@@ -246,7 +246,7 @@ int32_t mkpasswd_setting(uint32_t method, uint32_t rounds, uint64_t first, uint6
     size_t out_len, struct mkpasswd_report *report);
 
 /* Puts the message for a reason and a zero byte into `out`, and returns 1. For any other number it puts "unknown reason" and
- * returns 0. If the room is too small, it puts as much as fits, with the zero byte, and returns 0. So whatever it returns, `out`
+ * returns 0. If `out` is too small, it puts as much as fits, with the zero byte, and returns 0. So whatever it returns, `out`
  * holds a string, unless it has no room at all. */
 MKPASSWD_EXPORT MKPASSWD_NONNULL(2) MKPASSWD_WRITES(2, 3) int32_t mkpasswd_words(int32_t reason, uint8_t *out,
     size_t out_len);
