@@ -4,11 +4,11 @@ import engine, tasks
 from lines import Stop, clear, on_terminal, say
 
 USAGE = """
-  pwhash                                    hash a password, which it asks for
-  pwhash file passwords -o hashes           hash lines name:password, for chpasswd -e
-  pwhash audit                              what is wrong with the hashes in /etc/shadow
+  pwhash                             hash a password, which it asks for
+  pwhash file passwords -o hashes    hash lines name:password, for chpasswd -e
+  pwhash audit                       what is wrong with hashes in /etc/shadow
 
-Hashes are sha512crypt with 656000 rounds. file, check and audit have a --help each. pwhash alone has:"""
+Hashes are sha512crypt with 656000 rounds. file, check, audit have own --help."""
 ROUNDS = dict.fromkeys(("sha512crypt", "sha256crypt", "md5crypt"), (1000, 656000, 999999999)) | {"scrypt": (6, 7, 11)}
 
 def number(text):
@@ -16,7 +16,7 @@ def number(text):
 
 FLAG, NUMBER = {"action": "store_true"}, {"type": number, "metavar": "NUMBER"}
 OPTIONS = {      # the words, what argparse has to know, and the help
-    "method": ("-m --method", {"default": "sha512crypt", "choices": list(ROUNDS)}, "by default sha512crypt"),
+    "method": ("-m --method", {"default": "sha512crypt", "metavar": "TYPE", "choices": [*ROUNDS]}, ", ".join(ROUNDS)),
     "rounds": ("-R --rounds", NUMBER, "from 1000, by default 656k; with scrypt 6 to 11, by default 7"),
     "budget": ("--budget", NUMBER, "what a line may cost in bytes; by default twice a new hash's for 64 bytes"),
     "salt": ("-S --salt", {}, "up to 16 (md5crypt 8, scrypt 86) of a-zA-Z0-9./, in place of new ones"),
@@ -65,7 +65,7 @@ def arguments(words):
     if options.resume and not options.out or options.out and command == "check" and not options.rehash:
         error("--resume goes with -o, and -o of check with --rehash")
     if options.out and os.path.lexists(options.out):
-        error(f"{options.out} is there already, and whole: name another file after -o, or remove it")
+        error(f"{options.out} already exists and is complete: name another file after -o, or remove it")
     least, usual, most = ROUNDS[options.method]
     rounds = options.rounds or usual
     if not least <= rounds <= most:

@@ -72,7 +72,7 @@ def problems(source, options, engine):
         [block] = engine.answers([(1, same[0][1])])
         if not block.refusals:
             break
-        yield from ((number, line, block.refusals[0], False) for number, line in same)
+        yield from ((number, line, f"{block.refusals[0]} (see --budget)", False) for number, line in same)
 
 def look(source, options, engine):
     """Shows the problems of a file, and returns the numbers of the lines to leave out."""
@@ -100,7 +100,7 @@ def output(options, source):
         raise Stop(f"another run is writing {options.part}: wait for it.", 2) from None
     part = os.fstat(fd)
     if part.st_size and (not options.resume or source.begun > part.st_mtime_ns):
-        raise Stop(f"{options.part} is there already: --resume, or if {source.name} has changed since, remove it.", 2)
+        raise Stop(f"{options.part} already exists: --resume, or if {source.name} has changed since, remove it.", 2)
     os.fchmod(fd, 0o600)
     yield fd
     os.fsync(fd)

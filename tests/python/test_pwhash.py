@@ -210,7 +210,7 @@ def test_look_first(place):
     assert run(*words, "--skip-refused", "--accept-doubtful")[0] == 1
     assert [line.split(b":")[0] for line in open("out", "rb")] == [b"ann", b"bob", b"carl", b"ann", b" \xff"]
     assert os.stat("out").st_mode & 0o777 == 0o600
-    assert run(*words)[0] == 2 and b"there already" in run(*words)[2]
+    assert run(*words)[0] == 2 and b"already exists" in run(*words)[2]
     os.remove("out")
     assert run(*words, "--skip-refused", "--skip-doubtful")[0] == 1 and open("out", "rb").read().split(b":")[0] == b"ann"
     assert open("out", "rb").read().count(b"\n") == 1
