@@ -28,7 +28,7 @@ for my $command (keys %rows) {
     );
     $offered{"$command $_"} = [sort @{ $of_command{$_} }] for keys %of_command;
 }
-$offered{"pwhash $_->[0]"} = $_->[1] for ['au', ['audit']], ['audit lo', ['logins']], ['file --skip', ['--skip-refused']],
+$offered{"pwhash $_->[0]"} = $_->[1] for ['au', ['audit']], ['audit lo', ['logins']], ['file --skip-r', ['--skip-refused']],
     ['file --for ng', ['nginx']], ['-m sc', ['scrypt']], ['check --shadow sha', ['sha256sums']], ['check -R ', []];
 my @lines = sort keys %offered;
 
