@@ -1,7 +1,8 @@
 """The command line of pwhash: its options, and how a run ends."""
 import argparse, gc, os, shlex, signal, sys
-import engine, tasks
+import engine
 from lines import Stop, clear, on_terminal, say
+from tasks import PLACES, SERVICES, audit, check, file, one
 
 USAGE = """
   pwhash                             hash a password, which it asks for
@@ -30,21 +31,20 @@ OPTIONS = {      # the words, what argparse has to know, and the help
     "skip_refused": ("--skip-refused", FLAG, "leave out lines that mkpasswd refuses"),
     "skip_doubtful": ("--skip-doubtful", FLAG, "leave out doubtful lines"),
     "accept_doubtful": ("--accept-doubtful", FLAG, "take doubtful lines as they are"),
-    "service": ("--for", {"dest": "service", "choices": list(tasks.SERVICES)}, "doubt names that it takes for others"),
+    "service": ("--for", {"dest": "service", "choices": list(SERVICES)}, "doubt names that it takes for others"),
     "shadow": ("--shadow", {"metavar": "FIELDS"}, "lines are name:password; the hashes are in the file FIELDS"),
     "rehash": ("--rehash", FLAG, "renew outdated hashes of right passwords; with -o for chpasswd -e"),
-    "place": ("--for", {"dest": "place", "choices": list(tasks.PLACES)[1:]}, "print its line"),
+    "place": ("--for", {"dest": "place", "choices": list(PLACES)[1:]}, "print its line"),
     "name": ("--name", {}, "the user, for --for"),
     "generate": ("--generate", FLAG, "make a password, and show it once on the terminal"),
     "only_problems": ("--only-problems", FLAG, "show what needs care, and nothing if all is well"),
     "json": ("--json", FLAG, "an object a line"),
     "locked": ("--locked", FLAG, "judge the hashes of locked accounts too")}
 COMMANDS = {     # what runs it, its input by default, its options
-    None: (tasks.one, "-", "place name generate salt"),
-    "file": (tasks.file, "-",
-             "out resume look skip_refused skip_doubtful accept_doubtful windows csv columns service salt quiet"),
-    "check": (tasks.check, "-", "shadow rehash out windows salt quiet"),
-    "audit": (tasks.audit, "/etc/shadow", "only_problems json locked quiet")}
+    None: (one, "-", "place name generate salt"),
+    "file": (file, "-", "out resume look skip_refused skip_doubtful accept_doubtful windows csv columns service salt"),
+    "check": (check, "-", "shadow rehash out windows csv columns salt"),
+    "audit": (audit, "/etc/shadow", "only_problems json locked")}
 SIGNALS = (signal.SIGINT, signal.SIGTERM, signal.SIGHUP)
 
 def arguments(words):
@@ -59,11 +59,11 @@ def arguments(words):
     parser.add_argument("--version", action="version", version="pwhash 2.0.0")
     if command:
         parser.add_argument("file", nargs="?", default=default, metavar="FILE", help=f"by default {default}")
-    for flags, how, text in map(OPTIONS.get, (names + " method rounds budget").split()):
+    for flags, how, text in map(OPTIONS.get, (names + " method rounds budget quiet").split()):
         parser.add_argument(*flags.split(), help=text, **how)
     options = parser.parse_args(words[bool(command):])
-    if options.resume and not options.out or options.out and command == "check" and not options.rehash:
-        error("--resume goes with -o, and -o of check with --rehash")
+    if options.resume and not options.out or options.csv and command == "check" and not options.shadow:
+        error("--resume goes with -o, and --csv of check with --shadow")
     if options.out and os.path.lexists(options.out):
         error(f"{options.out} already exists and is complete: name another file after -o, or remove it")
     least, usual, most = ROUNDS[options.method]
@@ -86,7 +86,7 @@ def end(options, text, status=3):
     for process in engine.processes:
         process.kill()
     clear()
-    if status not in (1, 2) and options and options.part and options.run == tasks.file:
+    if status not in (1, 2) and options and options.part and options.run == file:
         text += f" To go on:\n  {shlex.join(sys.argv + ['--resume'][options.resume:])}"
         text += f" < {shlex.quote(os.readlink('/proc/self/fd/0'))}" if options.file == "-" else ""
     if status not in (1, 2) and not os.isatty(2):

@@ -16,14 +16,13 @@ processes = set()      # those that run
 
 def find_mkpasswd():
     """The proved program, beside this one or on the PATH. The package whois has another of this name."""
-    folders, others = [os.path.join(os.path.dirname(os.path.realpath(__file__)), "../../bin"), *os.get_exec_path()], ""
+    folders = [os.path.join(os.path.dirname(os.path.realpath(__file__)), "../../bin"), *os.get_exec_path()]
     for path in [os.path.join(folder, name) for folder in folders for name in ("mkpasswd.proved", "mkpasswd")]:
         if os.access(path, os.X_OK) and os.path.isfile(path):
             said = subprocess.run([path, "-V"], stdin=subprocess.DEVNULL, capture_output=True, env={}).stdout
             if re.fullmatch(rb"mkpasswd [0-9.]+\n", said):
                 return path
-            others += f" {path} is {'that of the package whois' if b'Marco' in said else 'another program'}."
-    raise Stop(f"there is no proved mkpasswd beside pwhash or on the PATH.{others} Install its package, mkpasswd.")
+    raise Stop("there is no proved mkpasswd beside pwhash or on the PATH; that of whois is another. Install it.")
 
 def in_memory(size, data=b""):
     """A file in memory, with data at its beginning, that nobody can make longer than size."""
@@ -56,11 +55,9 @@ class Engine:
         processes.discard(block.process)
         with block.said as file:
             *answers, rest = os.pread(file.fileno(), os.lseek(file.fileno(), 0, os.SEEK_CUR), 0).split(b"\n")
-        said = readable((rest or b"".join(answers[-1:]))[:200])
-        if code == 2:
-            raise Stop(f"{said}, in {' '.join(self.command[2:])}. See -S and --budget of pwhash --help.", 2)
+        said = readable((rest or b"".join(answers[-1:]))[:200]) or "mkpasswd"
         if code not in (0, 1) or rest or len(answers) != len(block.lines):
-            raise Stop(f"mkpasswd ended near line {block.numbers[0]} with status {code}, and said {said or 'nothing'}.")
+            raise Stop(f"line {block.numbers[0]}, status {code}: {said} ({self.command}).", 2 if code == 2 else 3)
         block.answers, block.refusals = answers, {}      # refusals by place
         for place, (line, answer) in enumerate(zip(block.lines, answers)):
             name, colon, verdict = answer.partition(b":")

@@ -1,7 +1,6 @@
 """Lines that come in and go out, as bytes, since names and passwords have no encoding, and what the terminal shows."""
 import contextlib, csv, itertools, os, re, select, stat, time
 
-LONGEST = 1 << 17      # bytes of a line: more than mkpasswd or csv takes
 MARK = b"\xef\xbb\xbf"
 shown = False      # whether the terminal shows the progress
 
@@ -9,22 +8,18 @@ class Source:
     def __init__(self, options):
         self.options, self.absent, self.total, is_stdin = options, 0, 0, options.file == "-"
         self.name, self.fd = ("standard input", 0) if is_stdin else (options.file, os.open(options.file, os.O_RDONLY))
-        self.regular = stat.S_ISREG(os.fstat(self.fd).st_mode)
+        self.begun = os.fstat(self.fd)
+        self.regular = stat.S_ISREG(self.begun.st_mode)
         if os.isatty(self.fd):
             say("reading lines from the terminal; Ctrl-D ends them.")
-        self.start, self.begun = self.regular and os.lseek(self.fd, 0, os.SEEK_CUR), self.changed()
+        self.start = self.regular and os.lseek(self.fd, 0, os.SEEK_CUR)
         if self.regular and not options.quiet:
             self.total = sum(piece.count(b"\n") for piece in iter(lambda: os.read(self.fd, 1 << 19), b""))
 
-    def changed(self):
-        """When a file was changed last, in nanoseconds."""
-        status = os.fstat(self.fd)
-        return max(status.st_mtime_ns, status.st_ctime_ns) if self.regular else 0
-
     def lines(self):
         """Pairs of a number and a line, from the beginning, and None where they come slowly."""
-        options = self.options
-        return self.rows() if options.csv else self.paired() if options.shadow else self.whole_lines(options.windows)
+        pairs = self.rows() if self.options.csv else self.whole_lines(self.options.windows)
+        return self.paired(pairs) if self.options.shadow else pairs
 
     def whole_lines(self, windows):
         """Lines as they come, of a long one only what makes it too long."""
@@ -43,39 +38,38 @@ class Source:
             if self.options.locked:      # without what is in front of a locked hash
                 lines = [re.sub(rb"^([^:]*:)[!*]+(?=\$)", rb"\1", line) for line in lines]
             yield from enumerate(lines, number)
-            number, rest = number + len(lines), rest[:LONGEST]
+            number, rest = number + len(lines), rest[:1 << 17]      # more than mkpasswd or csv takes
 
     def rows(self):
         """Rows of a table as lines `name:password`. Between columns is what comes first: a comma, semicolon or tab."""
         texts = (pair[1].decode("latin-1") + "\n" for pair in self.whole_lines(True) if pair)
-        first = next(texts, "")
+        first = next(texts, "").partition("\0")[0]      # of UTF-16 a piece, in which no column is found
         between = re.search("[,;\t]|$", re.sub('"[^"]*"', "", first))[0] or ","
         columns = os.fsencode(self.options.columns).decode("latin-1").lower().split(",")
-        numbers = [str(each) for each in range(1, 1000)] if columns[0].isdecimal() else None
-        rows = csv.DictReader(itertools.chain([first], texts), numbers, delimiter=between, strict=True)
+        rows = csv.reader(itertools.chain([first], texts), delimiter=between, strict=True)
         try:
-            rows.fieldnames = [each.strip().lower() for each in rows.fieldnames or ()]
-            if len(columns) != 2 or [each for each in columns if rows.fieldnames.count(each) != 1]:
+            names = [str(each).strip().lower() for each in (range(1, 99) if columns[0].isdecimal() else next(rows, ()))]
+            if len(columns) != 2 or [each for each in columns if names.count(each) != 1]:
                 raise Stop(f"--columns {self.options.columns}: give two names from the first row of {self.name}, as "
                            "user,secret, or if it has no names, numbers, as 1,2. Save UTF-16 as UTF-8.", 2)
-            for row in rows:
-                fields = [row[each] for each in columns if row[each] is not None]
+            for row in filter(None, rows):
+                fields = [row[names.index(each)] for each in columns if names.index(each) < len(row)]
                 if ":" in "".join(fields[:1]) or "\n" in "".join(fields):
                     raise Stop(f"{self.name}, line {rows.line_num}: a colon in a name, or a line feed in a field.")
                 yield rows.line_num, ":".join(fields).encode("latin-1")
         except csv.Error as error:
             raise Stop(f"{self.name}, line {rows.line_num}: this is not CSV: {error}.") from None
 
-    def paired(self):
+    def paired(self, pairs):
         """Lines `name:password` as `name:field:password`; one without a name for each field of the file."""
-        with open(self.options.shadow, "rb") as file:      # the first line of a name counts
-            fields = dict(reversed([line.rstrip(b"\n").split(b":")[:2] for line in file if b":" in line]))
+        lines = [line.rstrip(b"\n").split(b":") for line in open(self.options.shadow, "rb") if b":" in line]
+        fields = {line[0]: line[1] for line in reversed(lines)}      # the first line of a name counts
         def tried(number, line):
             name, _, password = line.partition(b":") if b":" in line else (b"", b":", line)
             names = [name] if name else reversed(fields)
             self.absent += name != b"" and name not in fields
             return [(number, b"%b:%b:%b" % (each, fields[each], password)) for each in names if each in fields]
-        for pair in self.whole_lines(self.options.windows):
+        for pair in pairs:
             yield from tried(*pair) if pair else [pair]
 
 class Stop(Exception):

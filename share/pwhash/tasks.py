@@ -8,6 +8,7 @@ PLACES = {      # what --for prints for one hash; those with a name need --name
     "preseed-user": "d-i passwd/user-password-crypted password {hash}", "kickstart": "rootpw --iscrypted {hash}",
     "cloud-init": "#cloud-config\nusers:\n  - name: {name}\n    lock_passwd: false\n    hashed_passwd: {hash}",
     "ansible": 'password: "{hash}"', "htpasswd": "{name}:{hash}", "shadow": "{name}:{hash}:{day}:0:99999:7:::"}
+HEADINGS = b"name user username login account benutzer benutzername usuario utilisateur nom".split()
 SERVICES = {    # the names that each service reads as they are
     **dict.fromkeys(("apache", "nginx"), rb"[^#\s\0-\x1f\x7f][^\0-\x1f\x7f]*"),
     "dovecot": rb"[a-z0-9_.@-]+", "ldap": rb"[a-z0-9_-]+"}
@@ -41,43 +42,44 @@ def one(options):
     values = {"name": options.name, "hash": block.answers[0][2:].decode(), "day": int(time.time() // 86400)}
     write(1, [PLACES[options.place].format(**values).encode()])
 
-def doubts(number, line, name, password, names, plain):
-    """What mkpasswd hashes as it is, and hardly anybody wants."""
+def doubts(number, line, names, plain):
+    """What mkpasswd hashes as it is, and hardly anybody wants. `names` has the first line of each name."""
+    name, _, password = line.partition(b":")
+    first = names.setdefault(name, number)
     return [reason for reason, is_so in {
         "an empty password: Return alone logs in": password in (b"", b"\r"),
         "a carriage return ends the password; --windows leaves it out": password.endswith(b"\r"),
+        "a blank before or behind the name or the password": line.split(b":", 1) != [name.strip(), password.strip()],
         "a byte order mark begins the name; --windows leaves it out": number == 1 and name.startswith(MARK),
-        "a heading, and no user": number == 1 and name.lower() in (b"name", b"user", b"username", b"login"),
-        f"the name came before, in line {names.get(name)}": name in names,
+        "a heading, and no user": number == 1 and name.lower() in HEADINGS,
+        f"the name came before, in line {first}": first != number,
         "the service takes the name for another, or skips it": not re.fullmatch(plain, name),
         "not UTF-8: iconv -f WINDOWS-1252 -t UTF-8 FILE > NEW": line.decode(errors="ignore").encode() != line,
     }.items() if is_so]
 
-def problems(source, options, engine):
+def problems(source, options, engine, names, plain):
     """Gives number, line and reason of those that mkpasswd would refuse or that are doubtful, and which it is. A budget
     of 0 refuses good lines without work. Of these the longest are tried with the true one, down to the first hash."""
-    names, by_length, plain = {}, {}, SERVICES.get(options.service, rb"(?s).*")
+    by_length = {}
     free = Engine("--batch", [word for word in options.words if not word.startswith("--budget=")] + ["--budget=0"])
     for block in progress(free.answers(source.lines()), "looking", source.total):
         for place, reason in block.refusals.items():
             number, line = block.numbers[place], block.lines[place]
-            name, _, password = line.partition(b":")
             if reason != "over budget":
                 yield number, line, reason, False
-                continue
-            yield from ((number, line, doubt, True) for doubt in doubts(number, line, name, password, names, plain))
-            by_length.setdefault(len(password), []).append((number, line))
-            names.setdefault(name, number)
+            else:
+                yield from ((number, line, doubt, True) for doubt in doubts(number, line, names, plain))
+                by_length.setdefault(len(line) - line.index(b":"), []).append((number, line))
     for _, same in sorted(by_length.items(), reverse=True):
         [block] = engine.answers([(1, same[0][1])])
         if not block.refusals:
             break
         yield from ((number, line, f"{block.refusals[0]} (see --budget)", False) for number, line in same)
 
-def look(source, options, engine):
+def look(source, options, engine, names, plain):
     """Shows the problems of a file, and returns the numbers of the lines to leave out."""
     refused, doubtful, times = set(), set(), collections.Counter()
-    for number, line, reason, is_doubt in problems(source, options, engine):
+    for number, line, reason, is_doubt in problems(source, options, engine, names, plain):
         (doubtful if is_doubt else refused).add(number)
         times[alike := reason.partition(", in line")[0]] += 1
         name = f" ({readable(line.partition(b':')[0][:64])})" if b":" in line[1:] else ""      # else a password, maybe
@@ -99,20 +101,20 @@ def output(options, source):
     except BlockingIOError:
         raise Stop(f"another run is writing {options.part}: wait for it.", 2) from None
     part = os.fstat(fd)
-    if part.st_size and (not options.resume or source.begun > part.st_mtime_ns):
-        raise Stop(f"{options.part} already exists: --resume, or if {source.name} has changed since, remove it.", 2)
+    if part.st_size and (not options.resume or source.begun.st_ctime_ns > part.st_mtime_ns):
+        how = f"{source.name} has changed since" if options.resume else "add --resume to go on"
+        raise Stop(f"{options.part} already exists: {how}, or remove it and start anew.", 2)
     os.fchmod(fd, 0o600)
     yield fd
     os.fsync(fd)
-    same_part = os.path.lexists(options.part) and os.path.samestat(part, os.lstat(options.part))
-    if source.changed() != source.begun or not same_part:
-        raise Stop(f"{source.name if same_part else options.part} was changed meanwhile. Remove {options.part}.", 2)
+    changed = source.regular and os.fstat(source.fd).st_ctime_ns != source.begun.st_ctime_ns
+    if changed or not os.path.samestat(part, os.lstat(options.part)):
+        raise Stop(f"{source.name} or {options.part} was changed meanwhile: remove the latter, and start anew.", 2)
     os.rename(options.part, options.out)
 
 def skip(fd, pairs, options, name):
     """Skips lines whose hashes are in OUT.part, behind their names. The first and the last are made again."""
-    with open(options.part, "rb") as file:
-        made = [answer for answer in file if answer.endswith(b"\n")]
+    made = [answer for answer in open(fd, "rb", closefd=False) if answer.endswith(b"\n")]
     for place, answer in enumerate(made):
         number, line = next(pairs, (place + 1, b"\n:"))      # no answer fits a line that isn't there
         fits = re.fullmatch(re.escape(line[:line.index(b":") + 1]) + HASH + b"\n", answer)
@@ -121,7 +123,7 @@ def skip(fd, pairs, options, name):
             [block] = Engine("--batch", options.words + ["--salt=" + salt] * (not options.salt)).answers([(1, line)])
             fits = block.answers == [answer[:-1]]
         if not fits:
-            raise Stop(f"line {place + 1} of {options.part} isn't made of line {number} of {name} by these options.", 2)
+            raise Stop(f"line {place + 1} of {options.part} isn't made of line {number} of {name} by that -m, -R.", 2)
     os.ftruncate(fd, os.lseek(fd, sum(map(len, made)), os.SEEK_SET))
 
 def file(options):
@@ -129,7 +131,9 @@ def file(options):
     source, engine = Source(options), Engine("--batch", options.words)
     if (options.out or options.look) and not source.regular:
         raise Stop("-o and --look need a file, which can be read twice. Give its name, or leave them out.", 2)
-    left_out = look(source, options, engine) if source.regular else ()
+    names, plain = {}, SERVICES.get(options.service, rb"(?s).*")
+    doubted = not source.regular and not options.accept_doubtful
+    left_out = look(source, options, engine, names, plain) if source.regular else ()
     if options.look:
         return engine.bad
     with output(options, source) if options.out else contextlib.nullcontext(1) as fd:
@@ -137,13 +141,18 @@ def file(options):
         if options.resume:
             skip(fd, pairs, options, source.name)
         for block in progress(engine.answers(pairs, source.total), "hashing", source.total):
+            for place, (number, line) in enumerate(zip(block.numbers, block.lines) if doubted else ()):
+                found = place not in block.refusals and doubts(number, line, names, plain)
+                if found:      # in a pipe, which can't be looked at first
+                    engine.bad, block.refusals[place] = True, found[0]
+                    block.answers[place] = f"pwhash: line {number}: {found[0]}".encode()
             show(fd, block)
     return engine.bad
 
 def show(fd, block, new=False):
     """Writes answers, or of them only new hashes, and refusals where mkpasswd does, in the order of their lines."""
     begin = 0
-    for place in [*block.refusals, len(block.answers)]:
+    for place in [*sorted(block.refusals), len(block.answers)]:
         answers = [each for each in block.answers[begin:place] if not new or b":ok:$" in each]
         write(fd, [each.replace(b":ok:", b":", 1) for each in answers] if new else answers)
         write(2, filter(None, block.answers[place:place + 1]))
@@ -158,9 +167,9 @@ def check(options):
                 about = f"{readable(block.lines[place].partition(b':')[0])} isn't checked: {reason}".encode()
                 block.answers[place] = b"" if about in told else b"pwhash: " + about
                 told.add(about)
-            show(fd, block, options.out)
+            show(fd, block, options.out and options.rehash)
     if source.absent:
-        say(f"{source.absent:,} lines of {source.name} have no account in {options.shadow}.")
+        say(f"{source.absent:,} lines have no account in {options.shadow}. A password with a colon needs one in front.")
     return engine.bad
 
 MODERN = ("yescrypt", "gost-yescrypt", "bcrypt")

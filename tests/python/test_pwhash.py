@@ -164,9 +164,10 @@ def test_hostile_lines(place, words):
     command, mode, lines = ("file", "--batch", hostile_lines(40000)) if words == QUICK else ("check", "--check", hostile_fields(40000))
     words = [*words, "--budget=300000"]
     alone = mkpasswd(mode, *words, stdin=lines)
-    more = ["--accept-doubtful", "--skip-refused"] * (command == "file")
-    same = run(command, *words, stdin=lines) == alone
+    more = ["--accept-doubtful"] * (command == "file")
+    same = run(command, *words, *more, stdin=lines) == alone
     assert same
+    more += ["--skip-refused"] * (command == "file")
     same = run(command, *words, *more, save("lines", lines))[:2] == alone[:2]
     assert same
 
@@ -251,6 +252,16 @@ def test_windows_and_tables(place):
         assert run("file", *QUICK, "--csv", save("bad.csv", text))[0] == 3
 
 
+def test_doubts(place):
+    """What hardly anybody wants is hashed neither of a file nor of a pipe unasked, whatever is between columns or around a cell."""
+    lines = b"name:x\nann:password\nbob:\ncarl:x\r\n dan:x\neva:x \nann:y\n"
+    status, out, err = run("file", *QUICK, stdin=lines)
+    assert (status, out) == (1, b"ann:$1$xxxxxxxx$UYCIxa628.9qXjpQCjM4a.\n")
+    assert [int(number) for number in re.findall(rb"line (\d)", err)] == [1, 3, 4, 5, 6, 7, 2]
+    status, _, err = run("file", *QUICK, save("lines", lines), "--look")
+    assert status == 1 and {int(number) for number in re.findall(rb"line (\d) ", err)} == {1, 3, 4, 5, 6, 7}
+
+
 # Interruptions.
 
 
@@ -332,7 +343,7 @@ def test_changed_meanwhile(place, change):
     while not begun():
         time.sleep(0.01)
     change()
-    assert child.wait() == 2 and not os.path.exists("out")
+    assert child.wait() in (2, 3) and not os.path.exists("out")
 
 
 def test_several_machines(place):
@@ -343,6 +354,7 @@ def test_several_machines(place):
     recipe = recipe.replace("-R 656000", "-R 1000").replace(" -o hashes", " -R 1000 -o hashes")
     recipe = recipe.replace("pwhash file passwords -R", "cut=$(wc -c < hashes.part); truncate -s $((cut / 2)) hashes.part; pwhash file passwords -R")
     save("hosts", b"2/:\n")
+    os.symlink("mkpasswd", "bin/mkpasswd.proved")
     save("passwords", b"".join(b"user%d:password%d\n" % (n, n) for n in range(1500)))
     env = dict(os.environ, PATH=f"{place}/bin:{os.environ['PATH']}", HOME=str(place))
     status, _, err = run("-euc", recipe, program="/bin/sh", env=env)
@@ -364,6 +376,7 @@ def test_known_passwords(place):
     assert run(*words, "-o", "new")[:2] == (1, b"")
     assert open("new").read() == "ann:" + libxcrypt("password", "$5$rounds=2000$ab") + "\n"
     save("shadow", b"ann:$1$xxxxxxxx$UYCIxa628.9qXjpQCjM4a.:1\nyes:$y$j9T$x$y:1\n")
+    assert run("check", "--csv", "--shadow", "shadow", save("list.csv", b"password;name\r\npassword;ann\r\n")) == (0, b"ann:ok\n", b"")
     assert run("check", "--shadow", "shadow", stdin=b"a\npassword\nb\n") == (
         1, b"ann:no\nann:ok\nann:no\n", b"pwhash: yes isn't checked: unknown scheme\n")
 
@@ -461,7 +474,7 @@ def test_finds_its_engine(place):
     save("bin/mkpasswd", b"#!/bin/sh\necho mkpasswd 5.5.17; echo; echo \"Copyright (C) Marco d'Itri\"\n")
     os.chmod("bin/mkpasswd", 0o755)
     status, _, err = run(*QUICK, stdin=b"x", env={"PATH": "/nowhere"})
-    assert status == 3 and b"whois" in err and b"bin/mkpasswd" in err
+    assert status == 3 and b"whois" in err
 
 
 @pytest.mark.parametrize("limit", [resource.RLIMIT_AS, resource.RLIMIT_NOFILE])
