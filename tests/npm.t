@@ -148,6 +148,17 @@ subtest 'steps of logins' => sub {
     cmp_ok($steps[$_], '>', 0.9 * $wrong, $fields[$_] // 'an unknown name') for 0 .. $#fields;
 };
 
+# Another library of the process may set them, through a flaw. false has them too.
+subtest 'properties of Object.prototype' => sub {
+    my $told = told('polluted.mjs', '');
+    is_deeply([map { s/(?<=new), .*//r } @{ $told->{wrong} }], [('Object.prototype has matches or new') x 6], 'no wrong password opens');
+    is_deeply($told->{forgotten}, [undef, undef], 'nor does a forgotten await');
+    is_deeply($told->{right}, [$yes, $yes, undef, undef], 'a match is what it was');
+    is_deeply($told->{policies}, [({ method => 'sha512crypt', rounds => 0, budget => undef }) x 2], 'and so is a policy');
+    is($told->{logged}, '{"matches":true}', 'logs have no hash');
+    like($told->{renewed}, qr/^\$6\$rounds=1000\$/, 'new is the hash');
+};
+
 subtest 'a worker that is killed' => sub {
     my $told = told('killed.mjs', '');
     is_deeply($told->{failed}, [$yes], 'fails its own call');

@@ -29,7 +29,7 @@ my $rows = JSON::PP->new->ascii->encode(\@refused);
 
 # What the page says of such.
 my $elsewhere = "which can\x{2019}t be checked here. Log in on the system that stored it.";
-my $again = 'is no hash. Paste a hash, or its whole line.';
+my $again = 'is not a hash. Paste a hash, or its whole line.';
 my @said = (
     ['$6$s$x', 'x' x 1025, 'The password has more than 1024 bytes. Take a shorter one.'],
     ['$6$s$x', "x\0y", 'The password has a zero byte, which no login takes. Type it again.'],
@@ -41,11 +41,11 @@ my @said = (
     ['ann::19000:0:99999:7:::', '', 'This account has no hash. Set a password, or lock it.'],
     ['$6$rounds=999999999$s$x', 'x', 'Checking this hash can take about N, so it was refused. If you trust it, raise the budget to N.'],
     ['$2b$05$x', 'x', "\$2b\$ is bcrypt, $elsewhere"], ['ann:$y$j9T$x$y:19000::::::', 'x', "\$y\$ is yescrypt, $elsewhere"],
-    ['$7$46..../....s', 'x', "\$7\$ is scrypt, which can\x{2019}t be checked here. Give the line to mkpasswd --check."],
+    ['$7$46..../....s', 'x', "\$7\$ is scrypt, which can\x{2019}t be checked here. Give a line name:hash:password to pwhash check."],
     ['$apr1$s$x', 'x', "\$apr1\$ is Apache\x{2019}s MD5, $elsewhere"], ['$argon2id$v=19$x', 'x', "\$argon2id\$ is Argon2, $elsewhere"],
     ['ann:{SHA}x=', 'x', "{SHA} is SHA-1 without a salt, $elsewhere"], ['$new$x', 'x', "\$new\$ is another scheme, $elsewhere"],
-    ['abJnggxhB/yWI', 'x', "This is descrypt, $elsewhere"], ['hello', 'x', "hello $again"],
-    ['correct horse battery staple', 'x', "correct horse batter\x{2026} $again"],
+    ['abJnggxhB/yWI', 'x', "This is descrypt, $elsewhere"], ['hello', 'x', "\x{201c}hello\x{201d} $again"],
+    ['correct horse battery staple', 'x', "\x{201c}correct horse batter\x{2026}\x{201d} $again"],
 );
 my $asked = JSON::PP->new->ascii->encode([map { [@$_[0, 1]] } @said]);
 
@@ -82,7 +82,7 @@ subtest 'in node' => sub {
     my @audits = (['sha512crypt:1297572512:current', $new], ['md5crypt:1927022:outdated', $old], ['md5crypt:1927022:current', $old, 'md5crypt'],
         ['sha512crypt:1297572512:outdated', $new, 'sha512crypt', 656_001], ['md5crypt:1927022:over budget', $old, 'md5crypt', 0, 1_927_021],
         ['sha512crypt:1297572512:dead', substr $new, 0, 99], ['md5crypt:1927022:dead', "$old."], ['locked', "!$old"], ['none', ''],
-        ['unknown', '$2b$05$x'], ['unknown', 'abJnggxhB/yWI'], ['no scheme', 'hello'], ['malformed:bad rounds', '$5$rounds=$x'],
+        ['unknown', '$2b$05$x'], ['unknown', 'abJnggxhB/yWI'], ['scrypt:unknown', '$7$CU..../....LzFEGmON4JIztNMS/Q/mbZ$jf5lUIMYwzPnralpdXTIZjbsGtiybQ9Ao3j4131xzaC'], ['no scheme', 'hello'], ['malformed:bad rounds', '$5$rounds=$x'],
         ['MKPASSWD_REFUSED_COST', $new, 'sha512crypt', 12], ['MKPASSWD_REFUSED_UNKNOWN_METHOD', $new, 'bcrypt']);
     my $audits = encode_json([map { [@$_[1 .. $#$_]] } @audits]);
     my $run = run(\%with, 'node', "$root/tests/web/node.mjs", "$scratch/mkpasswd.mjs", $page, $rows, '$7$46..../....SodiumChloride', $audits);
@@ -142,8 +142,9 @@ sub visit {
     kill KILL => -$$;
 }
 
-# The page with policies that refuse its module, and its script.
-my @unable = map { "$scratch/without-$_.html" } qw(WebAssembly script);
+# The page with policies that refuse its module, and its script, where it would be installed.
+mkdir "$scratch/doc" and mkdir "$scratch/doc/mkpasswd" or die "$scratch/doc: $!";
+my @unable = map { "$scratch/doc/mkpasswd/without-$_.html" } qw(WebAssembly script);
 spew($unable[0], slurp($page) =~ s/ 'wasm-unsafe-eval'//r);
 spew($unable[1], slurp($page) =~ s/script-src [^;]*/script-src 'none'/r);
 
@@ -166,6 +167,10 @@ async function visit() {
 document.title = JSON.stringify(await visit().catch(String));
 </script>
 END
+# The same where the page's policy refuses the worker; and the page, but each hash is expected to take minutes.
+my ($workerless, $slow) = map { "$scratch/$_.html" } qw(workerless slow);
+spew($workerless, slurp($bundle) =~ s/ worker-src blob://r);
+spew($slow, slurp($page) =~ s/time: time \/ count/time: 9000/r =~ s/<title>\K.*?(?=<)/slow/r);
 my $title = <<'END';
 const title = async () => {
     while (document.title === 'bundle') await new Promise((next) => setTimeout(next, 20));
@@ -182,12 +187,14 @@ for my $name (sort keys %browsers) {
         my %salts;
         my %value = (SERVER => $server, ROWS => $asked);
         my $script = $title . slurp("$root/tests/web/page.js") =~ s/@(\w+)@/$value{$1}/gr;
-        my @addresses = ("$server/mkpasswd.html", map { "file://$_" } $page, @unable, $bundle);
+        my @addresses = ("$server/mkpasswd.html", map { "file://$_" } $page, @unable, $slow, $workerless, $bundle);
         visit("$scratch/$name", $open, $script, @addresses);
         needs("$name, started," => join(', ', sort values %$needed), -e "$scratch/$name") or return;
         my @told = map { decode_json($_) } split /\n/, slurp("$scratch/$name") or return fail("$name answers in five minutes");
         my $logins = pop @told;
         ref $logins or return fail("$bundle: $logins");
+        like(pop @told, qr/^Error: .*Content-Security-Policy/, 'a worker that the page\'s policy refuses');
+        is_deeply(pop @told, ['Takes about 20 minutes.', 'Takes about N.'], 'how long the last hash took corrects the next estimate');
         my ($no, $matches) = (JSON::PP::false, { matches => JSON::PP::true });
         is_deeply($logins->{results}, [$matches, $no, $no, $matches], 'logins by workers of mkpasswd.mjs');
         my @new = @$logins{qw(stored renewed)};
@@ -215,14 +222,18 @@ for my $name (sort keys %browsers) {
             my ($yes, $no) = (JSON::PP::true, JSON::PP::false);
             is_deeply($told->{hidden}, $yes, 'the budget is hidden until a hash is above it');
             $_->[0] =~ s/ Checked in .*// for @{ $told->{lines} };
-            is_deeply($told->{lines}, [(['The password matches.', $yes, 'From the line of ann.']) x 2], 'lines are taken apart');
+            my @lines = map { ['The password matches.', $yes, "From the line$_."] } ' of ann', ('') x 6, (' of ann') x 2;
+            is_deeply($told->{lines}, \@lines, 'lines are taken apart');
             my $weak = 'md5crypt is weak. Take it only where nothing else works.';
             is_deeply([@$told{qw(fixed free)}], [[$yes, '1000', $weak], [$no, '1234']], 'the rounds of md5crypt are fixed');
             my $differ = 'The two passwords differ. Type them again, or show the first.';
-            is_deeply($told->{mistyped}, [$differ, $no], 'a password that was mistyped once makes no hash, and leaves none');
-            is_deeply([@$told{qw(left stopped sent icon)}], [$no, 'Stopped.', ['refused', 'refused'], $yes], 'nothing left or sent; stopped; the icon');
+            my $once = 'Type the password again, or show it.';
+            is_deeply($told->{mistyped}, [$once, $differ, $no], 'a password that was mistyped once makes no hash, and leaves none');
+            my @left = ($no, 'Stopped.', ['refused', 'refused'], $yes, 0);
+            is_deeply([@$told{qw(left stopped sent icon links)}], \@left, 'nothing left or sent; stopped; the icon; no dead links');
             ok($told->{phone}{beyond} <= 0 && $told->{wide} <= 0, 'nothing is too wide');
             cmp_ok($told->{phone}{height}, '<=', 1800, 'on a telephone the page is not too long');
+            cmp_ok($told->{phone}{least}, '>=', 44, 'and what can be pressed is high enough');
             my ($generated, @shown) = @{ $told->{generated} };
             like($generated, qr/^[A-Za-z0-9]{20}$/, 'a generated password');
             my @hidden = ('Show the password', 'password', $no);
@@ -245,8 +256,8 @@ for my $name (sort keys %browsers) {
             is_deeply([map { $places{$_}[2] } @named], [([@nameless]) x @named], 'without which nothing is copied');
         }
         is(scalar keys %salts, 6, 'each salt is another');
-        my @unable = map { [$_->{unable} =~ /\b(WebAssembly|script)\b/, $_->{forms}] } @told;
-        is_deeply(\@unable, [['WebAssembly', 0], ['script', 0]], 'what a policy refuses is named, and no form is shown');
+        my @unable = map { [$_->{unable} =~ /\b(WebAssembly|script)\b/, @$_{qw(forms links)}] } @told;
+        is_deeply(\@unable, [['WebAssembly', 0, 4], ['script', 0, 4]], 'what a policy refuses is named, and no form is shown');
         my @asked = slurp("$scratch/$name.server") =~ /"(.*? HTTP)/g;
         is_deeply([grep { $_ ne 'GET /mkpasswd.html HTTP' } @asked], [], 'only the page is asked for');
     };

@@ -5,7 +5,7 @@ const METHODS = { __proto__: null, md5crypt: 1, sha256crypt: 5, sha512crypt: 6 }
 const [ROUNDS, BUDGET] = [656000, 253921472];
 const [FITS, OUTDATED, OUT_OF_MEMORY, REFUSED_METHOD, REFUSED_COST] = [1, 2, -11, -13, -14];
 const [DIFFERS, CURRENT, LOCKED, NO_HASH] = [-17, -18, -20, -21];
-const REFUSALS = { @REFUSALS@ };
+const REFUSALS = { __proto__: null, @REFUSALS@ };
 
 // An error whose `reason` is the name that mkpasswd.h has for a refusal, such as MKPASSWD_OVER_BUDGET.
 const refusal = (number) => Object.assign(new Error(REFUSALS[number][1]), { reason: REFUSALS[number][0] });
@@ -112,10 +112,9 @@ function callsOf(compiled) {
     function cost(by, length) {
         return call('web_cost', bytesOf(by), BigInt(Math.min(length, MOST_BYTES))).cost;
     }
-    // What mkpasswd --audit says of a stored field, without a password: `message`, which is current, outdated, dead, over
-    // budget, locked, no hash or what is wrong with its setting; `reason`, its name in mkpasswd.h; and `cost`, the most that a
-    // check can cost, or 0. Method and rounds are those of new hashes; a budget of 0 is what they can cost at most, and at
-    // least 1297572512.
+    // What a stored field is, without a password: `message`, which is current, outdated, dead, over budget, locked, no hash or
+    // what is wrong with its setting; `reason`, its name in mkpasswd.h; and `cost`, the most that a check can cost, or 0.
+    // Method and rounds are those of new hashes; a budget of 0 is what they can cost at most, and at least 1297572512.
     function audit(stored, method = 'sha512crypt', rounds = ROUNDS, budget = 0) {
         const { reason, cost } = reported('web_audit', bytesOf(stored), ...made(method, rounds), within(budget));
         if (reason === REFUSED_METHOD || reason === REFUSED_COST) throw refusal(reason);

@@ -21,11 +21,14 @@ export type Verdict = Match | (false & { readonly matches?: undefined; readonly 
 export type State =
     'current' | 'outdated' | 'dead' | 'over budget' | 'locked' | 'none' | 'no scheme' | 'unknown' | 'malformed';
 
-/** What `mkpasswd --audit` says of a stored field. As a string it is these parts, such as `md5crypt:1927022:outdated`. */
+/**
+ * What a stored field is. As a string it is `md5crypt:1927022:outdated`, `scrypt:unknown`, `malformed:bad rounds`, `locked` or
+ * the like. `mkpasswd --audit` prints more: the rounds, and the names of other schemes.
+ */
 export interface Description {
     /** null if there is no valid setting. */
     readonly method: Method | 'scrypt' | null;
-    /** The most that a hash with this setting costs, for a password of 1,024 bytes; or null. */
+    /** The most that a hash with this setting costs, for a password of 1,024 bytes; null without one and for scrypt. */
     readonly cost: number | null;
     readonly state: State;
     /** The first broken rule if the state is malformed, by its name in mkpasswd.h; otherwise null. */
@@ -51,6 +54,8 @@ export class TooCostly extends Refused {}
  * to 168 bytes, and 1,300,000,000 admits all of them.
  *
  * Throws Refused for an unknown method or other rounds, RangeError for a budget below 1, and TypeError.
+ *
+ * Only own properties of the argument count. The calls need no `this`: `const { login } = new Policy({ rounds: 800000 })`.
  */
 export class Policy {
     readonly method: Method;
@@ -77,7 +82,8 @@ export class Policy {
      * It is a match only if the password matches. If `needsRehash` is true of the field, and a new hash is within the budget,
      * `new` is one to store in its place. All else is false: a locked, malformed or empty field, another scheme, scrypt, a
      * hash above the budget, and a password that no hash can have. No string or bytes throw, nor does null as a field;
-     * anything else is a TypeError.
+     * anything else is a TypeError. But if another script has set `Object.prototype.matches` or `new`, false would look like
+     * a match, so an Error is thrown in its place.
      *
      * A field that can't be checked costs what a new hash costs, so the time doesn't tell which names exist, as long as all
      * hashes are made by this policy. It blocks the thread for that time: a server calls `loginAsync`.
@@ -106,11 +112,12 @@ export class Policy {
     needsRehash(stored: Text): boolean;
 
     /**
-     * What `mkpasswd --audit` says of a stored field, without any password. Nothing is hashed. No string, bytes or null throws.
+     * Says what a stored field is, without any password. Nothing is hashed. No string, bytes or null throws.
      *
      * The state is the first of these: `locked`, `none` (empty or null), `no scheme` (no hash at all, such as a password
-     * that was stored as it is), `unknown` (another scheme), `malformed`, `over budget` (without a budget: that of an
-     * audit), `dead` (cut or changed, so no password matches it), `outdated` (as `needsRehash` says), `current`.
+     * that was stored as it is), `unknown` (another scheme, or scrypt: the user needs a new password), `malformed`, `over
+     * budget` (without a budget: that of `mkpasswd --audit`), `dead` (cut or changed, so no password matches it), `outdated`
+     * (as `needsRehash` says; a login renews it), `current`.
      */
     describe(field: Text | null | undefined): Description;
 }

@@ -68,21 +68,24 @@ async function startPool() {
 // The number of cores, and a call that starts a worker, which tells its answers and its end.
 const HASHER = @HASHER@;
 const ENDED = 'the worker that made this call has ended';
+const NO_WORKER = 'the browser refuses the worker: allow worker-src blob: in the Content-Security-Policy of the page';
 async function nodeWorkers() {
     const found = ['node:os', 'node:worker_threads'].map((name) =>
         process.getBuiltinModule?.(name) ?? import(/* webpackIgnore: true */ /* @vite-ignore */ name));
     const [os, { Worker }] = await Promise.all(found);
     // Neither options nor variables of the process are for it.
-    const options = { eval: true, execArgv: [], env: {} };
+    const options = { __proto__: null, eval: true, execArgv: [], env: {} };
     const start = (tell, end) => new Worker(HASHER, options)
         .on('message', tell).on('error', end).on('exit', () => end(new Error(ENDED)));
     return { cores: os.availableParallelism(), start };
 }
 function webWorkers() {
     const url = URL.createObjectURL(new Blob([HASHER], { type: 'text/javascript' }));
-    const start = (tell, end) => Object.assign(new Worker(url), {
+    // Some browsers throw, others have an event without a message.
+    const worker = () => { try { return new Worker(url); } catch { throw new Error(NO_WORKER); } };
+    const start = (tell, end) => Object.assign(worker(), {
         onmessage: ({ data }) => tell(data),
-        onerror: ({ message }) => end(new Error(message ?? ENDED)),
+        onerror: ({ message }) => end(new Error(message || NO_WORKER)),
     });
     return { cores: navigator.hardwareConcurrency ?? 1, start };
 }
@@ -102,6 +105,7 @@ export class TooCostly extends Refused {
 
 // Messages that say what is allowed, where mkpasswd's own don't.
 const MESSAGES = {
+    __proto__: null,
     MKPASSWD_REFUSED_PASSWORD_TOO_LONG: 'password too long: it may have 1024 bytes',
     MKPASSWD_REFUSED_OUT_OF_MEMORY: 'scrypt is not supported here: only sha512crypt, sha256crypt and md5crypt are',
     MKPASSWD_REFUSED_UNKNOWN_METHOD: 'method must be sha512crypt, sha256crypt or md5crypt',
@@ -137,13 +141,19 @@ const fieldBytes = (field) => bytesOf(field ?? '', 'field', 'a string, a Uint8Ar
 class Match {
     matches = true;
     // Logs and JSON have no hash.
-    constructor(renewed) { Object.defineProperty(this, 'new', { value: renewed }); }
+    constructor(renewed) { Object.defineProperty(this, 'new', { __proto__: null, value: renewed }); }
 }
-const verdict = (result) => result && new Match(result.renewed);
+// What another script sets in Object.prototype, false has too: then false would let everybody in.
+function verdict(result) {
+    if (result) return new Match(result.renewed);
+    if (false.matches === undefined && false.new === undefined) return false;
+    throw new Error('Object.prototype has matches or new, so every login would look right: find the script that sets it');
+}
+const ABSENT = { __proto__: null, value: undefined };
 
 const STATES = {
-    MKPASSWD_DONE: 'current', MKPASSWD_REPLACED: 'outdated', MKPASSWD_DEAD: 'dead', MKPASSWD_OVER_BUDGET: 'over budget',
-    MKPASSWD_LOCKED: 'locked', MKPASSWD_NO_HASH: 'none',
+    __proto__: null, MKPASSWD_DONE: 'current', MKPASSWD_REPLACED: 'outdated', MKPASSWD_DEAD: 'dead',
+    MKPASSWD_OVER_BUDGET: 'over budget', MKPASSWD_LOCKED: 'locked', MKPASSWD_NO_HASH: 'none',
 };
 // A hash of bsdicrypt or descrypt, the schemes whose hashes begin with no "$".
 const OLD_SCHEME = /^(_|[./0-9A-Za-z]{13}$)/;
@@ -160,17 +170,23 @@ class Description {
 
 // ---- The calls
 
+// A policy's calls, which are bound to it: they can be taken out of it.
+const CALLS = ['hash', 'hashAsync', 'login', 'loginAsync', 'verify', 'needsRehash', 'describe'];
+
 export class Policy {
     #limit;
 
-    constructor({ method = 'sha512crypt', rounds, budget, ...others } = {}) {
+    constructor(policy = {}) {
+        const { method = 'sha512crypt', rounds, budget, ...others } = { __proto__: null, ...policy };
         for (const name of Object.keys(others)) throw new TypeError(`a policy has method, rounds and budget, but no ${name}`);
         if (typeof method !== 'string') throw new TypeError(`method must be a string, not ${typeof method}`);
         integer(rounds ?? 0, 'rounds');
         if (integer(budget ?? 1, 'budget', 'an integer (2 ** 42 for no limit)') < 1) {
             throw new RangeError('budget must be above 0, or null for twice what a new hash costs');
         }
-        Object.freeze(Object.assign(this, { method, rounds: rounds ?? 0, budget: budget ?? null }));
+        Object.assign(this, { method, rounds: rounds ?? 0, budget: budget ?? null });
+        for (const name of CALLS) Object.defineProperty(this, name, { __proto__: null, value: this[name].bind(this) });
+        Object.freeze(this);
         const fixed = inThread('setting', [method, this.rounds, [0n, 0n, 0n]]);
         this.#limit = this.budget ?? Math.max(150000000, 2 * calls.cost(fixed, 64));
     }
@@ -191,7 +207,11 @@ export class Policy {
     login(...given) {
         return verdict(inThread('login', this.#toLogin(given)));
     }
-    async loginAsync(...given) {
+    // Where the `await` was forgotten, nobody gets in, whatever Object.prototype has.
+    loginAsync(...given) {
+        return Object.defineProperties(this.#loginAsync(given), { __proto__: null, matches: ABSENT, new: ABSENT });
+    }
+    async #loginAsync(given) {
         const { result, fault } = await inWorker('login', this.#toLogin(given));
         if (fault) throw failure(fault);
         return verdict(result);
@@ -219,6 +239,7 @@ export class Policy {
         const { message, reason, cost } = calls.audit(bytes, this.method, this.rounds, this.budget ?? 0);
         const [text, state] = [new TextDecoder('latin1').decode(bytes), STATES[reason]];
         const method = { 1: 'md5crypt', 5: 'sha256crypt', 6: 'sha512crypt', 7: 'scrypt' }[text[1]];
+        if (cost > 0 && method === 'scrypt') return new Description(method, null, 'unknown');    // no login takes it
         if (state) return cost > 0 ? new Description(method, cost, state) : new Description(null, null, state);
         if (!text.startsWith('$')) return new Description(null, null, OLD_SCHEME.test(text) ? 'unknown' : 'no scheme');
         if (reason === 'MKPASSWD_REFUSED_UNKNOWN_SCHEME') return new Description(null, null, 'unknown');
@@ -226,10 +247,7 @@ export class Policy {
     }
 }
 
-const recommended = new Policy();
-const bound = (name) => recommended[name].bind(recommended);
-export const [hash, hashAsync, login, loginAsync] = ['hash', 'hashAsync', 'login', 'loginAsync'].map(bound);
-export const [verify, needsRehash, describe] = ['verify', 'needsRehash', 'describe'].map(bound);
+export const { hash, hashAsync, login, loginAsync, verify, needsRehash, describe } = new Policy();
 
 export function cost(stored, passwordLength) {
     if (integer(passwordLength, 'passwordLength') < 0) throw new RangeError('passwordLength must be 0 or more');

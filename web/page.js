@@ -102,15 +102,21 @@ function showMade() {
     element('made').querySelector('[role=status]').textContent = '';
 }
 
-// The hash in a stored field, or in a line of /etc/shadow or of an htpasswd file between its first two colons, without blanks.
-const hashIn = (line) => (line.includes(':') ? line.split(':')[1] : line).trim();
+// The hash in a stored field or its line, and whose line it is, if that has it first. In one of /etc/shadow or of an htpasswd
+// file it is between the first two colons; in one for an installer a blank, a quote or = comes before it.
+function partsOf(line) {
+    const [, hash] = line.match(/^[^$]*[\s"'=](\$\w+\$[^\s"':]*)/) ?? [];
+    if (hash) return [hash];
+    const [name, field] = line.split(':');
+    return field === undefined ? [name.trim()] : [field.trim(), name];
+}
 
 // Takes a line with a hash apart.
 function takeApart() {
-    const [line, hash] = [valueOf('stored'), hashIn(valueOf('stored'))];
-    if (!line.includes(':') || !hash) return;
+    const [line, [hash, name]] = [valueOf('stored').trim(), partsOf(valueOf('stored'))];
+    if (!hash || hash === line) return;
     element('stored').value = hash;
-    element('stored-note').textContent = `From the line of ${line.split(':')[0]}.`;
+    element('stored-note').textContent = `From the line${name ? ` of ${name}` : ''}.`;
 }
 
 // What the fields of a form give to its job.
@@ -118,7 +124,7 @@ const given = {
     make: () => ({ password: valueOf('password'), method: valueOf('method'), rounds: Number(valueOf('rounds')) }),
     check() {
         takeApart();
-        return { password: valueOf('guess'), stored: hashIn(valueOf('stored')), budget: Number(valueOf('budget')) };
+        return { password: valueOf('guess'), stored: partsOf(valueOf('stored'))[0], budget: Number(valueOf('budget')) };
     },
 };
 
@@ -130,7 +136,8 @@ function start(form) {
         showMade();
         if (!element('repeat').disabled && valueOf('repeat') !== values.password) {
             element('repeat').focus();
-            return say(form, 'The two passwords differ. Type them again, or show the first.', 'refused');
+            return say(form, valueOf('repeat') ? 'The two passwords differ. Type them again, or show the first.'
+                : 'Type the password again, or show it.', 'refused');
         }
     }
     running = { form, method: values.method ?? METHODS[values.stored[1]], stored: values.stored };
@@ -154,9 +161,10 @@ function otherScheme(stored) {
     const [, dollars, id, braces] = stored.match(/^(\$(\w+)[$,])|^({[\w-]+})/) ?? [];
     const prefix = braces ?? (dollars && `$${id}$`);
     const name = OTHERS[prefix] ?? (/^[./0-9A-Za-z]{13}$/.test(stored) ? 'descrypt' : prefix && 'another scheme');
-    if (!name) return `${stored.slice(0, 20)}${stored.length > 20 ? '…' : ''} is no hash. Paste a hash, or its whole line.`;
+    const begin = stored.length > 20 ? `${stored.slice(0, 20)}…` : stored;
+    if (!name) return `“${begin}” is not a hash. Paste a hash, or its whole line.`;
     return `${prefix ?? 'This'} is ${name}, which can’t be checked here. `
-        + (name === 'scrypt' ? 'Give the line to mkpasswd --check.' : 'Log in on the system that stored it.');
+        + (name === 'scrypt' ? 'Give a line name:hash:password to pwhash check.' : 'Log in on the system that stored it.');
 }
 
 // Why a password was neither hashed nor checked, and what to do next.
@@ -172,6 +180,10 @@ function refusal({ reason, message }) {
 // Shows what a job has come to: a hash, whether a password matches, or why neither.
 function tellResult({ text, fits, isDead, time, ...refused }) {
     element('more').open ||= refused.reason === 'MKPASSWD_OVER_BUDGET';
+    if (time > 100 && !refused.message && expected(running)) {    // what the next hashes take is expected by this one
+        rates[running.method].time *= time / expected(running);
+        tellEstimate();
+    }
     const answer = refused.message ? refusal(refused) : text ? `Made in ${took(time)}.`
         : isDead ? `This hash is ${flaw(running.stored)}. No password matches it: copy it again, or set a new password.`
             : `The password ${fits ? 'matches' : 'does not match'}. Checked in ${took(time)}.`;
@@ -271,6 +283,10 @@ function measure([method, ...others]) {
         tellEstimate();
         if (others.length) measure(others);
     });
+}
+// The documents are beside the page only where it is installed.
+if (!location.pathname.includes('/doc/mkpasswd/')) {
+    for (const link of document.querySelectorAll('[href^="html/"]')) link.replaceWith(link.textContent);
 }
 element('unsupported').hidden = true;
 try { measure(['sha512crypt', 'sha256crypt', 'md5crypt']); } catch ({ message }) { showForms(message); }

@@ -19,20 +19,20 @@ WebAssembly.Instance = function (compiled) {
 };
 const { Policy } = await import('mkpasswd');
 
-const policy = new Policy({ rounds: 5000 });
+const { login, loginAsync, verify, needsRehash } = new Policy({ rounds: 5000 });    // each without its policy
 const why = (call) => { try { return call(); } catch ({ name, message, reason }) { return reason ?? `${name}: ${message}`; } };
 const rows = JSON.parse(readFileSync(0, 'utf8')).map(([password, field]) => {
     digests = 0n;
-    const result = why(() => policy.login(password, field));
+    const result = why(() => login(password, field));
     const row = {
         result,
         digests: Number(digests),
         renewed: result.new,
         wiped: memories.every(({ memory, initial }) => memory.equals(initial)),
-        verified: why(() => policy.verify(password, field)),
-        outdated: why(() => policy.needsRehash(field)),
+        verified: why(() => verify(password, field)),
+        outdated: why(() => needsRehash(field)),
     };
-    return policy.loginAsync(password, field).then(
+    return loginAsync(password, field).then(
         (verdict) => ({ ...row, alike: JSON.stringify(verdict) === JSON.stringify(result) && !verdict.new === !result.new }),
         ({ name, message }) => ({ ...row, alike: result === `${name}: ${message}` }));
 });

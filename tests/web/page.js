@@ -46,11 +46,13 @@ function places() {
     return told;
 }
 
-// How far the widest part of the page reaches beyond this width, and how high the page is.
+// How far the widest part of the page reaches beyond this width, and how high the page and the least of what can be pressed are.
 function sizes(width) {
     document.documentElement.style.width = `${width}px`;
     const beyond = Math.max(...[...document.querySelectorAll('body *')].map((part) => part.getBoundingClientRect().right)) - width;
-    return { beyond, height: document.body.getBoundingClientRect().height };
+    const pressed = [...document.querySelectorAll('button, summary, input, select')].filter(isShown);
+    const least = Math.min(...pressed.map((part) => part.getBoundingClientRect().height));
+    return { beyond, least, height: document.body.getBoundingClientRect().height };
 }
 
 // How often each character is in generated passwords, if each byte comes equally often.
@@ -66,10 +68,18 @@ function frequencies() {
     return counts;
 }
 
+// What is told of how long a hash takes, before one and after it.
+async function slow() {
+    const before = element('estimate').textContent;
+    await ended('make', { password: 'x', repeat: 'x' });
+    return [before, element('estimate').textContent.replace(/(a|half a|a quarter of a|\d+) seconds?/, 'N')];
+}
+
 async function visit() {
     await until(() => isShown(element('unsupported')) || element('estimate').textContent.trim());
-    if (isShown(element('unsupported'))) return { unable: element('unsupported').textContent, forms: [...document.forms].filter(isShown).length };
-    const told = { made: [], dead: [], refused: [], lines: [], left: false, estimate: element('estimate').textContent };
+    if (isShown(element('unsupported'))) return { unable: element('unsupported').textContent, forms: [...document.forms].filter(isShown).length, links: document.links.length };
+    if (document.title === 'slow') return slow();
+    const told = { made: [], dead: [], refused: [], lines: [], left: false, estimate: element('estimate').textContent, links: document.links.length };
     const password = 'K\u00e4se \u{1f40e}';
     for (const method of ['sha512crypt', 'sha256crypt', 'md5crypt']) {
         set({ password, repeat: password, method });
@@ -92,14 +102,15 @@ async function visit() {
     told.phone = sizes(390);
     told.wide = sizes(1280).beyond;
     told.places = places();
-    for (const line of [`ann:${told.stored}:19000:0:99999:7:::`, `ann:${told.stored}`]) {
+    const [, ...lines] = Object.values(told.places).map(([line]) => line);    // without the hash alone
+    for (const line of [`ann:${told.stored}:19000:0:99999:7:::`, ...lines]) {
         const answer = await ended('check', { stored: line, guess: password });
         told.lines.push([answer, element('stored').value === told.stored, element('stored-note').textContent]);
     }
     told.hidden = !element('more').open;
     for (const [stored, guess] of @ROWS@) told.refused.push(await ended('check', { stored: stored || ' ', guess }));    // an empty field isn't sent
     told.hidden &&= element('more').open;
-    told.mistyped = [await ended('make', { repeat: 'K\u00e4se' }), isShown(element('made'))];
+    told.mistyped = [await ended('make', { repeat: '' }), await ended('make', { repeat: 'K\u00e4se' }), isShown(element('made'))];
     start('make', { password, repeat: password, method: 'sha512crypt', rounds: 999999999 });
     const stop = element('make').querySelector('[data-stop]');
     await until(() => !stop.hidden);
