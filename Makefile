@@ -104,7 +104,7 @@ PROVED = $(foreach call,verify login hash new_from,--redefine-sym mkpasswd_$(cal
 
 build/%/mkpasswd.o: build/%/libcrypt_c.a c/calls.c c/heap.c c/mkpasswd.h c/libmkpasswd.map
 	cd $(@D) && $(TOOLS)ar x libcrypt_c.a crypt_c.o && $(TOOLS)objcopy $(PROVED) crypt_c.o
-	$(COMPILE) -DKEEPS=0 -fPIC -Ic -r -nostdlib -o $@ $(@D)/crypt_c.o c/calls.c c/heap.c
+	$(COMPILE) -DKEEPS=0 -fPIC -Ic -r -nostdlib $(LEVEL) -o $@ $(@D)/crypt_c.o c/calls.c c/heap.c
 	sed -n 's/^ *\(mkpasswd_[a-z_]*\);$$/\1/p' c/libmkpasswd.map > $(@D)/calls
 	$(TOOLS)objcopy --keep-global-symbols=$(@D)/calls $@
 

@@ -14,7 +14,8 @@ const calls = callsOf(compiled);
 // Makes a call in a worker. The pool is started by the first one.
 let pool;
 async function inWorker(name, given) {
-    const ask = await (pool ??= startPool());
+    pool ??= startPool().catch((error) => { pool = undefined; throw error; });
+    const ask = await pool;
     return ask({ name, given });
 }
 
