@@ -1,5 +1,6 @@
 pub mod AuditReports
 pub mod CheckReports
+pub mod LoginPromises
 pub mod LoginReports
 pub mod MadeSchemes
 pub mod PolicyLimits

@@ -2,24 +2,28 @@
 --
 -- A password is the list of its bytes, `kept` is the setting that a text spells, and `most` is the cost of a hash: the most
 -- bytes that it digests and mixes.
-use Rattle.std.specs.Prelude.{◌≡◌, ◌⊎◌, ◌<◌, ◌≤◌, ◌+◌, ◌*◌, if◌then◌else◌, ℕ, nat_lt, MatchBool, List, [], ◌∷◌, length}
+use Rattle.std.specs.Prelude.{◌≡◌, ◌⊎◌, ◌↔◌, ◌<◌, ◌≤◌, ◌+◌, ◌*◌, if◌then◌else◌, ℕ, ℤ, pos, nat_lt, true, MatchBool, List, [], ◌∷◌, length, Err}
 use Rattle.prims_core.specs.Work.{no_work}
 use Rattle.prims_core.specs.declared.meter.Work.{Work}
-use Rattle.crypt_core.specs.Crypt.{IsAfterRefusedGrowth}
+use Rattle.crypt_core.specs.Crypt.{IsAfterRefusedGrowth, allocates}
 use Rattle.crypt_core.specs.MadeSettings.{salted}
+use Rattle.crypt_core.specs.Passwords.{IsPassword, IsPasswordRefused}
 use Rattle.crypt_core.specs.Replacements.{is_replaced_by}
 use Rattle.crypt_core.specs.Settings.{SettingValue, Spells}
 use Rattle.crypt_core.specs.StoredFields.{IsWhole}
 use Rattle.crypt_core.specs.Work.{cost, work}
+use Rattle.crypt_core.specs.declared.password.PasswordFault.{PasswordFault}
 use Rattle.crypt_core.specs.declared.scheme.Scheme.{Scheme}
 use Rattle.crypt_core.specs.declared.scheme.Scheme.TheVariants.{Scrypt}
-use Rattle.call_core.specs.Arguments.{IsSchemeMade, OnField, OnPassword, OnScheme, Refuses, TakesNewRounds}
-use Rattle.call_core.specs.Checks.{Compares}
+use Rattle.call_core.specs.Arguments.{IsSchemeMade, IsSchemeReading, OnField, OnPassword, OnScheme, Refuses, TakesNewRounds}
+use Rattle.call_core.specs.Checks.{Compares, IsDead, Verifies}
+use Rattle.call_core.specs.Limits.{limit_of, new_cost, policy_limit, twice}
 use Rattle.call_core.specs.Reasons.{reason_row}
-use Rattle.call_core.specs.Reports.{refused}
+use Rattle.call_core.specs.Rehashes.{IsOutdated}
+use Rattle.call_core.specs.Reports.{refused, reported}
 use Rattle.call_core.specs.declared.reason.Reason.TheVariants.{Fits, Outdated, Refused}
 use Rattle.call_core.specs.declared.reason.Refusal.{Refusal}
-use Rattle.call_core.specs.declared.reason.Refusal.TheVariants.{Dead, Differs, OverBudget}
+use Rattle.call_core.specs.declared.reason.Refusal.TheVariants.{Dead, Differs, OutOfMemory, OverBudget, Password}
 use Rattle.call_core.specs.declared.report.Report.{Report}
 
 -- The setting of the hash that a login makes and drops if it can't check the stored one: a new hash's, with a fixed salt.
@@ -85,3 +89,48 @@ Agrees report verified =
     × ((report.reason ≡ verified.reason)
     ⊎ (((report.reason ≡ (reason_row Outdated).0) × (verified.reason ≡ (reason_row Fits).0))
     ⊎ ((report.reason ≡ (reason_row (Refused Dead)).0) × (verified.reason ≡ (reason_row (Refused Differs)).0))))
+
+-- If the method and the rounds are valid, and a valid password is checked against a dead hash within the budget, the report is
+-- Dead with the cost and the work of the check, or scrypt could not allocate.
+abbrev pub TellsDead : List ℕ → List ℕ → ℕ → ℕ → ℕ → Report → Type 0
+TellsDead password field number rounds budget report =
+    (scheme : Scheme) → (kept : SettingValue) → IsSchemeMade TakesNewRounds number rounds scheme → IsPassword password
+    → Spells field kept → ¬ IsWhole field kept → cost kept (length password) ≤ budget
+    → (report ≡ reported (Refused Dead) 0 (cost kept (length password)) (work password kept))
+    ⊎ ((report.reason ≡ (reason_row (Refused OutOfMemory)).0) × (allocates kept.scheme ≡ true))
+
+-- How a login judges the stored hash, for C and for a web page alike.
+--   shut       a dead hash lets nobody in
+--   dead       the report of a check against a dead hash is Dead
+--   tells      only a dead hash has that report
+--   outdated   the report is Outdated exactly if the password is let in, and a new hash would replace the stored one
+--   as_verify  the report agrees with that of mkpasswd_verify with the same budget
+pub record JudgesStoredHash (password field : List ℕ) (number rounds budget : ℕ) (result : ℤ) (report : Report) : Type 0 where
+  pub shut : IsDead field → result ≡ pos 0
+  pub dead : TellsDead password field number rounds budget report
+  pub tells : report.reason ≡ (reason_row (Refused Dead)).0 → IsDead field
+  pub outdated : report.reason ≡ (reason_row Outdated).0 ↔ (result ≡ pos 1) × IsOutdated field number rounds
+  pub as_verify : (scheme : Scheme) → IsSchemeMade TakesNewRounds number rounds scheme
+      → (verified : Report) × Verifies password field budget verified × Agrees report verified
+
+-- What a login does alike for all fields, or for all that can't be checked, for C and for a web page. Its limit is `limit_of`.
+-- With scrypt the decoy may end at an allocation.
+--   one_hash      the work is that of at most one hash, within the limit
+--   decoy_made    a field that can't be checked costs the decoy, if the limit is the policy's and admits a new hash
+--   decoy         by any other limit too, if that admits the decoy; if not, it costs nothing
+--   alike         an invalid password is refused with the same report for each field
+--   alike_rounds  so are a method and rounds that no new hash can have
+--   alike_long    a password whose new hash is above the policy's limit gets in by no field, and costs nothing
+pub record TreatsFieldsAlike (password field : List ℕ) (number rounds budget : ℕ) (result : ℤ) (report : Report) : Type 0 where
+  pub one_hash : IsLoginWork password field number rounds (limit_of number rounds budget (length password)) report.work
+  pub decoy_made : (scheme : Scheme) → IsSchemeMade TakesNewRounds number rounds scheme → budget ≡ twice → IsPassword password
+      → new_cost scheme (length password) ≤ policy_limit scheme → IsUncheckable password field (policy_limit scheme)
+      → (report.work ≡ work password (decoy scheme)) ⊎ IsAfterRefusedGrowth no_work scheme report.work
+  pub decoy : (scheme : Scheme) → IsSchemeMade TakesNewRounds number rounds scheme → IsPassword password
+      → IsUncheckable password field (limit_of number rounds budget (length password))
+      → IsHashWork password (decoy scheme) (limit_of number rounds budget (length password)) report.work
+  pub alike : (fault : PasswordFault) → IsPasswordRefused password fault → report ≡ refused (Password fault) 0
+  pub alike_rounds : (refusal : Refusal) → IsPassword password → IsSchemeReading TakesNewRounds number rounds (Err refusal)
+      → report ≡ refused refusal 0
+  pub alike_long : (scheme : Scheme) → IsSchemeMade TakesNewRounds number rounds scheme → budget ≡ twice
+      → policy_limit scheme < new_cost scheme (length password) → (result ≡ pos 0) × (report.work ≡ no_work)

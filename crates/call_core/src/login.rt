@@ -3,17 +3,14 @@
 ghost use Rattle.std.specs.Prelude.{◌≡◌, ◌≤◌, ◌⊎◌, ◌<ℤ◌, pos, length, false, true};
 ghost use Rattle.prims_core.specs.Work.{no_work};
 ghost use Rattle.crypt_core.specs.Crypt.{allocates};
-ghost use Rattle.crypt_core.specs.Passwords.{IsPassword};
 ghost use Rattle.crypt_core.specs.Settings.{SettingValue, Spells};
-ghost use Rattle.crypt_core.specs.StoredFields.{IsWhole};
-ghost use Rattle.crypt_core.specs.Work.{cost, work};
+ghost use Rattle.crypt_core.specs.Work.{cost};
 ghost use Rattle.crypt_core.specs.declared.scheme.Scheme.{Scheme as Made};
 ghost use Rattle.call_core.specs.Arguments.{IsSchemeMade, TakesNewRounds};
 ghost use Rattle.call_core.specs.Checks.{IsDead, NeedsNoMemory, Opens};
-ghost use Rattle.call_core.specs.Logins.{IsHashWork, IsMiss, IsUncheckable, LogsIn};
+ghost use Rattle.call_core.specs.Logins.{IsHashWork, IsMiss, IsUncheckable, LogsIn, TellsDead};
 ghost use Rattle.call_core.specs.Reasons.{reason_row};
 ghost use Rattle.call_core.specs.Rehashes.{IsOutdated};
-ghost use Rattle.call_core.specs.Reports.{reported};
 
 use crate::budget::cost_within;
 use crate::reading::read_request;
@@ -45,10 +42,7 @@ pub fn log_in<M: Memory>(
         → (pos 0 <ℤ result.reason)
         ⊎ ((result.reason ≡ (reason_row (Reason.Refused Refusal.OutOfMemory)).0) × ¬ NeedsNoMemory field.now) }
     ensures shut { IsDead field.now → ¬ (pos 0 <ℤ result.reason) }
-    ensures dead { (scheme : Made) → (kept : SettingValue) → IsSchemeMade TakesNewRounds method rounds scheme
-        → IsPassword password.now → Spells field.now kept → ¬ IsWhole field.now kept → cost kept (length password.now) ≤ budget
-        → (result ≡ reported (Reason.Refused Refusal.Dead) 0 (cost kept (length password.now)) (work password.now kept))
-        ⊎ ((result.reason ≡ (reason_row (Reason.Refused Refusal.OutOfMemory)).0) × (allocates kept.scheme ≡ true)) }
+    ensures dead { TellsDead password.now field.now method rounds budget result }
     ensures outdated { result.reason ≡ (reason_row Reason.Outdated).0 → IsOutdated field.now method rounds }
     ensures replaced { pos 0 <ℤ result.reason → IsOutdated field.now method rounds
         → result.reason ≡ (reason_row Reason.Outdated).0 }

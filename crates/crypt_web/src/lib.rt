@@ -11,29 +11,21 @@
 //! scrypt needs memory, so the calls that hash refuse it with `OutOfMemory`.
 #![tactic(auto)]
 
-ghost use Rattle.std.specs.Prelude.{◌≡◌, ◌≢◌, ◌⊎◌, ◌<◌, ◌≤◌, ◌↔◌, true, pos, [], ◌∷◌, Err, length, take};
+ghost use Rattle.std.specs.Prelude.{◌≡◌, ◌≢◌, ◌≤◌, ◌↔◌, true, pos, [], ◌∷◌, length, take};
 ghost use Rattle.prims_core.specs.Work.{no_work};
-ghost use Rattle.crypt_core.specs.Crypt.{IsAfterRefusedGrowth, allocates};
-ghost use Rattle.crypt_core.specs.Passwords.{IsPassword, IsPasswordRefused};
+ghost use Rattle.crypt_core.specs.Crypt.{allocates};
 ghost use Rattle.crypt_core.specs.Settings.{SettingValue, Spells};
-ghost use Rattle.crypt_core.specs.StoredFields.{IsWhole};
-ghost use Rattle.crypt_core.specs.Work.{cost, work};
-ghost use Rattle.crypt_core.specs.declared.password.PasswordFault.{PasswordFault};
+ghost use Rattle.crypt_core.specs.Work.{cost};
 ghost use Rattle.crypt_core.specs.declared.scheme.Scheme.{Scheme};
-ghost use Rattle.call_core.specs.Arguments.{IsSchemeMade, IsSchemeReading, TakesNewRounds};
+ghost use Rattle.call_core.specs.Arguments.{IsSchemeMade, TakesNewRounds};
 ghost use Rattle.call_core.specs.Audits.{Audits, IsCurrent};
 ghost use Rattle.call_core.specs.Checks.{IsDead, NeedsNoMemory, Opens, Verifies};
 ghost use Rattle.call_core.specs.Hashes.{Hashes};
-ghost use Rattle.call_core.specs.Limits.{limit_of, new_cost, policy_limit, twice};
-ghost use Rattle.call_core.specs.Logins.{Agrees, IsHashWork, IsLoginWork, IsUncheckable, LogsIn, decoy};
-ghost use Rattle.call_core.specs.Reasons.{reason_row};
+ghost use Rattle.call_core.specs.Limits.{limit_of};
+ghost use Rattle.call_core.specs.Logins.{IsUncheckable, JudgesStoredHash, LogsIn, TreatsFieldsAlike};
 ghost use Rattle.call_core.specs.Rehashes.{IsOutdated, Rehashes};
-ghost use Rattle.call_core.specs.Reports.{Answers, put, refused, reported, token};
+ghost use Rattle.call_core.specs.Reports.{Answers, put, token};
 ghost use Rattle.call_core.specs.Settings.{Bounds, PutsSetting};
-ghost use Rattle.call_core.specs.declared.reason.Reason.TheVariants.{Outdated, Refused};
-ghost use Rattle.call_core.specs.declared.reason.Refusal.{Refusal};
-ghost use Rattle.call_core.specs.declared.reason.Refusal.TheVariants.{Dead, OutOfMemory, Password};
-ghost use Rattle.call_core.specs.declared.report.Report.{Report as Told};
 
 use call_core::audit::report_audit;
 use call_core::bound::report_bound;
@@ -121,28 +113,10 @@ pub extern "C" fn web_login(
         → Opens password.now field.now (limit_of method rounds budget (length password.now)) × NeedsNoMemory field.now }
     ensures opens { (scheme : Scheme) → IsSchemeMade TakesNewRounds method rounds scheme
         → Opens password.now field.now (limit_of method rounds budget (length password.now)) → NeedsNoMemory field.now → result ≡ pos 1 }
-    ensures shut { IsDead field.now → result ≡ pos 0 }
-    ensures dead { (scheme : Scheme) → (kept : SettingValue) → IsSchemeMade TakesNewRounds method rounds scheme
-        → IsPassword password.now → Spells field.now kept → ¬ IsWhole field.now kept → cost kept (length password.now) ≤ limit_of method rounds budget (length password.now)
-        → (report.new ≡ reported (Refused Dead) 0 (cost kept (length password.now)) (work password.now kept))
-        ⊎ ((report.new.reason ≡ (reason_row (Refused OutOfMemory)).0) × (allocates kept.scheme ≡ true)) }
-    ensures tells { report.new.reason ≡ (reason_row (Refused Dead)).0 → IsDead field.now }
-    ensures outdated { report.new.reason ≡ (reason_row Outdated).0 ↔ (result ≡ pos 1) × IsOutdated field.now method rounds }
-    ensures as_verify { (scheme : Scheme) → IsSchemeMade TakesNewRounds method rounds scheme
-        → (verified : Told) × Verifies password.now field.now (limit_of method rounds budget (length password.now)) verified × Agrees report.new verified }
-    ensures decoy { (scheme : Scheme) → IsSchemeMade TakesNewRounds method rounds scheme → IsPassword password.now
-        → IsUncheckable password.now field.now (limit_of method rounds budget (length password.now))
-        → IsHashWork password.now (decoy scheme) (limit_of method rounds budget (length password.now)) report.new.work }
-    ensures decoy_made { (scheme : Scheme) → IsSchemeMade TakesNewRounds method rounds scheme → budget ≡ twice → IsPassword password.now
-        → new_cost scheme (length password.now) ≤ policy_limit scheme → IsUncheckable password.now field.now (policy_limit scheme)
-        → (report.new.work ≡ work password.now (decoy scheme)) ⊎ IsAfterRefusedGrowth no_work scheme report.new.work }
-    ensures alike_long { (scheme : Scheme) → IsSchemeMade TakesNewRounds method rounds scheme → budget ≡ twice
-        → policy_limit scheme < new_cost scheme (length password.now) → (result ≡ pos 0) × (report.new.work ≡ no_work) }
-    ensures alike { (fault : PasswordFault) → IsPasswordRefused password.now fault → report.new ≡ refused (Password fault) 0 }
-    ensures alike_rounds { (refusal : Refusal) → IsPassword password.now → IsSchemeReading TakesNewRounds method rounds (Err refusal)
-        → report.new ≡ refused refusal 0 }
-    ensures one_hash { IsLoginWork password.now field.now method rounds (limit_of method rounds budget (length password.now)) report.new.work }
     ensures logs_in { LogsIn password.now field.now method rounds (limit_of method rounds budget (length password.now)) report.new }
+    ensures judges { JudgesStoredHash password.now field.now method rounds (limit_of method rounds budget (length password.now))
+        result report.new }
+    ensures treats_alike { TreatsFieldsAlike password.now field.now method rounds budget result report.new }
     ensures scrypt { (kept : SettingValue) → Spells field.now kept → cost kept (length password.now) ≤ limit_of method rounds budget (length password.now)
         → allocates kept.scheme ≡ true → (result ≡ pos 0) × (report.new.work ≡ no_work) }
     ensures scrypt_decoy { (scheme : Scheme) → IsSchemeMade TakesNewRounds method rounds scheme
