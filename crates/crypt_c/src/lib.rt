@@ -48,7 +48,8 @@ use crypt_core::version::VERSION_NUMBER;
 use prims_core::meter::Meter;
 use std::alloc::Global;
 
-/// Returns 1 if the password matches the stored hash and its hash costs at most the budget.
+/// Returns 1 exactly if the password matches the stored hash and its hash costs at most the budget, unless scrypt could not
+/// allocate.
 ///
 /// A budget of 0 lets nobody in. The call hashes nothing above the budget, and allocates only for scrypt. The report
 /// has the cost once the password and the stored hash are known to be valid, and the work of the hash.
@@ -85,10 +86,10 @@ pub extern "C" fn mkpasswd_verify(
 }
 
 /// Returns 1 exactly if a new hash can have the method and the rounds, and [`mkpasswd_verify`] returns 1 within the same
-/// limit. The reason then tells whether [`mkpasswd_needs_rehash`] would return 1.
+/// limit, unless scrypt could not allocate. The reason then tells whether [`mkpasswd_needs_rehash`] would return 1.
 ///
 /// If the field has no setting, or one above the budget, the call hashes the password with the method, the rounds and a
-/// fixed salt, and returns 0. So such a name does the work of a new hash. A name that is not known has an empty field.
+/// fixed salt, and returns 0. So such a name does the work of a new hash. For an unknown name, pass an empty field.
 /// Whatever the field is, the call makes at most one hash, and digests and mixes no more bytes than the budget.
 ///
 /// Rounds of 0 are the recommended ones. A budget of 0 is the limit of the policy: twice what a new hash with the method and
