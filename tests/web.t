@@ -245,7 +245,7 @@ for my $name (sort keys %browsers) {
                 'kickstart-user' => "user --name=ann --iscrypted --password=$told->{stored}");
             my ($salt) = $told->{stored} =~ /([^\$]+)\$[^\$]+$/;
             for my $place (grep { !exists $line{$_} } keys %places) {
-                my @pwhash = ("$root/bin/pwhash", '--for', $place, qw(--name ann -R 1234 -S), $salt);
+                my @pwhash = ("$root/bin/pwhash", '--for', $place, qw(-R 1234 -S), $salt, ('--name=ann') x !!$places{$place}[2]);
                 $line{$place} = run({ stdin => "$password\n", env => { PATH => "$root:$ENV{PATH}" } }, @pwhash)->{out} =~ s/\n\z//r;
             }
             is_deeply({ map { $_ => $places{$_}[0] } keys %places }, \%line, 'what pwhash prints for each place');
