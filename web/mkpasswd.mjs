@@ -254,7 +254,7 @@ export function cost(stored, passwordLength) {
     if (integer(passwordLength, 'passwordLength') < 0) throw new RangeError('passwordLength must be 0 or more');
     return inThread('cost', [bytesOf(stored, 'stored'), passwordLength]);
 }
-export const setting = (method = 'sha512crypt', rounds = 0) => inThread('setting', [method, rounds]);
+export const setting = (method = 'sha512crypt', rounds = 0) => inThread('setting', [method, integer(rounds, 'rounds')]);
 export const crypt = (password, by, budget = BUDGET) =>
     inThread('hash', [password, bytesOf(by), integer(budget, 'budget', 'an integer (2 ** 42 for no limit)')], budget);
 export const version = '@VERSION@';
