@@ -44,7 +44,7 @@ subtest 'install' => sub {
     my $installed = "$scratch/installed";
     my %with = (env => { DESTDIR => $installed, PREFIX => '/usr', LIBDIR => '/usr/lib/x86_64-linux-gnu' });
     is_run(run(\%with, 'sh', '-c', 'umask 077 && exec "$0"', "$root/tools/install"), 0, '', '', 'it installs');
-    is(run('find', "$installed/usr", qw{( -type d -o -path */bin/* ) ! -perm 755 -o -type f ! -perm -644})->{out}, '', 'everybody may use it');
+    is(run('find', "$installed/usr", qw{( -type d -o -path */bin/* ! -type l ) ! -perm 755 -o -type f ! -perm -644})->{out}, '', 'everybody may use it');
     my @packed = map { 'usr/' . s{^lib/}{lib/x86_64-linux-gnu/}r } grep { !/README$|SUMS$/ } files_in($tree);
     is_deeply([files_in($installed)], [sort @packed], 'the files of the archive, under the prefix and the folder for libraries');
     is(join(' ', grep { !-e "$installed/usr/share/man/man" . substr($_, -1) . s{.*/}{/}r } glob "$root/man/*.?"), '', 'each manual is there');
@@ -62,7 +62,7 @@ subtest 'archive' => sub {
     is_deeply([map { "$_->[1] $_->[3] $_->[4]" } @listed], [("0/0 $listed[0][3] $listed[0][4]") x @listed], 'one owner and one time');
     for (@listed) {
         my ($mode, undef, undef, undef, undef, $file) = @$_;
-        my $wanted = $file =~ m{/bin/} ? '-rwxr-xr-x' : $file =~ /\.so -> libmkpasswd\.so\.2\z/ ? 'lrwxr-xr-x' : '-rw-r--r--';
+        my $wanted = $file =~ / -> (?:libmkpasswd\.so\.2|mkpasswd)\z/ ? 'lrwxr-xr-x' : $file =~ m{/bin/} ? '-rwxr-xr-x' : '-rw-r--r--';
         is($mode, $wanted, "mode of $file");
     }
     my $sums = 'share/doc/mkpasswd/SHA256SUMS';
