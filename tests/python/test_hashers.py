@@ -187,6 +187,14 @@ def test_django_spends_what_is_missing(hashers, monkeypatch):
     assert spent == [("sha512crypt", 3000), ("sha512crypt", 8000), ("sha512crypt", 651_000)]
 
 
+def test_hashes_of_django_fit_its_column(hashers):
+    assert len(hashers.make_password("password", hasher=hasher_with(rounds=999_999))) == 128
+    assert hasher_with(method="sha256crypt", rounds=999_999_999, algorithm="mkpasswd_")
+    for policy in {"rounds": 1_000_000}, {"algorithm": "mkpasswd_"}:
+        with pytest.raises(ValueError, match="at most 999999, and algorithm of 8"):
+            hasher_with(**policy)
+
+
 def test_django_refuses_a_wrong_policy_at_once(hashers):
     for attributes in {"budget": 1.3e9}, {"rounds": "656000"}, {"rounds": 12}, {"method": "bcrypt"}, {"budget": 0}:
         with pytest.raises((TypeError, ValueError)):

@@ -1,7 +1,7 @@
 """A password hasher for Django, by the recommended policy, or by that of a class of your own:
 
     class SitePasswordHasher(MkpasswdPasswordHasher):
-        rounds = 1000000
+        rounds = 900000
 
 Django reads the algorithm in front of the first "$", so a hash is stored as "mkpasswd$6$..". Put "mkpasswd" in front of hashes
 of these methods that come from elsewhere.
@@ -44,7 +44,10 @@ class MkpasswdPasswordHasher(BasePasswordHasher):
 
     def __init_subclass__(cls, **options: Any) -> None:
         super().__init_subclass__(**options)
-        Policy(cls.method, cls.rounds, cls.budget)  # refuses a wrong one when the class is made
+        # This refuses a wrong one when the class is made. User.password has 128 characters, and a digest of sha512crypt 86.
+        made = Policy(cls.method, cls.rounds, cls.budget)._made
+        if cls.method == "sha512crypt" and len(cls.algorithm + _calls.setting_of(made) + "$") > 128 - 86:
+            raise ValueError("rounds must be at most 999999, and algorithm of 8 characters: User.password has 128")
 
     @property
     def _policy(self) -> Policy:
