@@ -6,10 +6,14 @@
 Django reads the algorithm in front of the first "$", so a hash is stored as "mkpasswd$6$..". Put "mkpasswd" in front of hashes
 of these methods that come from elsewhere.
 """
+import logging
 import re
+import sys
 from contextlib import suppress
+from traceback import walk_stack
 from typing import Any, Dict, Optional, Tuple
 
+from django.contrib.auth import hashers
 from django.contrib.auth.hashers import BasePasswordHasher, mask_hash
 from django.core.exceptions import PermissionDenied
 from django.utils.translation import gettext_noop as _
@@ -18,6 +22,8 @@ from . import Policy, Refused, _calls, cost
 from .crypt import crypt
 
 __all__ = ["InvalidPassword", "MkpasswdPasswordHasher"]
+
+_LOG = logging.getLogger("mkpasswd")
 
 _NAMES = {"1": "md5crypt", "5": "sha256crypt", "6": "sha512crypt", "7": "scrypt"}
 
@@ -63,7 +69,11 @@ class MkpasswdPasswordHasher(BasePasswordHasher):
         try:
             encoded = crypt(password, setting, budget=self._policy._limit)
         except (MemoryError, ValueError) as fault:
-            raise InvalidPassword(str(fault)) from None
+            old = _renewed(password)
+            if old is None:
+                raise InvalidPassword(str(fault)) from None
+            _LOG.debug("no new hash: %s", fault)
+            return old
         # A long salt would be cut, and of a bad one there is no hash.
         if not encoded.startswith(setting + "$"):
             raise ValueError("bad salt")
@@ -131,3 +141,16 @@ class MkpasswdPasswordHasher(BasePasswordHasher):
         setting = _calls.new_setting(self._policy._made)
         at = 14 if setting.startswith("$7$") else setting.rindex("$") + 1
         return setting[:at], setting[at:]
+
+
+def _renewed(password: str) -> Optional[str]:
+    """The stored hash that Django renews since this password has matched it, or None if it stores a new password.
+
+    Django calls encode() for both alike, and only what its check_password() knows tells them apart. It calls no hasher before
+    that when the stored hash is of another one.
+    """
+    for frame, _line in walk_stack(sys._getframe()):
+        seen = frame.f_locals if frame.f_globals is vars(hashers) else {}
+        if seen.get("is_correct") and seen.get("password") == password:
+            return seen.get("encoded")
+    return None
