@@ -10,6 +10,8 @@ from support import BLOCKS, MD5, SHA256, SHA512, libxcrypt, needs, recipe, run_p
 FRONT = "$6$rounds=656000$"
 # It costs more than the budgets of the samples.
 BEYOND = "$6$rounds=20000000$saltstring$" + "x" * 86
+# No hash can have these passwords.
+IMPOSSIBLE = ["x" * 1025, "x" * 5000, "x\0", "\ud800"]
 
 
 @pytest.fixture
@@ -214,6 +216,21 @@ def test_django_keeps_what_it_cannot_renew(hashers, monkeypatch, policy, passwor
         hashers.check_password("y" + password[1:], fields[0], store, hasher)
 
 
+def test_validator_of_django(hashers, monkeypatch):
+    from django.core.exceptions import ValidationError
+    from mkpasswd.django import PasswordValidator
+
+    validator = PasswordValidator()
+    for hasher, longest in (hashers.get_hasher(), 168), (hasher_with(rounds=1000), 1024), (hashers.get_hasher("pbkdf2_sha256"), 168):
+        monkeypatch.setattr(hashers, "get_hasher", lambda: hasher)
+        assert " %d bytes" % longest in validator.get_help_text()
+        for password in "", "x" * longest, "\U0001f511" * (longest // 4):
+            assert validator.validate(password) is None
+        for password in "x" * (longest + 1), "\U0001f511" * (longest // 4 + 1), *IMPOSSIBLE:
+            with pytest.raises(ValidationError):
+                validator.validate(password, None)
+
+
 def test_hashes_of_django_fit_its_column(hashers):
     assert len(hashers.make_password("password", hasher=hasher_with(rounds=999_999))) == 128
     assert hasher_with(method="sha256crypt", rounds=999_999_999, algorithm="mkpasswd_")
@@ -236,7 +253,6 @@ import mkpasswd
 from django.contrib.auth import authenticate, forms, get_user_model
 from django.contrib.auth.hashers import make_password
 from django.core.management import call_command
-from django.forms import CharField
 
 call_command("migrate", verbosity=0)
 users, long, longest = get_user_model().objects, "x" * 168, "\U0001f511" * 42
@@ -252,13 +268,12 @@ for password in "y" * 168, "y" * 169, "y" * 256:
     for name in "ann", "nobody":
         assert authenticate(username=name, password=password) is None
 
-class LoginForm(forms.AuthenticationForm):
-    password = CharField(max_length=168)
-
 for password in "y" * 169, "y" * 1025, "y\\0":
     for name in "ann", "nobody":
-        assert not LoginForm(data={"username": name, "password": password}).is_valid()
-assert LoginForm(data={"username": "ann", "password": long}).is_valid()
+        assert not forms.AuthenticationForm(data={"username": name, "password": password}).is_valid()
+assert forms.AuthenticationForm(data={"username": "ann", "password": long}).is_valid()
+for password, is_right in (long, True), (longest, True), (longest + "y", False):
+    assert forms.SetPasswordForm(None, {"new_password1": password, "new_password2": password}).is_valid() is is_right
 for password in "y" * 1025, "y\\0", "\\ud800":
     for name in "ann", "nobody":
         assert authenticate(username=name, password=password) is None
@@ -278,7 +293,8 @@ def test_site_of_django(tmp_path):
     needs("django", "python3-django")
     (tmp_path / "mysite").mkdir()
     (tmp_path / "mysite/settings.py").write_text(
-        BLOCKS["Django"][0] + "INSTALLED_APPS = ['django.contrib.auth', 'django.contrib.contenttypes']\nSECRET_KEY = 'x'\n"
+        BLOCKS["Django"][0] + "AUTH_PASSWORD_VALIDATORS = [{'NAME': 'mkpasswd.django.PasswordValidator'}]\n"
+        "INSTALLED_APPS = ['django.contrib.auth', 'django.contrib.contenttypes']\nSECRET_KEY = 'x'\n"
         "DATABASES = {'default': {'ENGINE': 'django.db.backends.sqlite3', 'NAME': ':memory:'}}\n"
         "DEFAULT_AUTO_FIELD = 'django.db.models.AutoField'\n"
     )

@@ -15,13 +15,13 @@ from typing import Any, Dict, Optional, Tuple
 
 from django.contrib.auth import hashers
 from django.contrib.auth.hashers import BasePasswordHasher, mask_hash
-from django.core.exceptions import PermissionDenied
+from django.core.exceptions import PermissionDenied, ValidationError
 from django.utils.translation import gettext_noop as _
 
 from . import Policy, Refused, _calls, cost
 from .crypt import crypt
 
-__all__ = ["InvalidPassword", "MkpasswdPasswordHasher"]
+__all__ = ["InvalidPassword", "MkpasswdPasswordHasher", "PasswordValidator"]
 
 _LOG = logging.getLogger("mkpasswd")
 
@@ -91,12 +91,11 @@ class MkpasswdPasswordHasher(BasePasswordHasher):
     def harden_runtime(self, password: str, encoded: str) -> None:
         # The rounds that the stored hash has less than a new one; with another method or scrypt a whole new hash.
         field, rounds, limit = self._field(encoded), self.rounds, self._policy._limit
+        if not self._policy._admits(password):
+            return  # as for an unknown name
         with suppress(MemoryError, ValueError):
-            length = len(_calls.password_bytes(password))
-            if cost("".join(self._new_setting()), length) > limit:
-                return  # as for an unknown name
             with suppress(ValueError):
-                if cost(field, length) > limit:
+                if cost(field, len(_calls.password_bytes(password))) > limit:
                     return  # verify() has done all of the work
                 decoded = self.decode(encoded)
                 if decoded["method"] == self.method and self.method.startswith("sha"):
@@ -141,6 +140,25 @@ class MkpasswdPasswordHasher(BasePasswordHasher):
         setting = _calls.new_setting(self._policy._made)
         at = 14 if setting.startswith("$7$") else setting.rindex("$") + 1
         return setting[:at], setting[at:]
+
+
+class PasswordValidator:
+    """For AUTH_PASSWORD_VALIDATORS: it refuses a new password that the site's hasher would raise InvalidPassword for."""
+
+    def validate(self, password: str, user: Any = None) -> None:
+        if not self._policy._admits(password):
+            raise ValidationError(self.get_help_text(), code="password_too_long")
+
+    def get_help_text(self) -> str:
+        longest = 0
+        for power in range(10, -1, -1):
+            longest += 2**power if self._policy._admits("x" * (longest + 2**power)) else 0
+        return "Your password can have at most %d bytes." % longest
+
+    @property
+    def _policy(self) -> Policy:
+        # The hashers of tests are often other ones.
+        return getattr(hashers.get_hasher(), "_policy", Policy())
 
 
 def _renewed(password: str) -> Optional[str]:
