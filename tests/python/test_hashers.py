@@ -10,8 +10,23 @@ from support import BLOCKS, MD5, SHA256, SHA512, libxcrypt, needs, recipe, run_p
 FRONT = "$6$rounds=656000$"
 # It costs more than the budgets of the samples.
 BEYOND = "$6$rounds=20000000$saltstring$" + "x" * 86
-# No hash can have these passwords.
+# No hash can have these passwords. passlib has a limit of its own, 4,096 characters.
 IMPOSSIBLE = ["x" * 1025, "x" * 5000, "x\0", "\ud800"]
+
+
+@pytest.fixture
+def digests(monkeypatch):
+    """The number of digests of each call that hashes."""
+    numbers = []
+    for name in "mkpasswd_hash", "mkpasswd_login", "mkpasswd_new", "mkpasswd_verify":
+
+        def counted(*arguments, call=getattr(mkpasswd.lib, name)):
+            done = call(*arguments)
+            numbers.append(arguments[-1].work.digests)
+            return done
+
+        monkeypatch.setattr(mkpasswd.lib, name, counted)
+    return numbers
 
 
 @pytest.fixture
@@ -36,9 +51,32 @@ def test_recipe_of_passlib(passlib):
     assert matches and new.startswith(FRONT) and new == libxcrypt("password", new)
     stored = context.hash("x" * 168)
     assert context.verify("x" * 168, stored) and not context.verify("x" * 169, stored)
-    for word, error in ("x" * 169, mkpasswd.TooCostly), ("x" * 1025, ValueError):
+    for word, error in ("x" * 169, mkpasswd.TooCostly), *((word, ValueError) for word in IMPOSSIBLE):
+        assert context.verify(word, stored) is False
+        assert context.verify_and_update(word, stored) == (False, None)
         with pytest.raises(error):
             context.hash(word)
+
+
+def test_passlib_keeps_what_it_cannot_renew(passlib):
+    """A right password gets in, and where its new hash would cost too much the old one stays."""
+    context, long = recipe("passlib")["context"], "x" * 200
+    few = libxcrypt(long, "$6$saltstring$")
+    assert context.verify_and_update(long, few) == (True, None)
+    assert context.needs_update(few) and not context.needs_update(few, secret=long)
+
+
+def test_passlib_does_the_same_work_for_every_name(passlib, digests):
+    """A password or a field that can't be checked costs what dummy_verify() does."""
+    context = recipe("passlib")["context"].using(sha512_crypt__rounds=1000)
+    stored = context.hash("password")
+    context.dummy_verify()
+    digests.clear()
+    context.dummy_verify()
+    unknown = sum(digests)
+    for word, field in ("passw0rd", stored), ("password", BEYOND), *((word, stored) for word in IMPOSSIBLE):
+        digests.clear()
+        assert not context.verify(word, field) and sum(digests) == unknown > 1000, (word, field)
 
 
 def test_a_hash_of_passlib_is_current(passlib):
@@ -151,18 +189,9 @@ def test_hasher_of_django(hashers, method, rounds, made, longest):
         hashers.make_password("password", salt="a" * 40)
 
 
-def test_django_does_the_same_work_for_every_name(hashers, monkeypatch):
+def test_django_does_the_same_work_for_every_name(hashers, monkeypatch, digests):
     """A field that can't be checked costs what Django hashes for an unknown name."""
     monkeypatch.setattr(type(hashers.get_hasher()), "rounds", 1000)
-    digests = []
-    for name in "mkpasswd_hash", "mkpasswd_login", "mkpasswd_new", "mkpasswd_verify":
-
-        def counted(*arguments, call=getattr(mkpasswd.lib, name)):
-            done = call(*arguments)
-            digests.append(arguments[-1].work.digests)
-            return done
-
-        monkeypatch.setattr(mkpasswd.lib, name, counted)
     stored = hashers.make_password("password")
     unknown = sum(digests)
     for field in [stored, *UNCHECKED]:

@@ -11,13 +11,14 @@ They are registered in place of passlib's own, so that CryptContext.from_string(
 them.
 """
 import logging
+from contextlib import suppress
 from typing import Any, Optional, Union
 
 from passlib.handlers import md5_crypt as _md5, sha2_crypt as _sha2
 from passlib.registry import register_crypt_handler
 
 from . import Policy, TooCostly
-from ._calls import RECOMMENDED_ROUNDS
+from ._calls import RECOMMENDED_ROUNDS, password_bytes
 from .crypt import crypt
 
 __all__ = ["md5_crypt", "sha256_crypt", "sha512_crypt"]
@@ -28,6 +29,7 @@ _LOG = logging.getLogger("mkpasswd")
 class _Crypt:
     budget: Optional[int] = None
     name: str
+    hash: Any
     to_string: Any
 
     # Otherwise passlib's parsehash() would read a budget from a hash.
@@ -44,12 +46,22 @@ class _Crypt:
 
     @classmethod
     def verify(cls, secret: Any, hash: Any, **context: Any) -> bool:
-        """As passlib's, but false above the budget: anybody can type a password that costs more."""
+        """As passlib's, but false for a password that no hash can have or that costs too much: anybody can type one."""
+        try:
+            password_bytes(secret)
+        except ValueError as fault:
+            return cls._refused(fault)
         try:
             return super().verify(secret, hash, **context)  # type: ignore[misc, no-any-return]
         except TooCostly as fault:
-            _LOG.debug("login refused: %s", fault)
-            return False
+            return cls._refused(fault)
+
+    @classmethod
+    def _refused(cls, fault: ValueError) -> bool:
+        _LOG.debug("login refused: %s", fault)
+        with suppress(TooCostly):
+            cls.hash("")  # takes as long as dummy_verify() does for an unknown name
+        return False
 
     @classmethod
     def _policy(cls) -> Policy:
@@ -65,12 +77,14 @@ class _Rounds(_Crypt):
     vary_rounds: Any
     rounds: int
 
-    def _calc_needs_update(self, **options: Any) -> bool:
+    def _calc_needs_update(self, secret: Any = None, **options: Any) -> bool:
+        if secret is not None and not self._policy()._admits(secret):
+            return False
         # For passlib any rounds will do, unless it is given the least.
         is_given = self.min_desired_rounds is not None or self.vary_rounds is not None
         if not is_given and self.rounds < self.default_rounds:
             return True
-        return super()._calc_needs_update(**options)  # type: ignore[misc, no-any-return]
+        return super()._calc_needs_update(secret=secret, **options)  # type: ignore[misc, no-any-return]
 
 
 class md5_crypt(_Crypt, _md5.md5_crypt):
