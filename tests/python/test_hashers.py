@@ -60,10 +60,25 @@ def test_recipe_of_passlib(passlib):
 
 def test_passlib_keeps_what_it_cannot_renew(passlib):
     """A right password gets in, and where its new hash would cost too much the old one stays."""
-    context, long = recipe("passlib")["context"], "x" * 200
-    few = libxcrypt(long, "$6$saltstring$")
-    assert context.verify_and_update(long, few) == (True, None)
+    context, long = recipe("passlib")["context"].using(schemes=["sha512_crypt", "md5_crypt", "pbkdf2_sha256"]), "x" * 200
+    few, md5 = libxcrypt(long, "$6$saltstring$"), libxcrypt(long, "$1$saltsalt$")
+    foreign = context.using(schemes=["pbkdf2_sha256"], deprecated=[]).hash("x" * 1025)
+    for word, stored, new in (long, few, None), (long, md5, md5), (long, md5.encode(), md5), ("x" * 1025, foreign, foreign):
+        assert context.verify_and_update(word, stored) == (True, new)
+        assert context.verify_and_update("y" + word[1:], stored) == (False, None)
     assert context.needs_update(few) and not context.needs_update(few, secret=long)
+    assert context.using(sha512_crypt__budget=2**42).verify_and_update(long, md5)[1].startswith(FRONT)
+    for change in lambda: context.hash(long), lambda: context.using(sha512_crypt__budget=1).verify_and_update("x", None):
+        with pytest.raises(mkpasswd.TooCostly):
+            change()
+
+    class ByHash(mkpasswd.passlib.sha512_crypt):
+        @classmethod
+        def verify(cls, secret, hash, **context):
+            return cls.hash(secret) == hash
+
+    with pytest.raises(mkpasswd.TooCostly):
+        passlib.context.CryptContext([ByHash]).verify_and_update(long, few)
 
 
 def test_passlib_does_the_same_work_for_every_name(passlib, digests):

@@ -5,17 +5,22 @@
 They take passlib's options (`sha512_crypt__rounds`, ..), and their hashes are the same. By default they make the recommended
 rounds, and hashes with fewer are outdated. What a hash may cost is mkpasswd.Policy's limit for the handler's rounds, or the
 option `budget`: `sha512_crypt__budget` of a CryptContext, or `sha512_crypt.using(budget=..)`. Above that verify() is false,
-and hash() raises TooCostly, a ValueError.
+hash() raises TooCostly, a ValueError, and verify_and_update() of a context leaves the old hash.
 
 They are registered in place of passlib's own, so that CryptContext.from_string() and others that know a name alone find
 them.
 """
 import logging
+import sys
 from contextlib import suppress
+from itertools import islice
+from traceback import walk_stack
 from typing import Any, Optional, Union
 
+from passlib.context import CryptContext
 from passlib.handlers import md5_crypt as _md5, sha2_crypt as _sha2
 from passlib.registry import register_crypt_handler
+from passlib.utils import to_native_str
 
 from . import Policy, TooCostly
 from ._calls import RECOMMENDED_ROUNDS, password_bytes
@@ -25,11 +30,13 @@ __all__ = ["md5_crypt", "sha256_crypt", "sha512_crypt"]
 
 _LOG = logging.getLogger("mkpasswd")
 
+# What is called where verify_and_update() makes a new hash.
+_RENEWAL = [CryptContext.hash.__code__, CryptContext.verify_and_update.__code__]
+
 
 class _Crypt:
     budget: Optional[int] = None
     name: str
-    hash: Any
     to_string: Any
 
     # Otherwise passlib's parsehash() would read a budget from a hash.
@@ -55,6 +62,19 @@ class _Crypt:
             return super().verify(secret, hash, **context)  # type: ignore[misc, no-any-return]
         except TooCostly as fault:
             return cls._refused(fault)
+
+    @classmethod
+    def hash(cls, secret: Any, **settings: Any) -> str:
+        """As passlib's, but verify_and_update() of a context gets the old hash back where no new one can be made."""
+        try:
+            return super().hash(secret, **settings)  # type: ignore[misc, no-any-return]
+        except ValueError as fault:
+            # It asks a deprecated scheme no needs_update(), and calls this only once the password has matched.
+            callers = [frame for frame, _line in islice(walk_stack(sys._getframe()), 1, 3)]
+            if [frame.f_code for frame in callers] != _RENEWAL:
+                raise
+            _LOG.debug("no new hash: %s", fault)
+            return to_native_str(callers[1].f_locals["hash"])  # type: ignore[no-any-return]
 
     @classmethod
     def _refused(cls, fault: ValueError) -> bool:
