@@ -323,6 +323,14 @@ class Policy:
     def _limit(self) -> int:
         return _calls.limit_of(self._made, self.budget)
 
+    def _admits(self, password: Text) -> bool:
+        """Whether hash() takes it, if there is memory."""
+        try:
+            length = len(_calls.password_bytes(password))
+        except ValueError:
+            return False
+        return _calls.bound(_calls.setting_of(self._made).encode("ascii"), length) <= self._limit
+
     def _new(self, word: bytes) -> str:
         report = Report()
         out = ctypes.create_string_buffer(TEXT_SIZE)

@@ -1,23 +1,29 @@
 """A password hasher for Django, by the recommended policy, or by that of a class of your own:
 
     class SitePasswordHasher(MkpasswdPasswordHasher):
-        rounds = 1000000
+        rounds = 900000
 
 Django reads the algorithm in front of the first "$", so a hash is stored as "mkpasswd$6$..". Put "mkpasswd" in front of hashes
 of these methods that come from elsewhere.
 """
+import logging
 import re
+import sys
 from contextlib import suppress
+from traceback import walk_stack
 from typing import Any, Dict, Optional, Tuple
 
+from django.contrib.auth import hashers
 from django.contrib.auth.hashers import BasePasswordHasher, mask_hash
-from django.core.exceptions import PermissionDenied
+from django.core.exceptions import PermissionDenied, ValidationError
 from django.utils.translation import gettext_noop as _
 
 from . import Policy, Refused, _calls, cost
 from .crypt import crypt
 
-__all__ = ["InvalidPassword", "MkpasswdPasswordHasher"]
+__all__ = ["InvalidPassword", "MkpasswdPasswordHasher", "PasswordValidator"]
+
+_LOG = logging.getLogger("mkpasswd")
 
 _NAMES = {"1": "md5crypt", "5": "sha256crypt", "6": "sha512crypt", "7": "scrypt"}
 
@@ -44,7 +50,10 @@ class MkpasswdPasswordHasher(BasePasswordHasher):
 
     def __init_subclass__(cls, **options: Any) -> None:
         super().__init_subclass__(**options)
-        Policy(cls.method, cls.rounds, cls.budget)  # refuses a wrong one when the class is made
+        # This refuses a wrong one when the class is made. User.password has 128 characters, and a digest of sha512crypt 86.
+        made = Policy(cls.method, cls.rounds, cls.budget)._made
+        if cls.method == "sha512crypt" and len(cls.algorithm + _calls.setting_of(made) + "$") > 128 - 86:
+            raise ValueError("rounds must be at most 999999, and algorithm of 8 characters: User.password has 128")
 
     @property
     def _policy(self) -> Policy:
@@ -60,7 +69,11 @@ class MkpasswdPasswordHasher(BasePasswordHasher):
         try:
             encoded = crypt(password, setting, budget=self._policy._limit)
         except (MemoryError, ValueError) as fault:
-            raise InvalidPassword(str(fault)) from None
+            old = _renewed(password)
+            if old is None:
+                raise InvalidPassword(str(fault)) from None
+            _LOG.debug("no new hash: %s", fault)
+            return old
         # A long salt would be cut, and of a bad one there is no hash.
         if not encoded.startswith(setting + "$"):
             raise ValueError("bad salt")
@@ -78,12 +91,11 @@ class MkpasswdPasswordHasher(BasePasswordHasher):
     def harden_runtime(self, password: str, encoded: str) -> None:
         # The rounds that the stored hash has less than a new one; with another method or scrypt a whole new hash.
         field, rounds, limit = self._field(encoded), self.rounds, self._policy._limit
+        if not self._policy._admits(password):
+            return  # as for an unknown name
         with suppress(MemoryError, ValueError):
-            length = len(_calls.password_bytes(password))
-            if cost("".join(self._new_setting()), length) > limit:
-                return  # as for an unknown name
             with suppress(ValueError):
-                if cost(field, length) > limit:
+                if cost(field, len(_calls.password_bytes(password))) > limit:
                     return  # verify() has done all of the work
                 decoded = self.decode(encoded)
                 if decoded["method"] == self.method and self.method.startswith("sha"):
@@ -128,3 +140,35 @@ class MkpasswdPasswordHasher(BasePasswordHasher):
         setting = _calls.new_setting(self._policy._made)
         at = 14 if setting.startswith("$7$") else setting.rindex("$") + 1
         return setting[:at], setting[at:]
+
+
+class PasswordValidator:
+    """For AUTH_PASSWORD_VALIDATORS: it refuses a new password that the site's hasher would raise InvalidPassword for."""
+
+    def validate(self, password: str, user: Any = None) -> None:
+        if not self._policy._admits(password):
+            raise ValidationError(self.get_help_text(), code="password_too_long")
+
+    def get_help_text(self) -> str:
+        longest = 0
+        for power in range(10, -1, -1):
+            longest += 2**power if self._policy._admits("x" * (longest + 2**power)) else 0
+        return "Your password can have at most %d bytes." % longest
+
+    @property
+    def _policy(self) -> Policy:
+        # The hashers of tests are often other ones.
+        return getattr(hashers.get_hasher(), "_policy", Policy())
+
+
+def _renewed(password: str) -> Optional[str]:
+    """The stored hash that Django renews since this password has matched it, or None if it stores a new password.
+
+    Django calls encode() for both alike, and only what its check_password() knows tells them apart. It calls no hasher before
+    that when the stored hash is of another one.
+    """
+    for frame, _line in walk_stack(sys._getframe()):
+        seen = frame.f_locals if frame.f_globals is vars(hashers) else {}
+        if seen.get("is_correct") and seen.get("password") == password:
+            return seen.get("encoded")
+    return None
