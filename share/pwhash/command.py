@@ -31,7 +31,7 @@ OPTIONS = {      # the words, what argparse has to know, and the help
     "skip_refused": ("--skip-refused", FLAG, "leave out lines that mkpasswd refuses"),
     "skip_doubtful": ("--skip-doubtful", FLAG, "leave out doubtful lines"),
     "accept_doubtful": ("--accept-doubtful", FLAG, "take doubtful lines as they are"),
-    "service": ("--for", {"dest": "service", "choices": list(SERVICES)}, "doubt names that it takes for others"),
+    "service": ("--for", {"dest": "service", "choices": list(SERVICES)[1:]}, "doubt names that it takes for others"),
     "shadow": ("--shadow", {"metavar": "FIELDS"}, "lines are name:password; the hashes are in the file FIELDS"),
     "rehash": ("--rehash", FLAG, "renew outdated hashes of right passwords; with -o for chpasswd -e"),
     "place": ("--for", {"dest": "place", "choices": list(PLACES)[1:]}, "print its line"),

@@ -10,7 +10,7 @@ PLACES = {      # what --for prints for one hash; those with a name need --name
     "ansible": 'password: "{hash}"', "htpasswd": "{name}:{hash}", "shadow": "{name}:{hash}:{day}:0:99999:7:::"}
 HEADINGS = b"name user username login account benutzer benutzername usuario utilisateur nom".split()
 SERVICES = {    # the names that each service reads as they are
-    **dict.fromkeys(("apache", "nginx"), rb"[^#\s\0-\x1f\x7f][^\0-\x1f\x7f]*"),
+    None: rb"(?s).*", **dict.fromkeys(("apache", "nginx"), rb"[^#\s\0-\x1f\x7f][^\0-\x1f\x7f]*"),
     "dovecot": rb"[a-z0-9_.@-]+", "ldap": rb"[a-z0-9_-]+"}
 
 def new_password(options):
@@ -42,22 +42,23 @@ def one(options):
     values = {"name": options.name, "hash": block.answers[0][2:].decode(), "day": int(time.time() // 86400)}
     write(1, [PLACES[options.place].format(**values).encode()])
 
-def doubts(number, line, names, plain):
+def doubts(number, line, names, service):
     """What mkpasswd hashes as it is, and hardly anybody wants. `names` has the first line of each name."""
     name, _, password = line.partition(b":")
-    first = names.setdefault(name, number)
+    first, text = names.setdefault(name, number), line.decode(errors="replace").strip("\r\ufeff")
     return [reason for reason, is_so in {
         "an empty password: Return alone logs in": password in (b"", b"\r"),
         "a carriage return ends the password; --windows leaves it out": password.endswith(b"\r"),
-        "a blank before or behind the name or the password": line.split(b":", 1) != [name.strip(), password.strip()],
+        "a blank at an end of name or password, or what nobody sees":
+            not text.isprintable() or any(each != each.strip() for each in text.split(":", 1)),
         "a byte order mark begins the name; --windows leaves it out": number == 1 and name.startswith(MARK),
         "a heading, and no user": number == 1 and name.lower() in HEADINGS,
         f"the name came before, in line {first}": first != number,
-        "the service takes the name for another, or skips it": not re.fullmatch(plain, name),
-        "not UTF-8: iconv -f WINDOWS-1252 -t UTF-8 FILE > NEW": line.decode(errors="ignore").encode() != line,
+        "the service takes the name for another, or skips it": not re.fullmatch(SERVICES[service], name),
+        "not UTF-8: iconv -f WINDOWS-1252 -t UTF-8 FILE > NEW": "\ufffd" in text,
     }.items() if is_so]
 
-def problems(source, options, engine, names, plain):
+def problems(source, options, engine, names):
     """Gives number, line and reason of those that mkpasswd would refuse or that are doubtful, and which it is. A budget
     of 0 refuses good lines without work. Of these the longest are tried with the true one, down to the first hash."""
     by_length = {}
@@ -68,7 +69,7 @@ def problems(source, options, engine, names, plain):
             if reason != "over budget":
                 yield number, line, reason, False
             else:
-                yield from ((number, line, doubt, True) for doubt in doubts(number, line, names, plain))
+                yield from ((number, line, doubt, True) for doubt in doubts(number, line, names, options.service))
                 by_length.setdefault(len(line) - line.index(b":"), []).append((number, line))
     for _, same in sorted(by_length.items(), reverse=True):
         [block] = engine.answers([(1, same[0][1])])
@@ -76,10 +77,10 @@ def problems(source, options, engine, names, plain):
             break
         yield from ((number, line, f"{block.refusals[0]} (see --budget)", False) for number, line in same)
 
-def look(source, options, engine, names, plain):
+def look(source, options, engine, names):
     """Shows the problems of a file, and returns the numbers of the lines to leave out."""
     refused, doubtful, times = set(), set(), collections.Counter()
-    for number, line, reason, is_doubt in problems(source, options, engine, names, plain):
+    for number, line, reason, is_doubt in problems(source, options, engine, names):
         (doubtful if is_doubt else refused).add(number)
         times[alike := reason.partition(", in line")[0]] += 1
         name = f" ({readable(line.partition(b':')[0][:64])})" if b":" in line[1:] else ""      # else a password, maybe
@@ -102,8 +103,8 @@ def output(options, source):
         raise Stop(f"another run is writing {options.part}: wait for it.", 2) from None
     part = os.fstat(fd)
     if part.st_size and (not options.resume or source.begun.st_ctime_ns > part.st_mtime_ns):
-        how = f"{source.name} has changed since" if options.resume else "add --resume to go on"
-        raise Stop(f"{options.part} already exists: {how}, or remove it and start anew.", 2)
+        how = f"{source.name} has changed since. Remove" if options.resume else "add --resume, or remove"
+        raise Stop(f"{options.part} already exists: {how} {options.part}.", 2)
     os.fchmod(fd, 0o600)
     yield fd
     os.fsync(fd)
@@ -123,7 +124,7 @@ def skip(fd, pairs, options, name):
             [block] = Engine("--batch", options.words + ["--salt=" + salt] * (not options.salt)).answers([(1, line)])
             fits = block.answers == [answer[:-1]]
         if not fits:
-            raise Stop(f"line {place + 1} of {options.part} isn't made of line {number} of {name} by that -m, -R.", 2)
+            raise Stop(f"line {place + 1} of {options.part} isn't of line {number} of {name}: name, -m or -R differ.", 2)
     os.ftruncate(fd, os.lseek(fd, sum(map(len, made)), os.SEEK_SET))
 
 def file(options):
@@ -131,9 +132,8 @@ def file(options):
     source, engine = Source(options), Engine("--batch", options.words)
     if (options.out or options.look) and not source.regular:
         raise Stop("-o and --look need a file, which can be read twice. Give its name, or leave them out.", 2)
-    names, plain = {}, SERVICES.get(options.service, rb"(?s).*")
-    doubted = not source.regular and not options.accept_doubtful
-    left_out = look(source, options, engine, names, plain) if source.regular else ()
+    names, doubted = {}, not source.regular and not options.accept_doubtful
+    left_out = look(source, options, engine, names) if source.regular else ()
     if options.look:
         return engine.bad
     with output(options, source) if options.out else contextlib.nullcontext(1) as fd:
@@ -142,7 +142,7 @@ def file(options):
             skip(fd, pairs, options, source.name)
         for block in progress(engine.answers(pairs, source.total), "hashing", source.total):
             for place, (number, line) in enumerate(zip(block.numbers, block.lines) if doubted else ()):
-                found = place not in block.refusals and doubts(number, line, names, plain)
+                found = place not in block.refusals and doubts(number, line, names, options.service)
                 if found:      # in a pipe, which can't be looked at first
                     engine.bad, block.refusals[place] = True, found[0]
                     block.answers[place] = f"pwhash: line {number}: {found[0]}".encode()
@@ -169,7 +169,7 @@ def check(options):
                 told.add(about)
             show(fd, block, options.out and options.rehash)
     if source.absent:
-        say(f"{source.absent:,} lines have no account in {options.shadow}. A password with a colon needs one in front.")
+        say(f"{source.absent:,} lines have no account in {options.shadow}.")
     return engine.bad
 
 MODERN = ("yescrypt", "gost-yescrypt", "bcrypt")

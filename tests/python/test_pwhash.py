@@ -254,12 +254,12 @@ def test_windows_and_tables(place):
 
 def test_doubts(place):
     """What hardly anybody wants is hashed neither of a file nor of a pipe unasked, whatever is between columns or around a cell."""
-    lines = b"name:x\nann:password\nbob:\ncarl:x\r\n dan:x\neva:x \nann:y\n"
+    lines = b"name:x\nann:password\nbob:\ncarl:x\r\n dan:x\neva:x \nann:y\nfay\xe2\x80\x8b:x\ngil:x\xc2\xa0\n"
     status, out, err = run("file", *QUICK, stdin=lines)
     assert (status, out) == (1, b"ann:$1$xxxxxxxx$UYCIxa628.9qXjpQCjM4a.\n")
-    assert [int(number) for number in re.findall(rb"line (\d)", err)] == [1, 3, 4, 5, 6, 7, 2]
+    assert [int(number) for number in re.findall(rb"line (\d)", err)] == [1, 3, 4, 5, 6, 7, 2, 8, 9]
     status, _, err = run("file", *QUICK, save("lines", lines), "--look")
-    assert status == 1 and {int(number) for number in re.findall(rb"line (\d) ", err)} == {1, 3, 4, 5, 6, 7}
+    assert status == 1 and {int(number) for number in re.findall(rb"line (\d) ", err)} == {1, 3, 4, 5, 6, 7, 8, 9}
 
 
 # Interruptions.
