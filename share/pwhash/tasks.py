@@ -124,7 +124,7 @@ def skip(fd, pairs, options, name):
             [block] = Engine("--batch", options.words + ["--salt=" + salt] * (not options.salt)).answers([(1, line)])
             fits = block.answers == [answer[:-1]]
         if not fits:
-            raise Stop(f"line {place + 1} of {options.part} isn't of line {number} of {name}: name, -m or -R differ.", 2)
+            raise Stop(f"{options.part}, line {place + 1}: not of line {number} of {name}: name, -m or -R differ.", 2)
     os.ftruncate(fd, os.lseek(fd, sum(map(len, made)), os.SEEK_SET))
 
 def file(options):
