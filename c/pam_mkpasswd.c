@@ -1,7 +1,7 @@
 /* pam_mkpasswd.so lets a user in whose password matches a stored hash within a budget; pam_mkpasswd(8) is the manual. No proof
  * covers this file, but the calls of mkpasswd.h that check and hash are proved. The log has what an administrator can correct. It
  * is the same whatever password was given, and has no name, since users type passwords there. */
-#define _GNU_SOURCE /* for getspnam_r */
+#define _GNU_SOURCE /* for getspnam_r, O_TMPFILE and renameat2 */
 #include <errno.h>
 #include <fcntl.h>
 #include <limits.h>
@@ -12,12 +12,11 @@
 #include <stdio.h>
 #include <stdlib.h>
 #include <sys/file.h>
+#include <sys/resource.h>
 #include <sys/stat.h>
 #include <sys/xattr.h>
 #include <syslog.h>
 #include <unistd.h>
-
-#define ACL "system.posix_acl_access"
 
 struct options {
     const char *file; /* NULL for the system's own */
@@ -30,8 +29,12 @@ struct field {
     unsigned long line; /* the number of its line, 1 in the system's own file; 0 if there is none */
     size_t len;
     uint8_t bytes[385]; /* one more than a stored hash may have, so that a longer field is refused and not cut */
-    struct stat file;   /* what the file was before it was read */
 };
+
+static int is_same(const struct stat *one, const struct stat *other)
+{
+    return one->st_dev == other->st_dev && one->st_ino == other->st_ino;
+}
 
 /* Reads the arguments. Returns 0 and logs it if one is invalid, or if the budget doesn't admit a new hash of 64 bytes, without
  * which an unknown name would cost nothing. Having no room for that hash is the last refusal before it is made. */
@@ -41,6 +44,7 @@ static int read_options(pam_handle_t *pam, int count, const char **given, struct
         [MKPASSWD_SHA512CRYPT] = "method=sha512crypt", [MKPASSWD_SCRYPT] = "method=scrypt"};
     struct mkpasswd_report report;
     char message[MKPASSWD_TEXT_SIZE], password[65] = "";
+    struct stat file, shadow;
 
     *options = (struct options){NULL, MKPASSWD_SHA512CRYPT, 0, MKPASSWD_TWICE, 0, 0, 0};
     for (; count > 0; count--, given++) {
@@ -67,6 +71,8 @@ static int read_options(pam_handle_t *pam, int count, const char **given, struct
     }
     if (options->is_renewing && !options->file)
         return pam_syslog(pam, LOG_ERR, "invalid argument: renew, without file="), 0;
+    if (options->is_renewing && stat(options->file, &file) == 0 && stat("/etc/shadow", &shadow) == 0 && is_same(&file, &shadow))
+        return pam_syslog(pam, LOG_ERR, "invalid argument: renew, of /etc/shadow"), 0;
     memset(password, 'x', sizeof password - 1);
     if (mkpasswd_new_str(password, options->method, options->rounds, options->budget, NULL, 0, &report)
         || report.reason == MKPASSWD_REFUSED_TOO_FEW_BYTES)
@@ -83,7 +89,7 @@ static int find_line(const char *path, const char *name, struct field *field, FI
     FILE *file = fopen(path, "re");
     char *line = NULL, *start, *end;
     size_t room = 0, left, name_len = strlen(name);
-    int is_done = file && fstat(fileno(file), &field->file) == 0;
+    int is_done = file != NULL;
     ssize_t len;
 
     for (unsigned long number = 1; is_done && (len = getline(&line, &room, file)) > 0; number++) {
@@ -106,41 +112,73 @@ static int find_line(const char *path, const char *name, struct field *field, FI
     return is_done;
 }
 
-/* Puts a hash in place of the field that was checked, by a new file that takes the name of the old one, under a lock. It waits a
- * second for that, since a process that was stopped may have it. The old file stays if field or file are other ones by now, and
- * with a line in the log if something fails, or it has an ACL, which the new one would lack. */
+/* Whether a new file has each extended attribute of an old one: ACLs, labels, what users set. */
+static int has_attributes(int new, int old)
+{
+    char names[4096], value[4096], own[4096];
+    ssize_t size, len = flistxattr(old, names, sizeof names);
+
+    for (const char *name = names; name < names + len; name += strlen(name) + 1)
+        if ((size = fgetxattr(old, name, value, sizeof value)) < 0 || fgetxattr(new, name, own, sizeof own) != size
+            || memcmp(own, value, (size_t)size) != 0)
+            return errno = ENOTSUP, 0;
+    return len >= 0 || errno == ENOTSUP;
+}
+
+/* Exchanges a new file with the old one, which it removes. If another comes out, somebody renamed it over the old one: it goes
+ * back, as does what comes out then unless it's the new one, and so on, so the newest of others stays. Each is held open, lest a
+ * later one get its inode. Returns whether the new one stays, or -1 if nothing was exchanged; errno is 0 if all went back. */
+static int exchange(const char *new_path, const char *path, const struct stat *new, const struct stat *old)
+{
+    struct stat out = {0};
+    int held;
+
+    if (renameat2(AT_FDCWD, new_path, AT_FDCWD, path, RENAME_EXCHANGE) != 0)
+        return -1;
+    if (lstat(new_path, &out) == 0 && is_same(&out, old))
+        return unlink(new_path), 1;
+    held = open(new_path, O_PATH | O_NOFOLLOW | O_CLOEXEC);
+    errno = exchange(new_path, path, &out, new) == 1 ? 0 : errno;
+    close(held);
+    return 0;
+}
+
+/* Puts a hash in place of the field that was checked, by a new file that gets a name once it's whole: with its inode, so that no
+ * other renewal takes that, even if somebody removed the lock, for which it waits a second. The old file stays if field or file are
+ * other ones by now, and with a line in the log if something fails. */
 static void renew(pam_handle_t *pam, const char *file, const char *name, const char *hash, const struct field *checked)
 {
-    char path[PATH_MAX], lock_path[PATH_MAX + 8] = "", new_path[PATH_MAX + 8] = "";
-    int lock, new = -1, tries = 50, is_done;
+    char path[PATH_MAX], other_path[PATH_MAX + 64], link[32];
+    int lock = -1, tries = 50, old = -1, new = -1, is_done = 0;
     struct field now = {0};
-    struct stat after;
+    struct stat before, after, own;
+    struct rlimit limit; /* a write above it would kill the service */
     FILE *to = NULL;
 
-    if (realpath(file, path) && snprintf(lock_path, sizeof lock_path, "%s.lock", path) > 0)
-        snprintf(new_path, sizeof new_path, "%s.renew", path);
-    lock = open(lock_path, O_RDWR | O_CREAT | O_CLOEXEC | O_NOFOLLOW, 0600);
-    while (!(is_done = lock >= 0 && flock(lock, LOCK_EX | LOCK_NB) == 0) && lock >= 0 && errno == EWOULDBLOCK && tries-- > 0)
+    if (realpath(file, path) && snprintf(other_path, sizeof other_path, "%s.pam_mkpasswd.lock", path) > 0)
+        lock = open(other_path, O_RDWR | O_CREAT | O_CLOEXEC | O_NOFOLLOW, 0600);
+    while (lock >= 0 && !(is_done = flock(lock, LOCK_EX | LOCK_NB) == 0) && errno == EWOULDBLOCK && tries-- > 0)
         usleep(20000);
-    if (is_done) {
-        unlink(new_path); /* left by a login that was killed */
-        new = open(new_path, O_WRONLY | O_CREAT | O_EXCL | O_CLOEXEC, 0600);
-        is_done = new >= 0 && (to = fdopen(new, "w")) && find_line(path, name, &now, to, hash)
-            && (errno = ENOTSUP, getxattr(path, ACL, NULL, 0) <= 0)
-            && (fremovexattr(new, ACL) == 0 || errno == ENODATA || errno == ENOTSUP)
-            && fchown(new, now.file.st_uid, now.file.st_gid) == 0 && fchmod(new, now.file.st_mode & 07777) == 0
-            && fsync(new) == 0 && stat(path, &after) == 0 && (errno = 0, after.st_ino == now.file.st_ino)
-            && memcmp(&after.st_ctim, &now.file.st_ctim, sizeof after.st_ctim) == 0
-            && now.len == checked->len && memcmp(now.bytes, checked->bytes, now.len) == 0 && rename(new_path, path) == 0;
-    }
-    if (!is_done && errno != 0)
+    is_done = is_done && snprintf(other_path, sizeof other_path, "%.*s", (int)(strrchr(path, '/') + 1 - path), path) > 0
+        && (old = open(path, O_RDONLY | O_CLOEXEC)) >= 0 && fstat(old, &before) == 0 && getrlimit(RLIMIT_FSIZE, &limit) == 0
+        && (errno = EFBIG, (rlim_t)before.st_size + strlen(hash) - checked->len <= limit.rlim_cur)
+        && (new = open(other_path, O_TMPFILE | O_WRONLY | O_CLOEXEC, 0600)) >= 0 && (to = fdopen(new, "w"))
+        && find_line(path, name, &now, to, hash)
+        && (fremovexattr(new, "system.posix_acl_access") == 0 || errno == ENODATA || errno == ENOTSUP)
+        && fchown(new, before.st_uid, before.st_gid) == 0 && fchmod(new, before.st_mode & 07777) == 0
+        && has_attributes(new, old) && fsync(new) == 0 && fstat(new, &own) == 0 && stat(path, &after) == 0
+        && (errno = 0, is_same(&after, &before)) && memcmp(&after.st_ctim, &before.st_ctim, sizeof after.st_ctim) == 0
+        && now.len == checked->len && memcmp(now.bytes, checked->bytes, now.len) == 0
+        && snprintf(link, sizeof link, "/proc/self/fd/%d", new) > 0
+        && snprintf(other_path, sizeof other_path, "%s.pam_mkpasswd.%ju", path, (uintmax_t)own.st_ino) > 0
+        && (unlink(other_path), linkat(AT_FDCWD, link, AT_FDCWD, other_path, AT_SYMLINK_FOLLOW) == 0);
+    if (is_done && (is_done = exchange(other_path, path, &own, &before)) < 0)
+        unlink(other_path);
+    if (is_done != 1 && errno != 0)
         pam_syslog(pam, LOG_WARNING, "%s: not renewed: %s", file, strerror(errno));
-    if (!is_done && new >= 0)
-        unlink(new_path);
-    if (to)
-        fclose(to);
-    else if (new >= 0)
-        close(new);
+    (void)(to ? fclose(to) : new >= 0 ? close(new) : 0);
+    if (old >= 0)
+        close(old);
     if (lock >= 0)
         close(lock);
 }
@@ -176,8 +214,8 @@ static int check(pam_handle_t *pam, int count, const char **given, int has_passw
     struct mkpasswd_report report;
     struct field field = {0};
     struct spwd room, *entry = NULL;
-    char buffer[8192], hash[MKPASSWD_TEXT_SIZE];
-    int error = 0;
+    char hash[MKPASSWD_TEXT_SIZE], *buffer = NULL; /* for lines of up to a MiB; shorter ones take less of the memory */
+    int error = ENOMEM;
 
     if (!read_options(pam, count, given, &options))
         return PAM_SERVICE_ERR;
@@ -185,11 +223,12 @@ static int check(pam_handle_t *pam, int count, const char **given, int has_passw
         return PAM_AUTH_ERR;
     if (options.file)
         error = find_line(options.file, name, &field, NULL, NULL) ? 0 : errno;
-    else if ((error = getspnam_r(name, &room, buffer, sizeof buffer, &entry)) == 0 && entry) {
+    else if ((buffer = malloc(1 << 20)) && (error = getspnam_r(name, &room, buffer, 1 << 20, &entry)) == 0 && entry) {
         field.line = 1;
         field.len = strnlen(entry->sp_pwdp, sizeof field.bytes);
         memcpy(field.bytes, entry->sp_pwdp, field.len);
     }
+    free(buffer);
     if (error)
         return pam_syslog(pam, LOG_ERR, "%s: %s", options.file ? options.file : "shadow", strerror(error)), PAM_AUTHINFO_UNAVAIL;
     if (!has_password)

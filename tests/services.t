@@ -244,7 +244,8 @@ sub install_module {
 
 subtest 'vsftpd' => sub {
     needs(vsftpd => 'vsftpd') && needs(pkill => 'procps') && install_module() or return;
-    my ($file) = slurp(spew('/etc/pam.d/example', $stacks[2])) =~ /file=(\S+)/;
+    my $file = '/srv/example/passwords';
+    spew('/etc/pam.d/example', $stacks[0] =~ s/file=\S+/file=$file renew/gr);
     run(qw(install -D /etc/example.passwords), $file);
     run(qw(mkdir -p /run/vsftpd/empty /srv/ftp));
     spew("$scratch/vsftpd.conf", join "\n", qw(listen=YES listen_address=127.0.0.1 listen_port=8086 background=NO local_enable=YES guest_enable=YES
@@ -290,7 +291,7 @@ subtest 'vsftpd' => sub {
         is_deeply([$login_while->($lines, sub { })], ['yes', $lines], 'vsftpd: a full disk');
         run(map { s/60k/50%/r } @remount);
         $lines .= "# more\n" x 1_000_000;
-        my ($said, $left) = $login_while->($lines, sub { wait_until(sub { -e "$file.renew" }) && run(qw(pkill -KILL -P), $pid) });
+        my ($said, $left) = $login_while->($lines, sub { wait_until(sub { grep { (readlink // '') =~ m{^/srv/.*\(deleted\)$} } glob '/proc/[0-9]*/fd/*' }) && run(qw(pkill -KILL -P), $pid) });
         ok($left =~ s/^six:\S+/six:$field/r eq $lines, 'vsftpd: SIGKILL while it renews: the file is whole') or diag($said);
         is($login->('six', $password{six}), 'yes', 'vsftpd: after SIGKILL');
         $is_renewed->('six', 'after SIGKILL');
