@@ -81,7 +81,7 @@ subtest 'in node' => sub {
     my ($old, $new) = map { crypt 'password', $_ } '$1$xxxxxxxx', '$6$rounds=656000$saltsaltsaltsalt';
     my @audits = (['sha512crypt:1297572512:current', $new], ['md5crypt:1927022:outdated', $old], ['md5crypt:1927022:current', $old, 'md5crypt'],
         ['sha512crypt:1297572512:outdated', $new, 'sha512crypt', 656_001], ['md5crypt:1927022:over budget', $old, 'md5crypt', 0, 1_927_021],
-        ['sha512crypt:1297572512:dead', substr $new, 0, 99], ['md5crypt:1927022:dead', "$old."], ['locked', "!$old"], ['none', ''],
+        ['scrypt:268461988:over budget', '$7$DU..../....ab$' . 'a' x 42 . '.'], ['sha512crypt:1297572512:dead', substr $new, 0, 99], ['md5crypt:1927022:dead', "$old."], ['locked', "!$old"], ['none', ''],
         ['unknown', '$2b$05$x'], ['unknown', 'abJnggxhB/yWI'], ['no scheme', 'hello'], ['malformed:bad rounds', '$5$rounds=$x'],
         ['MKPASSWD_REFUSED_COST', $new, 'sha512crypt', 12], ['MKPASSWD_REFUSED_UNKNOWN_METHOD', $new, 'bcrypt']);
     my $audits = encode_json([map { [@$_[1 .. $#$_]] } @audits]);

@@ -110,7 +110,8 @@ export class Policy {
      *
      * The state is the first of these: `locked`, `none` (empty or null), `no scheme` (no hash at all, such as a password
      * that was stored as it is), `unknown` (another scheme), `malformed`, `over budget` (without a budget: that of an
-     * audit), `dead` (cut or changed, so no password matches it), `outdated` (as `needsRehash` says), `current`.
+     * audit, or so dear that `login` refuses it with every password), `dead` (cut or changed, so no password matches it),
+     * `outdated` (as `needsRehash` says), `current`.
      */
     describe(field: Text | null | undefined): Description;
 }
