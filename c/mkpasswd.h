@@ -217,13 +217,14 @@ MKPASSWD_EXPORT MKPASSWD_CHECKED MKPASSWD_NONNULL(5) int32_t mkpasswd_needs_reha
  * these rounds would not replace it. If method and rounds are valid, a 0 has the first of these reasons:
  *
  * - MKPASSWD_LOCKED, MKPASSWD_NO_HASH, or what is wrong with the setting;
- * - MKPASSWD_OVER_BUDGET: some password can cost more than `budget`;
+ * - MKPASSWD_OVER_BUDGET: some password can cost more than `budget`, or with a budget of 0 each too much for a login;
  * - MKPASSWD_DEAD: it is not a whole hash, so mkpasswd_verify() and mkpasswd_login() return 0 for every password. It was cut,
  *   there is more behind it, a character of it is in no digest, its salt is too long, or its rounds are out of range;
  * - MKPASSWD_REPLACED: mkpasswd_needs_rehash() returns 1.
  *
  * `method` and `rounds` are those that the service gives mkpasswd_new(). A budget of 0 stands here for the most that such a
- * hash can cost, and at least for 1297572512, the most that MKPASSWD_ROUNDS of sha512crypt can. */
+ * hash can cost, and at least for 1297572512, the most that MKPASSWD_ROUNDS of sha512crypt can. By it a hash is over budget
+ * also if mkpasswd_login() by the same method, rounds and MKPASSWD_TWICE would refuse even the empty password as such. */
 MKPASSWD_EXPORT MKPASSWD_CHECKED MKPASSWD_NONNULL(6) int32_t mkpasswd_audit(const uint8_t *stored, size_t stored_len,
     uint32_t method, uint32_t rounds, uint64_t budget, struct mkpasswd_report *report) MKPASSWD_READS(stored, 1, 2);
 

@@ -80,8 +80,8 @@ sub line {
         },
         replace => sub { is_replaced($setting, $made) ? '' : 'current' },
         within => sub {
-            ($made, my $own) = Model::audit_policy(@n[0, 1]);
-            return ($cost = cost($setting, 1024)) > ($n[2] || $own) ? 'over budget' : '';
+            ($made, my ($own, $limit)) = Model::audit_policy(@n[0, 1]);
+            return ($cost = cost($setting, 1024)) > ($n[2] || $own) || !$n[2] && cost($setting, 0) > $limit ? 'over budget' : '';
         },
         whole => sub { Model::is_whole($setting, $text) ? '' : 'dead' },
         keep => sub { is_replaced($setting, $made) ? 'replaced' : '' },
@@ -322,7 +322,7 @@ sub altered {
 subtest 'audits' => sub {
     my @hashes = map { $_->[1] } @known;
     ok(!(grep { !Model::is_whole(read_setting($_), $_) } @hashes), 'known hashes are whole');
-    # Settings at the audit's own budget, and above it.
+    # Settings at the audit's own budget, and above it. With scrypt's from 15 on a login by a cheaper policy refuses each password.
     my @settings = (new_setting(6, 0), new_setting(6, 656_001), map { setting(7, 'a' x 86, log => $_, r => 32, p => 1) } 15 .. 18);
     push @hashes, map { "$_->{front}\$" . '.' x $packed_length{ $_->{kind} } } @settings;
     my @fields = ((map { altered($_) } @hashes), @no_settings, @other_fields);

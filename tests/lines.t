@@ -34,6 +34,7 @@ subtest 'audits' => sub {
     my ($of_512, $of_256, $of_md5, $of_scrypt) =
         ('sha512crypt:656000:COST', 'sha256crypt:656000:COST', 'md5crypt:1000:COST', 'scrypt:16384/32/1:COST');
     my $cost = cost(read_setting($sha512), $limits{password});
+    my ($dear, $at_limit) = map { "\$7\$$_\$" . 'a' x 42 . '.' } scrypt_cost(15, 32, 1) . 'ab', scrypt_cost(14, 39, 1) . 'aaaaa';
     my $dearest = '$7$GU..../....' . 'a' x 86;    # N = 2^18, as -R 11 has it
     for (
         [0, "$of_512:current", $sha512], [0, "$of_512:current", $sha512, qw(-R 0 --budget 0)], [1, "$of_512:outdated", $sha512, qw(-R 656001)],
@@ -46,6 +47,12 @@ subtest 'audits' => sub {
         [0, "$of_512:current", $sha512, '--budget', $cost], [1, "$of_512:over budget", $sha512, '--budget', $cost - 1],
         [1, 'sha512crypt:999999999:COST:over budget', '$6$rounds=999999999$ab$x'], [1, 'scrypt:262144/32/1:COST:over budget', $dearest],
         [1, 'sha512crypt:999999999:COST:dead', '$6$rounds=999999999$aaaaaaaaaaaaaaaa', qw(-R 999999999)],
+
+        # Without a budget also the limit of a login. The empty password costs 268460964 with the first hash, and with the other
+        # 163609376, the limit by 422664 rounds.
+        [1, 'scrypt:32768/32/1:268461988:over budget', $dear], [1, 'scrypt:32768/32/1:268461988:over budget', $dear, qw(-m scrypt -R 6)],
+        [0, 'scrypt:32768/32/1:268461988:current', $dear, qw(-m scrypt)], [1, 'scrypt:32768/32/1:268461988:outdated', $dear, qw(--budget 268461988)],
+        [1, 'scrypt:16384/39/1:COST:outdated', $at_limit, qw(-R 422664)], [1, 'scrypt:16384/39/1:COST:over budget', $at_limit, qw(-R 422663)],
         [1, 'scrypt:262144/32/1:COST:dead', $dearest, qw(-m scrypt -R 11)],
 
         # The last character of a hash has two bits or four.

@@ -114,7 +114,8 @@ function callsOf(compiled) {
     }
     // What a stored field is, without a password: `message`, which is current, outdated, dead, over budget, locked, no hash or
     // what is wrong with its setting; `reason`, its name in mkpasswd.h; and `cost`, the most that a check can cost, or 0.
-    // Method and rounds are those of new hashes; a budget of 0 is what they can cost at most, and at least 1297572512.
+    // Method and rounds are those of new hashes; a budget of 0 is what they can cost at most, and at least 1297572512, and
+    // tells also what a login by them would always refuse as too costly.
     function audit(stored, method = 'sha512crypt', rounds = ROUNDS, budget = 0) {
         const { reason, cost } = reported('web_audit', bytesOf(stored), ...made(method, rounds), within(budget));
         if (reason === REFUSED_METHOD || reason === REFUSED_COST) throw refusal(reason);

@@ -175,7 +175,7 @@ def check(options):
 MODERN = ("yescrypt", "gost-yescrypt", "bcrypt")
 FINDINGS = {      # the colour of each, red or yellow for a problem, and what to do
     "no password": (31, "no password is asked for: set one, or lock the account with passwd -l NAME"),
-    "over budget": (31, "a login can take minutes: set a new password, or lock the account"),
+    "over budget": (31, "a login is refused, or can take minutes: set a new password, or lock the account"),
     "malformed": (31, "no password matches, and a login can fail badly: set a new password"),
     "dead": (31, "no password matches, since the hash was cut or changed: set a new password"),
     "no scheme": (31, "a password stored as it is, or a damaged hash: set a new password"),

@@ -334,7 +334,7 @@ sub hostile_chunk {
     if ($job->{is_audit}) { for (@lines) { s/:[^:]*\z// if chance(0.3) } }
     my $budget = budget($job->{is_audit} ? 10 ** 13 : $dear, map { judged($job, $_)->{cost} // () } @lines);
     $budget = one_of(undef, 0) if $job->{is_audit} && chance(0.5);
-    $job->{budget} = $budget if $budget;
+    @$job{qw(budget limit)} = ($budget, undef) if $budget;
     $job->{first_line} = between(1, 4294967295);
     push @{ $job->{words} }, defined $budget ? ('--budget', $budget) : (), '--first-line', $job->{first_line};
     my $input = join '', map { "$_\n" } @lines;

@@ -252,17 +252,18 @@ sub of_another_scheme {
     return $field =~ /\A${of_alphabet}{13}\z/ ? 'descrypt' : undef;
 }
 
-# The setting by which an audit judges, of the method and the cost that the words have, and its budget if they have none.
+# The setting by which an audit judges, of the method and the cost that the words have, and if they have no budget its own,
+# with what the empty password may cost.
 sub audit_policy {
     my ($kind, $cost) = @_;
     my @made = map { made_setting(@$_, 'a' x $most_salt{ $_->[0] }) } [$kind, $cost || $recommended{$kind}], [6, $recommended{6}];
-    return ($made[0], max(map { cost($_, $limits{password}) } @made));
+    return ($made[0], max(map { cost($_, $limits{password}) } @made), policy_limit($kind, $cost, 0));
 }
 
 # What an audit by a setting and a budget has to find in a field, the greatest cost of a hash with the field's setting, and
-# whether it counts for the status.
+# whether it counts for the status. With a limit the empty password may cost no more.
 sub audited {
-    my ($new, $budget, $field) = @_;
+    my ($new, $budget, $limit, $field) = @_;
     return (finding => 'none', is_bad => 1) if $field eq '';
     return (finding => 'locked') if $field =~ /\A[!*]/;
     my $setting = read_setting($field);
@@ -274,7 +275,8 @@ sub audited {
         return $has_dollar ? (finding => 'unknown') : (finding => 'no scheme', is_bad => 1);
     }
     my $cost = cost($setting, $limits{password});
-    my $state = $cost > $budget ? 'over budget' : !is_whole($setting, $field) ? 'dead' : is_replaced($setting, $new) ? 'outdated'
+    my $is_over = $cost > $budget || defined $limit && cost($setting, 0) > $limit;
+    my $state = $is_over ? 'over budget' : !is_whole($setting, $field) ? 'dead' : is_replaced($setting, $new) ? 'outdated'
         : 'current';
     my $finding = join ':', $types{ $setting->{kind} }, rounds_text($setting), $cost, $state;
     return (finding => $finding, cost => $cost, is_bad => $state ne 'current');
@@ -293,7 +295,7 @@ sub job {
         push @{ $job{words} }, '-S', $salt if defined $salt;
         @job{qw(setting salt)} = (made_setting($kind, $cost, $salt), $salt);
     }
-    @job{qw(setting budget)} = audit_policy($kind, $cost) if $job{is_audit};
+    @job{qw(setting budget limit)} = audit_policy($kind, $cost) if $job{is_audit};
     return \%job;
 }
 
@@ -306,7 +308,7 @@ sub judged {
     return { refusal => 'no name' } if $name eq '';
     return { refusal => 'name too long' } if length $name > $limits{name};
     return { refusal => 'no password field' } if @fields < ($job->{is_check} ? 3 : 2);
-    return { name => $name, audited(@$job{qw(setting budget)}, $fields[1] =~ s/:.*//sr) } if $job->{is_audit};
+    return { name => $name, audited(@$job{qw(setting budget limit)}, $fields[1] =~ s/:.*//sr) } if $job->{is_audit};
     my $password = $fields[-1];
     my $length = length $password;
     return { refusal => 'password too long' } if $length > $limits{password};

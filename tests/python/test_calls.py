@@ -472,6 +472,11 @@ def test_descriptions_by_the_recommended_rounds():
         assert states(**made) == ["outdated", "current", "over budget"]
     assert states(rounds=656_001, budget=2**42) == ["outdated", "outdated", "current"]
     assert states(method="scrypt") == ["outdated", "outdated", "over budget"]
+    # With N = 2^15 even the empty password costs 268463524, more than a login by sha512crypt admits without a budget.
+    dear = "$7$DU..../....%s$%s" % ("a" * 22, "." * 43)
+    for made, state in ({}, "over budget"), ({"budget": 2**42}, "outdated"), ({"method": "scrypt"}, "current"):
+        assert Policy(**made).describe(dear).state == state
+    assert type(error_of(verify, "", field=dear)) is TooCostly
 
 
 # The first is what md5crypt digests of 1,024 bytes.

@@ -1,15 +1,14 @@
 -- The limit of a policy: it admits a new hash of each password that has up to 64 bytes, and a login by it makes its hash, or
 -- none for a password whose new hash is above it.
-use Rattle.std.proofs.Common.{◌≡◌, ◌≢◌, ◌≤◌, ◌<◌, ◌+◌, ◌*◌, ◌⊎◌, ℕ, Bool, List, [], ◌∷◌, length, nat_lt, false, true, inl, inr, refl, sym, ap, subst, ◌∙◌, arith}
+use Rattle.std.proofs.Common.{◌≡◌, ◌≤◌, ◌<◌, ◌+◌, ◌*◌, ◌⊎◌, ℕ, Bool, List, [], ◌∷◌, length, nat_lt, false, true, inl, inr, ap, ◌∙◌, arith}
 use Rattle.std.specs.Prelude.{MatchBool, ◌||◌, if◌then◌else◌}
 use Rattle.std.proofs.Math.Nat.{mul-le-mul_right}
 use Rattle.prims_core.specs.Work.{no_work}
 use Rattle.prims_core.specs.declared.meter.Work.{Work}
-use Rattle.crypt_core.specs.Crypt.{IsAfterRefusedGrowth, allocates}
-use Rattle.crypt_core.specs.MadeSalts.{made_salt}
+use Rattle.crypt_core.specs.Crypt.{IsAfterRefusedGrowth}
 use Rattle.crypt_core.specs.MadeSettings.{salted}
 use Rattle.crypt_core.specs.Methods.{method_row}
-use Rattle.crypt_core.specs.Passwords.{IsPassword, password_limit}
+use Rattle.crypt_core.specs.Passwords.{password_limit}
 use Rattle.crypt_core.specs.Rounds.{Rounds}
 use Rattle.crypt_core.specs.Schemes.{method_of}
 use Rattle.crypt_core.specs.Settings.{SettingValue, Spells, SpellsCost, SpellsRounds}
@@ -27,9 +26,17 @@ use Rattle.call_core.proofs.MadeSchemes.{made_once}
 
 -- ---- It admits new hashes
 
+less_than_of_64 : (scheme : Scheme) (len : ℕ) → len ≤ 64 → new_cost scheme len ≤ new_cost scheme 64
+less_than_of_64 scheme len short = longest_of_64 scheme len (method_row (method_of scheme)).made_salt_length short
+
 pub short_admitted : (scheme : Scheme) (len : ℕ) → len ≤ 64 → new_cost scheme len ≤ limit_by scheme len
 short_admitted scheme len short =
-    let less : new_cost scheme len ≤ new_cost scheme 64 = longest_of_64 scheme len (method_row (method_of scheme)).made_salt_length short in
+    let less = less_than_of_64 scheme len short in
+    grind (arith, less)
+
+pub empty_admitted : (scheme : Scheme) → new_cost scheme 0 ≤ policy_limit scheme
+empty_admitted scheme =
+    let less = less_than_of_64 scheme 0 (omega arith) in
     grind (arith, less)
 
 -- a new hash costs the same with any salt

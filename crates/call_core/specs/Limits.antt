@@ -1,15 +1,15 @@
 -- The limit on the cost of a login and of a new hash: the budget of the call, or one that its method and rounds give.
 --
 -- `number` is that of a method, and `len` the length of a password in bytes.
-use Rattle.std.specs.Prelude.{ℕ, ◌*◌, ◌==◌, ◌||◌, ◌&&◌, Bool, true, if◌then◌else◌, max, nat_le, nat_lt, Option, Some, None}
+use Rattle.std.specs.Prelude.{ℕ, ◌==◌, ◌||◌, ◌&&◌, Bool, true, if◌then◌else◌, nat_le, nat_lt}
 use Rattle.std.specs.Option.{option_map_or}
 use Rattle.crypt_core.specs.MadeSettings.{made_scheme}
-use Rattle.crypt_core.specs.Methods.{method_numbered, method_row}
+use Rattle.crypt_core.specs.Methods.{method_numbered}
 use Rattle.crypt_core.specs.Passwords.{password_limit}
+-- The limit of a policy.
+pub use Rattle.crypt_core.specs.Policies.{new_cost, policy_limit}
 use Rattle.crypt_core.specs.Policies.{chosen_rounds}
 use Rattle.crypt_core.specs.Rounds.{clamped}
-use Rattle.crypt_core.specs.Schemes.{method_of}
-use Rattle.crypt_core.specs.Work.{cost_by}
 use Rattle.crypt_core.specs.declared.method.Method.{Method}
 use Rattle.crypt_core.specs.declared.method.Method.TheVariants as methods
 use Rattle.crypt_core.specs.declared.scheme.Scheme.{Scheme}
@@ -17,19 +17,6 @@ use Rattle.crypt_core.specs.declared.scheme.Scheme.{Scheme}
 -- The budget that stands for the limit of the policy: MKPASSWD_TWICE in C.
 abbrev pub twice : ℕ
 twice = 0
-
--- No limit of a policy is lower.
-abbrev pub limit_floor : ℕ
-limit_floor = 150000000
-
--- new_cost scheme len: the cost of a new hash with this scheme, of a password of this length.
-abbrev pub new_cost : Scheme → ℕ → ℕ
-new_cost scheme len = cost_by scheme len (method_row (method_of scheme)).made_salt_length
-
--- policy_limit scheme: twice what a new hash of a password of 64 bytes costs. It doesn't depend on the password of a login,
--- so nobody who logs in can raise it.
-abbrev pub policy_limit : Scheme → ℕ
-policy_limit scheme = max limit_floor (2 * new_cost scheme 64)
 
 -- limit_by scheme len: the limit of the policy. For a password that is too long, or whose new hash would be above the limit,
 -- it is 0, which admits no hash.

@@ -1,23 +1,15 @@
 //! The limit on the cost of a login and of a new hash: the budget of the call, or one that its method and rounds give.
-ghost use Rattle.std.specs.Prelude.{◌≡◌, ◌≢◌, ◌^◌, ◌<◌, ◌≤◌};
-ghost use Rattle.crypt_core.specs.Passwords.{password_limit};
+ghost use Rattle.std.specs.Prelude.{◌≡◌, ◌≢◌, ◌≤◌};
 ghost use Rattle.crypt_core.specs.declared.scheme.Scheme.{Scheme as Made};
 ghost use Rattle.call_core.specs.Arguments.{IsSchemeMade, TakesNewRounds};
 ghost use Rattle.call_core.specs.Limits.{limit_by, limit_of, new_cost, twice};
 
 use crate::reading::new_scheme_of;
-use crypt_core::made_salt::made_salt_length;
 use crypt_core::password::PASSWORD_LIMIT;
 use crypt_core::scheme::Scheme;
 
 /// The budget that stands for the limit of the policy.
 const TWICE: u64 = 0;
-
-/// No limit of a policy is lower.
-const LIMIT_FLOOR: u64 = 150_000_000;
-
-/// The length of a password whose new hash costs half the limit, in bytes.
-const HALF_LIMIT_LEN: usize = 64;
 
 /// Returns the limit on the cost of a hash, for a password of `password_len` bytes.
 ///
@@ -45,18 +37,9 @@ pub fn limit_of(method: u32, rounds: u32, budget: u64, password_len: usize) -> u
 fn limit_by(scheme: &Scheme, password_len: usize) -> u64
     ensures { result ≡ limit_by scheme.now password_len }
 {
-    let limit = LIMIT_FLOOR.max(2 * new_cost(scheme, HALF_LIMIT_LEN));
-    if password_len > PASSWORD_LIMIT || new_cost(scheme, password_len) > limit {
+    let limit = scheme.policy_limit();
+    if password_len > PASSWORD_LIMIT || scheme.new_cost(password_len) > limit {
         return 0;
     }
     limit
-}
-
-// Returns the cost of a new hash of a password of this length.
-fn new_cost(scheme: &Scheme, password_len: usize) -> u64
-    requires { password_len ≤ password_limit }
-    ensures cost { result ≡ new_cost scheme.now password_len }
-    ensures below { result < 2 ^ 42 }
-{
-    scheme.cost(password_len, made_salt_length(scheme.method()))
 }

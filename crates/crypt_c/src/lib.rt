@@ -20,7 +20,7 @@ ghost use Rattle.crypt_core.specs.Passwords.{IsPassword};
 ghost use Rattle.crypt_core.specs.Settings.{SettingValue, Spells};
 ghost use Rattle.crypt_core.specs.declared.scheme.Scheme.{Scheme};
 ghost use Rattle.call_core.specs.Arguments.{IsSchemeMade, TakesNewRounds};
-ghost use Rattle.call_core.specs.Audits.{Audits, IsCurrent};
+ghost use Rattle.call_core.specs.Audits.{Audits, ForeseesLogins, IsCurrent};
 ghost use Rattle.call_core.specs.Checks.{IsDead, Opens, Verifies};
 ghost use Rattle.call_core.specs.Hashes.{Hashes, HashesAnew};
 ghost use Rattle.call_core.specs.Limits.{limit_of, new_cost, policy_limit, twice};
@@ -224,15 +224,16 @@ pub extern "C" fn mkpasswd_needs_rehash(
 /// budget, and a new hash with the method and the rounds would not replace it.
 ///
 /// Rounds of 0 are the recommended ones, 656000 and for scrypt 7. A budget of 0 is the greatest cost of a hash with the
-/// method and the rounds, and at least that of sha512crypt with 656000 rounds. The report has the greatest cost of a hash
-/// with the setting in the field, for a password of 1,024 bytes. The call hashes and allocates nothing.
+/// method and the rounds, and at least that of sha512crypt with 656000 rounds; above it is also a hash for which a login by
+/// them and the limit of the policy refuses even the empty password. The report has the greatest cost of a hash with the
+/// setting in the field, for a password of 1,024 bytes. The call hashes and allocates nothing.
 ///
 /// # Errors
 ///
 /// - `UnknownMethod`, `Cost`: no method has the number, or a new hash cannot have the rounds.
 /// - `Locked`, `NoHash`: the field begins with `!` or `*`, or is empty.
 /// - `Setting`: any other field has no valid hash.
-/// - `OverBudget`: a hash with its setting can cost more than the budget.
+/// - `OverBudget`: the hash is over the budget.
 /// - `Dead`: no password matches the hash, because it is not whole.
 /// - `Replaced`: a new hash would replace it.
 #[unsafe(no_mangle)]
@@ -246,6 +247,7 @@ pub extern "C" fn mkpasswd_audit(
     ensures answers { Answers result report.new }
     ensures current { result ≡ pos 1 ↔ IsCurrent field.now method rounds budget }
     ensures audits { Audits field.now method rounds budget report.new }
+    ensures checked { ForeseesLogins field.now method rounds budget report.new }
     ensures idle { report.new.work ≡ no_work }
 {
     tell(report, report_audit(field, method, rounds, budget))

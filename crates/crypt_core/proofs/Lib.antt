@@ -15,6 +15,7 @@ pub mod MadeSettings
 pub mod Md5cryptLemmas
 pub mod MessageLists
 pub mod OneSetting
+pub mod OwnLimits
 pub mod PackedTexts
 pub mod PackingLemmas
 pub mod ParsedParts

@@ -1,5 +1,5 @@
--- The policy that this project recommends: rounds for new hashes, and a budget for audits.
-use Rattle.std.specs.Prelude.{ℕ, ◌==◌, if◌then◌else◌, max}
+-- The policy that this project recommends: rounds for new hashes, a limit on the cost of a login, and a budget for audits.
+use Rattle.std.specs.Prelude.{ℕ, ◌*◌, ◌==◌, if◌then◌else◌, max}
 use Rattle.crypt_core.specs.MadeSettings.{made_scheme}
 use Rattle.crypt_core.specs.Methods.{method_row}
 use Rattle.crypt_core.specs.Passwords.{password_limit}
@@ -19,6 +19,19 @@ recommended_rounds Scrypt = 7
 -- chosen_rounds method rounds: 0 stands for the recommended ones.
 abbrev pub chosen_rounds : Method → ℕ → ℕ
 chosen_rounds method rounds = if rounds == 0 then recommended_rounds method else rounds
+
+-- new_cost scheme len: the cost of a new hash with this scheme, of a password of this length in bytes.
+abbrev pub new_cost : Scheme → ℕ → ℕ
+new_cost scheme len = cost_by scheme len (method_row (method_of scheme)).made_salt_length
+
+-- No limit of a policy is lower.
+abbrev pub limit_floor : ℕ
+limit_floor = 150000000
+
+-- policy_limit scheme: what a login or a new hash may cost by a policy whose new hashes have this scheme: twice what one of a
+-- password of 64 bytes costs. It doesn't depend on the password of a login, so nobody who logs in can raise it.
+abbrev pub policy_limit : Scheme → ℕ
+policy_limit scheme = max limit_floor (2 * new_cost scheme 64)
 
 -- greatest_cost_by scheme: the cost of a hash of the longest password with this scheme and the longest salt.
 abbrev pub greatest_cost_by : Scheme → ℕ

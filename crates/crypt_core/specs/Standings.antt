@@ -1,6 +1,7 @@
 -- The standing of a stored hash, by the scheme of new hashes and a budget, without any password.
-use Rattle.std.specs.Prelude.{◌≡◌, ℕ, ◌<◌, List, Option, Some, None, true, false}
+use Rattle.std.specs.Prelude.{◌≡◌, ◌⊎◌, ℕ, ◌<◌, List, Option, Some, None, true, false}
 use Rattle.crypt_core.specs.Passwords.{password_limit}
+use Rattle.crypt_core.specs.Policies.{chosen_budget, policy_limit}
 use Rattle.crypt_core.specs.Replacements.{is_replaced_by}
 use Rattle.crypt_core.specs.Settings.{SettingValue}
 use Rattle.crypt_core.specs.StoredFields.{IsWhole}
@@ -18,15 +19,21 @@ IsAbove (Some budget) number = budget < number
 abbrev pub greatest_cost : SettingValue → ℕ
 greatest_cost kept = cost kept password_limit
 
+-- IsOverBudget new budget kept: hashing a password with this setting can cost more than the budget. A budget of 0 stands for an
+-- audit's own, if new hashes have the scheme `new`. By that one a hash is also over budget if even the empty password costs more
+-- than the limit of the policy, since no login by the policy checks any password against it.
+abbrev pub IsOverBudget : Scheme → ℕ → SettingValue → Type 0
+IsOverBudget new budget kept = (chosen_budget new budget < greatest_cost kept) ⊎ ((budget ≡ 0) × (policy_limit new < cost kept 0))
+
 -- HasStanding new budget text kept standing: a stored hash with this text, which spells this setting, has this standing.
---   OverBudget  hashing a password with it can cost more than the budget
---   Dead        it can't, and the text is not whole
---   Outdated    it can't, the text is whole, and the scheme `new` of new hashes replaces that of the setting
---   Current     it can't, the text is whole, and the scheme doesn't
-abbrev pub HasStanding : Scheme → Option ℕ → List ℕ → SettingValue → Standing → Type 0
-HasStanding new budget text kept OverBudget = IsAbove budget (greatest_cost kept)
-HasStanding new budget text kept Dead = (¬ IsAbove budget (greatest_cost kept)) × (¬ IsWhole text kept)
+--   OverBudget  it is over the budget
+--   Dead        it is not, and the text is not whole
+--   Outdated    it is not, the text is whole, and the scheme `new` of new hashes replaces that of the setting
+--   Current     it is not, the text is whole, and the scheme doesn't
+abbrev pub HasStanding : Scheme → ℕ → List ℕ → SettingValue → Standing → Type 0
+HasStanding new budget text kept OverBudget = IsOverBudget new budget kept
+HasStanding new budget text kept Dead = (¬ IsOverBudget new budget kept) × (¬ IsWhole text kept)
 HasStanding new budget text kept Outdated =
-    (¬ IsAbove budget (greatest_cost kept)) × IsWhole text kept × (is_replaced_by kept.scheme new ≡ true)
+    (¬ IsOverBudget new budget kept) × IsWhole text kept × (is_replaced_by kept.scheme new ≡ true)
 HasStanding new budget text kept Current =
-    (¬ IsAbove budget (greatest_cost kept)) × IsWhole text kept × (is_replaced_by kept.scheme new ≡ false)
+    (¬ IsOverBudget new budget kept) × IsWhole text kept × (is_replaced_by kept.scheme new ≡ false)

@@ -1,8 +1,10 @@
 //! The standing of a stored hash, by the scheme of new hashes and a budget. It takes no password, and nothing is hashed.
 
-ghost use Rattle.std.specs.Prelude.{◌≡◌, ◌↔◌, ℕ, List, IsTrue};
+ghost use Rattle.std.specs.Prelude.{◌≡◌, ◌≢◌, ◌↔◌, ◌≤◌, ℕ, List, IsTrue};
 ghost use Rattle.crypt_core.specs.Fits.{Fits};
-ghost use Rattle.crypt_core.specs.Standings.{HasStanding, IsAbove, greatest_cost};
+ghost use Rattle.crypt_core.specs.Policies.{policy_limit};
+ghost use Rattle.crypt_core.specs.Standings.{HasStanding, IsAbove, IsOverBudget, greatest_cost};
+ghost use Rattle.crypt_core.specs.Work.{cost};
 
 use crate::password::PASSWORD_LIMIT;
 use crate::scheme::Scheme;
@@ -12,7 +14,8 @@ use crate::work::cost;
 /// The standing of a stored hash: the first of these that applies.
 #[derive(Clone, Copy, Debug, PartialEq, Eq)]
 pub enum Standing {
-    /// Hashing a password with its setting can cost more than the budget.
+    /// Hashing a password with its setting can cost more than the budget. By a budget of 0, which is that of an audit
+    /// ([`Scheme::audit_budget`]), also: even the empty password costs more than the limit of the policy.
     OverBudget,
     /// No password matches it, because it is not [whole](StoredHash::is_whole).
     Dead,
@@ -31,12 +34,14 @@ impl StoredHash<'_> {
         cost(self.setting(), PASSWORD_LIMIT)
     }
 
-    /// Returns the standing, if new hashes have the scheme `new`. Without a budget no hash is over it.
-    pub fn standing(&self, new: &Scheme, budget: Option<u64>) -> Standing
+    /// Returns the standing, if new hashes have the scheme `new`. A budget of 0 is that of an audit by this scheme, and a hash
+    /// within it is one that a login by the [limit](Scheme::policy_limit) of the policy checks, at least with short passwords.
+    pub fn standing(&self, new: &Scheme, budget: u64) -> Standing
         ensures standing { HasStanding new.now budget self.now.text self.now.setting result }
+        ensures checked { result ≢ Standing.OverBudget → budget ≡ 0 → cost self.now.setting 0 ≤ policy_limit new.now }
         ensures shut { result ≡ Standing.Dead → (password : List ℕ) → ¬ Fits password self.now.text }
     {
-        if is_above(budget, self.greatest_cost()) {
+        if self.is_over_budget(new, budget) {
             Standing::OverBudget
         } else if !self.is_whole() {
             Standing::Dead
@@ -45,6 +50,16 @@ impl StoredHash<'_> {
         } else {
             Standing::Current
         }
+    }
+
+    // Returns whether it is over the budget.
+    fn is_over_budget(&self, new: &Scheme, budget: u64) -> bool
+        ensures { IsTrue result ↔ IsOverBudget new.now budget self.now.setting }
+    {
+        if self.greatest_cost() > new.chosen_budget(budget) {
+            return true;
+        }
+        budget == 0 && cost(self.setting(), 0) > new.policy_limit()
     }
 }
 

@@ -18,7 +18,7 @@ ghost use Rattle.crypt_core.specs.Settings.{SettingValue, Spells};
 ghost use Rattle.crypt_core.specs.Work.{cost};
 ghost use Rattle.crypt_core.specs.declared.scheme.Scheme.{Scheme};
 ghost use Rattle.call_core.specs.Arguments.{IsSchemeMade, TakesNewRounds};
-ghost use Rattle.call_core.specs.Audits.{Audits, IsCurrent};
+ghost use Rattle.call_core.specs.Audits.{Audits, ForeseesLogins, IsCurrent};
 ghost use Rattle.call_core.specs.Checks.{IsDead, NeedsNoMemory, Opens, Verifies};
 ghost use Rattle.call_core.specs.Hashes.{Hashes};
 ghost use Rattle.call_core.specs.Limits.{limit_of};
@@ -237,8 +237,8 @@ pub extern "C" fn web_setting(
 /// - `UnknownMethod`, `Cost`: no method has the number, or a new hash cannot have the rounds.
 /// - `Locked`, `NoHash`: the field begins with `!` or `*`, or is empty.
 /// - `Setting`: any other field has no valid hash.
-/// - `OverBudget`, `Dead`, `Replaced`: a hash with its setting can cost more than the budget; no password matches the hash,
-///   because it is not whole; a new hash would replace it.
+/// - `OverBudget`, `Dead`, `Replaced`: the hash is over the budget; no password matches it, because it is not whole; a new
+///   hash would replace it.
 #[unsafe(no_mangle)]
 pub extern "C" fn web_audit(
     field: &[u8],
@@ -250,6 +250,7 @@ pub extern "C" fn web_audit(
     ensures answers { Answers result report.new }
     ensures current { result ≡ pos 1 ↔ IsCurrent field.now method rounds budget }
     ensures audits { Audits field.now method rounds budget report.new }
+    ensures checked { ForeseesLogins field.now method rounds budget report.new }
     ensures idle { report.new.work ≡ no_work }
 {
     tell(report, report_audit(field, method, rounds, budget))

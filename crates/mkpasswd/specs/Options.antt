@@ -12,10 +12,9 @@ use Rattle.clap.specs.declared.error.Error.{Error}
 use Rattle.clap.specs.declared.error.kind.ErrorKind.TheVariants as kind
 use Rattle.crypt_core.specs.MadeSettings.{BreaksMake, made_scheme, make_faults}
 use Rattle.crypt_core.specs.Methods.{method_named}
-use Rattle.crypt_core.specs.Policies.{chosen_budget, chosen_rounds}
+use Rattle.crypt_core.specs.Policies.{chosen_rounds}
 use Rattle.crypt_core.specs.Rules.{IsFirstBroken}
 use Rattle.crypt_core.specs.declared.method.Method.{Method}
-use Rattle.crypt_core.specs.declared.scheme.Scheme.{Scheme}
 use Rattle.run_core.specs.Makers.{Recipe}
 use Rattle.run_core.specs.declared.job.Job.{Job}
 use Rattle.run_core.specs.declared.job.PasswordFrom.TheVariants.{Word, Input}
@@ -77,13 +76,6 @@ rounds_of rows = unwrap_or (number_in (codes "rounds") rows) 0
 abbrev pub job_rounds : Method → List Row → ℕ
 job_rounds method rows = if is_set (codes "audit") rows then chosen_rounds method (rounds_of rows) else rounds_of rows
 
--- The budget of the job is the number of `--budget`, and by default there is none. For an audit none, or 0, stands for the
--- budget of an audit by the job's scheme.
-abbrev pub job_budget : Scheme → List Row → Option ℕ
-job_budget scheme rows =
-    let given = number_in (codes "budget") rows in
-    if is_set (codes "audit") rows then Some (chosen_budget scheme (unwrap_or given 0)) else given
-
 -- Lines are numbered from the number of `--first-line`, and by default from 1.
 abbrev pub first_line_of : List Row → ℕ
 first_line_of rows = unwrap_or (number_in (codes "first-line") rows) 1
@@ -122,12 +114,13 @@ abbrev pub IsMaker : List Row → Recipe → Type 0
 IsMaker rows maker = (method : Method) × (method_named (type_of rows) ≡ Some method)
     × (maker ≡ record { scheme = made_scheme method (job_rounds method rows); salt = given_salt rows })
 
--- The arguments ask for this job. `--rehash` asks for rehashes and `--work` for counts.
+-- The arguments ask for this job. `--rehash` asks for rehashes and `--work` for counts. The budget is the number of `--budget`,
+-- and by default there is none.
 pub record IsJob (rows : List Row) (job : Job) : Type 0 where
   pub maker : IsMaker rows job.maker
   pub rehash : job.rehash ≡ is_set (codes "rehash") rows
   pub work : job.work ≡ is_set (codes "work") rows
-  pub budget : job.budget ≡ job_budget job.maker.scheme rows
+  pub budget : job.budget ≡ number_in (codes "budget") rows
   pub first_line : job.first_line ≡ first_line_of rows
 
 -- The arguments ask for this plan: its job, in the mode that is given. The password is PASSWORD or the first line of

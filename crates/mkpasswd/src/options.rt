@@ -4,7 +4,7 @@ ghost use Rattle.std.specs.Prelude.{◌^◌, ◌≡◌, ◌≢◌, List, [], Non
 ghost use Rattle.clap.specs.Words.{app_of, fault_of, first_of, kind_of, matches_of, rule_of};
 ghost use Rattle.run_core.specs.Makers.{bytes_of};
 ghost use Rattle.crypt_core.specs.Methods.{method_named};
-ghost use Rattle.mkpasswd.specs.Options.{IsMaker, IsPlan, Plans, Refuses, command, flag_rule, given_salt, is_set, job_budget, job_rounds, number_in, option_rule, type_of, value_rule};
+ghost use Rattle.mkpasswd.specs.Options.{IsMaker, IsPlan, Plans, Refuses, command, flag_rule, given_salt, is_set, job_rounds, number_in, option_rule, type_of, value_rule};
 ghost use Rattle.mkpasswd.specs.Private.Options.{ChecksRule, HasRule, IsNumber};
 
 use crate::fault::UsageFault;
@@ -13,7 +13,6 @@ use clap::builder::ValueParser;
 use clap::error::ErrorKind;
 use clap::{Arg, ArgAction, ArgMatches, Command, value_parser};
 use crypt_core::method::Method;
-use crypt_core::scheme::Scheme;
 use crypt_core::version::VERSION;
 use std::alloc::{AllocError, Global};
 use std::marker::Model;
@@ -205,28 +204,15 @@ fn job_rounds(given: &Arguments<'_>, method: Method) -> u32
     }
 }
 
-// Returns the budget of the job. An audit without `--budget`, or with 0, has one that admits each hash with its scheme.
-fn job_budget(given: &Arguments<'_>, scheme: &Scheme) -> Option<u64>
-    ensures { result ≡ job_budget scheme.now given.now }
-{
-    let budget = given.number64("budget");
-    if given.has("audit") {
-        Some(scheme.chosen_budget(budget.unwrap_or(0)))
-    } else {
-        budget
-    }
-}
-
 // Returns the plan of arguments that break no rule.
 fn planned(alloc: Global, given: &Arguments<'_>, maker: Maker) -> Result<Plan, AllocError>
     ensures { IsMaker given.now maker → IfOk result (IsPlan given.now) }
 {
-    let budget = job_budget(given, &maker.scheme());
     let job = Job {
         maker,
         rehash: given.has("rehash"),
         work: given.has("work"),
-        budget,
+        budget: given.number64("budget"),
         first_line: given.number32("first-line").unwrap_or(1),
     };
     if let Some(password) = given.text("password") {

@@ -1,8 +1,10 @@
--- What an audit foresees of later checks: which lines are within the budget, and which are refused by every password.
-use Rattle.std.proofs.Common.{◌≡◌, ℕ, List, [], Ok, inl, inr, refl, sym, ap, subst, ◌∙◌, arith, length, Some}
+-- What an audit foresees of later checks: which lines are within the budget, and which are refused by every password; and which
+-- hashes a login checks.
+use Rattle.std.proofs.Common.{◌≡◌, ◌≤◌, ◌<◌, ℕ, List, [], Ok, inl, inr, refl, sym, ap, subst, ◌∙◌, arith, length, Some}
 use Rattle.std.proofs.lemmas.Option.{none-some}
 use Rattle.rand_core.specs.Stream.{Stream}
 use Rattle.crypt_core.specs.Fits.{Fits}
+use Rattle.crypt_core.specs.Policies.{policy_limit}
 use Rattle.crypt_core.specs.Readings.{IsReadOneWay}
 use Rattle.crypt_core.specs.Settings.{SettingValue, Spells}
 use Rattle.crypt_core.specs.StoredFields.{IsLocked, IsWhole}
@@ -10,14 +12,15 @@ use Rattle.crypt_core.specs.Work.{cost}
 use Rattle.crypt_core.proofs.Refusals.{one_reading}
 use Rattle.crypt_core.proofs.WholeHashes.{fits_whole}
 use Rattle.crypt_core.proofs.WorkBounds.{longest}
-use Rattle.crypt_core.specs.Standings.{IsAbove, greatest_cost}
+use Rattle.crypt_core.specs.Standings.{IsAbove, IsOverBudget, greatest_cost}
 use Rattle.run_core.specs.Answers.{Answer, Hashing}
-use Rattle.run_core.specs.JobOptions.{without_rehash}
+use Rattle.run_core.specs.JobOptions.{given_budget, without_rehash}
 use Rattle.run_core.specs.LineAnswers.{ComesTo, IsCostly, IsPasswordAnswer}
-use Rattle.run_core.specs.LineOptions.{Foresees, Refutes}
+use Rattle.run_core.specs.LineOptions.{Foresees, ForeseesLogins, Refutes}
 use Rattle.run_core.specs.Lines.{HasParts, IsSound, Parts}
 use Rattle.run_core.specs.declared.answer.Outcome.{Outcome}
 use Rattle.run_core.specs.declared.answer.Outcome.TheVariants.{Hashed, Match, Rehashed, Misfit, NoHash, Locked, Audited}
+use Rattle.crypt_core.specs.declared.scheme.Scheme.{Scheme}
 use Rattle.crypt_core.specs.declared.standing.Standing.TheVariants.{OverBudget}
 use Rattle.run_core.specs.declared.job.Job.{Job}
 use Rattle.run_core.specs.declared.line.Kind.TheVariants.{Check}
@@ -45,7 +48,18 @@ foreseen job field kept line parts spells once within has is costly =
 pub foresees : (job : Job) → Foresees job
 foresees job field scheme most OverBudget finds other checking same line parts has is = absurd (other refl)
 foresees job field scheme most standing (kept, spells, is_scheme, is_number, stands) other checking same line parts has is =
-    foreseen checking field kept line parts spells (one_reading field) (rw same stands.0) has is
+    foreseen checking field kept line parts spells (one_reading field) (rw same (λ above. stands.0 (inl above))) has is
+
+-- a hash within the audit's own budget is within the limit of the policy, if the password is empty
+limited : (new : Scheme) (budget : ℕ) (kept : SettingValue) → ¬ IsOverBudget new budget kept → budget ≡ 0 → cost kept 0 ≤ policy_limit new
+limited new budget kept within default =
+    let never : ¬ (policy_limit new < cost kept 0) = λ above. within (inr (default, above)) in
+    omega (arith, never)
+
+pub foresees_logins : (job : Job) → ForeseesLogins job
+foresees_logins job field scheme most OverBudget finds other default = absurd (other refl)
+foresees_logins job field scheme most standing (kept, spells, is_scheme, is_number, stands) other default =
+    (kept, spells, limited job.maker.scheme (given_budget job) kept stands.0 default)
 
 -- a field that is not whole is no match
 misfits : (job : Job) (stream : Stream) (parts : Parts) (field : List ℕ) (kept : SettingValue) (outcome : Outcome) (made : List Hashing)

@@ -13,6 +13,7 @@ use Rattle.crypt_core.specs.declared.setting.fault.SettingFault.{SettingFault}
 use Rattle.crypt_core.specs.declared.setting.fault.SettingFault.TheVariants.{UnknownScheme}
 use Rattle.crypt_core.specs.declared.standing.Standing.{Standing}
 use Rattle.crypt_core.specs.declared.standing.Standing.TheVariants.{Current, Outdated, Dead, OverBudget}
+use Rattle.run_core.specs.JobOptions.{given_budget}
 use Rattle.run_core.specs.OtherSchemes.{HasFront, IsOf, other_scheme_name}
 use Rattle.run_core.specs.Texts.{colon, slash}
 use Rattle.run_core.specs.declared.audit.Finding.{Finding}
@@ -41,7 +42,7 @@ IsUnhashed field = IsStored field × (fault : SettingFault) × IsRefused field f
 --   NoScheme   none of the above
 abbrev pub Finds : Job → List ℕ → Finding → Type 0
 Finds job field (Hash scheme most standing) = (kept : SettingValue) × Spells field kept × (scheme ≡ kept.scheme) × (most ≡ greatest_cost kept)
-    × HasStanding job.maker.scheme job.budget field kept standing
+    × HasStanding job.maker.scheme (given_budget job) field kept standing
 Finds job field NoHash = field ≡ []
 Finds job field Locked = IsLocked field
 Finds job field (Malformed fault) = IsStored field × HasFront field (codes "$") × IsRefused field fault × (fault ≢ UnknownScheme)
@@ -49,8 +50,8 @@ Finds job field (Other other) = IsUnhashed field × IsOf other field
 Finds job field Unknown = IsUnhashed field × HasFront field (codes "$") × IsOfNone field
 Finds job field NoScheme = IsUnhashed field × (¬ HasFront field (codes "$")) × IsOfNone field
 
--- needs_care finding is true if the account needs care: its hash is out of date, matches no password, can cost more than
--- the budget, is malformed or of no scheme, or it has none.
+-- needs_care finding is true if the account needs care: its hash is out of date, matches no password, is over the
+-- budget, malformed or of no scheme, or it has none.
 abbrev pub needs_care : Finding → Bool
 needs_care (Hash scheme most Current) = false
 needs_care Locked = false

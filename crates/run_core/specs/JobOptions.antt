@@ -1,6 +1,6 @@
 -- The options of a job: a budget, which limits the cost of a line, and rehashes of passwords whose stored hash is out
 -- of date.
-use Rattle.std.specs.Prelude.{ℕ, ◌+◌, ◌&&◌, Bool, false, None, if◌then◌else◌}
+use Rattle.std.specs.Prelude.{ℕ, ◌+◌, ◌&&◌, Bool, false, None, if◌then◌else◌, unwrap_or}
 use Rattle.crypt_core.specs.Replacements.{is_replaced_by}
 use Rattle.crypt_core.specs.Settings.{SettingValue}
 use Rattle.crypt_core.specs.Work.{cost}
@@ -10,6 +10,10 @@ use Rattle.run_core.specs.declared.job.Job.{Job}
 -- without_budget job is the job without a budget.
 abbrev pub without_budget : Job → Job
 without_budget job = record job { budget = None }
+
+-- given_budget job is the budget that an audit is given: that of the job, or 0, which stands for the audit's own, if it has none.
+abbrev pub given_budget : Job → ℕ
+given_budget job = unwrap_or job.budget 0
 
 -- is_outdated job kept is true if the job asks for rehashes, and its scheme replaces that of the setting.
 abbrev pub is_outdated : Job → SettingValue → Bool

@@ -1,16 +1,18 @@
 -- What a budget and rehashes change in the answers to lines, and what they leave unchanged; and what an audit says of
 -- later checks.
-use Rattle.std.specs.Prelude.{◌≡◌, ◌≢◌, ℕ, ◌⊎◌, ◌↔◌, List, true, Some, Ok}
+use Rattle.std.specs.Prelude.{◌≡◌, ◌≢◌, ◌≤◌, ℕ, ◌⊎◌, ◌↔◌, List, true, Some, Ok}
 use Rattle.rand_core.specs.Stream.{Stream}
 use Rattle.crypt_core.specs.Crypt.{crypt}
-use Rattle.crypt_core.specs.Settings.{SettingValue}
+use Rattle.crypt_core.specs.Policies.{chosen_budget, policy_limit}
+use Rattle.crypt_core.specs.Settings.{SettingValue, Spells}
 use Rattle.crypt_core.specs.StoredFields.{IsStored}
+use Rattle.crypt_core.specs.Work.{cost}
 use Rattle.crypt_core.specs.declared.scheme.Scheme.{Scheme}
 use Rattle.crypt_core.specs.declared.standing.Standing.{Standing}
 use Rattle.crypt_core.specs.declared.standing.Standing.TheVariants.{OverBudget, Dead}
 use Rattle.run_core.specs.Answers.{Answer}
 use Rattle.run_core.specs.Audits.{Finds}
-use Rattle.run_core.specs.JobOptions.{is_outdated, without_budget, without_rehash}
+use Rattle.run_core.specs.JobOptions.{given_budget, is_outdated, without_budget, without_rehash}
 use Rattle.run_core.specs.LineAnswers.{HasSetting, IsAnswer, IsCostly, refusal}
 use Rattle.run_core.specs.Lines.{HasParts, IsSound, Parts}
 use Rattle.run_core.specs.declared.answer.Outcome.TheVariants.{Misfit}
@@ -60,14 +62,21 @@ RenewsNone kind job = (number : ℕ) → (line : List ℕ) → (stream : Stream)
 
 -- ---- audits
 
--- Foresees job: if an audit finds that a field is a hash within the budget, then no line with this field is over the same
+-- Foresees job: if an audit finds that a field is a hash within its budget, then no line with this field is over the same
 -- budget in a check without rehashes, whatever its password is.
 abbrev pub Foresees : Job → Type 0
 Foresees job = (field : List ℕ) → (scheme : Scheme) → (most : ℕ) → (standing : Standing)
     → Finds job field (Hash scheme most standing) → standing ≢ OverBudget
-    → (checking : Job) → checking.budget ≡ job.budget
+    → (checking : Job) → checking.budget ≡ Some (chosen_budget job.maker.scheme (given_budget job))
     → (line : List ℕ) → (parts : Parts) → HasParts Check line parts → parts.field ≡ Some field
     → ¬ IsCostly Check (without_rehash checking) line
+
+-- ForeseesLogins job: if an audit by its own budget finds that a field is a hash within it, then a login whose new hashes have
+-- the job's scheme can check this hash within the limit of the policy, at least with the empty password.
+abbrev pub ForeseesLogins : Job → Type 0
+ForeseesLogins job = (field : List ℕ) → (scheme : Scheme) → (most : ℕ) → (standing : Standing)
+    → Finds job field (Hash scheme most standing) → standing ≢ OverBudget → given_budget job ≡ 0
+    → (kept : SettingValue) × Spells field kept × (cost kept 0 ≤ policy_limit job.maker.scheme)
 
 -- Refutes job: if an audit finds that a field is a dead hash, then every line with this field that breaks no rule and is
 -- not costly gets the verdict `no` in any check, whatever its password is.

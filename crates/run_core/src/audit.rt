@@ -75,7 +75,7 @@ fn audit_hash(job: &Job, stored: &StoredHash<'_>) -> Finding
     Finding::Hash {
         scheme: stored.setting().scheme(),
         most: stored.greatest_cost(),
-        standing: stored.standing(&job.maker.scheme(), job.budget),
+        standing: stored.standing(&job.maker.scheme(), job.budget.unwrap_or(0)),
     }
 }
 

@@ -31,7 +31,8 @@ pub struct Job {
     pub work: bool,
     /// The most that a line may cost, in bytes digested and mixed ([`cost`](crypt_core::work::cost)).
     ///
-    /// A single password has no budget. An audit compares it with the cost of each hash.
+    /// A single password has no budget. An audit compares it with the cost of each hash; without one, or with 0, it takes
+    /// [that of its scheme](Scheme::audit_budget).
     pub budget: Option<u64>,
     /// The number of the first line, by which the messages about refused lines count.
     pub first_line: u32,

@@ -7,7 +7,7 @@ ghost use Rattle.crypt_core.specs.Work.{cost};
 ghost use Rattle.run_core.specs.Answers.{Answer};
 ghost use Rattle.crypt_core.specs.Standings.{greatest_cost};
 ghost use Rattle.run_core.specs.Devices.{HasRoomWithinRun, MovesBytes};
-ghost use Rattle.run_core.specs.LineOptions.{Foresees, OnlyRefuses, OnlyRenews, Refutes, RenewsNone};
+ghost use Rattle.run_core.specs.LineOptions.{Foresees, ForeseesLogins, OnlyRefuses, OnlyRenews, Refutes, RenewsNone};
 ghost use Rattle.run_core.specs.LineRuns.{RunsLines};
 ghost use Rattle.run_core.specs.Lines.{name_limit};
 ghost use Rattle.run_core.specs.Private.Answers.{Renders, counted, outcome_of};
@@ -153,7 +153,8 @@ pub fn run_check<I: Read, O: Write, E: Write, R: Rng>(
 
 /// Audits the field of each line `name:field`, or `name:field:` and anything, and writes what it finds to `out`.
 ///
-/// - `name:METHOD:ROUNDS:COST:over budget`: `field` spells a setting, and COST exceeds the job's `budget`.
+/// - `name:METHOD:ROUNDS:COST:over budget`: `field` spells a setting, and its hash is over the job's `budget`
+///   ([`Standing::OverBudget`]).
 /// - `name:METHOD:ROUNDS:COST:dead`: it spells any other, but no password matches `field`, because it is not
 ///   [whole](crypt_core::stored::StoredHash::is_whole).
 /// - `name:METHOD:ROUNDS:COST:outdated`: it is whole, and the job's settings replace its setting
@@ -185,6 +186,7 @@ pub fn run_check<I: Read, O: Write, E: Write, R: Rng>(
 ///
 /// [`Setting::replaced_by`]: crypt_core::setting::Setting::replaced_by
 /// [`SettingFault`]: crypt_core::setting::SettingFault
+/// [`Standing::OverBudget`]: crypt_core::standing::Standing::OverBudget
 pub fn run_audit<I: Read, O: Write, E: Write>(
     alloc: Global,
     job: &Job,
@@ -204,6 +206,7 @@ pub fn run_audit<I: Read, O: Write, E: Write>(
     ensures longest { (kept : SettingValue) → (password_length : ℕ) → password_length ≤ password_limit
         → cost kept password_length ≤ greatest_cost kept }
     ensures foresees { Foresees job.now }
+    ensures checked { ForeseesLogins job.now }
     ensures refutes { Refutes job.now }
     ensures rehash { RenewsNone Audit job.now }
 {

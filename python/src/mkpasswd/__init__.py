@@ -293,7 +293,7 @@ class Policy:
         - "unknown" for another scheme, such as yescrypt, which is not judged;
         - "malformed" if its setting is invalid. `reason` is then the first rule that it breaks;
         - "over budget" if some password can cost more than the budget, or without one more than by this policy, or by the
-          recommended one, any password can;
+          recommended one, any password can; without one also if login() would refuse each password as too costly;
         - "dead" if no password matches it, since it was cut or changed;
         - "outdated" if needs_rehash() is true, and otherwise "current".
 

@@ -1,4 +1,4 @@
-use Rattle.std.proofs.Common.{◌≡◌, ap, rules}
+use Rattle.std.proofs.Common.{◌≡◌}
 use Rattle.call_core.specs.Arguments.{TakesNewRounds}
 use Rattle.call_core.proofs.MadeSchemes.{made_once}
 use Rattle.call_core.proofs.PolicyLimits.{short_admitted}

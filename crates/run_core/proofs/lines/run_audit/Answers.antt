@@ -1,5 +1,5 @@
 use Rattle.run_core.proofs.AuditsSpare.{spares}
-use Rattle.run_core.proofs.ForeseenChecks.{foresees, refutes}
+use Rattle.run_core.proofs.ForeseenChecks.{foresees, foresees_logins, refutes}
 use Rattle.crypt_core.proofs.WorkBounds.{longest}
 use Rattle.run_core.proofs.lines.run_audit.Goals as goal
 
@@ -14,6 +14,9 @@ returns-clause-longest g c = longest
 
 pub returns-clause-foresees : goal.returns-clause-foresees
 returns-clause-foresees g c = foresees c.args.job.now
+
+pub returns-clause-checked : goal.returns-clause-checked
+returns-clause-checked g c = foresees_logins c.args.job.now
 
 pub returns-clause-refutes : goal.returns-clause-refutes
 returns-clause-refutes g c = refutes c.args.job.now

@@ -1,0 +1,26 @@
+-- The limit of a policy admits a check of the empty password against each hash with the policy's scheme, also with a longer
+-- salt than new hashes have.
+use Rattle.std.proofs.Common.{ℕ, ◌-◌, ◌*◌, ◌≤◌, arith}
+use Rattle.std.specs.Int.{div_ceil}
+use Rattle.std.proofs.Math.Nat.{mul-le-mul_left}
+use Rattle.crypt_core.specs.MethodLimits.{salt_limit}
+use Rattle.crypt_core.specs.Policies.{new_cost, policy_limit}
+use Rattle.crypt_core.specs.Schemes.{method_of}
+use Rattle.crypt_core.specs.Work.{cost_by}
+use Rattle.crypt_core.specs.declared.scheme.Scheme.{Scheme}
+use Rattle.crypt_core.specs.declared.scheme.Scheme.TheVariants.{Md5crypt, Shacrypt, Scrypt}
+use Rattle.crypt_core.specs.declared.scheme.Sha.TheVariants.{Sha256, Sha512}
+use Rattle.crypt_core.proofs.WorkBounds.{longest_of_64}
+
+-- scrypt's salt counts only in the few bytes of its messages
+salted : (scheme : Scheme) (salt : ℕ) → salt ≤ salt_limit (method_of scheme) → cost_by scheme 64 salt ≤ 2 * new_cost scheme 64
+salted Md5crypt salt short = omega (arith, short)
+salted (Shacrypt Sha256 rounds) salt short = omega (arith, short, mul-le-mul_left (rounds.count - div_ceil rounds.count 3) short)
+salted (Shacrypt Sha512 rounds) salt short = omega (arith, short, mul-le-mul_left (rounds.count - div_ceil rounds.count 3) short)
+salted (Scrypt params) salt short = omega (arith, short, mul-le-mul_left (params.r * params.p) short)
+
+pub own_within : (scheme : Scheme) (salt : ℕ) → salt ≤ salt_limit (method_of scheme) → cost_by scheme 0 salt ≤ policy_limit scheme
+own_within scheme salt short =
+    let most = longest_of_64 scheme 0 salt (omega arith) in
+    let own = salted scheme salt short in
+    grind (arith, most, own)
