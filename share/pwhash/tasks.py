@@ -168,8 +168,8 @@ def check(options):
                 block.answers[place] = b"" if about in told else b"pwhash: " + about
                 told.add(about)
             show(fd, block, options.out and options.rehash)
-    if source.absent:
-        say(f"{source.absent:,} lines have no account in {options.shadow}.")
+    if source.absent or source.odd:
+        say(f"{source.absent:,} lines have no account in {options.shadow}, {source.odd:,} are not UTF-8 (see iconv).")
     return engine.bad
 
 MODERN = ("yescrypt", "gost-yescrypt", "bcrypt")
@@ -197,10 +197,9 @@ def judged(number, answer, refusal):
 def audit(options):
     """Shows what is wrong with stored hashes."""
     source, engine, counts = Source(options), Engine("--audit", options.words), collections.Counter()
-    head = [b"NAME                  METHOD             ROUNDS  FINDING"]
+    top, bare = [b"NAME                  METHOD             ROUNDS  FINDING"], not os.isatty(1) or os.getenv("NO_COLOR")
     def coloured(finding, text):
-        return (f"\x1b[{FINDINGS[finding][0]}m{text}\x1b[m" if in_colour else text).encode()
-    in_colour = os.isatty(1) and "NO_COLOR" not in os.environ
+        return (text if bare else f"\x1b[{FINDINGS[finding][0]}m{text}\x1b[m").encode()
     for block in progress(engine.answers(source.lines(), source.total), "auditing", source.total):
         rows = []
         for place, answer in enumerate(block.answers):
@@ -208,10 +207,10 @@ def audit(options):
             counts[found["finding"]] += 1
             if found["problem"] or not options.only_problems:
                 row = "{1:20}  {2:12}  {3:>11}  {5} {6}".format(*(each or "" for each in found.values())).rstrip()
-                rows += [json.dumps(found).encode()] if options.json else [*head, coloured(found["finding"], row)]
-                head = []
+                rows += [json.dumps(found).encode()] if options.json else [*top, coloured(found["finding"], row)]
+                top = []
         write(1, rows)
-    if not options.json and not (options.only_problems and head):
+    if not options.json and not (options.only_problems and top):
         rows = [coloured(each, f"{counts[each]:7,} {each:12} {FINDINGS[each][1]}") for each in FINDINGS if counts[each]]
         write(1, [f"\n{sum(counts.values()):,} lines of {source.name}:".encode(), *rows])
     return engine.bad
