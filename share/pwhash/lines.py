@@ -6,7 +6,7 @@ shown = False      # whether the terminal shows the progress
 
 class Source:
     def __init__(self, options):
-        self.options, self.absent, self.odd, self.total, is_stdin = options, 0, 0, 0, options.file == "-"
+        self.options, self.absent, self.odd, self.total, is_stdin = options, [], 0, 0, options.file == "-"
         self.name, self.fd = ("standard input", 0) if is_stdin else (options.file, os.open(options.file, os.O_RDONLY))
         self.begun = os.fstat(self.fd)
         self.regular = stat.S_ISREG(self.begun.st_mode)
@@ -67,7 +67,7 @@ class Source:
         def tried(number, line):
             name, _, password = line.partition(b":") if b":" in line else (b"", b":", line)
             names = [name] if name else reversed(fields)
-            self.absent += name != b"" and name not in fields
+            self.absent += [number] * (name != b"" and name not in fields and len(self.absent) < 20)
             self.odd += "\ufffd" in line.decode(errors="replace") or b"\0" in line
             return [(number, b"%b:%b:%b" % (each, fields[each], password)) for each in names if each in fields]
         for pair in pairs:

@@ -169,7 +169,7 @@ def check(options):
                 told.add(about)
             show(fd, block, options.out and options.rehash)
     if source.absent or source.odd:
-        say(f"{source.absent:,} lines have no account in {options.shadow}, {source.odd:,} are not UTF-8 (see iconv).")
+        say(f"lines without an account in {options.shadow}, up to 20: {source.absent}; not UTF-8: {source.odd:,}.")
     return engine.bad
 
 MODERN = ("yescrypt", "gost-yescrypt", "bcrypt")
