@@ -116,8 +116,7 @@ export class Policy {
      *
      * The state is the first of these: `locked`, `none` (empty or null), `no scheme` (no hash at all, such as a password
      * that was stored as it is), `unknown` (another scheme, or scrypt: the user needs a new password), `malformed`, `over
-     * budget` (without a budget: that of `mkpasswd --audit`, or so
-     * dear that `login` refuses it with every password), `dead` (cut or changed, so no password matches it), `outdated`
+     * budget` (without a budget: that of `mkpasswd --audit`), `dead` (cut or changed, so no password matches it), `outdated`
      * (as `needsRehash` says; a login renews it), `current`.
      */
     describe(field: Text | null | undefined): Description;
