@@ -10,7 +10,7 @@ use crypt_core::standing::Standing;
 
 /// Returns the report on the standing of the stored hash in a field, by the scheme that new hashes have with the method and
 /// the rounds, and by the budget. Rounds of 0 are the recommended ones, and a budget of 0 is that of an audit: a hash within
-/// it is one that a login by the limit of the policy checks, at least with short passwords.
+/// it is one that a login by the limit of the policy checks, at least with the empty password.
 pub fn report_audit(field: &[u8], method: u32, rounds: u32, budget: u64) -> Report
     ensures audits { Audits field.now method rounds budget result }
     ensures current { pos 0 <ℤ result.reason → IsCurrent field.now method rounds budget }

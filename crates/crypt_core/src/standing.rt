@@ -35,7 +35,7 @@ impl StoredHash<'_> {
     }
 
     /// Returns the standing, if new hashes have the scheme `new`. A budget of 0 is that of an audit by this scheme, and a hash
-    /// within it is one that a login by the [limit](Scheme::policy_limit) of the policy checks, at least with short passwords.
+    /// within it is one that a login by the policy's [limit](Scheme::policy_limit) checks, at least with the empty password.
     pub fn standing(&self, new: &Scheme, budget: u64) -> Standing
         ensures standing { HasStanding new.now budget self.now.text self.now.setting result }
         ensures checked { result ≢ Standing.OverBudget → budget ≡ 0 → cost self.now.setting 0 ≤ policy_limit new.now }
