@@ -16,7 +16,7 @@ use Rattle.crypt_core.specs.Standings.{IsAbove, IsOverBudget, greatest_cost}
 use Rattle.run_core.specs.Answers.{Answer, Hashing}
 use Rattle.run_core.specs.JobOptions.{given_budget, without_rehash}
 use Rattle.run_core.specs.LineAnswers.{ComesTo, IsCostly, IsPasswordAnswer}
-use Rattle.run_core.specs.LineOptions.{Foresees, ForeseesLogins, Refutes}
+use Rattle.run_core.specs.LineOptions.{Foresees, HeedsLimit, Refutes}
 use Rattle.run_core.specs.Lines.{HasParts, IsSound, Parts}
 use Rattle.run_core.specs.declared.answer.Outcome.{Outcome}
 use Rattle.run_core.specs.declared.answer.Outcome.TheVariants.{Hashed, Match, Rehashed, Misfit, NoHash, Locked, Audited}
@@ -56,9 +56,9 @@ limited new budget kept within default =
     let never : ¬ (policy_limit new < cost kept 0) = λ above. within (inr (default, above)) in
     omega (arith, never)
 
-pub foresees_logins : (job : Job) → ForeseesLogins job
-foresees_logins job field scheme most OverBudget finds other default = absurd (other refl)
-foresees_logins job field scheme most standing (kept, spells, is_scheme, is_number, stands) other default =
+pub heeds_limit : (job : Job) → HeedsLimit job
+heeds_limit job field scheme most OverBudget finds other default = absurd (other refl)
+heeds_limit job field scheme most standing (kept, spells, is_scheme, is_number, stands) other default =
     (kept, spells, limited job.maker.scheme (given_budget job) kept stands.0 default)
 
 -- a field that is not whole is no match

@@ -71,10 +71,10 @@ Foresees job = (field : List ℕ) → (scheme : Scheme) → (most : ℕ) → (st
     → (line : List ℕ) → (parts : Parts) → HasParts Check line parts → parts.field ≡ Some field
     → ¬ IsCostly Check (without_rehash checking) line
 
--- ForeseesLogins job: if an audit by its own budget finds that a field is a hash within it, then a login whose new hashes have
+-- HeedsLimit job: if an audit by its own budget finds that a field is a hash within it, then a login whose new hashes have
 -- the job's scheme can check this hash within the limit of the policy, at least with the empty password.
-abbrev pub ForeseesLogins : Job → Type 0
-ForeseesLogins job = (field : List ℕ) → (scheme : Scheme) → (most : ℕ) → (standing : Standing)
+abbrev pub HeedsLimit : Job → Type 0
+HeedsLimit job = (field : List ℕ) → (scheme : Scheme) → (most : ℕ) → (standing : Standing)
     → Finds job field (Hash scheme most standing) → standing ≢ OverBudget → given_budget job ≡ 0
     → (kept : SettingValue) × Spells field kept × (cost kept 0 ≤ policy_limit job.maker.scheme)
 

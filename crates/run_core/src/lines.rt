@@ -7,7 +7,7 @@ ghost use Rattle.crypt_core.specs.Work.{cost};
 ghost use Rattle.run_core.specs.Answers.{Answer};
 ghost use Rattle.crypt_core.specs.Standings.{greatest_cost};
 ghost use Rattle.run_core.specs.Devices.{HasRoomWithinRun, MovesBytes};
-ghost use Rattle.run_core.specs.LineOptions.{Foresees, ForeseesLogins, OnlyRefuses, OnlyRenews, Refutes, RenewsNone};
+ghost use Rattle.run_core.specs.LineOptions.{Foresees, HeedsLimit, OnlyRefuses, OnlyRenews, Refutes, RenewsNone};
 ghost use Rattle.run_core.specs.LineRuns.{RunsLines};
 ghost use Rattle.run_core.specs.Lines.{name_limit};
 ghost use Rattle.run_core.specs.Private.Answers.{Renders, counted, outcome_of};
@@ -206,7 +206,7 @@ pub fn run_audit<I: Read, O: Write, E: Write>(
     ensures longest { (kept : SettingValue) → (password_length : ℕ) → password_length ≤ password_limit
         → cost kept password_length ≤ greatest_cost kept }
     ensures foresees { Foresees job.now }
-    ensures checked { ForeseesLogins job.now }
+    ensures checked { HeedsLimit job.now }
     ensures refutes { Refutes job.now }
     ensures rehash { RenewsNone Audit job.now }
 {

@@ -1,5 +1,5 @@
 use Rattle.run_core.proofs.AuditsSpare.{spares}
-use Rattle.run_core.proofs.ForeseenChecks.{foresees, foresees_logins, refutes}
+use Rattle.run_core.proofs.ForeseenChecks.{foresees, heeds_limit, refutes}
 use Rattle.crypt_core.proofs.WorkBounds.{longest}
 use Rattle.run_core.proofs.lines.run_audit.Goals as goal
 
@@ -16,7 +16,7 @@ pub returns-clause-foresees : goal.returns-clause-foresees
 returns-clause-foresees g c = foresees c.args.job.now
 
 pub returns-clause-checked : goal.returns-clause-checked
-returns-clause-checked g c = foresees_logins c.args.job.now
+returns-clause-checked g c = heeds_limit c.args.job.now
 
 pub returns-clause-refutes : goal.returns-clause-refutes
 returns-clause-refutes g c = refutes c.args.job.now
