@@ -49,7 +49,7 @@ const REHASH_HELP: &str =
 const WORK_HELP: &str = "Show what the hash cost: digests, bytes, mixings,\nbytes of table";
 
 const BUDGET_HELP: &str =
-    "What a line may cost, in bytes digested and mixed\n(default: any; with --audit what 656000 rounds can)";
+    "What a line may cost, in bytes digested and mixed\n(default: any; with --audit by -m and -R)";
 
 const FIRST_LINE_HELP: &str = "The number of the first line in messages about lines";
 
