@@ -201,7 +201,6 @@ bench: mkpasswd libmkpasswd.a build/x86-64/mkpasswd build/x86-64-v3/mkpasswd bui
 	tools/bench $(BENCH) docs/speed.json
 	tools/bench-page
 
-
 soak: mkpasswd
 	tools/soak $(if $(LINES),--lines $(LINES)) $(if $(SEED),--seed $(SEED)) ./mkpasswd
 

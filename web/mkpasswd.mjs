@@ -185,7 +185,7 @@ export class Policy {
         if (integer(budget ?? 1, 'budget', 'an integer (2 ** 42 for no limit)') < 1) {
             throw new RangeError('budget must be above 0, or null for twice what a new hash costs');
         }
-        Object.assign(this, { method, rounds: rounds ?? 0, budget: budget ?? null });
+        Object.assign(this, { method, rounds: rounds || ROUNDS, budget: budget ?? null });
         for (const name of CALLS) Object.defineProperty(this, name, { __proto__: null, value: this[name].bind(this) });
         Object.freeze(this);
         const fixed = inThread('setting', [method, this.rounds, [0n, 0n, 0n]]);
