@@ -29,7 +29,8 @@ for my $command (keys %rows) {
     $offered{"$command $_"} = [sort @{ $of_command{$_} }] for keys %of_command;
 }
 $offered{"pwhash $_->[0]"} = $_->[1] for ['au', ['audit']], ['audit lo', ['logins']], ['file --skip-r', ['--skip-refused']],
-    ['file --for ng', ['nginx']], ['-m sc', ['scrypt']], ['check --shadow sha', ['sha256sums']], ['check -R ', []];
+    ['file --for ', [qw(apache dovecot ldap nginx)]], ['--for pre', [qw(preseed-root preseed-user)]],
+    ['-m sc', ['scrypt']], ['check --shadow sha', ['sha256sums']], ['check -R ', []];
 my @lines = sort keys %offered;
 
 my $made = "$scratch/made";
