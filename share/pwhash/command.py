@@ -21,10 +21,10 @@ OPTIONS = {      # the words, what argparse has to know, and the help
     "rounds": ("-R --rounds", NUMBER, "from 1000, by default 656k; with scrypt 6 to 11, by default 7"),
     "budget": ("--budget", NUMBER, "what a line may cost in bytes; by default twice a new hash's for 64 bytes"),
     "salt": ("-S --salt", {}, "up to 16 (md5crypt 8, scrypt 86) of a-zA-Z0-9./, in place of new ones"),
-    "quiet": ("--quiet", FLAG, "show no progress"),
+    "quiet": ("--quiet", FLAG, "show no progress"), "json": ("--json", FLAG, "an object a line"),
     "out": ("-o --out", {}, "write the file OUT once it is whole; until then it is OUT.part"),
     "resume": ("--resume", FLAG, "go on with the OUT.part of an earlier run"),
-    "look": ("--look", FLAG, "only look for problems"),
+    "look": ("--look", FLAG, "only look for problems"), "name": ("--name", {}, "the user, for --for"),
     "windows": ("--windows", FLAG, "leave out carriage returns at ends of lines, and a byte order mark"),
     "csv": ("--csv", FLAG, "FILE is a table, as spreadsheets export it"),
     "columns": ("--columns", {"default": "name,password", "metavar": "A,B"}, "names in its first row, or numbers"),
@@ -35,10 +35,8 @@ OPTIONS = {      # the words, what argparse has to know, and the help
     "shadow": ("--shadow", {"metavar": "FIELDS"}, "lines are name:password; the hashes are in the file FIELDS"),
     "rehash": ("--rehash", FLAG, "renew outdated hashes of right passwords; with -o for chpasswd -e"),
     "place": ("--for", {"dest": "place", "choices": list(PLACES)[1:]}, "print its line"),
-    "name": ("--name", {}, "the user, for --for"),
     "generate": ("--generate", FLAG, "make a password, and show it once on the terminal"),
     "only_problems": ("--only-problems", FLAG, "show what needs care, and nothing if all is well"),
-    "json": ("--json", FLAG, "an object a line"),
     "locked": ("--locked", FLAG, "judge the hashes of locked accounts too")}
 COMMANDS = {     # what runs it, its input by default, its options
     None: (one, "-", "place name generate salt"),

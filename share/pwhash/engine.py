@@ -1,5 +1,4 @@
-"""Runs mkpasswd over blocks of lines, and takes nothing but an answer for each, in order, with its name or its number.
-Blocks and answers are in memory, so that nobody waits for room in a pipe."""
+"""Runs mkpasswd over blocks of lines in memory, and takes for each line only an answer with its name or its number."""
 import collections, fcntl, functools, itertools, os, re, subprocess, types
 from lines import Stop, readable
 
@@ -55,9 +54,9 @@ class Engine:
         processes.discard(block.process)
         with block.said as file:
             *answers, rest = os.pread(file.fileno(), os.lseek(file.fileno(), 0, os.SEEK_CUR), 0).split(b"\n")
-        said = readable((rest or b"".join(answers[-1:]))[:200]) or "mkpasswd"
+        said = readable(re.search(b"(mkpasswd|error): .*|$", rest or b"".join(answers[-1:]))[0]) or "ended"
         if code not in (0, 1) or rest or len(answers) != len(block.lines):
-            raise Stop(f"line {block.numbers[0]}, status {code}: {said} ({self.command}).", 2 if code == 2 else 3)
+            raise Stop(f"line {block.numbers[0]}, status {code}: {said}: {' '.join(self.command)}", 3 - (code == 2))
         block.answers, block.refusals = answers, {}      # refusals by place
         for place, (line, answer) in enumerate(zip(block.lines, answers)):
             name, colon, verdict = answer.partition(b":")

@@ -84,7 +84,7 @@ def readable(data):
 def write(fd, lines):
     """Writes all of them, also where somebody made the descriptor non-blocking."""
     data = b"\n".join([*lines, b""])
-    if os.isatty(fd):
+    if data and os.isatty(fd):
         clear()
     while data:
         try:

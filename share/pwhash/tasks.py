@@ -38,7 +38,7 @@ def one(options):
         raise Stop("the password is empty, or ends with a carriage return as lines of Windows do. Give another.", 2)
     [block] = engine.answers([(1, b"x:" + password)])
     if block.refusals:
-        raise Stop(f"{block.refusals[0]}. Give at most 1,024 bytes, none of them zero, or for more cost a --budget.", 2)
+        raise Stop(f"{block.refusals[0]}. Give a shorter password, up to 1,024 bytes and no zero, or a --budget.", 2)
     values = {"name": options.name, "hash": block.answers[0][2:].decode(), "day": int(time.time() // 86400)}
     write(1, [PLACES[options.place].format(**values).encode()])
 
@@ -89,8 +89,10 @@ def look(source, options, engine, names):
     if refused and not options.skip_refused or doubtful and not (options.accept_doubtful or options.skip_doubtful):
         raise Stop("nothing was hashed. Correct these lines and start again, or leave out or take them: --skip-refused "
                    f"({len(refused):,}), --skip-doubtful or --accept-doubtful ({len(doubtful):,}).", 1)
-    engine.bad = bool(refused or options.skip_doubtful and doubtful)
-    return refused | (doubtful if options.skip_doubtful else set())
+    engine.bad = bool(left_out := refused | (doubtful if options.skip_doubtful else set()))
+    if left_out:
+        say(f"these {len(left_out):,} lines are left out.")
+    return left_out
 
 @contextlib.contextmanager
 def output(options, source):
@@ -176,7 +178,7 @@ MODERN = ("yescrypt", "gost-yescrypt", "bcrypt")
 FINDINGS = {      # the colour of each, red or yellow for a problem, and what to do
     "no password": (31, "no password is asked for: set one, or lock the account with passwd -l NAME"),
     "over budget": (31, "a login is refused, or can take minutes: set a new password, or lock the account"),
-    "malformed": (31, "no password matches, and a login can fail badly: set a new password"),
+    "malformed": (31, "mkpasswd takes no password, and others may fail badly, or take one: set a new password"),
     "dead": (31, "no password matches, since the hash was cut or changed: set a new password"),
     "no scheme": (31, "a password stored as it is, or a damaged hash: set a new password"),
     "outdated": (33, "few rounds or another method: a new password renews it, and chage -d 0 NAME asks for one"),
@@ -195,22 +197,23 @@ def judged(number, answer, refusal):
             "cost": cost, "finding": finding, "message": message, "problem": problem}
 
 def audit(options):
-    """Shows what is wrong with stored hashes."""
+    """Shows what is wrong with stored hashes; with --only-problems the worst first."""
     source, engine, counts = Source(options), Engine("--audit", options.words), collections.Counter()
-    top, bare = [b"NAME                  METHOD             ROUNDS  FINDING"], not os.isatty(1) or os.getenv("NO_COLOR")
-    def coloured(finding, text):
+    rows = [] if options.json else [(-1, b"NAME                  METHOD             ROUNDS  FINDING")]
+    def shown(finding, text, bare=options.json or not os.isatty(1) or os.getenv("NO_COLOR")):
         return (text if bare else f"\x1b[{FINDINGS[finding][0]}m{text}\x1b[m").encode()
     for block in progress(engine.answers(source.lines(), source.total), "auditing", source.total):
-        rows = []
         for place, answer in enumerate(block.answers):
             found = judged(block.numbers[place], answer, block.refusals.get(place))
-            counts[found["finding"]] += 1
+            counts[finding := found["finding"]] += 1
             if found["problem"] or not options.only_problems:
                 row = "{1:20}  {2:12}  {3:>11}  {5} {6}".format(*(each or "" for each in found.values())).rstrip()
-                rows += [json.dumps(found).encode()] if options.json else [*top, coloured(found["finding"], row)]
-                top = []
-        write(1, rows)
-    if not options.json and not (options.only_problems and top):
-        rows = [coloured(each, f"{counts[each]:7,} {each:12} {FINDINGS[each][1]}") for each in FINDINGS if counts[each]]
-        write(1, [f"\n{sum(counts.values()):,} lines of {source.name}:".encode(), *rows])
+                rows.append((list(FINDINGS).index(finding), shown(finding, json.dumps(found) if options.json else row)))
+        if options.json or not options.only_problems:
+            write(1, [row for _, row in rows])
+            rows = []
+    if not options.json and (len(rows) > 1 or not options.only_problems):
+        kinds = [shown(each, f"{counts[each]:7,} {each:12} {FINDINGS[each][1]}") for each in FINDINGS if counts[each]]
+        rows = [*(row for _, row in sorted(rows)), f"\n{sum(counts.values()):,} lines of {source.name}:".encode()]
+        write(1, rows + kinds)
     return engine.bad

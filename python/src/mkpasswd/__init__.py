@@ -277,7 +277,7 @@ class Policy:
 
     @_called("describe(field)")
     def describe(self, field: Optional[Text]) -> Description:
-        """What `mkpasswd --audit` says of a stored field, without any password. Nothing is hashed.
+        """What `mkpasswd --audit` says of a stored field, but for the rounds and the names of other schemes. Nothing is hashed.
 
         >>> describe("$1$xxxxxxxx$UYCIxa628.9qXjpQCjM4a.")
         Description(method='md5crypt', cost=1927022, state='outdated', reason=None)
