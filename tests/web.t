@@ -30,16 +30,18 @@ my $rows = JSON::PP->new->ascii->encode(\@refused);
 # What the page says of such.
 my $elsewhere = "which can\x{2019}t be checked here. Log in on the system that stored it.";
 my $again = 'is not a hash. Paste a hash, or its whole line.';
+my $whole = '$6$s$' . '.' x 86;
 my @said = (
-    ['$6$s$x', 'x' x 1025, 'The password has more than 1024 bytes. Take a shorter one.'],
-    ['$6$s$x', "x\0y", 'The password has a zero byte, which no login takes. Type it again.'],
+    [$whole, 'x' x 1025, 'The password has more than 1024 bytes. Take a shorter one.'],
+    [$whole, "x\0y", 'The password has a zero byte, which no login takes. Type it again.'],
     ['$6$' . 'x' x 400, 'x', 'This is longer than any hash. Copy the hash alone, or its whole line.'],
     ["\$6\$s\x{e4}lt\$x", 'x', 'This has a character that is in no hash. Copy the hash again.'],
     ['$5$rounds=$x', 'x', 'No valid number follows rounds= in this hash. Copy it again.'],
     ['!$6$s$x', 'x', 'This account is locked, so no password matches. To check the hash behind ! or *, remove that.'],
     ['', 'x', 'This account has no hash. Set a password, or lock it.'],
     ['ann::19000:0:99999:7:::', '', 'This account has no hash. Set a password, or lock it.'],
-    ['$6$rounds=999999999$s$x', 'x', 'Checking this hash can take about N, so it was refused. If you trust it, raise the budget to N.'],
+    [$whole =~ s/6\$/6\$rounds=999999999\$/r, 'x', 'Checking this hash can take about N, so it was refused. If you trust it, raise the budget to N.'],
+    ['$6$rounds=999999999$s$x', 'x', 'This hash is cut: 1 of 86 characters. No password matches it: copy it again, or set a new password.'],
     ['$2b$05$x', 'x', "\$2b\$ is bcrypt, $elsewhere"], ['ann:$y$j9T$x$y:19000::::::', 'x', "\$y\$ is yescrypt, $elsewhere"],
     ['$7$46..../....s', 'x', "\$7\$ is scrypt, which can\x{2019}t be checked here. Give a line name:hash:password to pwhash check."],
     ['$apr1$s$x', 'x', "\$apr1\$ is Apache\x{2019}s MD5, $elsewhere"], ['$argon2id$v=19$x', 'x', "\$argon2id\$ is Argon2, $elsewhere"],

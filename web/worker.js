@@ -26,8 +26,9 @@ const jobs = {
 
     check({ password, stored, budget }) {
         tellCost(stored, password);
-        const fits = verify(password, stored, budget);
-        return { fits, isDead: !fits && audit(stored, 'sha512crypt', ROUNDS, Infinity).reason === 'MKPASSWD_DEAD' };
+        // Nothing is hashed for a hash that no password matches, however dear. scrypt is refused.
+        const isDead = !/^\$7\$/.test(stored) && audit(stored, 'sha512crypt', ROUNDS, Infinity).reason === 'MKPASSWD_DEAD';
+        return { isDead, fits: !isDead && verify(password, stored, budget) };
     },
 };
 
