@@ -19,7 +19,7 @@ FLAG, NUMBER = {"action": "store_true"}, {"type": number, "metavar": "NUMBER"}
 OPTIONS = {      # the words, what argparse has to know, and the help
     "method": ("-m --method", {"default": "sha512crypt", "metavar": "TYPE", "choices": [*ROUNDS]}, ", ".join(ROUNDS)),
     "rounds": ("-R --rounds", NUMBER, "from 1000, by default 656k; with scrypt 6 to 11, by default 7"),
-    "budget": ("--budget", NUMBER, "what a line may cost in bytes; by default twice a new hash's for 64 bytes"),
+    "budget": ("--budget", NUMBER, "what a line may cost in bytes; by default twice a new hash, in audits the longest"),
     "salt": ("-S --salt", {}, "up to 16 (md5crypt 8, scrypt 86) of a-zA-Z0-9./, in place of new ones"),
     "quiet": ("--quiet", FLAG, "show no progress"), "json": ("--json", FLAG, "an object a line"),
     "out": ("-o --out", {}, "write the file OUT once it is whole; until then it is OUT.part"),

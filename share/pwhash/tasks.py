@@ -181,8 +181,8 @@ FINDINGS = {      # the colour of each, red or yellow for a problem, and what to
     "malformed": (31, "mkpasswd takes no password, and others may fail badly, or take one: set a new password"),
     "dead": (31, "no password matches, since the hash was cut or changed: set a new password"),
     "no scheme": (31, "a password stored as it is, or a damaged hash: set a new password"),
-    "outdated": (33, "few rounds or another method: a new password renews it, and chage -d 0 NAME asks for one"),
     "refused": (33, "no line of an account"), "unknown": (36, "another scheme, not judged; NT and DES are weak"),
+    "outdated": (33, "few rounds or another method: a new password renews it, and chage -d 0 NAME asks for one"),
     "current": (32, "as it should be"), "locked": (0, "no password logs in")}
 
 def judged(number, answer, refusal):

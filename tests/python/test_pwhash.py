@@ -397,7 +397,7 @@ def test_audit(place):
         "y yescrypt unknown", "\\x1b[2J locked", "line 12 refused no password field", "des descrypt unknown", "odd unknown"]
     assert any(row.startswith("3 locked") for row in rows) and b"secret" not in out
     worst = [row.split()[0] for row in run("audit", "--only-problems", "shadow")[1].decode().split("\n\n")[0].split("\n")]
-    assert worst == ["NAME", "open", "eve", "mal", "bob", "bare", "old", "line", "des", "odd"]
+    assert worst == ["NAME", "open", "eve", "mal", "bob", "bare", "line", "des", "odd", "old"]
     found = [json.loads(line) for line in run("audit", "--json", "--only-problems", "--locked", "shadow")[1].split(b"\n")[:-1]]
     assert [each["name"] for each in found] == ["bob", "old", "eve", "open", "shut2", "mal", "bare", "line 12", "des", "odd"]
     assert found[1]["rounds"] == 1000 and found[5]["message"] == "bad rounds" and found[5]["rounds"] is None and found[9]["method"] is None
