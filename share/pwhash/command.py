@@ -10,7 +10,8 @@ USAGE = """
   pwhash audit                       what is wrong with hashes in /etc/shadow
 
 Hashes are sha512crypt with 656000 rounds. file, check, audit have own --help."""
-ROUNDS = dict.fromkeys(("sha512crypt", "sha256crypt", "md5crypt"), (1000, 656000, 999999999)) | {"scrypt": (6, 7, 11)}
+TWICE = {"sha512crypt": 253921472, "sha256crypt": 211937408, "md5crypt": 0, "scrypt": 268491592}     # for 64 bytes
+ROUNDS = dict.fromkeys(TWICE, (1000, 656000, 999999999)) | {"scrypt": (6, 7, 11)}
 
 def number(text):
     return int(text.replace("k", "000").replace("M", "000000"))
@@ -69,9 +70,8 @@ def arguments(words):
     if not least <= rounds <= most:
         error(f"-R {rounds} with -m {options.method} isn't from {least} to {most}, by default {usual}")
     if command != "audit":      # what mkpasswd takes by itself are fewer rounds, and no budget
-        times = 1 << max(0, rounds - 7) if most == 11 else max(rounds, 656000) / 656000
-        budget = int((268491592 if most == 11 else 253921472) * times) * (2 if options.rehash else 1)
-        options.rounds, options.budget = rounds, options.budget or budget
+        limit = TWICE[options.method] * (2.0 ** (rounds - usual) if most == 11 else rounds / usual)
+        options.rounds, options.budget = rounds, options.budget or max(150000000, int(limit)) << bool(options.rehash)
     given = ((each, getattr(options, each)) for each in ("method", "rounds", "salt", "budget"))
     options.words = ["--rehash"] * bool(options.rehash) + [f"--{each}={value}" for each, value in given if value]
     return options

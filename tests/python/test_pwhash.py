@@ -109,6 +109,11 @@ def test_for(place, target, text):
         assert run(*QUICK, "--for", target, *wrong, stdin=b"x\n")[:2] == (2, b"")
 
 
+@pytest.mark.parametrize("words, longest", [("", 168), ("-m sha256crypt", 150), ("-R 400000", 168)])
+def test_limit_of_a_login(place, words, longest):
+    assert run(*words.split(), stdin=b"x" * longest)[0] == 0 and run(*words.split(), stdin=b"x" * (longest + 1))[0] == 2
+
+
 @pytest.mark.parametrize("words, password, said", [
     ("", b"", "empty"), ("", b"\n", "empty"), ("", b"x\r\n", "carriage return"), ("", b"x" * 1025, "1,024"), ("", b"a\0b", "zero"),
     ("", b"x" * 1024, "--budget"), ("-m yescrypt", b"x", "sha512crypt"), ("-m scrypt -R 12", b"x", "-R 12"), ("-R 10", b"x", "1000"), ("-m scrypt -R 9999999999", b"x", "11"),
