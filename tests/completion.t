@@ -30,7 +30,7 @@ for my $command (keys %rows) {
 }
 $offered{"pwhash $_->[0]"} = $_->[1] for ['au', ['audit']], ['audit lo', ['logins']], ['file --skip-r', ['--skip-refused']],
     ['file --for ', [qw(apache dovecot ldap nginx)]], ['--for pre', [qw(preseed-root preseed-user)]],
-    ['-m sc', ['scrypt']], ['check --shadow sha', ['sha256sums']], ['check -R ', []],
+    ['-m ', [sort grep { $_ ne 'help' } @methods]], ['-m sc', ['scrypt']], ['check --shadow sha', ['sha256sums']], ['check -R ', []],
     ['audit --o', ['--only-problems']], ['audit --reh', []], ['file --gen', []], ['--gen', ['--generate']];
 my @lines = sort keys %offered;
 

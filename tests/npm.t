@@ -10,8 +10,9 @@ use Suite;
 use Time::HiRes qw(sleep);
 
 my $package = "$root/build/npm";
-needs('build/npm' => 'binaryen', -e "$package/package.json") && needs(node => 'nodejs') && needs(npm => 'npm')
-    or do { done_testing; exit };
+my ($node) = run(qw(node --version))->{out} =~ /^v(\d+)/;
+needs('build/npm' => 'binaryen', -e "$package/package.json") && needs('node 20' => 'nodejs, since trixie', ($node // 0) >= 20)
+    && needs(npm => 'npm') or do { done_testing; exit };
 my ($no, $yes) = (JSON::PP::false, JSON::PP::true);
 my $json = JSON::PP->new->ascii->allow_nonref;
 
@@ -120,6 +121,9 @@ subtest 'logins' => sub {
     my @new = map { [$rows[$_][0], $told->[$_]{renewed}] } @renewed;
     is_deeply([map { crypt $_->[0], $_->[1] } @new], [map { $_->[1] } @new], 'by a hash of the password');
     is_deeply([grep { $_->[1] !~ /^\$6\$rounds=5000\$/ } @new], [], 'and by the policy');
+    my %whole = map { $_->[1] => 1 } grep { $_->[2] } @rows;
+    my @wrong = grep { !$rows[$_][2] && $told->[$_]{state} =~ /^(?:current|outdated)$/ } 0 .. $#rows;
+    is_deeply(\@wrong, [grep { !$rows[$_][2] && $whole{ $rows[$_][1] } } 0 .. $#rows], 'describe tells where only the password was wrong');
     my $made = $told->[0]{digests};
     my %digests = (hidden => $made, idle => 0);
     my @hiding = grep { $rows[$_][4] } 0 .. $#rows;

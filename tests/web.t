@@ -68,7 +68,8 @@ subtest 'lowered' => sub {
 
 # libxcrypt takes passwords of up to 511 bytes.
 subtest 'in node' => sub {
-    needs(node => 'nodejs') or return;
+    my ($node) = run(qw(node --version))->{out} =~ /^v(\d+)/;
+    needs('node 20' => 'nodejs, since trixie', ($node // 0) >= 20) or return;
     my @alphabet = ('.', '/', 0 .. 9, 'A' .. 'Z', 'a' .. 'z');
     my @cases = map {
         my $password = join '', map { chr 2 + rand 254 } 1 .. ($_ % 9 ? rand 40 : rand 512);
@@ -187,7 +188,7 @@ for my $name (sort keys %browsers) {
         needs($_ => $needed->{$_}, /\.pm$/ ? eval { require $_ } : undef) or return for sort keys %$needed;
         my $server = started("$scratch/$name.server", qw(python3 -u -m http.server PORT --bind 127.0.0.1 --directory), "$root/build");
         my %salts;
-        my %value = (SERVER => $server, ROWS => $asked);
+        my %value = (SERVER => $server, ROWS => $asked, CURRENT => crypt 'password', '$6$rounds=656000$saltsaltsaltsalt');
         my $script = $title . slurp("$root/tests/web/page.js") =~ s/@(\w+)@/$value{$1}/gr;
         my @addresses = ("$server/mkpasswd.html", map { "file://$_" } $page, @unable, $slow, $workerless, $bundle);
         visit("$scratch/$name", $open, $script, @addresses);
@@ -213,7 +214,9 @@ for my $name (sort keys %browsers) {
             like("@made", qr{^\$6$sha \$5$sha \$1\$[./\w]{8}\$\S+$}, 'of the methods, with the rounds and with salts');
             like($_->[3], qr/^Made in (?:less than 0\.1|\d+\.\d)\x{a0}s\.$/, 'and says how long it took') for @{ $told->{made} };
             my @fits = map { map { s/ Checked in .*\x{a0}s\.$//r } @$_[1, 2] } @{ $told->{made} };
-            is_deeply(\@fits, [('The password matches.', 'The password does not match.') x 3], 'their passwords match, and others do not');
+            my $old = 'The password matches, but the hash is outdated (few rounds, or not sha512crypt): replace it with a new one.';
+            is_deeply(\@fits, [($old, 'The password does not match.') x 3], 'their passwords match, and others do not');
+            like($told->{current}, qr/^The password matches\. Checked in /, 'a hash with the recommended rounds is not outdated');
             like($told->{estimate}, qr/^Takes (?:a moment|about (?:a|a quarter of a|half a|\d+) seconds?)\.$/, 'how long a hash takes');
             my @flaws = map { ("cut: 0 of $_ characters", 'cut: ' . ($_ - 9) . " of $_ characters",
                 'too long: ' . ($_ + 2) . " characters in place of $_", 'damaged') } 86, 43, 22;
@@ -224,7 +227,7 @@ for my $name (sort keys %browsers) {
             my ($yes, $no) = (JSON::PP::true, JSON::PP::false);
             is_deeply($told->{hidden}, $yes, 'the budget is hidden until a hash is above it');
             $_->[0] =~ s/ Checked in .*// for @{ $told->{lines} };
-            my @lines = map { ['The password matches.', $yes, "From the line$_."] } ' of ann', ('') x 6, (' of ann') x 2;
+            my @lines = map { [$old, $yes, "From the line$_."] } ' of ann', ('') x 6, (' of ann') x 2;
             is_deeply($told->{lines}, \@lines, 'lines are taken apart');
             my $weak = 'md5crypt is weak. Take it only where nothing else works.';
             is_deeply([@$told{qw(fixed free)}], [[$yes, '1000', $weak], [$no, '1234']], 'the rounds of md5crypt are fixed');
@@ -240,7 +243,7 @@ for my $name (sort keys %browsers) {
             like($generated, qr/^[A-Za-z0-9]{20}$/, 'a generated password');
             my @hidden = ('Show the password', 'password', $no);
             is_deeply([@shown[0 .. 3], $told->{concealed}], ['Hide the password', 'text', $yes, $yes, \@hidden], 'it is shown, until it is hidden');
-            like($shown[4], qr/^The password matches\./, 'it is what was hashed');
+            like($shown[4], qr/^The password matches/, 'it is what was hashed');
             is_deeply([sort { $a <=> $b } values %{ $told->{frequencies} }], [(10) x 62], 'each character is equally probable');
             my %places = %{ $told->{places} };
             my %line = (plain => $told->{stored}, chpasswd => "ann:$told->{stored}",
@@ -254,7 +257,8 @@ for my $name (sort keys %browsers) {
             is_deeply({ map { $_ => $places{$_}[1] } keys %places }, \%line, 'is what is copied');
             my @named = grep { $places{$_}[2] } sort keys %places;
             is_deeply(\@named, [qw(chpasswd cloud-init htpasswd kickstart-user)], 'some need a name');
-            my @nameless = ("First type the user\x{2019}s name.", 'A name has letters, digits and _.@-');
+            my $rule = 'A name begins with a letter (A to Z) or _, and has only letters, digits and _.@- (at most 64).';
+            my @nameless = ("First type the user\x{2019}s name.", $rule, $rule);
             is_deeply([map { $places{$_}[2] } @named], [([@nameless]) x @named], 'without which nothing is copied');
         }
         is(scalar keys %salts, 6, 'each salt is another');

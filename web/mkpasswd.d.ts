@@ -117,7 +117,8 @@ export class Policy {
      * The state is the first of these: `locked`, `none` (empty or null), `no scheme` (no hash at all, such as a password
      * that was stored as it is), `unknown` (another scheme, or scrypt: the user needs a new password), `malformed`, `over
      * budget` (without a budget: that of `mkpasswd --audit`), `dead` (cut or changed, so no password matches it), `outdated`
-     * (as `needsRehash` says; a login renews it), `current`.
+     * (as `needsRehash` says; a login renews it), `current`. What is over budget is so for a password of 1,024 bytes: a login
+     * with a shorter one can match.
      */
     describe(field: Text | null | undefined): Description;
 }

@@ -8,6 +8,8 @@ const SENTENCES = {
     MKPASSWD_LOCKED: 'This account is locked, so no password matches. To check the hash behind ! or *, remove that.',
     MKPASSWD_NO_HASH: 'This account has no hash. Set a password, or lock it.',
 };
+const NAME_RULE = 'A name begins with a letter (A to Z) or _, and has only letters, digits and _.@- (at most 64).';
+const OUTDATED = 'matches, but the hash is outdated (few rounds, or not sha512crypt): replace it with a new one';
 const METHODS = { 1: 'md5crypt', 5: 'sha256crypt', 6: 'sha512crypt' };    // by their prefixes
 const LENGTHS = { 1: 22, 5: 43, 6: 86 };    // of what is behind the salt
 // Schemes that can't be checked here, by their prefixes.
@@ -178,15 +180,16 @@ function refusal({ reason, message }) {
 }
 
 // Shows what a job has come to: a hash, whether a password matches, or why neither.
-function tellResult({ text, fits, isDead, time, ...refused }) {
+function tellResult({ text, fits, isDead, isOutdated, time, ...refused }) {
     element('more').open ||= refused.reason === 'MKPASSWD_OVER_BUDGET';
     if (time > 100 && !refused.message && expected(running)) {    // what the next hashes take is expected by this one
         rates[running.method].time *= time / expected(running);
         tellEstimate();
     }
+    const found = !fits ? 'does not match' : isOutdated ? OUTDATED : 'matches';
     const answer = refused.message ? refusal(refused) : text ? `Made in ${took(time)}.`
         : isDead ? `This hash is ${flaw(running.stored)}. No password matches it: copy it again, or set a new password.`
-            : `The password ${fits ? 'matches' : 'does not match'}. Checked in ${took(time)}.`;
+            : `The password ${found}. Checked in ${took(time)}.`;
     end(answer, text || fits ? 'good' : 'refused');
     if (!text) return;
     made = text;
@@ -227,7 +230,7 @@ const clicks = {
         const [copied, name, place] = [element(id), element('name'), button.nextElementSibling];
         if (id === 'snippet' && !element('named').hidden && !name.validity.valid) {
             name.focus();
-            const textContent = name.value ? 'A name has letters, digits and _.@-' : 'First type the user’s name.';
+            const textContent = name.value ? NAME_RULE : 'First type the user’s name.';
             return Object.assign(place, { textContent, className: 'refused' });
         }
         if (id === 'snippet') getSelection().selectAllChildren(copied);

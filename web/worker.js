@@ -27,8 +27,9 @@ const jobs = {
     check({ password, stored, budget }) {
         tellCost(stored, password);
         // Nothing is hashed for a hash that no password matches, however dear. scrypt is refused.
-        const isDead = !/^\$7\$/.test(stored) && audit(stored, 'sha512crypt', ROUNDS, Infinity).reason === 'MKPASSWD_DEAD';
-        return { isDead, fits: !isDead && verify(password, stored, budget) };
+        const { reason } = /^\$7\$/.test(stored) ? {} : audit(stored, 'sha512crypt', ROUNDS, Infinity);
+        const [isDead, isOutdated] = [reason === 'MKPASSWD_DEAD', reason === 'MKPASSWD_REPLACED'];
+        return { isDead, isOutdated, fits: !isDead && verify(password, stored, budget) };
     },
 };
 

@@ -28,7 +28,7 @@ OPTIONS = {      # the words, what argparse has to know, and the help
     "look": ("--look", FLAG, "only look for problems"), "name": ("--name", {}, "the user, for --for"),
     "windows": ("--windows", FLAG, "leave out carriage returns at ends of lines, and a byte order mark"),
     "csv": ("--csv", FLAG, "FILE is a table, as spreadsheets export it"),
-    "columns": ("--columns", {"default": "name,password", "metavar": "A,B"}, "names in its first row, or numbers"),
+    "columns": ("--columns", {"metavar": "A,B"}, "names in its first row, or numbers; by default name,password"),
     "skip_refused": ("--skip-refused", FLAG, "leave out lines that mkpasswd refuses"),
     "skip_doubtful": ("--skip-doubtful", FLAG, "leave out doubtful lines"),
     "accept_doubtful": ("--accept-doubtful", FLAG, "take doubtful lines as they are"),
@@ -61,8 +61,9 @@ def arguments(words):
     for flags, how, text in map(OPTIONS.get, (names + " method rounds budget quiet").split()):
         parser.add_argument(*flags.split(), help=text, **how)
     options = parser.parse_args(words[bool(command):])
-    if options.resume and not options.out or options.csv and command == "check" and not options.shadow:
-        error("--resume goes with -o, and --csv of check with --shadow")
+    for option, needed in ("resume", "out"), ("columns", "csv"), ("csv", "shadow" if command == "check" else "file"):
+        if getattr(options, option) and not getattr(options, needed):
+            error(f"--{option} needs --{needed}")
     if options.out and os.path.lexists(options.out):
         error(f"{options.out} already exists and is complete: name another file after -o, or remove it")
     least, usual, most = ROUNDS[options.method]

@@ -14,14 +14,14 @@ FORMS = {      # all that mkpasswd can write behind a name
 processes = set()      # those that run
 
 def find_mkpasswd():
-    """The proved program, beside this one or on the PATH. The package whois has another of this name."""
-    folders = [os.path.join(os.path.dirname(os.path.realpath(__file__)), "../../bin"), *os.get_exec_path()]
+    """The proved program, beside pwhash, one folder above (in a clone) or on the PATH. That of whois is another."""
+    folders = [os.path.join(os.path.dirname(__file__), up) for up in ("../../bin", "../..")] + os.get_exec_path()
     for path in [os.path.join(folder, name) for folder in folders for name in ("mkpasswd.proved", "mkpasswd")]:
         if os.access(path, os.X_OK) and os.path.isfile(path):
             said = subprocess.run([path, "-V"], stdin=subprocess.DEVNULL, capture_output=True, env={}).stdout
             if re.fullmatch(rb"mkpasswd [0-9.]+\n", said):
                 return path
-    raise Stop("there is no proved mkpasswd beside pwhash or on the PATH; that of whois is another. Install it.")
+    raise Stop("no proved mkpasswd (whois has another) beside pwhash, a folder up or on PATH: run make, or install it.")
 
 def in_memory(size, data=b""):
     """A file in memory, with data at its beginning, that nobody can make longer than size."""

@@ -45,13 +45,13 @@ class Source:
         texts = (pair[1].decode("latin-1") + "\n" for pair in self.whole_lines(True) if pair)
         first = next(texts, "").partition("\0")[0]      # of UTF-16 a piece, in which no column is found
         between = re.search("[,;\t]|$", re.sub('"[^"]*"', "", first))[0] or ","
-        columns = os.fsencode(self.options.columns).decode("latin-1").lower().split(",")
+        columns = os.fsencode(self.options.columns or "name,password").decode("latin-1").lower().split(",")
         rows = csv.reader(itertools.chain([first], texts), delimiter=between, strict=True)
         try:
             names = [str(each).strip().lower() for each in (range(1, 99) if columns[0].isdecimal() else next(rows, ()))]
             if len(columns) != 2 or [each for each in columns if names.count(each) != 1]:
-                raise Stop(f"--columns {self.options.columns}: give two names from the first row of {self.name}, as "
-                           "user,secret, or if it has no names, numbers, as 1,2. Save UTF-16 as UTF-8.", 2)
+                raise Stop("--columns, by default name,password, needs two names, each once in the first row of "
+                           f"{self.name}, or if that has no names, numbers, as 1,2. Save UTF-16 as UTF-8.", 2)
             for row in filter(None, rows):
                 fields = [row[names.index(each)] for each in columns if names.index(each) < len(row)]
                 if ":" in "".join(fields[:1]) or "\n" in "".join(fields):
@@ -61,9 +61,8 @@ class Source:
             raise Stop(f"{self.name}, line {rows.line_num}: this is not CSV: {error}.") from None
 
     def paired(self, pairs):
-        """Lines `name:password` as `name:field:password`; one without a name for each field of the file."""
-        lines = [line.rstrip(b"\n").split(b":") for line in open(self.options.shadow, "rb") if b":" in line]
-        fields = {line[0]: line[1] for line in reversed(lines)}      # the first line of a name counts
+        """Lines `name:password` as `name:field:password`, with the first field of a name; without a name, with each."""
+        fields = dict(re.findall(rb"(?m)^([^:\n]*):([^:\n]*)", open(self.options.shadow, "rb").read())[::-1])
         def tried(number, line):
             name, _, password = line.partition(b":") if b":" in line else (b"", b":", line)
             names = [name] if name else reversed(fields)

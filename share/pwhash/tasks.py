@@ -1,12 +1,12 @@
 """What pwhash does: it hashes a password or a file of them, checks passwords, and audits stored hashes."""
-import collections, contextlib, fcntl, json, os, re, string, time
+import collections, contextlib, fcntl, itertools, json, os, re, string, time
 from engine import HASH, Engine
 from lines import MARK, Source, Stop, on_terminal, progress, readable, say, write
 
 PLACES = {      # what --for prints for one hash; those with a name need --name
     None: "{hash}", "preseed-root": "d-i passwd/root-password-crypted password {hash}",
     "preseed-user": "d-i passwd/user-password-crypted password {hash}", "kickstart": "rootpw --iscrypted {hash}",
-    "cloud-init": "#cloud-config\nusers:\n  - name: {name}\n    lock_passwd: false\n    hashed_passwd: {hash}",
+    "cloud-init": "#cloud-config\nusers:\n  - name: \"{name}\"\n    lock_passwd: false\n    hashed_passwd: {hash}",
     "ansible": 'password: "{hash}"', "htpasswd": "{name}:{hash}", "shadow": "{name}:{hash}:{day}:0:99999:7:::"}
 HEADINGS = b"name user username login account benutzer benutzername usuario utilisateur nom".split()
 SERVICES = {    # the names that each service reads as they are
@@ -30,15 +30,18 @@ def new_password(options):
 
 def one(options):
     """Hashes one password: asks for it, or reads the first line of standard input."""
-    names = "[A-Za-z_][A-Za-z0-9_.@-]{0,63}" if "{name}" in PLACES[options.place] else ""
-    if not re.fullmatch(names, options.name or ""):
-        raise Stop("cloud-init, htpasswd and shadow need a --name of letters and digits; nothing else has one.", 2)
+    if bool(options.name) != ("{name}" in PLACES[options.place]):
+        raise Stop("cloud-init, htpasswd and shadow need a --name; nothing else has one.", 2)
+    if not re.fullmatch("[A-Za-z_][A-Za-z0-9_.@-]{0,63}", options.name or "_"):
+        raise Stop("a --name begins with a letter or _; then up to 63 letters, digits and _.@- follow.", 2)
     engine, password = Engine("--batch", options.words), new_password(options)
     if not password or password.endswith(b"\r"):
         raise Stop("the password is empty, or ends with a carriage return as lines of Windows do. Give another.", 2)
     [block] = engine.answers([(1, b"x:" + password)])
+    if block.refusals == {0: "over budget"}:
+        raise Stop("over budget. Give at most 168 bytes (sha256crypt: 150), or --budget 1300000000 (high -R: more).", 2)
     if block.refusals:
-        raise Stop(f"{block.refusals[0]}. Give a shorter password, up to 1,024 bytes and no zero, or a --budget.", 2)
+        raise Stop(f"{block.refusals[0]}. Give a password of at most 1,024 bytes, none of them 0.", 2)
     values = {"name": options.name, "hash": block.answers[0][2:].decode(), "day": int(time.time() // 86400)}
     write(1, [PLACES[options.place].format(**values).encode()])
 
@@ -49,18 +52,17 @@ def doubts(number, line, names, service):
     return [reason for reason, is_so in {
         "an empty password: Return alone logs in": password in (b"", b"\r"),
         "a carriage return ends the password; --windows leaves it out": password.endswith(b"\r"),
-        "a blank at an end of name or password, or what nobody sees":
-            not text.isprintable() or any(each != each.strip() for each in text.split(":", 1)),
+        "a blank at an end of name or password": any(each != each.strip() for each in text.split(":", 1)),
+        "an invisible character": not text.isprintable(),
         "a byte order mark begins the name; --windows leaves it out": number == 1 and name.startswith(MARK),
         "a heading, and no user": number == 1 and name.lower() in HEADINGS,
-        f"the name came before, in line {first}": first != number,
+        f"the name again, after line {first}": first != number,
         "the service takes the name for another, or skips it": not re.fullmatch(SERVICES[service], name),
         "not UTF-8: iconv -f WINDOWS-1252 -t UTF-8 FILE > NEW": "\ufffd" in text,
     }.items() if is_so]
 
 def problems(source, options, engine, names):
-    """Gives number, line and reason of those that mkpasswd would refuse or that are doubtful, and which it is. A budget
-    of 0 refuses good lines without work. Of these the longest are tried with the true one, down to the first hash."""
+    """Gives number, line and reason of refused and doubtful lines, and if it's a doubt. A budget of 0 takes no work."""
     by_length = {}
     free = Engine("--batch", [word for word in options.words if not word.startswith("--budget=")] + ["--budget=0"])
     for block in progress(free.answers(source.lines()), "looking", source.total):
@@ -71,7 +73,7 @@ def problems(source, options, engine, names):
             else:
                 yield from ((number, line, doubt, True) for doubt in doubts(number, line, names, options.service))
                 by_length.setdefault(len(line) - line.index(b":"), []).append((number, line))
-    for _, same in sorted(by_length.items(), reverse=True):
+    for _, same in sorted(by_length.items(), reverse=True):      # the longest first, down to one that is hashed
         [block] = engine.answers([(1, same[0][1])])
         if not block.refusals:
             break
@@ -82,7 +84,7 @@ def look(source, options, engine, names):
     refused, doubtful, times = set(), set(), collections.Counter()
     for number, line, reason, is_doubt in problems(source, options, engine, names):
         (doubtful if is_doubt else refused).add(number)
-        times[alike := reason.partition(", in line")[0]] += 1
+        times[alike := reason.partition(", after line")[0]] += 1
         name = f" ({readable(line.partition(b':')[0][:64])})" if b":" in line[1:] else ""      # else a password, maybe
         if times[alike] <= 20:
             say(f"{source.name}, line {number}{name}: {reason}")
@@ -91,14 +93,14 @@ def look(source, options, engine, names):
                    f"({len(refused):,}), --skip-doubtful or --accept-doubtful ({len(doubtful):,}).", 1)
     engine.bad = bool(left_out := refused | (doubtful if options.skip_doubtful else set()))
     if left_out:
-        say(f"these {len(left_out):,} lines are left out.")
+        say(f"lines left out: {len(left_out):,}; all others are hashed.")
     return left_out
 
 @contextlib.contextmanager
 def output(options, source):
     """Opens OUT.part, for this run alone, which becomes OUT at the end."""
+    fd = os.open(options.out + ".part", os.O_RDWR | os.O_NOFOLLOW | os.O_CREAT, 0o600)
     options.part = options.out + ".part"
-    fd = os.open(options.part, os.O_RDWR | os.O_NOFOLLOW | os.O_CREAT, 0o600)
     try:
         fcntl.flock(fd, fcntl.LOCK_EX | fcntl.LOCK_NB)
     except BlockingIOError:
@@ -126,7 +128,8 @@ def skip(fd, pairs, options, name):
             [block] = Engine("--batch", options.words + ["--salt=" + salt] * (not options.salt)).answers([(1, line)])
             fits = block.answers == [answer[:-1]]
         if not fits:
-            raise Stop(f"{options.part}, line {place + 1}: not of line {number} of {name}: name, -m or -R differ.", 2)
+            raise Stop(f"{options.part}, line {place + 1}: not of line {number} of {name}: name, password, -m, -R or "
+                       f"-S differ, or the line is gone. Correct that, or remove {options.part}.", 2)
     os.ftruncate(fd, os.lseek(fd, sum(map(len, made)), os.SEEK_SET))
 
 def file(options):
@@ -134,7 +137,7 @@ def file(options):
     source, engine = Source(options), Engine("--batch", options.words)
     if (options.out or options.look) and not source.regular:
         raise Stop("-o and --look need a file, which can be read twice. Give its name, or leave them out.", 2)
-    names, doubted = {}, not source.regular and not options.accept_doubtful
+    names, doubted = {}, not source.regular and not options.accept_doubtful      # a pipe can't be looked at first
     left_out = look(source, options, engine, names) if source.regular else ()
     if options.look:
         return engine.bad
@@ -144,8 +147,7 @@ def file(options):
             skip(fd, pairs, options, source.name)
         for block in progress(engine.answers(pairs, source.total), "hashing", source.total):
             for place, (number, line) in enumerate(zip(block.numbers, block.lines) if doubted else ()):
-                found = place not in block.refusals and doubts(number, line, names, options.service)
-                if found:      # in a pipe, which can't be looked at first
+                if place not in block.refusals and (found := doubts(number, line, names, options.service)):
                     engine.bad, block.refusals[place] = True, found[0]
                     block.answers[place] = f"pwhash: line {number}: {found[0]}".encode()
             show(fd, block)
@@ -174,10 +176,9 @@ def check(options):
         say(f"lines without an account in {options.shadow}, up to 20: {source.absent}; not UTF-8: {source.odd:,}.")
     return engine.bad
 
-MODERN = ("yescrypt", "gost-yescrypt", "bcrypt")
-FINDINGS = {      # the colour of each, red or yellow for a problem, and what to do
+FINDINGS = {      # the colour of each, and what to do
     "no password": (31, "no password is asked for: set one, or lock the account with passwd -l NAME"),
-    "over budget": (31, "a login is refused, or can take minutes: set a new password, or lock the account"),
+    "over budget": (31, "a login can refuse it, or take minutes: set a new password, or audit with the -R you chose"),
     "malformed": (31, "mkpasswd takes no password, and others may fail badly, or take one: set a new password"),
     "dead": (31, "no password matches, since the hash was cut or changed: set a new password"),
     "no scheme": (31, "a password stored as it is, or a damaged hash: set a new password"),
@@ -187,12 +188,11 @@ FINDINGS = {      # the colour of each, red or yellow for a problem, and what to
 
 def judged(number, answer, refusal):
     """What METHOD:ROUNDS:COST:FINDING, METHOD:unknown, malformed:MESSAGE or a finding alone says behind the name."""
-    (name, *columns, finding), message = readable(answer).split(":"), None
+    (name, *columns, finding), message = readable(answer).replace(":none", ":no password").split(":"), None
     if refusal or columns == ["malformed"]:
         columns, finding, message = [], "refused" if refusal else "malformed", refusal or finding
-    finding = finding.replace("none", "no password")
     method, rounds, cost = [int(each) if each.isdecimal() else each for each in columns] + [None] * (3 - len(columns))
-    problem = FINDINGS[finding][0] in (31, 33) or finding == "unknown" and method not in MODERN
+    problem = finding not in ("current", "locked") and method not in ("yescrypt", "gost-yescrypt", "bcrypt")
     return {"line": number, "name": f"line {number}" if refusal else name, "method": method, "rounds": rounds,
             "cost": cost, "finding": finding, "message": message, "problem": problem}
 
@@ -203,9 +203,9 @@ def audit(options):
     def shown(finding, text, bare=options.json or not os.isatty(1) or os.getenv("NO_COLOR")):
         return (text if bare else f"\x1b[{FINDINGS[finding][0]}m{text}\x1b[m").encode()
     for block in progress(engine.answers(source.lines(), source.total), "auditing", source.total):
-        for place, answer in enumerate(block.answers):
-            found = judged(block.numbers[place], answer, block.refusals.get(place))
+        for found in map(judged, block.numbers, block.answers, map(block.refusals.get, itertools.count())):
             counts[finding := found["finding"]] += 1
+            engine.bad |= found["problem"]
             if found["problem"] or not options.only_problems:
                 row = "{1:20}  {2:12}  {3:>11}  {5} {6}".format(*(each or "" for each in found.values())).rstrip()
                 rows.append((list(FINDINGS).index(finding), shown(finding, json.dumps(found) if options.json else row)))
@@ -214,6 +214,6 @@ def audit(options):
             rows = []
     if not options.json and (len(rows) > 1 or not options.only_problems):
         kinds = [shown(each, f"{counts[each]:7,} {each:12} {FINDINGS[each][1]}") for each in FINDINGS if counts[each]]
-        rows = [*(row for _, row in sorted(rows)), f"\n{sum(counts.values()):,} lines of {source.name}:".encode()]
-        write(1, rows + kinds)
+        total = f"\n{sum(counts.values()):,} lines of {source.name}:".encode()
+        write(1, [*(row for _, row in sorted(rows)), total, *kinds])
     return engine.bad

@@ -1,6 +1,6 @@
-// Reads rows of JSON, [password, field], and tells for each what a policy's login, loginAsync, verify and needsRehash say, how
-// many digests login made by the module's reports, what it gave to store, and whether the module's memory is then as it was
-// before the first call. tests/npm.t knows the answers.
+// Reads rows of JSON, [password, field], and tells for each what a policy's login, loginAsync, verify, needsRehash and describe
+// say, how many digests login made by the module's reports, what it gave to store, and whether the module's memory is then as
+// it was before the first call. tests/npm.t knows the answers.
 import { readFileSync } from 'node:fs';
 
 const memories = [];
@@ -19,7 +19,7 @@ WebAssembly.Instance = function (compiled) {
 };
 const { Policy } = await import('mkpasswd');
 
-const { login, loginAsync, verify, needsRehash } = new Policy({ rounds: 5000 });    // each without its policy
+const { login, loginAsync, verify, needsRehash, describe } = new Policy({ rounds: 5000 });    // each without its policy
 const why = (call) => { try { return call(); } catch ({ name, message, reason }) { return reason ?? `${name}: ${message}`; } };
 const rows = JSON.parse(readFileSync(0, 'utf8')).map(([password, field]) => {
     digests = 0n;
@@ -31,6 +31,7 @@ const rows = JSON.parse(readFileSync(0, 'utf8')).map(([password, field]) => {
         wiped: memories.every(({ memory, initial }) => memory.equals(initial)),
         verified: why(() => verify(password, field)),
         outdated: why(() => needsRehash(field)),
+        state: why(() => describe(field).state),
     };
     return loginAsync(password, field).then(
         (verdict) => ({ ...row, alike: JSON.stringify(verdict) === JSON.stringify(result) && !verdict.new === !result.new }),

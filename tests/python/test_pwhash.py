@@ -13,7 +13,7 @@ import tempfile
 import time
 
 import pytest
-from support import ROOT, libxcrypt, missing
+from support import ROOT, libxcrypt, missing, needs
 
 signal.signal(signal.SIGINT, signal.default_int_handler)      # which is ignored in what a shell has begun behind it
 
@@ -97,7 +97,7 @@ def test_one(place):
     ("preseed-root", "d-i passwd/root-password-crypted password HASH"),
     ("preseed-user", "d-i passwd/user-password-crypted password HASH"),
     ("kickstart", "rootpw --iscrypted HASH"),
-    ("cloud-init", "#cloud-config\nusers:\n  - name: ann\n    lock_passwd: false\n    hashed_passwd: HASH"),
+    ("cloud-init", "#cloud-config\nusers:\n  - name: \"ann\"\n    lock_passwd: false\n    hashed_passwd: HASH"),
     ("ansible", 'password: "HASH"'),
     ("htpasswd", "ann:HASH"),
     ("shadow", f"ann:HASH:{int(time.time() // 86400)}:0:99999:7:::")])
@@ -109,6 +109,14 @@ def test_for(place, target, text):
         assert run(*QUICK, "--for", target, *wrong, stdin=b"x\n")[:2] == (2, b"")
 
 
+@pytest.mark.parametrize("name", "ann no yes null on y true _ A@b.c-d".split())
+def test_cloud_init(place, name):
+    """The name is a string in YAML, whatever it is."""
+    document = run(*QUICK, "--for", "cloud-init", "--name", name, stdin=b"password\n")[1]
+    user = dict(name=name, lock_passwd=False, hashed_passwd="$1$xxxxxxxx$UYCIxa628.9qXjpQCjM4a.")
+    assert needs("yaml", "python3-yaml").safe_load(document) == {"users": [user]}
+
+
 @pytest.mark.parametrize("words, longest", [("", 168), ("-m sha256crypt", 150), ("-R 400000", 168)])
 def test_limit_of_a_login(place, words, longest):
     assert run(*words.split(), stdin=b"x" * longest)[0] == 0 and run(*words.split(), stdin=b"x" * (longest + 1))[0] == 2
@@ -116,11 +124,23 @@ def test_limit_of_a_login(place, words, longest):
 
 @pytest.mark.parametrize("words, password, said", [
     ("", b"", "empty"), ("", b"\n", "empty"), ("", b"x\r\n", "carriage return"), ("", b"x" * 1025, "1,024"), ("", b"a\0b", "zero"),
-    ("", b"x" * 1024, "--budget"), ("-m yescrypt", b"x", "sha512crypt"), ("-m scrypt -R 12", b"x", "-R 12"), ("-R 10", b"x", "1000"), ("-m scrypt -R 9999999999", b"x", "11"),
-    ("-R 65x", b"x", "'65x'"), ("-m md5crypt -S 123456789", b"x", "--salt=123456789"), ("--for grub", b"x", "preseed-root")])
+    ("-m yescrypt", b"x", "sha512crypt"), ("-m scrypt -R 12", b"x", "-R 12"), ("-R 10", b"x", "1000"), ("-m scrypt -R 9999999999", b"x", "11"),
+    ("-R 65x", b"x", "'65x'"), ("-m md5crypt -S 123456789", b"x", "--salt=123456789"), ("--for grub", b"x", "preseed-root"),
+    ("--for htpasswd --name 1ann", b"x", "begins with a letter")])
 def test_wrong(place, words, password, said):
     status, out, err = run(*words.split(), stdin=password)
     assert (status, out) == (2, b"") and said in err.decode()
+
+
+@pytest.mark.parametrize("words", ["", "-m sha256crypt"])
+def test_over_budget(place, words):
+    """Both ways out that the message names."""
+    status, out, err = run(*words.split(), stdin=b"x" * 1024)
+    assert (status, out) == (2, b"")
+    budget, length = re.search(rb"--budget (\d+)", err)[1], re.search(rb"sha256crypt: (\d+)" if words else rb"(\d+) bytes", err)[1]
+    assert run(*words.split(), "--budget", budget.decode(), stdin=b"x" * 1024)[0] == run(*words.split(), stdin=b"x" * int(length))[0] == 0
+    for wrong in b"x" * 1025, b"a\0b":
+        assert b"--budget" not in run(*words.split(), stdin=wrong)[2]
 
 
 def test_terminal(place):
@@ -209,7 +229,7 @@ def test_look_first(place):
     assert (status, out) == (1, b"") and sorted(os.listdir()) == ["bin", "lines", "share"] and b"secret" not in err
     said = err.decode()
     for number, name, reason in [(2, "bob", "empty"), (3, "", "no name"), (4, "", "no password field"), (5, "carl", "carriage return"),
-                                 (6, "ann", "before, in line 1"), (7, "\\xff", "UTF-8"), (8, "long", "over budget")]:
+                                 (6, "ann", "after line 1"), (7, "\\xff", "UTF-8"), (8, "long", "over budget")]:
         assert any(f"line {number}" in line and name in line and reason in line for line in said.split("\n")), (number, said)
     words = ["file", *SALTED, "--budget", "3000000", "lines", "-o", "out"]
     assert run(*words, "--skip-refused")[0] == run(*words, "--accept-doubtful")[0] == 1 and not os.path.exists("out")
@@ -250,9 +270,10 @@ def test_windows_and_tables(place):
     status, _, err = run("file", *QUICK, "bare.csv", "--csv")
     assert status == 2 and b"--columns" in err and b"password\"" not in err
     assert run("file", *QUICK, save("named.csv", b"user,password\nann,x\n"), "--csv", "--columns", "1,2")[:2] == (1, b"")
-    for words in ["excel.csv", "--csv", "--columns", "name"], [save("wide.csv", "name,password\nann,x\n".encode("utf-16")), "--csv"]:
+    for words in ["bare.csv", "--columns", "1,2"], ["excel.csv", "--csv", "--columns", "name"], \
+            [save("wide.csv", "name,password\nann,x\n".encode("utf-16")), "--csv"]:
         status, _, err = run("file", *QUICK, *words)
-        assert status == 2 and b"--columns" in err
+        assert status == 2 and b"--columns" in err and b"line 1" not in err
     for text in b'name,password\n"a:b",x\n', b'name,password\na,"x\ny"\n', b'name,password\n"a,x\n':
         assert run("file", *QUICK, "--csv", save("bad.csv", text))[0] == 3
 
@@ -265,6 +286,7 @@ def test_doubts(place):
     assert [int(number) for number in re.findall(rb"line (\d)", err)] == [1, 3, 4, 5, 6, 7, 2, 8, 9]
     status, _, err = run("file", *QUICK, save("lines", lines), "--look")
     assert status == 1 and {int(number) for number in re.findall(rb"line (\d) ", err)} == {1, 3, 4, 5, 6, 7, 8, 9}
+    assert re.findall(rb"line (\d) .*blank", err) == [b"5", b"6", b"9"] and re.findall(rb"line (\d) .*invisible", err) == [b"8", b"9"]
 
 
 # Interruptions.
@@ -312,7 +334,8 @@ def test_resume_refuses(place):
     for part, status in [(made[0] + b"\n", 1), (made[0] + b"\n" + made[1][:30], 1), (b"", 1), (b"\n".join(made), 1),
                          (made[1] + b"\n", 2), (b"ann:$1$xxxxxxxx$wrong\n", 2), (b"\n".join([*made, b"x"]), 2), (b"Welcome!\n", 2)]:
         save("out.part", part)
-        assert run(*words)[0] == status, part
+        ended, _, err = run(*words)
+        assert ended == status and (status == 1 or b"password" in err and b"gone" in err), part
         assert os.path.exists("out") == (status == 1)
         if status == 1:
             assert open("out", "rb").read() == b"\n".join(made)
@@ -408,6 +431,9 @@ def test_audit(place):
     assert found[1]["rounds"] == 1000 and found[5]["message"] == "bad rounds" and found[5]["rounds"] is None and found[9]["method"] is None
     assert run("audit", "--only-problems", stdin=b"", program="bin/pwhash")[0] in (0, 1)      # of /etc/shadow
     assert run("audit", "--only-problems", save("fine", SHADOW.split(b"\n")[0] + b"\n")) == (0, b"", b"")
+    for field, status in (b"abcdefghijklm", 1), (b"$9$x", 1), (b"$y$j9T$a$b", 0), (b"$2b$10$x", 0), (b"$gy$j9T$a$b", 0), (b"!", 0):
+        assert run("audit", save("one", b"ann:%b:1\n" % field))[0] == run("audit", "--json", "one")[0] == status
+        assert (run("audit", "--only-problems", "one")[1] != b"") == bool(status)
 
 
 # What fails.
@@ -446,6 +472,12 @@ def test_full_disk(place):
     assert out == b"3\n" + mkpasswd("--batch", *QUICK, stdin=pathlib.Path("lines").read_bytes())[1]
 
 
+def test_no_folder(place):
+    """Where nothing was begun there is nothing to go on with."""
+    status, _, err = run("file", *QUICK, save("lines", b"ann:x\n"), "-o", "nowhere/out")
+    assert status == 3 and b"nowhere/out.part" in err and b"--resume" not in err
+
+
 def test_a_reader_that_ends(place):
     """Its status is 3, as that of a full disk."""
     child = subprocess.Popen(["bin/pwhash", "file", *QUICK], stdin=subprocess.PIPE, stdout=subprocess.PIPE, stderr=subprocess.PIPE)
@@ -476,13 +508,15 @@ def test_an_engine_that_fills_memory(place):
 def test_finds_its_engine(place):
     os.rename("bin/mkpasswd", "bin/mkpasswd.proved")
     assert run(*QUICK, stdin=b"x")[0] == 0
+    os.rename("bin/mkpasswd.proved", "mkpasswd")      # as in a clone
+    assert run(*QUICK, stdin=b"x", env={"PATH": "/nowhere"})[0] == 0
     os.mkdir("elsewhere")
-    os.rename("bin/mkpasswd.proved", "elsewhere/mkpasswd.proved")
+    os.rename("mkpasswd", "elsewhere/mkpasswd.proved")
     assert run(*QUICK, stdin=b"x", env={"PATH": f"{place}/elsewhere"})[0] == 0
     save("bin/mkpasswd", b"#!/bin/sh\necho mkpasswd 5.5.17; echo; echo \"Copyright (C) Marco d'Itri\"\n")
     os.chmod("bin/mkpasswd", 0o755)
     status, _, err = run(*QUICK, stdin=b"x", env={"PATH": "/nowhere"})
-    assert status == 3 and b"whois" in err
+    assert status == 3 and b"whois" in err and b"make" in err
 
 
 @pytest.mark.parametrize("limit", [resource.RLIMIT_AS, resource.RLIMIT_NOFILE])

@@ -30,7 +30,7 @@ function places() {
     const told = {};
     for (const { id, index } of element('place').options) {
         element('place').selectedIndex = index;
-        const refused = ['', 'a b'].map((name) => {
+        const refused = ['', 'a b', '1ann'].map((name) => {
             set({ name });
             button('copy=snippet').click();
             return button('copy=snippet').nextElementSibling.textContent;
@@ -107,6 +107,7 @@ async function visit() {
         const answer = await ended('check', { stored: line, guess: password });
         told.lines.push([answer, element('stored').value === told.stored, element('stored-note').textContent]);
     }
+    told.current = await ended('check', { stored: '@CURRENT@', guess: 'password' });
     told.hidden = !element('more').open;
     for (const [stored, guess] of @ROWS@) told.refused.push(await ended('check', { stored: stored || ' ', guess }));    // an empty field isn't sent
     told.hidden &&= element('more').open;

@@ -292,8 +292,9 @@ class Policy:
         - "no scheme" if it begins with no "$" and is no hash: a password that was stored as it is, or a damaged hash;
         - "unknown" for another scheme, such as yescrypt, which is not judged;
         - "malformed" if its setting is invalid. `reason` is then the first rule that it breaks;
-        - "over budget" if some password can cost more than the budget, or without one more than by this policy, or by the
-          recommended one, any password can; without one also if login() would refuse each password as too costly;
+        - "over budget" if a password of 1,024 bytes can cost more than the budget, or without one more than a new hash of this
+          policy and of the recommended one; without one also if login() refuses each password as too costly. A hash with more
+          rounds than the policy's can be over budget though login() accepts it: audit with the policy that made it;
         - "dead" if no password matches it, since it was cut or changed;
         - "outdated" if needs_rehash() is true, and otherwise "current".
 
