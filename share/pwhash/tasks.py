@@ -178,7 +178,7 @@ def check(options):
 
 FINDINGS = {      # the colour of each, and what to do
     "no password": (31, "no password is asked for: set one, or lock the account with passwd -l NAME"),
-    "over budget": (31, "a login can refuse it, or take minutes: set a new password, or audit with the -R you chose"),
+    "over budget": (31, "a login can refuse it, or take minutes: set a new password, or audit with your -R"),
     "malformed": (31, "mkpasswd takes no password, and others may fail badly, or take one: set a new password"),
     "dead": (31, "no password matches, since the hash was cut or changed: set a new password"),
     "no scheme": (31, "a password stored as it is, or a damaged hash: set a new password"),
