@@ -88,7 +88,7 @@ sub verdict { my ($got, $yes, $no) = @_; return $got eq $yes ? 'yes' : $got eq $
 sub http {
     my ($port, $name, $password) = @_;
     my $authorization = 'Basic ' . encode_base64("$name:$password", '');
-    my $client = HTTP::Tiny->new(timeout => 20, default_headers => { Authorization => $authorization });
+    my $client = HTTP::Tiny->new(timeout => 120, default_headers => { Authorization => $authorization });
     my $got = $client->get("http://127.0.0.1:$port/");
     return verdict($got->{status} . ($got->{success} ? " $got->{content}" : ''), "200 in\n", '401') =~ s/^(?:403|500)\z/no/r;
 }
@@ -169,7 +169,7 @@ service anvil {
 !include_try local.conf
 END
     spew('/etc/dovecot/dovecot.conf', $configuration);
-    my $login = sub { verdict(run({ timeout => 20 }, qw(doveadm auth test), @_)->{status}, 0, 77) };
+    my $login = sub { verdict(run({ timeout => 120 }, qw(doveadm auth test), @_)->{status}, 0, 77) };
     while_serving(8082, [qw(dovecot -F)], sub { are_taken('Dovecot', $login) });
     install_module() or return;
     spew('/etc/dovecot/local.conf', "passdb {\n  driver = pam\n  args = example\n}\n");
@@ -207,7 +207,7 @@ END
         my ($name, $password) = @_;
         spew("$scratch/typed.$$", $password);
         my @user = ('-D', "uid=$name,ou=people,$suffix", '-y', "$scratch/typed.$$");
-        return verdict(run({ timeout => 20 }, 'ldapwhoami', '-x', '-H', 'ldap://127.0.0.1:8083', @user)->{status}, 0, 49);
+        return verdict(run({ timeout => 120 }, 'ldapwhoami', '-x', '-H', 'ldap://127.0.0.1:8083', @user)->{status}, 0, 49);
     }) });
 };
 
@@ -312,7 +312,7 @@ subtest 'sshd' => sub {
     while_serving(8085, ['/usr/sbin/sshd', '-De', '-f', "$scratch/sshd_config"], sub { are_checked('sshd', sub {
         my ($name, $password) = @_;
         my %env = (PASSWORD => $password, SSH_ASKPASS => "$scratch/askpass", SSH_ASKPASS_REQUIRE => 'force');
-        return verdict(run({ timeout => 20, env => \%env }, qw(ssh -qp 8085 -l), $name, @options, '127.0.0.1', 'true')->{status}, 0, 255);
+        return verdict(run({ timeout => 120, env => \%env }, qw(ssh -qp 8085 -l), $name, @options, '127.0.0.1', 'true')->{status}, 0, 255);
     }, yescrypt => 'yes') });
 };
 
