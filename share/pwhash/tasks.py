@@ -107,8 +107,8 @@ def output(options, source):
         raise Stop(f"another run is writing {options.part}: wait for it.", 2) from None
     part = os.fstat(fd)
     if part.st_size and (not options.resume or source.begun.st_ctime_ns > part.st_mtime_ns):
-        how = f"{source.name} has changed since. Remove" if options.resume else "add --resume, or remove"
-        raise Stop(f"{options.part} already exists: {how} {options.part}.", 2)
+        how = f"{source.name} is newer; if no line changed, touch" if options.resume else "add --resume"
+        raise Stop(f"{options.part} already exists: {how}, else remove {options.part}.", 2)
     os.fchmod(fd, 0o600)
     yield fd
     os.fsync(fd)
@@ -174,7 +174,7 @@ def check(options):
             show(fd, block, options.out and options.rehash)
     if source.absent or source.odd:
         say(f"lines without an account in {options.shadow}, up to 20: {source.absent}; not UTF-8: {source.odd:,}.")
-    return engine.bad
+    return engine.bad or bool(source.absent)
 
 FINDINGS = {      # the colour of each, and what to do
     "no password": (31, "no password is asked for: set one, or lock the account with passwd -l NAME"),

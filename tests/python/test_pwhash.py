@@ -405,6 +405,7 @@ def test_known_passwords(place):
     assert open("new").read() == "ann:" + libxcrypt("password", "$5$rounds=2000$ab") + "\n"
     save("shadow", b"ann:$1$xxxxxxxx$UYCIxa628.9qXjpQCjM4a.:1\nyes:$y$j9T$x$y:1\n")
     assert run("check", "--csv", "--shadow", "shadow", save("list.csv", b"password;name\r\npassword;ann\r\n")) == (0, b"ann:ok\n", b"")
+    assert run("check", "--shadow", "shadow", stdin=b"ann:password\nzoe:x\n")[:2] == (1, b"ann:ok\n")
     assert run("check", "--shadow", "shadow", stdin=b"\xff\n")[2].endswith(b"not UTF-8: 1.\n")
     assert run("check", "--shadow", "shadow", stdin=b"a\npassword\nb\n") == (
         1, b"ann:no\nann:ok\nann:no\n", b"pwhash: yes isn't checked: unknown scheme\n")
