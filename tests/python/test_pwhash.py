@@ -39,7 +39,7 @@ def place():
 
 def run(*words, stdin=b"", program="bin/pwhash", **options):
     """Status, output, standard error."""
-    done = subprocess.run([program, *map(str, words)], input=stdin, capture_output=True, start_new_session=True, timeout=120, **options)
+    done = subprocess.run([program, *map(str, words)], input=stdin, capture_output=True, start_new_session=True, timeout=300, **options)
     return done.returncode, done.stdout, done.stderr
 
 
