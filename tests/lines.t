@@ -98,7 +98,7 @@ subtest 'a pipe that stays open' => sub {
     my ($name, $locked) = ('n' x 58, '!' . 'x' x 900);    # so that all lines together are twice the memory, and more than a MiB is answered
     my ($child, $writer);
     my $is_done = eval {
-        alarm 30;
+        alarm 300;
         $child = open2(my $from, my $to, program(), '--check');
         $writer = fork // die "can't fork: $!\n";
         if (!$writer) {
@@ -109,7 +109,7 @@ subtest 'a pipe that stays open' => sub {
         }
         for my $number (1 .. $many) {
             my $answer = <$from> // 'none';
-            alarm 300 if $number == 1;
+            alarm 900 if $number == 1;
             next if $answer eq "$name$number:" . ($number % 10 ? 'locked' : 'ok') . "\n";
             die "line $number: $answer\n";
         }
@@ -131,8 +131,9 @@ subtest 'a pipe that stays open' => sub {
 subtest 'closed outputs' => sub {
     for (['out', 'a::x', '2> "$2/err"', "mkpasswd: write fault\n"], ['err', 'y', '2>&1 > "$2/err"', '']) {
         my ($stream, $line, $redirect, $told) = @$_;
+        unlink "$scratch/status";
         my $ended = run('bash', '-c', "{ yes '$line' 2> /dev/null; } | { timeout 60 \"\$1\" --check $redirect; echo \$? > \"\$2/status\"; }"
-            . ' | head -n 10; sleep 0.1; cat "$2/status" >&2', 'bash', program(), $scratch);
+            . ' | head -n 10; until [ -s "$2/status" ]; do sleep 0.02; done; cat "$2/status" >&2', 'bash', program(), $scratch);
         is($ended->{err}, "3\n", "std$stream closed: status");
         is($ended->{out} =~ tr/\n//, 10, "std$stream closed: the lines before");
         is(slurp("$scratch/err"), $told, "std$stream closed: what is told");

@@ -162,7 +162,7 @@ subtest 'renewals' => sub {
     my $holder;
     for (['No space left on device', map { $remount->("size=$_") } '60k', '10m'], ['Read-only file system', map { $remount->($_) } 'ro', 'rw'],
         ['Too many levels of symbolic links', sub { unlink $lock; symlink 'x', $lock }, sub { unlink $lock }],
-        ['Resource temporarily unavailable', sub { $holder = begin({ from => '/dev/null', to => '/dev/null' }, 'flock', $lock, qw(sleep 99)); sleep 0.3 },
+        ['Resource temporarily unavailable', sub { $holder = begin({ from => '/dev/null', to => '/dev/null' }, 'flock', $lock, qw(sleep 999)); sleep 0.01 until run('flock', '-n', $lock, 'true')->{status} },
             sub { kill KILL => -$holder; waitpid $holder, 0 }],
         ['File too large', sub { }, sub { }, 'prlimit', '--fsize=35122'], ['Invalid argument', sub { }, sub { }, 'env', "LD_PRELOAD=$between", 'NO_EXCHANGE=1'],
         (needs(setfacl => 'acl') ? ['Operation not supported', map { my @to = @$_; sub { run('setfacl', @to, $file) } } ['-m', 'u:daemon:r'], ['-b']] : ()),

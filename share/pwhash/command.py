@@ -1,7 +1,7 @@
 """The command line of pwhash: its options, and how a run ends."""
 import argparse, gc, os, shlex, signal, sys
 import engine
-from lines import Stop, clear, on_terminal, say
+from lines import Stop, clear, on_terminal, say, write
 from tasks import PLACES, SERVICES, audit, check, file, one
 
 USAGE = """
@@ -20,7 +20,7 @@ FLAG, NUMBER = {"action": "store_true"}, {"type": number, "metavar": "NUMBER"}
 OPTIONS = {      # the words, what argparse has to know, and the help
     "method": ("-m --method", {"default": "sha512crypt", "metavar": "TYPE", "choices": [*ROUNDS]}, ", ".join(ROUNDS)),
     "rounds": ("-R --rounds", NUMBER, "from 1000, by default 656k; with scrypt 6 to 11, by default 7"),
-    "budget": ("--budget", NUMBER, "what a line may cost in bytes; by default twice a new hash, in audits the longest"),
+    "budget": ("--budget", NUMBER, "what a line may cost in bytes; by default a login's limit, in audits any new hash"),
     "salt": ("-S --salt", {}, "up to 16 (md5crypt 8, scrypt 86) of a-zA-Z0-9./, in place of new ones"),
     "quiet": ("--quiet", FLAG, "show no progress"), "json": ("--json", FLAG, "an object a line"),
     "out": ("-o --out", {}, "write the file OUT once it is whole; until then it is OUT.part"),
@@ -53,7 +53,7 @@ def arguments(words):
                                      description=command and run.__doc__, allow_abbrev=False)
     def error(message):
         raise Stop(f"{message}. See {parser.prog} --help.", 2)
-    parser.error = error
+    parser.error, parser._print_message = error, lambda text, _: write(1, [text.rstrip("\n").encode()])
     parser.set_defaults(**dict.fromkeys([*OPTIONS, "part"]), run=run, file=default)
     parser.add_argument("--version", action="version", version="pwhash 2.0.0")
     if command:
@@ -65,7 +65,7 @@ def arguments(words):
         if getattr(options, option) and not getattr(options, needed):
             error(f"--{option} needs --{needed}")
     if options.out and os.path.lexists(options.out):
-        error(f"{options.out} already exists and is complete: name another file after -o, or remove it")
+        error(f"{options.out} already exists: name another file after -o, or remove it")
     least, usual, most = ROUNDS[options.method]
     rounds = options.rounds or usual
     if not least <= rounds <= most:
@@ -74,7 +74,7 @@ def arguments(words):
         limit = TWICE[options.method] * (2.0 ** (rounds - usual) if most == 11 else rounds / usual)
         options.rounds, options.budget = rounds, options.budget or max(150000000, int(limit)) << bool(options.rehash)
     given = ((each, getattr(options, each)) for each in ("method", "rounds", "salt", "budget"))
-    options.words = ["--rehash"] * bool(options.rehash) + [f"--{each}={value}" for each, value in given if value]
+    options.words = ["--rehash"] * bool(options.rehash) + [f"--{each}={how}" for each, how in given if how is not None]
     return options
 
 def interrupt(number, frame):
@@ -97,23 +97,22 @@ def end(options, text, status=3):
     return status
 
 def main(options=None):
-    while os.open("/", os.O_RDONLY) < 3:      # nothing else gets a descriptor that was closed
+    while os.open("/", os.O_PATH) < 3:      # nothing else gets a descriptor that was closed
         pass
     gc.set_threshold(1 << 20)      # it would visit all the lines again and again
     signal.signal(signal.SIGCHLD, signal.SIG_DFL)
     signal.pthread_sigmask(signal.SIG_SETMASK, [])
-    for each in SIGNALS:
-        if signal.getsignal(each) != signal.SIG_IGN:
-            signal.signal(each, interrupt)
     try:
         try:
+            for each in SIGNALS:
+                if signal.getsignal(each) != signal.SIG_IGN:
+                    signal.signal(each, interrupt)
             options = arguments(sys.argv[1:])
             return int(bool(options.run(options)))
         finally:      # a signal that comes even here is caught below
             for each in SIGNALS:
                 signal.signal(each, signal.SIG_IGN)
     except SystemExit as leave:      # of argparse's help
-        sys.stdout.flush()
         return leave.code
     except Stop as stop:
         return end(options, *stop.args)

@@ -2,8 +2,7 @@
 import collections, fcntl, functools, itertools, os, re, subprocess, types
 from lines import Stop, readable
 
-SECONDS = 0.5       # of a processor for a block; in less, scrypt's memory would be a tenth of it
-MOST = 1 << 15      # lines of a block
+SECONDS, MOST = 0.5, 1 << 15      # of a processor for a block (in less, scrypt's memory would be a tenth); its lines
 ENDED = os.WEXITED | os.WNOHANG | os.WNOWAIT
 REFUSAL = re.compile(rb"mkpasswd: line ([1-9][0-9]*): ([a-z ]+)")
 HASH = rb"\$[!-9;-~]+"
@@ -56,7 +55,7 @@ class Engine:
             *answers, rest = os.pread(file.fileno(), os.lseek(file.fileno(), 0, os.SEEK_CUR), 0).split(b"\n")
         said = readable(re.search(b"(mkpasswd|error): .*|$", rest or b"".join(answers[-1:]))[0]) or "ended"
         if code not in (0, 1) or rest or len(answers) != len(block.lines):
-            raise Stop(f"line {block.numbers[0]}, status {code}: {said}: {' '.join(self.command)}", 3 - (code == 2))
+            raise Stop(f"{said} (status {code} at line {block.numbers[0]}). See pwhash --help.", 3 - (code == 2))
         block.answers, block.refusals = answers, {}      # refusals by place
         for place, (line, answer) in enumerate(zip(block.lines, answers)):
             name, colon, verdict = answer.partition(b":")

@@ -10,8 +10,10 @@ class Source:
         self.name, self.fd = ("standard input", 0) if is_stdin else (options.file, os.open(options.file, os.O_RDONLY))
         self.begun = os.fstat(self.fd)
         self.regular = stat.S_ISREG(self.begun.st_mode)
+        if stat.S_ISDIR(self.begun.st_mode):
+            raise Stop(f"{self.name} is a folder.")
         if os.isatty(self.fd):
-            say("reading lines from the terminal; Ctrl-D ends them.")
+            say("reading lines from the terminal, which shows them; Ctrl-D ends them.")
         self.start = self.regular and os.lseek(self.fd, 0, os.SEEK_CUR)
         if self.regular and not options.quiet:
             self.total = sum(piece.count(b"\n") for piece in iter(lambda: os.read(self.fd, 1 << 19), b""))
@@ -33,8 +35,7 @@ class Source:
             *lines, rest = (rest + piece).split(b"\n")
             lines += [rest] if rest and not piece else []
             if windows:
-                lines = [line.removesuffix(b"\r") for line in lines]
-                lines[:1] = [line.removeprefix(MARK) if number == 1 else line for line in lines[:1]]
+                lines = [line.removesuffix(b"\r").removeprefix(MARK * (n == 1)) for n, line in enumerate(lines, number)]
             if self.options.locked:      # without what is in front of a locked hash
                 lines = [re.sub(rb"^([^:]*:)[!*]+(?=\$)", rb"\1", line) for line in lines]
             yield from enumerate(lines, number)
@@ -63,14 +64,15 @@ class Source:
     def paired(self, pairs):
         """Lines `name:password` as `name:field:password`, with the first field of a name; without a name, with each."""
         fields = dict(re.findall(rb"(?m)^([^:\n]*):([^:\n]*)", open(self.options.shadow, "rb").read())[::-1])
+        if not fields:
+            raise Stop(f"{self.options.shadow} has no line name:field.", 2)
         def tried(number, line):
             name, _, password = line.partition(b":") if b":" in line else (b"", b":", line)
             names = [name] if name else reversed(fields)
             self.absent += [number] * (name != b"" and name not in fields and len(self.absent) < 20)
             self.odd += "\ufffd" in line.decode(errors="replace") or b"\0" in line
             return [(number, b"%b:%b:%b" % (each, fields[each], password)) for each in names if each in fields]
-        for pair in pairs:
-            yield from tried(*pair) if pair else [pair]
+        return itertools.chain.from_iterable(tried(*pair) if pair else [pair] for pair in pairs)
 
 class Stop(Exception):
     """Ends the run: a whole sentence, and the status if it isn't 3, or a signal as a negative number."""

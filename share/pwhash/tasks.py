@@ -1,5 +1,5 @@
 """What pwhash does: it hashes a password or a file of them, checks passwords, and audits stored hashes."""
-import collections, contextlib, fcntl, itertools, json, os, re, string, time
+import collections, contextlib, fcntl, itertools, json, os, re, signal, string, time
 from engine import HASH, Engine
 from lines import MARK, Source, Stop, on_terminal, progress, readable, say, write
 
@@ -13,6 +13,10 @@ SERVICES = {    # the names that each service reads as they are
     None: rb"(?s).*", **dict.fromkeys(("apache", "nginx"), rb"[^#\s\0-\x1f\x7f][^\0-\x1f\x7f]*"),
     "dovecot": rb"[a-z0-9_.@-]+", "ldap": rb"[a-z0-9_-]+"}
 
+def free(options):
+    """An engine that hashes nothing: what it would hash is over its budget of 0."""
+    return Engine("--batch", [word for word in options.words if not word.startswith("--budget=")] + ["--budget=0"])
+
 def new_password(options):
     import getpass, secrets      # only here, since they are slow to begin
     if options.generate:
@@ -22,6 +26,7 @@ def new_password(options):
         return password.encode()
     if not os.isatty(0):
         return next((pair[1] for pair in Source(options).lines() if pair), b"")
+    signal.signal(signal.SIGTSTP, signal.SIG_IGN)      # the shell would show what is typed after Ctrl-Z
     with contextlib.suppress(EOFError):      # of Ctrl-D
         password = getpass.getpass("Password: ")
         if password != getpass.getpass("Again: "):
@@ -34,12 +39,13 @@ def one(options):
         raise Stop("cloud-init, htpasswd and shadow need a --name; nothing else has one.", 2)
     if not re.fullmatch("[A-Za-z_][A-Za-z0-9_.@-]{0,63}", options.name or "_"):
         raise Stop("a --name begins with a letter or _; then up to 63 letters, digits and _.@- follow.", 2)
+    next(free(options).answers([(1, b"x:")]))      # first, whether mkpasswd takes the options
     engine, password = Engine("--batch", options.words), new_password(options)
     if not password or password.endswith(b"\r"):
         raise Stop("the password is empty, or ends with a carriage return as lines of Windows do. Give another.", 2)
     [block] = engine.answers([(1, b"x:" + password)])
     if block.refusals == {0: "over budget"}:
-        raise Stop("over budget. Give at most 168 bytes (sha256crypt: 150), or --budget 1300000000 (high -R: more).", 2)
+        raise Stop("over budget (by default 168 bytes; sha256crypt: 150). Give --budget 1300000000 (high -R: more).", 2)
     if block.refusals:
         raise Stop(f"{block.refusals[0]}. Give a password of at most 1,024 bytes, none of them 0.", 2)
     values = {"name": options.name, "hash": block.answers[0][2:].decode(), "day": int(time.time() // 86400)}
@@ -58,14 +64,13 @@ def doubts(number, line, names, service):
         "a heading, and no user": number == 1 and name.lower() in HEADINGS,
         f"the name again, after line {first}": first != number,
         "the service takes the name for another, or skips it": not re.fullmatch(SERVICES[service], name),
-        "not UTF-8: iconv -f WINDOWS-1252 -t UTF-8 FILE > NEW": "\ufffd" in text,
+        "not UTF-8: umask 077; iconv -f WINDOWS-1252 -t UTF-8 FILE > NEW": "\ufffd" in text,
     }.items() if is_so]
 
 def problems(source, options, engine, names):
-    """Gives number, line and reason of refused and doubtful lines, and if it's a doubt. A budget of 0 takes no work."""
+    """Gives number, line and reason of refused and doubtful lines, and if it's a doubt."""
     by_length = {}
-    free = Engine("--batch", [word for word in options.words if not word.startswith("--budget=")] + ["--budget=0"])
-    for block in progress(free.answers(source.lines()), "looking", source.total):
+    for block in progress(free(options).answers(source.lines()), "looking", source.total):
         for place, reason in block.refusals.items():
             number, line = block.numbers[place], block.lines[place]
             if reason != "over budget":
@@ -89,8 +94,8 @@ def look(source, options, engine, names):
         if times[alike] <= 20:
             say(f"{source.name}, line {number}{name}: {reason}")
     if refused and not options.skip_refused or doubtful and not (options.accept_doubtful or options.skip_doubtful):
-        raise Stop("nothing was hashed. Correct these lines and start again, or leave out or take them: --skip-refused "
-                   f"({len(refused):,}), --skip-doubtful or --accept-doubtful ({len(doubtful):,}).", 1)
+        raise Stop(f"nothing was hashed. Correct these lines, or leave them out ({len(refused):,} with --skip-refused, "
+                   f"{len(doubtful):,} with --skip-doubtful), or hash all doubtful ones (--accept-doubtful).", 1)
     engine.bad = bool(left_out := refused | (doubtful if options.skip_doubtful else set()))
     if left_out:
         say(f"lines left out: {len(left_out):,}; all others are hashed.")
@@ -173,7 +178,7 @@ def check(options):
                 told.add(about)
             show(fd, block, options.out and options.rehash)
     if source.absent or source.odd:
-        say(f"lines without an account in {options.shadow}, up to 20: {source.absent}; not UTF-8: {source.odd:,}.")
+        say(f"lines without an account in {options.shadow}: {source.absent or 0} (up to 20); not UTF-8: {source.odd}.")
     return engine.bad or bool(source.absent)
 
 FINDINGS = {      # the colour of each, and what to do

@@ -14,7 +14,7 @@ use Time::HiRes qw(sleep);
 our @EXPORT = qw(started session chromium close_all %timeouts);
 
 # In milliseconds.
-our %timeouts = (script => 100_000);
+our %timeouts = (script => 600_000);
 
 # What this process is left to end, latest first.
 my @closing;
@@ -35,7 +35,7 @@ sub started {
         exec map { s/PORT/$port/r } @command or POSIX::_exit(127);
     }
     at_end(sub { kill KILL => $pid; waitpid $pid, 0 });
-    IO::Socket::INET->new("127.0.0.1:$port") and return "http://127.0.0.1:$port" or sleep 0.1 for 1 .. 300;
+    IO::Socket::INET->new("127.0.0.1:$port") and return "http://127.0.0.1:$port" or sleep 0.1 for 1 .. 3000;
     die "$command[0] doesn't start: " . slurp($log);
 }
 
@@ -43,7 +43,7 @@ sub started {
 sub session {
     my ($options, @driver) = @_;
     my $to = started("$scratch/$driver[0].log", @driver) . '/session';
-    my $http = HTTP::Tiny->new(timeout => 120);
+    my $http = HTTP::Tiny->new(timeout => 700);
     my $ask = sub {
         my ($call, $content) = @_;
         my $answer = $content ? $http->post("$to$call", { content => encode_json($content) }) : $http->get("$to$call");

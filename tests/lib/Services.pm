@@ -97,10 +97,10 @@ sub must {
 # The stacks of the PAM module's manual, in their order.
 our @stacks = grep { /^auth/ } slurp("$root/man/pam_mkpasswd.8") =~ /^\.Bd -literal -offset 2n\n(.*?)^\.Ed/msg;
 
-# Runs code until it returns what is true, for at most twenty seconds, and returns that.
+# Runs code until it returns what is true, for at most two minutes, and returns that.
 sub wait_until {
     my ($code) = @_;
-    my ($is, $until) = (0, time + 20);
+    my ($is, $until) = (0, time + 120);
     sleep 0.002 until ($is = $code->()) || time > $until;
     return $is;
 }

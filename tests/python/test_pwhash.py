@@ -16,6 +16,7 @@ import pytest
 from support import ROOT, libxcrypt, missing, needs
 
 signal.signal(signal.SIGINT, signal.default_int_handler)      # which is ignored in what a shell has begun behind it
+signal.pthread_sigmask(signal.SIG_SETMASK, [])
 
 SALTED = "-m sha512crypt -R 20k -S saltsalt".split()
 QUICK = "-m md5crypt -S xxxxxxxx".split()
@@ -60,11 +61,11 @@ def engine(script):
     os.chmod("bin/mkpasswd", 0o755)
 
 
-def on_terminal(*words, keys=()):
+def on_terminal(*words, keys=(), program="bin/pwhash"):
     """Runs it at a terminal of its own. Returns the status and what the terminal shows."""
     child, terminal = pty.fork()
     if not child:
-        os.execv("bin/pwhash", ["bin/pwhash", *words])
+        os.execv(program, [program, *words])
     shown = b""
     for prompt, key in [*keys, (None, b"")]:
         while prompt is None or prompt not in shown:
@@ -125,7 +126,8 @@ def test_limit_of_a_login(place, words, longest):
 @pytest.mark.parametrize("words, password, said", [
     ("", b"", "empty"), ("", b"\n", "empty"), ("", b"x\r\n", "carriage return"), ("", b"x" * 1025, "1,024"), ("", b"a\0b", "zero"),
     ("-m yescrypt", b"x", "sha512crypt"), ("-m scrypt -R 12", b"x", "-R 12"), ("-R 10", b"x", "1000"), ("-m scrypt -R 9999999999", b"x", "11"),
-    ("-R 65x", b"x", "'65x'"), ("-m md5crypt -S 123456789", b"x", "--salt=123456789"), ("--for grub", b"x", "preseed-root"),
+    ("-R 65x", b"x", "'65x'"), ("-m md5crypt -S 123456789", b"x", "salt length"), ("--for grub", b"x", "preseed-root"),
+    ("-S a-b", b"x", "salt character"), ("--salt=", b"x", "salt length"),
     ("--for htpasswd --name 1ann", b"x", "begins with a letter")])
 def test_wrong(place, words, password, said):
     status, out, err = run(*words.split(), stdin=password)
@@ -149,6 +151,11 @@ def test_terminal(place):
     assert status == 0 and shown.split()[-1] == libxcrypt("secret", "$1$xxxxxxxx") and "secret" not in shown
     assert on_terminal(*QUICK, keys=[keys[0], (b"Again: ", b"other\n")])[0] == 2
     assert on_terminal(*QUICK, keys=[(b"Password: ", b"\x04")])[0] == 2
+    status, shown = on_terminal("-S", "a-b", keys=[(b": ", b"x\nx\n")])
+    assert status == 2 and "Again" not in shown      # it didn't ask
+    save("script", b"bin/pwhash -m md5crypt -S xxxxxxxx\nexit $?\n")
+    keys[0] = (b"Password: ", b"\x1asecret\n")      # Ctrl-Z, after which a shell would show what is typed
+    assert on_terminal("-m", "script", keys=keys, program="/bin/sh")[0] == 0
     status, shown = on_terminal("--generate", *QUICK)
     password, made = shown.split()[-2:]
     assert len(password) == 20 and made == libxcrypt(password, "$1$xxxxxxxx")
@@ -160,6 +167,7 @@ def test_help(place):
         status, out, _ = run(*words, "--help")
         assert status == 0 and b"--method" in out and b"--budget" in out
     assert run("--version") == (0, b"pwhash " + mkpasswd("-V", stdin=b"")[1].split()[1] + b"\n", b"")
+    assert run("-c", "bin/pwhash --help > /dev/full", program="/bin/sh")[0] == 3
 
 
 # Lines.
@@ -326,6 +334,12 @@ def test_interrupted(place):
             assert " --resume" in command
 
 
+def test_interrupted_while_it_begins(place):
+    """Ctrl-C ends it without a word from Python before its own handler is there, too."""
+    save("share/pwhash/lines.py", b"import os, signal, time\nos.kill(os.getpid(), signal.SIGINT)\ntime.sleep(9)\n")
+    assert run("file") == (-signal.SIGINT, b"", b"")
+
+
 def test_resume_refuses(place):
     lines = b"ann:x\nno colon\nbob:y\ncarl:z\n"
     save("lines", lines)
@@ -399,7 +413,7 @@ def test_known_passwords(place):
     save("shadow", b"ann:%b:1:::\nbob:%b:1:::\neve:!:1:::\nann:*:1\n" % ((b"$1$xxxxxxxx$UYCIxa628.9qXjpQCjM4a.",) * 2))
     save("list", b"ann:password\nbob:other\neve:x\nnobody:x\nann:second\n")
     status, out, err = run("check", "--shadow", "shadow", "list")
-    assert (status, out) == (1, b"ann:ok\nbob:no\neve:locked\nann:no\n") and b" up to 20: [4];" in err
+    assert (status, out) == (1, b"ann:ok\nbob:no\neve:locked\nann:no\n") and b": [4] (up to 20);" in err
     words = ["check", "--shadow", "shadow", "--rehash", "-m", "sha256crypt", "-R", "2000", "-S", "ab", "list"]
     assert run(*words, "-o", "new")[:2] == (1, b"")
     assert open("new").read() == "ann:" + libxcrypt("password", "$5$rounds=2000$ab") + "\n"
@@ -407,6 +421,8 @@ def test_known_passwords(place):
     assert run("check", "--csv", "--shadow", "shadow", save("list.csv", b"password;name\r\npassword;ann\r\n")) == (0, b"ann:ok\n", b"")
     assert run("check", "--shadow", "shadow", stdin=b"ann:password\nzoe:x\n")[:2] == (1, b"ann:ok\n")
     assert run("check", "--shadow", "shadow", stdin=b"\xff\n")[2].endswith(b"not UTF-8: 1.\n")
+    assert run("check", "--shadow", save("lone", b"$1$xxxxxxxx$UYCIxa628.9qXjpQCjM4a.\n"), stdin=b"password\n") == (
+        2, b"", b"pwhash: lone has no line name:field.\n")
     assert run("check", "--shadow", "shadow", stdin=b"a\npassword\nb\n") == (
         1, b"ann:no\nann:ok\nann:no\n", b"pwhash: yes isn't checked: unknown scheme\n")
 
@@ -477,6 +493,7 @@ def test_no_folder(place):
     """Where nothing was begun there is nothing to go on with."""
     status, _, err = run("file", *QUICK, save("lines", b"ann:x\n"), "-o", "nowhere/out")
     assert status == 3 and b"nowhere/out.part" in err and b"--resume" not in err
+    assert run("file", *QUICK, "share") == (3, b"", b"pwhash: share is a folder.\n")
 
 
 def test_a_reader_that_ends(place):
