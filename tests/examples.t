@@ -162,7 +162,7 @@ subtest 'administration' => sub {
     my %fields = (ann => $old, bob => "!$old", eve => $old, kim => crypt('password', '$6$rounds=656000$ab'), zoe => $costly);
     $accounts->(%fields);
     spew("$folder/list", "eve:guess\neve:password\r\nbob:x\nzoe:x\nann:word\nnobody:x\n");
-    like($recipe->('known passwords')->{err}, qr/zoe isn't checked: over budget\n.*: lines without an account in .*: \[6\] /, 'a hostile hash in a list');
+    like($recipe->('known passwords')->{err}, qr/zoe isn't checked: over budget\n.*: lines without an account in .*: \[6\]\.\n/, 'a hostile hash in a list');
     is($recipe->('known passwords')->{out}, "eve:ok\n", 'who still has a password of a list');
     spew("$folder/list", "password\n");
     is($recipe->('known passwords')->{out}, "ann:ok\neve:ok\nkim:ok\n", 'who has one password') or diag($recipe->('known passwords')->{out});

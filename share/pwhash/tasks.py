@@ -177,8 +177,10 @@ def check(options):
                 block.answers[place] = b"" if about in told else b"pwhash: " + about
                 told.add(about)
             show(fd, block, options.out and options.rehash)
-    if source.absent or source.odd:
-        say(f"lines without an account in {options.shadow}: {source.absent or 0} (up to 20); not UTF-8: {source.odd}.")
+    if source.absent:
+        say(f"lines without an account in {options.shadow} (the first 20): {source.absent}.")
+    if source.odd:
+        say(f"lines that aren't UTF-8, or have a zero byte: {source.odd:,}.")
     return engine.bad or bool(source.absent)
 
 FINDINGS = {      # the colour of each, and what to do

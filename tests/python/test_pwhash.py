@@ -66,9 +66,9 @@ def on_terminal(*words, keys=(), program="bin/pwhash"):
     child, terminal = pty.fork()
     if not child:
         os.execv(program, [program, *words])
-    shown = b""
+    shown, seen = b"", 0
     for prompt, key in [*keys, (None, b"")]:
-        while prompt is None or prompt not in shown:
+        while prompt is None or prompt not in shown[seen:]:
             try:
                 piece = os.read(terminal, 1000)
             except OSError:
@@ -77,7 +77,7 @@ def on_terminal(*words, keys=(), program="bin/pwhash"):
             if not piece:
                 break
         os.write(terminal, key) if key else None
-        shown = shown if prompt is None else b""
+        seen = len(shown)
     os.close(terminal)
     return os.waitstatus_to_exitcode(os.waitpid(child, 0)[1]), shown.decode()
 
@@ -151,11 +151,11 @@ def test_terminal(place):
     assert status == 0 and shown.split()[-1] == libxcrypt("secret", "$1$xxxxxxxx") and "secret" not in shown
     assert on_terminal(*QUICK, keys=[keys[0], (b"Again: ", b"other\n")])[0] == 2
     assert on_terminal(*QUICK, keys=[(b"Password: ", b"\x04")])[0] == 2
-    status, shown = on_terminal("-S", "a-b", keys=[(b": ", b"x\nx\n")])
-    assert status == 2 and "Again" not in shown      # it didn't ask
+    status, shown = on_terminal("-S", "a-b", keys=[(b": ", b"x\n")] * 2)
+    assert status == 2 and "Password" not in shown
     save("script", b"bin/pwhash -m md5crypt -S xxxxxxxx\nexit $?\n")
     keys[0] = (b"Password: ", b"\x1asecret\n")      # Ctrl-Z, after which a shell would show what is typed
-    assert on_terminal("-m", "script", keys=keys, program="/bin/sh")[0] == 0
+    assert on_terminal("-m", "script", keys=keys, program="/bin/sh")[1].split()[-1] == libxcrypt("secret", "$1$xxxxxxxx")
     status, shown = on_terminal("--generate", *QUICK)
     password, made = shown.split()[-2:]
     assert len(password) == 20 and made == libxcrypt(password, "$1$xxxxxxxx")
@@ -413,14 +413,14 @@ def test_known_passwords(place):
     save("shadow", b"ann:%b:1:::\nbob:%b:1:::\neve:!:1:::\nann:*:1\n" % ((b"$1$xxxxxxxx$UYCIxa628.9qXjpQCjM4a.",) * 2))
     save("list", b"ann:password\nbob:other\neve:x\nnobody:x\nann:second\n")
     status, out, err = run("check", "--shadow", "shadow", "list")
-    assert (status, out) == (1, b"ann:ok\nbob:no\neve:locked\nann:no\n") and b": [4] (up to 20);" in err
+    assert (status, out) == (1, b"ann:ok\nbob:no\neve:locked\nann:no\n") and err.endswith(b" (the first 20): [4].\n")
     words = ["check", "--shadow", "shadow", "--rehash", "-m", "sha256crypt", "-R", "2000", "-S", "ab", "list"]
     assert run(*words, "-o", "new")[:2] == (1, b"")
     assert open("new").read() == "ann:" + libxcrypt("password", "$5$rounds=2000$ab") + "\n"
     save("shadow", b"ann:$1$xxxxxxxx$UYCIxa628.9qXjpQCjM4a.:1\nyes:$y$j9T$x$y:1\n")
     assert run("check", "--csv", "--shadow", "shadow", save("list.csv", b"password;name\r\npassword;ann\r\n")) == (0, b"ann:ok\n", b"")
     assert run("check", "--shadow", "shadow", stdin=b"ann:password\nzoe:x\n")[:2] == (1, b"ann:ok\n")
-    assert run("check", "--shadow", "shadow", stdin=b"\xff\n")[2].endswith(b"not UTF-8: 1.\n")
+    assert run("check", "--shadow", "shadow", stdin=b"\xff\n")[2].endswith(b"a zero byte: 1.\n")
     assert run("check", "--shadow", save("lone", b"$1$xxxxxxxx$UYCIxa628.9qXjpQCjM4a.\n"), stdin=b"password\n") == (
         2, b"", b"pwhash: lone has no line name:field.\n")
     assert run("check", "--shadow", "shadow", stdin=b"a\npassword\nb\n") == (
