@@ -227,7 +227,7 @@ for my $name (sort keys %browsers) {
             my ($yes, $no) = (JSON::PP::true, JSON::PP::false);
             is_deeply($told->{hidden}, $yes, 'the budget is hidden until a hash is above it');
             $_->[0] =~ s/ Checked in .*// for @{ $told->{lines} };
-            my @lines = map { [$old, $yes, "From the line$_."] } ' of ann', ('') x 6, (' of ann') x 2;
+            my @lines = map { [$old, $yes, "From the line$_."] } ' of ann', ('') x 6, (' of ann') x 2, '';
             is_deeply($told->{lines}, \@lines, 'lines are taken apart');
             my $weak = 'md5crypt is weak. Take it only where nothing else works.';
             is_deeply([@$told{qw(fixed free)}], [[$yes, '1000', $weak], [$no, '1234']], 'the rounds of md5crypt are fixed');

@@ -53,7 +53,7 @@ export class TooCostly extends Refused {}
  * password of 64 bytes, and at least 150,000,000; for the recommended policy it is 253,921,472, which admits passwords of up
  * to 168 bytes, and 1,300,000,000 admits all of them.
  *
- * Throws Refused for an unknown method or other rounds, RangeError for a budget below 1, and TypeError.
+ * Throws Refused for an unknown method or other rounds, RangeError for a budget below 1, and TypeError for other types.
  *
  * Only own properties of the argument count. The calls need no `this`: `const { login } = new Policy({ rounds: 800000 })`.
  */
@@ -146,5 +146,5 @@ export function setting(method?: Method, rounds?: number): string;
  */
 export function crypt(password: Text, setting: Text, budget?: number): string;
 
-/** The version, such as "1.3.0". */
+/** The version, such as "2.0.0". */
 export const version: string;

@@ -105,9 +105,10 @@ function showMade() {
 }
 
 // The hash in a stored field or its line, and whose line it is, if that has it first. In one of /etc/shadow or of an htpasswd
-// file it is between the first two colons; in one for an installer a blank, a quote or = comes before it.
+// file it is between the first two colons; in one for an installer a blank, a quote or = comes before it, in LDAP and Dovecot
+// a } as in {CRYPT}.
 function partsOf(line) {
-    const [, hash] = line.match(/^[^$]*[\s"'=](\$\w+\$[^\s"':]*)/) ?? [];
+    const [, hash] = line.match(/^[^$]*[\s"'=}](\$\w+\$[^\s"':]*)/) ?? [];
     if (hash) return [hash];
     const [name, field] = line.split(':');
     return field === undefined ? [name.trim()] : [field.trim(), name];

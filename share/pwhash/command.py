@@ -65,7 +65,7 @@ def arguments(words):
         if getattr(options, option) and not getattr(options, needed):
             error(f"--{option} needs --{needed}")
     if options.out and os.path.lexists(options.out):
-        error(f"{options.out} already exists: name another file after -o, or remove it")
+        error(f"{options.out} already exists: name another file after -o" + ", or remove it" * os.path.isfile(options.out))
     least, usual, most = ROUNDS[options.method]
     rounds = options.rounds or usual
     if not least <= rounds <= most:
@@ -88,6 +88,8 @@ def end(options, text, status=3):
     if status not in (1, 2) and options and options.part and options.run == file:
         text += f" To go on:\n  {shlex.join(sys.argv + ['--resume'][options.resume:])}"
         text += f" < {shlex.quote(os.readlink('/proc/self/fd/0'))}" if options.file == "-" else ""
+    elif status not in (1, 2) and options and options.part:
+        text += f" To start again, remove {options.part}."
     if status not in (1, 2) and not os.isatty(2):
         on_terminal(f"pwhash: {text}\n")
     say(text)

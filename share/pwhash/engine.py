@@ -54,8 +54,10 @@ class Engine:
         with block.said as file:
             *answers, rest = os.pread(file.fileno(), os.lseek(file.fileno(), 0, os.SEEK_CUR), 0).split(b"\n")
         said = readable(re.search(b"(mkpasswd|error): .*|$", rest or b"".join(answers[-1:]))[0]) or "ended"
+        if code == 2:
+            raise Stop(f"mkpasswd refuses the options: {said.removeprefix('mkpasswd: ')}. See pwhash --help.", 2)
         if code not in (0, 1) or rest or len(answers) != len(block.lines):
-            raise Stop(f"{said} (status {code} at line {block.numbers[0]}). See pwhash --help.", 3 - (code == 2))
+            raise Stop(f"{said} (status {code} at line {block.numbers[0]}).")
         block.answers, block.refusals = answers, {}      # refusals by place
         for place, (line, answer) in enumerate(zip(block.lines, answers)):
             name, colon, verdict = answer.partition(b":")

@@ -11,7 +11,7 @@ class Source:
         self.begun = os.fstat(self.fd)
         self.regular = stat.S_ISREG(self.begun.st_mode)
         if stat.S_ISDIR(self.begun.st_mode):
-            raise Stop(f"{self.name} is a folder.")
+            raise Stop(f"{self.name} is {'closed, or ' * is_stdin}a folder.")
         if os.isatty(self.fd):
             say("reading lines from the terminal, which shows them; Ctrl-D ends them.")
         self.start = self.regular and os.lseek(self.fd, 0, os.SEEK_CUR)
@@ -92,6 +92,9 @@ def write(fd, lines):
             data = data[os.write(fd, data):]
         except BlockingIOError:
             time.sleep(0.02)
+        except OSError as error:
+            error.filename = "standard output" if fd == 1 else None
+            raise
 
 def say(sentence):
     write(2, [f"pwhash: {sentence}".encode("utf-8", "surrogateescape")])

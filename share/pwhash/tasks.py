@@ -64,7 +64,7 @@ def doubts(number, line, names, service):
         "a heading, and no user": number == 1 and name.lower() in HEADINGS,
         f"the name again, after line {first}": first != number,
         "the service takes the name for another, or skips it": not re.fullmatch(SERVICES[service], name),
-        "not UTF-8: umask 077; iconv -f WINDOWS-1252 -t UTF-8 FILE > NEW": "\ufffd" in text,
+        "not UTF-8; if no accented letter is: umask 077; iconv -f WINDOWS-1252 -t UTF-8 FILE > NEW": "\ufffd" in text,
     }.items() if is_so]
 
 def problems(source, options, engine, names):
@@ -112,8 +112,9 @@ def output(options, source):
         raise Stop(f"another run is writing {options.part}: wait for it.", 2) from None
     part = os.fstat(fd)
     if part.st_size and (not options.resume or source.begun.st_ctime_ns > part.st_mtime_ns):
-        how = f"{source.name} is newer; if no line changed, touch" if options.resume else "add --resume"
-        raise Stop(f"{options.part} already exists: {how}, else remove {options.part}.", 2)
+        how = f"{source.name} is newer; if no line changed, touch {options.part}" if options.resume else "add --resume"
+        how = f"{how}, else remove it" if options.run == file else "remove it, or name another file after -o"
+        raise Stop(f"{options.part} already exists: {how}.", 2)
     os.fchmod(fd, 0o600)
     yield fd
     os.fsync(fd)
@@ -189,7 +190,8 @@ FINDINGS = {      # the colour of each, and what to do
     "malformed": (31, "mkpasswd takes no password, and others may fail badly, or take one: set a new password"),
     "dead": (31, "no password matches, since the hash was cut or changed: set a new password"),
     "no scheme": (31, "a password stored as it is, or a damaged hash: set a new password"),
-    "refused": (33, "no line of an account"), "unknown": (36, "another scheme, not judged; NT and DES are weak"),
+    "refused": (33, "no line of an account: correct or remove it"),
+    "unknown": (36, "another scheme, not judged: if it isn't yescrypt or bcrypt, set a new password"),
     "outdated": (33, "few rounds or another method: a new password renews it, and chage -d 0 NAME asks for one"),
     "current": (32, "as it should be"), "locked": (0, "no password logs in")}
 
@@ -219,6 +221,8 @@ def audit(options):
         if options.json or not options.only_problems:
             write(1, [row for _, row in rows])
             rows = []
+    if not counts:
+        raise Stop(f"{source.name} has no lines.", 2)
     if not options.json and (len(rows) > 1 or not options.only_problems):
         kinds = [shown(each, f"{counts[each]:7,} {each:12} {FINDINGS[each][1]}") for each in FINDINGS if counts[each]]
         total = f"\n{sum(counts.values()):,} lines of {source.name}:".encode()

@@ -366,6 +366,19 @@ def test_resume_refuses(place):
     assert run(*words)[0] == 2      # it is whole
 
 
+def test_check_does_not_resume(place):
+    """Nothing tells to go on where that can't be done, nor to remove what is no file."""
+    words = ["check", save("lines", b"ann:!:x\n"), "-o", "out"]
+    save("out.part", b"ann:locked\n")
+    status, _, err = run(*words)
+    assert status == 2 and b"out.part already exists: remove it" in err and b"--resume" not in err
+    os.remove("out.part")
+    engine("exit 3")
+    assert run(*words)[2].endswith(b" To start again, remove out.part.\n")
+    status, _, err = run("file", "lines", "-o", "/dev/null")
+    assert status == 2 and b"/dev/null already exists" in err and b"remove" not in err
+
+
 def test_two_runs(place):
     save("lines", b"".join(b"user%d:x\n" % n for n in range(2000)))
     words = ["file", *SALTED, "lines", "-o", "out"]
@@ -447,6 +460,7 @@ def test_audit(place):
     assert [each["name"] for each in found] == ["bob", "old", "eve", "open", "shut2", "mal", "bare", "line 12", "des", "odd"]
     assert found[1]["rounds"] == 1000 and found[5]["message"] == "bad rounds" and found[5]["rounds"] is None and found[9]["method"] is None
     assert run("audit", "--only-problems", stdin=b"", program="bin/pwhash")[0] in (0, 1)      # of /etc/shadow
+    assert run("audit", "--only-problems", save("none", b"")) == (2, b"", b"pwhash: none has no lines.\n")
     assert run("audit", "--only-problems", save("fine", SHADOW.split(b"\n")[0] + b"\n")) == (0, b"", b"")
     for field, status in (b"abcdefghijklm", 1), (b"$9$x", 1), (b"$y$j9T$a$b", 0), (b"$2b$10$x", 0), (b"$gy$j9T$a$b", 0), (b"!", 0):
         assert run("audit", save("one", b"ann:%b:1\n" % field))[0] == run("audit", "--json", "one")[0] == status
@@ -475,7 +489,8 @@ def test_full_and_closed(place, words):
     lines = b"ann:!:x\n" * 3
     for redirected in "> /dev/full", ">&-", "<&-", "< .":
         status, _, err = run("-c", f'exec bin/pwhash "$@" {redirected}', "sh", *words, *["-"] * (words == ["audit"]), stdin=lines, program="/bin/sh")
-        assert status == 3 and err.startswith(b"pwhash: "), (redirected, err)
+        named = b"standard output" in err or redirected != "> /dev/full"
+        assert status == 3 and err.startswith(b"pwhash: ") and named, (redirected, err)
 
 
 def test_full_disk(place):

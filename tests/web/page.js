@@ -103,7 +103,7 @@ async function visit() {
     told.wide = sizes(1280).beyond;
     told.places = places();
     const [, ...lines] = Object.values(told.places).map(([line]) => line);    // without the hash alone
-    for (const line of [`ann:${told.stored}:19000:0:99999:7:::`, ...lines]) {
+    for (const line of [`ann:${told.stored}:19000:0:99999:7:::`, ...lines, `userPassword: {CRYPT}${told.stored}`]) {
         const answer = await ended('check', { stored: line, guess: password });
         told.lines.push([answer, element('stored').value === told.stored, element('stored-note').textContent]);
     }
