@@ -72,7 +72,9 @@ def arguments(words):
         error(f"-R {rounds} with -m {options.method} isn't from {least} to {most}, by default {usual}")
     if command != "audit":      # what mkpasswd takes by itself are fewer rounds, and no budget
         limit = TWICE[options.method] * (2.0 ** (rounds - usual) if most == 11 else rounds / usual)
-        options.rounds, options.budget = rounds, options.budget or max(150000000, int(limit)) << bool(options.rehash)
+        options.rounds = rounds
+        if options.budget is None:
+            options.budget = max(150000000, int(limit)) << bool(options.rehash)
     given = ((each, getattr(options, each)) for each in ("method", "rounds", "salt", "budget"))
     options.words = ["--rehash"] * bool(options.rehash) + [f"--{each}={how}" for each, how in given if how is not None]
     return options
@@ -85,11 +87,12 @@ def end(options, text, status=3):
     for process in engine.processes:
         process.kill()
     clear()
-    if status not in (1, 2) and options and options.part and options.run == file:
+    begun = status not in (1, 2) and options and options.out and os.path.lexists(options.out + ".part")
+    if begun and options.run == file:
         text += f" To go on:\n  {shlex.join(sys.argv + ['--resume'][options.resume:])}"
         text += f" < {shlex.quote(os.readlink('/proc/self/fd/0'))}" if options.file == "-" else ""
-    elif status not in (1, 2) and options and options.part:
-        text += f" To start again, remove {options.part}."
+    elif begun:
+        text += f" To start again, remove {options.out}.part."
     if status not in (1, 2) and not os.isatty(2):
         on_terminal(f"pwhash: {text}\n")
     say(text)

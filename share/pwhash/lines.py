@@ -85,7 +85,7 @@ def readable(data):
 def write(fd, lines):
     """Writes all of them, also where somebody made the descriptor non-blocking."""
     data = b"\n".join([*lines, b""])
-    if data and os.isatty(fd):
+    if data and not stat.S_ISREG(os.fstat(fd).st_mode):      # but a terminal, or a pipe that may end in one
         clear()
     while data:
         try:
@@ -114,7 +114,7 @@ def progress(blocks, word, total):
     begun, first, wait = None, None, 1
     for block in blocks:
         yield block
-        begun, first, done = begun or time.monotonic(), first or block.numbers[-1], block.numbers[-1]
+        begun, first, done = begun or time.monotonic(), first or block.numbers[-1], min(block.numbers[-1], total - 1)
         seconds = time.monotonic() - begun
         if total and seconds >= wait and done > first:
             rate, shown, wait = (done - first) / seconds, True, seconds + 0.5

@@ -1,5 +1,5 @@
 """What pwhash does: it hashes a password or a file of them, checks passwords, and audits stored hashes."""
-import collections, contextlib, fcntl, itertools, json, os, re, signal, string, time
+import collections, contextlib, fcntl, itertools, json, os, re, signal, stat, string, time
 from engine import HASH, Engine
 from lines import MARK, Source, Stop, on_terminal, progress, readable, say, write
 
@@ -64,7 +64,7 @@ def doubts(number, line, names, service):
         "a heading, and no user": number == 1 and name.lower() in HEADINGS,
         f"the name again, after line {first}": first != number,
         "the service takes the name for another, or skips it": not re.fullmatch(SERVICES[service], name),
-        "not UTF-8; if no accented letter is: umask 077; iconv -f WINDOWS-1252 -t UTF-8 FILE > NEW": "\ufffd" in text,
+        "not UTF-8; if FILE is all Windows-1252: umask 077; iconv -f WINDOWS-1252 -t UTF-8 FILE > NEW": "\ufffd" in text,
     }.items() if is_so]
 
 def problems(source, options, engine, names):
@@ -98,7 +98,7 @@ def look(source, options, engine, names):
                    f"{len(doubtful):,} with --skip-doubtful), or hash all doubtful ones (--accept-doubtful).", 1)
     engine.bad = bool(left_out := refused | (doubtful if options.skip_doubtful else set()))
     if left_out:
-        say(f"lines left out: {len(left_out):,}; all others are hashed.")
+        say(f"lines left out: {len(left_out):,}; all others can be hashed.")
     return left_out
 
 @contextlib.contextmanager
@@ -208,6 +208,8 @@ def judged(number, answer, refusal):
 def audit(options):
     """Shows what is wrong with stored hashes; with --only-problems the worst first."""
     source, engine, counts = Source(options), Engine("--audit", options.words), collections.Counter()
+    if options.file == "/etc/shadow" and stat.S_ISREG(os.fstat(0).st_mode):
+        say("this audits /etc/shadow. To read standard input, give - as FILE.")
     rows = [] if options.json else [(-1, b"NAME                  METHOD             ROUNDS  FINDING")]
     def shown(finding, text, bare=options.json or not os.isatty(1) or os.getenv("NO_COLOR")):
         return (text if bare else f"\x1b[{FINDINGS[finding][0]}m{text}\x1b[m").encode()

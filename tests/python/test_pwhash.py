@@ -366,6 +366,10 @@ def test_resume_refuses(place):
     assert run(*words)[0] == 2      # it is whole
 
 
+def test_no_budget(place):
+    assert run("check", "--budget", "0", stdin=b"ann:$1$xxxxxxxx$UYCIxa628.9qXjpQCjM4a.:password\n")[:2] == (1, b"")
+
+
 def test_check_does_not_resume(place):
     """Nothing tells to go on where that can't be done, nor to remove what is no file."""
     words = ["check", save("lines", b"ann:!:x\n"), "-o", "out"]
@@ -375,6 +379,7 @@ def test_check_does_not_resume(place):
     os.remove("out.part")
     engine("exit 3")
     assert run(*words)[2].endswith(b" To start again, remove out.part.\n")
+    assert run("file", "lines", "-o", "out", "--resume")[2].endswith(b" To go on:\n  bin/pwhash file lines -o out --resume\n")
     status, _, err = run("file", "lines", "-o", "/dev/null")
     assert status == 2 and b"/dev/null already exists" in err and b"remove" not in err
 
@@ -460,6 +465,7 @@ def test_audit(place):
     assert [each["name"] for each in found] == ["bob", "old", "eve", "open", "shut2", "mal", "bare", "line 12", "des", "odd"]
     assert found[1]["rounds"] == 1000 and found[5]["message"] == "bad rounds" and found[5]["rounds"] is None and found[9]["method"] is None
     assert run("audit", "--only-problems", stdin=b"", program="bin/pwhash")[0] in (0, 1)      # of /etc/shadow
+    assert b"give - as FILE" in run("-c", "bin/pwhash audit < shadow", program="/bin/sh")[2]
     assert run("audit", "--only-problems", save("none", b"")) == (2, b"", b"pwhash: none has no lines.\n")
     assert run("audit", "--only-problems", save("fine", SHADOW.split(b"\n")[0] + b"\n")) == (0, b"", b"")
     for field, status in (b"abcdefghijklm", 1), (b"$9$x", 1), (b"$y$j9T$a$b", 0), (b"$2b$10$x", 0), (b"$gy$j9T$a$b", 0), (b"!", 0):
@@ -489,7 +495,7 @@ def test_full_and_closed(place, words):
     lines = b"ann:!:x\n" * 3
     for redirected in "> /dev/full", ">&-", "<&-", "< .":
         status, _, err = run("-c", f'exec bin/pwhash "$@" {redirected}', "sh", *words, *["-"] * (words == ["audit"]), stdin=lines, program="/bin/sh")
-        named = b"standard output" in err or redirected != "> /dev/full"
+        named = {"> /dev/full": b"standard output", "< .": b"standard input is a folder"}.get(redirected, b"") in err
         assert status == 3 and err.startswith(b"pwhash: ") and named, (redirected, err)
 
 

@@ -155,7 +155,7 @@ class Policy:
 
     `budget` is the most that a hash may cost, as cost() counts it: the bytes that are digested, and for scrypt those that
     are mixed. None stands for twice what a new hash costs with a password of 64 bytes, and at least for 150,000,000. For
-    the recommended policy that is 253,921,472, on one core of 2.5 GHz at most 2.6 seconds; it admits passwords of up to
+    the recommended policy that is 253,921,472, about 2.5 seconds on one core of 2.7 GHz; it admits passwords of up to
     168 bytes, and 1,300,000,000 all of them.
 
     Raises TypeError, also for a float or a bool; ValueError for other rounds of SHA-crypt and a budget below 1; Refused
