@@ -81,6 +81,35 @@ subtest "a document's program" => sub {
     is_deeply((program_told($careless, 'ann', 'wrong horse'))[0], [], 'without that nobody gets in');
 }, s{'\./mkpasswd\.mjs'}{'mkpasswd'}r for grep { defined } $readme, $guide;
 
+# The README's other program, with the time of a failure in its place: who waits is served in turn, and too many are refused.
+subtest 'turns' => sub {
+    my ($program) = slurp("$package/README.md") =~ /^$block.*?^$block/ms ? $2 : '';
+    ok($program =~ s/\b5000\b/700/, 'a failure takes five seconds');
+    my $told = program_told_of_turns($program);
+    is_deeply($told->{answers}, [map { $_ % 3 ? $yes : $no } 0 .. 23], 'each gets its answer');
+    cmp_ok($told->{least}, '>=', 690, 'a failure takes the time');
+    is($told->{busy}, 'busy', 'more than a hundred that wait are refused');
+};
+
+sub program_told_of_turns {
+    my ($program) = @_;
+    spew("$site/turns.mjs", $program . <<'END');
+import { Policy } from 'mkpasswd';
+const stored = new Policy({ rounds: 1000 }).hash('right');
+let least = Infinity;
+const answers = await Promise.all(Array.from({ length: 24 }, async (_, number) => {
+    const begin = performance.now();
+    const { matches } = await loginInTurn(number % 3 ? 'right' : 'wrong', stored);
+    if (!matches) least = Math.min(least, performance.now() - begin);
+    return Boolean(matches);
+}));
+waiting.length = 100;
+const busy = await loginInTurn('right', stored).catch(({ message }) => message);
+console.log(JSON.stringify({ answers, least, busy }));
+END
+    return told('turns.mjs', '');
+}
+
 # Passwords with what is stored, and whether they match. Further what verify says where that isn't the same, and whether login
 # then makes as many digests as a new hash (hidden) or none (idle).
 subtest 'logins' => sub {
