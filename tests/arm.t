@@ -16,7 +16,7 @@ subtest 'the build for ARM' => sub {
     my $readme = slurp("$scratch/share/doc/mkpasswd/README");
     my ($glibc) = sort { $b <=> $a } run(qw(readelf -V), "$scratch/lib/libmkpasswd.so.2")->{out} =~ /GLIBC_2\.(\d+)/g;
     like($readme, qr/ on aarch64\n(?!.*crypt\.so).*^  libmkpasswd\.so\.2: +glibc 2\.$glibc or/ms, 'README: its glibc');
-    like(slurp("$root/README.md"), qr/^\| .*C libraries.* ARM \| glibc 2\.$glibc \|$/m, 'README.md has the same');
+    like(slurp("$root/README.md"), qr/^\| .*C libraries.* ARM \| glibc 2\.$glibc\+ \|$/m, 'README.md has the same');
     if (needs('a maker of wheels' => 'python3-{build,setuptools,wheel}', !run("$root/tools/wheel", '--check')->{status})) {
         run("$root/tools/wheel", "$built/libmkpasswd.so.2", "$scratch/wheel");
         like((glob "$scratch/wheel/*")[0] // 'none', qr/-manylinux_2_${glibc}_aarch64\.whl$/, "the wheel's name has the same");

@@ -95,7 +95,7 @@ subtest 'README' => sub {
         my ($glibc) = run('sh', '-c', $wanted, "$tree/$file")->{out} =~ /_(\S+)/;
         like($readme, qr/^  \Q$what\E: +glibc \Q$glibc\E or later/m, "glibc that $file needs");
         my @rows = $what =~ /pam/ ? () : ('C libraries', '\.whl`');
-        like(slurp("$root/README.md"), qr/^\|.*$_.*\bglibc \Q$glibc\E \|$/m, "README.md: glibc that it needs: $_") for @rows;
+        like(slurp("$root/README.md"), qr/^\|.*$_.*\bglibc \Q$glibc\E\+ \|$/m, "README.md: glibc that it needs: $_") for @rows;
     }
     my ($needed) = $readme =~ /^  libmkpasswd\.a: +a C library with (.*?)$(?!\n {9})/ms;
     my $symbols = run(qw(nm --undefined-only --format=just-symbols), "$tree/lib/libmkpasswd.a")->{out};
