@@ -89,6 +89,7 @@ subtest 'turns' => sub {
     is_deeply($told->{answers}, [map { $_ % 3 ? $yes : $no } 0 .. 23], 'each gets its answer');
     cmp_ok($told->{least}, '>=', 690, 'a failure takes the time');
     is($told->{busy}, 'busy', 'more than a hundred that wait are refused');
+    is($told->{matches}, $yes, 'a hash that was made in turn');
 };
 
 sub program_told_of_turns {
@@ -96,6 +97,7 @@ sub program_told_of_turns {
     spew("$site/turns.mjs", $program . <<'END');
 import { Policy } from 'mkpasswd';
 const stored = new Policy({ rounds: 1000 }).hash('right');
+const made = loginInTurn('right', await hashInTurn('right'));
 let least = Infinity;
 const answers = await Promise.all(Array.from({ length: 24 }, async (_, number) => {
     const begin = performance.now();
@@ -103,9 +105,10 @@ const answers = await Promise.all(Array.from({ length: 24 }, async (_, number) =
     if (!matches) least = Math.min(least, performance.now() - begin);
     return Boolean(matches);
 }));
+const { matches } = await made;
 waiting.length = 100;
 const busy = await loginInTurn('right', stored).catch(({ message }) => message);
-console.log(JSON.stringify({ answers, least, busy }));
+console.log(JSON.stringify({ answers, least, busy, matches }));
 END
     return told('turns.mjs', '');
 }

@@ -53,7 +53,7 @@ export class TooCostly extends Refused {}
  * password of 64 bytes, and at least 150,000,000; for the recommended policy it is 253,921,472, which admits passwords of up
  * to 168 bytes, and 1,300,000,000 admits all of them.
  *
- * Throws Refused for an unknown method or other rounds, RangeError for a budget below 1, and TypeError for rounds or a budget that is no number.
+ * Throws Refused for an unknown method or other rounds, RangeError for a budget below 1, and TypeError for all else.
  *
  * Only own properties of the argument count. The calls need no `this`: `const { login } = new Policy({ rounds: 800000 })`.
  */

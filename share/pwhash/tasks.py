@@ -227,6 +227,6 @@ def audit(options):
         raise Stop(f"{source.name} has no lines.", 2)
     if not options.json and (len(rows) > 1 or not options.only_problems):
         kinds = [shown(each, f"{counts[each]:7,} {each:12} {FINDINGS[each][1]}") for each in FINDINGS if counts[each]]
-        total = f"\n{sum(counts.values()):,} lines of {source.name}:".encode()
+        total = f"\n{sum(counts.values()):,} line{'s' * (sum(counts.values()) != 1)} of {source.name}:".encode()
         write(1, [*(row for _, row in sorted(rows)), total, *kinds])
     return engine.bad
