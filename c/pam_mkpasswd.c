@@ -229,8 +229,13 @@ static int check(pam_handle_t *pam, int count, const char **given, int has_passw
         memcpy(field.bytes, entry->sp_pwdp, field.len);
     }
     free(buffer);
-    if (error)
+    if (error) {
+        /* A name that only the source that failed may know takes as long as one that was found. */
+        if (has_password)
+            (void)!mkpasswd_login((const uint8_t *)password, strlen(password), field.bytes, 0, options.method, options.rounds,
+                options.budget, &report);
         return pam_syslog(pam, LOG_ERR, "%s: %s", options.file ? options.file : "shadow", strerror(error)), PAM_AUTHINFO_UNAVAIL;
+    }
     if (!has_password)
         return !field.line ? PAM_USER_UNKNOWN : memchr("!*", field.bytes[0], 2) ? PAM_PERM_DENIED : PAM_SUCCESS;
     if (!mkpasswd_login((const uint8_t *)password, strlen(password), field.bytes, field.len, options.method, options.rounds,

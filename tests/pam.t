@@ -129,6 +129,27 @@ subtest 'stacks' => sub {
     }
 };
 
+# While a source of names is down, or the file can't be read, the time says nothing of which names there are.
+subtest 'a source of names that is down' => sub {
+    my $names = slurp('/etc/nsswitch.conf');
+    spew('/etc/nsswitch.conf', $names =~ s/^shadow:.*\n//mr . "shadow: files down\n");
+    spew('/etc/shadow', slurp('/etc/shadow') . "sixnew:" . crypt($right, '$6$rounds=656000$abcdefgh') . ":19000:0:99999:7:::\n");
+    symlink preload('nss_down'), "$scratch/libnss_down.so.2";
+    my $seconds = sub {
+        my ($arguments, $name, $wanted) = @_;
+        stack($arguments);
+        my $before = (times)[2];
+        is(login($name, 'wrong', 'env', "LD_LIBRARY_PATH=$scratch") =~ s/:.*//sr, $wanted, "'$arguments', $name: $wanted");
+        return (times)[2] - $before;
+    };
+    my $known = $seconds->('', 'sixnew', 'no');
+    for (['', 'nobodyhere'], ["file=$file.gone", 'sixnew'], ['file=/etc', 'sixnew']) {
+        my $unknown = $seconds->(@$_, $unavailable);
+        ok($unknown > $known / 2, "it takes as long as a known name: $unknown and $known seconds");
+    }
+    spew('/etc/nsswitch.conf', $names);
+};
+
 # Tests that a line has a new hash, for logins that find 1000 rounds outdated.
 my ($renews, $lock) = ("file=$file rounds=1001 budget=1000000 renew", "$file.pam_mkpasswd.lock");
 sub is_renewed { my ($line, $name) = @_; return ok($line =~ /^\w+:(\$6\$rounds=1001\$[^:\n]*)/ && crypt($right, $1) eq $1, $name) }
