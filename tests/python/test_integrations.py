@@ -105,7 +105,7 @@ def test_recipe_of_flask(database, tmp_path, monkeypatch):
 def test_recipe_of_crypt():
     matches = recipe("The standard library's crypt")["matches"]
     assert matches("password", MD5) and not matches("passw0rd", MD5)
-    for field in "", "!", "*0", "*1", "!" + MD5, "$2b$05$x", "x":
+    for field in "", "!", "*0", "*1", "!" + MD5, "$2b$05$x", "x", "é", "$1$é$x", MD5 + "é", "\udcff", "$6$\ud800":
         assert not matches("password", field)
 
 

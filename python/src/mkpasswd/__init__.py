@@ -213,8 +213,9 @@ class Policy:
         The check and the new hash may cost as much as the budget each. If the new hash costs more than a budget of your
         own, or the system has no memory or no random bytes for it, `new` is None and the old hash stays.
 
-        At level DEBUG the logger "mkpasswd" says why it is false or has no new hash. Password and field are not in the
-        message. Raises TypeError alone, for what is neither str nor bytes.
+        At level DEBUG the logger "mkpasswd" says why it is false or has no new hash, and at level ERROR that the library is
+        too new for this package. Password and field are not in the message. Raises TypeError alone, for what is neither
+        str nor bytes.
         """
         reason = self._login(password, field)
         if reason is not Reason.OUTDATED:
@@ -350,11 +351,18 @@ class Policy:
             return None
         report = Report()
         budget = _calls.budget_of(self.budget)
-        if lib.mkpasswd_login(word, len(word), field, len(field), *self._made, budget, report) == 1:
-            return Reason(report.reason)
-        if report.reason in (Reason.UNKNOWN_METHOD.value, Reason.COST.value):
+        returned = lib.mkpasswd_login(word, len(word), field, len(field), *self._made, budget, report)
+        try:
+            reason = Reason(report.reason)
+        except ValueError:
+            # A later library than this package's. What its answer means isn't known, so nobody gets in by it.
+            _LOG.error("login refused: the library reports %d, an unknown reason", report.reason)
+            return None
+        if returned == 1:
+            return reason
+        if reason in (Reason.UNKNOWN_METHOD, Reason.COST):
             raise _calls.failure(report)
-        _LOG.debug("login refused: %s", Reason(report.reason).words)
+        _LOG.debug("login refused: %s", reason.words)
         return None
 
     def _audited(self, field: bytes) -> Report:
