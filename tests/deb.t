@@ -170,6 +170,7 @@ for my $suite (@suites) {
             ['whois 0 0', 'mkpasswd-default is removed', "$apt remove mkpasswd-default"],
             ['nobody 0 0', 'whois is removed', "$apt remove whois"],
             ['nobody 0 0', 'an administrator\'s program stops it', "echo mine > $mine; $fails; grep mine $mine; rm $mine"],
+            ['nobody 0 0', 'an administrator\'s link to nothing stops it', "ln -s nowhere $mine; $fails; test -L $mine; rm $mine"],
             ['mkpasswd 1 3', 'mkpasswd-default without whois, beside another program', "echo mine > $aside; $apt install $default"],
             ['nobody 0 0', 'it goes with mkpasswd', "$apt purge mkpasswd; test ! -e $mine; grep mine $aside; rm $aside"],
             ['mkpasswd 0 3', 'mkpasswd-default without whois', "$apt install $ours $default"],
