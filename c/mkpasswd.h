@@ -77,7 +77,7 @@ extern "C" {
 #endif
 
 /* The version: 10000 * major + 100 * minor + patch. */
-#define MKPASSWD_VERSION 20000
+#define MKPASSWD_VERSION 20001
 
 /* The size of a buffer for any hash, setting or message, with its zero byte. */
 #define MKPASSWD_TEXT_SIZE 145

@@ -146,5 +146,5 @@ export function setting(method?: Method, rounds?: number): string;
  */
 export function crypt(password: Text, setting: Text, budget?: number): string;
 
-/** The version, such as "2.0.0". */
+/** The version, such as "2.0.1". */
 export const version: string;

@@ -2,7 +2,7 @@
 //! repeat it.
 
 /// The version, as text.
-pub const VERSION: &str = "2.0.0";
+pub const VERSION: &str = "2.0.1";
 
 /// The same as a number: 10000 times its first number, 100 times its second, and its third.
-pub const VERSION_NUMBER: u32 = 20000;
+pub const VERSION_NUMBER: u32 = 20001;
