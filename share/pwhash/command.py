@@ -1,20 +1,24 @@
 """The command line of pwhash: its options, and how a run ends."""
-import argparse, gc, os, shlex, signal, sys
+import argparse, errno, gc, os, re, resource, signal, sys
 import engine
-from lines import Stop, clear, on_terminal, say, write
+from lines import Stop, clear, named, on_terminal, quoted, readable, say, write
+from prompt import SIGNALS
 from tasks import PLACES, SERVICES, audit, check, file, one
 
 USAGE = """
   pwhash                             hash a password, which it asks for
   pwhash file passwords -o hashes    hash lines name:password, for chpasswd -e
-  pwhash audit                       what is wrong with hashes in /etc/shadow
+  pwhash audit /etc/shadow           what is wrong with stored hashes
 
 Hashes are sha512crypt with 656000 rounds. file, check, audit have own --help."""
 TWICE = {"sha512crypt": 253921472, "sha256crypt": 211937408, "md5crypt": 0, "scrypt": 268491592}     # for 64 bytes
 ROUNDS = dict.fromkeys(TWICE, (1000, 656000, 999999999)) | {"scrypt": (6, 7, 11)}
 
 def number(text):
-    return int(text.replace("k", "000").replace("M", "000000"))
+    found = re.fullmatch("([0-9]{1,20})([kM]?)", text)
+    if not found:
+        raise argparse.ArgumentTypeError(f"{text!r} isn't a number: digits, or digits and one k or M, as 656k")
+    return int(found[1]) * {"": 1, "k": 1000, "M": 1000000}[found[2]]
 
 FLAG, NUMBER = {"action": "store_true"}, {"type": number, "metavar": "NUMBER"}
 OPTIONS = {      # the words, what argparse has to know, and the help
@@ -26,7 +30,7 @@ OPTIONS = {      # the words, what argparse has to know, and the help
     "out": ("-o --out", {}, "write the file OUT once it is whole; until then it is OUT.part"),
     "resume": ("--resume", FLAG, "go on with the OUT.part of an earlier run"),
     "look": ("--look", FLAG, "only look for problems"), "name": ("--name", {}, "the user, for --for"),
-    "windows": ("--windows", FLAG, "leave out carriage returns at ends of lines, and a byte order mark"),
+    "windows": ("--windows", FLAG, "leave out carriage returns at ends of lines, and byte order marks"),
     "csv": ("--csv", FLAG, "FILE is a table, as spreadsheets export it"),
     "columns": ("--columns", {"metavar": "A,B"}, "names in its first row, or numbers; by default name,password"),
     "skip_refused": ("--skip-refused", FLAG, "leave out lines that mkpasswd refuses"),
@@ -43,8 +47,7 @@ COMMANDS = {     # what runs it, its input by default, its options
     None: (one, "-", "place name generate salt"),
     "file": (file, "-", "out resume look skip_refused skip_doubtful accept_doubtful windows csv columns service salt"),
     "check": (check, "-", "shadow rehash out windows csv columns salt"),
-    "audit": (audit, "/etc/shadow", "only_problems json locked")}
-SIGNALS = (signal.SIGINT, signal.SIGTERM, signal.SIGHUP)
+    "audit": (audit, None, "only_problems json locked")}
 
 def arguments(words):
     command = words[0] if words and words[0] in COMMANDS else None
@@ -54,22 +57,31 @@ def arguments(words):
     def error(message):
         raise Stop(f"{message}. See {parser.prog} --help.", 2)
     parser.error, parser._print_message = error, lambda text, _: write(1, [text.rstrip("\n").encode()])
-    parser.set_defaults(**dict.fromkeys([*OPTIONS, "part"]), run=run, file=default)
+    parser.set_defaults(**dict.fromkeys([*OPTIONS, "part", "advice"]), run=run, file=default)
     parser.add_argument("--version", action="version", version="pwhash 2.0.0")
     if command:
-        parser.add_argument("file", nargs="?", default=default, metavar="FILE", help=f"by default {default}")
+        help_text = "by default -" if default else "a file such as /etc/shadow, or - for standard input"
+        parser.add_argument("file", nargs="?", default=default, metavar="FILE", help=help_text)
     for flags, how, text in map(OPTIONS.get, (names + " method rounds budget quiet").split()):
         parser.add_argument(*flags.split(), help=text, **how)
     options = parser.parse_args(words[bool(command):])
     for option, needed in ("resume", "out"), ("columns", "csv"), ("csv", "shadow" if command == "check" else "file"):
         if getattr(options, option) and not getattr(options, needed):
             error(f"--{option} needs --{needed}")
+    options.can_resume = "resume" in names.split()
+    for option in "out", "shadow", "columns":      # as of a variable of a script that isn't set
+        if getattr(options, option) == "":
+            error(f"--{option} is empty")
+    if options.file is None:
+        error("name a file: pwhash audit /etc/shadow, or for standard input pwhash audit -")
     if options.out and os.path.lexists(options.out):
-        error(f"{options.out} already exists: name another file after -o" + ", or remove it" * os.path.isfile(options.out))
+        way_out = ", or remove it" if os.path.isfile(options.out) else ""
+        error(f"{named(options.out)} already exists: name another file after -o{way_out}")
     least, usual, most = ROUNDS[options.method]
     rounds = options.rounds or usual
     if not least <= rounds <= most:
         error(f"-R {rounds} with -m {options.method} isn't from {least} to {most}, by default {usual}")
+    options.memory = 1 << rounds + 19 if options.method == "scrypt" else 0      # bytes of the table of a new hash
     if command != "audit":      # what mkpasswd takes by itself are fewer rounds, and no budget
         limit = TWICE[options.method] * (2.0 ** (rounds - usual) if most == 11 else rounds / usual)
         options.rounds = rounds
@@ -87,19 +99,48 @@ def end(options, text, status=3):
     for process in engine.processes:
         process.kill()
     clear()
-    begun = status not in (1, 2) and options and options.out and os.path.lexists(options.out + ".part")
-    if begun and options.run == file:
-        text += f" To go on:\n  {shlex.join(sys.argv + ['--resume'][options.resume:])}"
-        text += f" < {shlex.quote(os.readlink('/proc/self/fd/0'))}" if options.file == "-" else ""
-    elif begun:
-        text += f" To start again, remove {options.out}.part."
+    command = ""
+    if status not in (1, 2) and options and options.out and os.path.lexists(options.out + ".part"):
+        way = way_on(options)
+        text, command = text + way[0], way[1]
     if status not in (1, 2) and not os.isatty(2):
-        on_terminal(f"pwhash: {text}\n")
+        on_terminal(f"pwhash: {readable(text.encode('utf-8', 'surrogateescape'))}\n{command}")
     say(text)
-    if status < 0:
-        signal.signal(-status, signal.SIG_DFL)
-        os.kill(os.getpid(), -status)
-    return status
+    if command:
+        write(2, [command.rstrip("\n").encode()])
+    return end_by(-status) if status < 0 else status
+
+def way_on(options):
+    """How to go on with OUT.part of this run or an earlier one: a sentence, and what to type."""
+    part = named(options.out + ".part")
+    if options.advice:
+        return f" {options.advice}", ""
+    if options.can_resume and (options.part or options.resume):
+        return " To go on:", f"  {typed_again(options)}\n"
+    if options.part:
+        return f" To start again, remove {part}.", ""
+    return "", ""
+
+def typed_again(options):
+    """The command of this run, with --resume."""
+    words = sys.argv + ([] if options.resume else ["--resume"])
+    redirected = f" < {quoted(os.readlink('/proc/self/fd/0'))}" if options.file == "-" else ""
+    return " ".join(map(quoted, words)) + redirected
+
+def end_by(number):
+    """Ends as others do by this signal, but writes no memory to a file, in which a password could be."""
+    resource.setrlimit(resource.RLIMIT_CORE, (0, resource.getrlimit(resource.RLIMIT_CORE)[1]))
+    signal.signal(number, signal.SIG_DFL)
+    os.kill(os.getpid(), number)
+    return 128 + number      # of the first process of a container, which no signal ends
+
+def unforeseen(error):
+    """What an exception is and where it arose. It can have data in it, which are never shown."""
+    place = error.__traceback__
+    while place and place.tb_next:
+        place = place.tb_next
+    where = f" at {os.path.basename(place.tb_frame.f_code.co_filename)}:{place.tb_lineno}" if place else ""
+    return f"{type(error).__name__}{where}"
 
 def main(options=None):
     while os.open("/", os.O_PATH) < 3:      # nothing else gets a descriptor that was closed
@@ -121,6 +162,15 @@ def main(options=None):
         return leave.code
     except Stop as stop:
         return end(options, *stop.args)
+    except BrokenPipeError:      # as of `| head`: others end so, too, and quietly
+        for process in engine.processes:
+            process.kill()
+        clear()
+        return end_by(signal.SIGPIPE)
+    except OSError as error:
+        path = error.filename or options and options.part
+        about = f"{named(path)}: " if path else ""
+        limit = " (ulimit -n)" if error.errno == errno.EMFILE else ""
+        return end(options, f"{about}{error.strerror or unforeseen(error)}{limit}.")
     except BaseException as error:
-        path = getattr(error, "filename", None) or options and options.part
-        return end(options, f"{path}: " * bool(path) + f"{getattr(error, 'strerror', None) or repr(error)}.")
+        return end(options, f"{unforeseen(error)}.")

@@ -1,9 +1,11 @@
 """Runs mkpasswd over blocks of lines in memory, and takes for each line only an answer with its name or its number."""
 import collections, fcntl, functools, itertools, os, re, subprocess, types
-from lines import Stop, readable
+from limits import free_memory, processors
+from lines import Refused, Stop, readable
 
 SECONDS, MOST = 0.5, 1 << 15      # of a processor for a block (in less, scrypt's memory would be a tenth); its lines
-ENDED = os.WEXITED | os.WNOHANG | os.WNOWAIT
+NUMERALS = b"./0123456789ABCDEFGHIJKLMNOPQRSTUVWXYZabcdefghijklmnopqrstuvwxyz"
+SCRYPT_FIELD = re.compile(rb"(?m)^[^:\n]*:\$7\$([./0-9A-Za-z])([./0-9A-Za-z]{5})")
 REFUSAL = re.compile(rb"mkpasswd: line ([1-9][0-9]*): ([a-z ]+)")
 HASH = rb"\$[!-9;-~]+"
 FORMS = {      # all that mkpasswd can write behind a name
@@ -30,31 +32,68 @@ def in_memory(size, data=b""):
     os.pwrite(file.fileno(), data, 0)
     return file
 
+def tables_of(data):
+    """The bytes of scrypt's table, 128 N r, for each stored hash in lines name:field:password."""
+    for log2_n, digits in set(SCRYPT_FIELD.findall(data)):
+        r = sum(NUMERALS.index(digit) << 6 * place for place, digit in enumerate(digits))
+        yield 128 * r << NUMERALS.index(log2_n)
+
 class Engine:
-    def __init__(self, mode, words):
-        self.command, self.jobs = [find_mkpasswd(), mode, *words], len(os.sched_getaffinity(0))
+    """`memory` is what scrypt takes for a new hash, and `budget` what a line may cost."""
+    def __init__(self, mode, words, memory=0, budget=0):
+        self.command, self.jobs = [find_mkpasswd(), mode, *words], processors()
         self.bad, self.size = False, 1      # whether the status is 1, and the lines of a block
         self.is_answer = functools.lru_cache()(re.compile(FORMS[mode]).fullmatch)
+        self.is_check, self.memory, self.budget = mode == "--check", memory, budget
+        self.running, self.room = {}, free_memory() // 2      # blocks by the process at work on them
 
     def start(self, pairs):
         """Gives a block of numbers and lines to a mkpasswd, which Ctrl-C doesn't reach."""
         numbers, lines = zip(*pairs)
         data, said = b"\n".join([*lines, b""]), in_memory(4096 + 256 * len(lines))
+        memory = self.memory_for(data)
+        self.wait_for_room(memory)
         with in_memory(len(data), data) as file:
             process = subprocess.Popen([*self.command, f"--first-line={numbers[0]}"], stdin=file, stdout=said,
                                        stderr=subprocess.STDOUT, env={}, start_new_session=True)
         processes.add(process)
-        return types.SimpleNamespace(numbers=numbers, lines=lines, process=process, said=said)
+        block = types.SimpleNamespace(numbers=numbers, lines=lines, process=process, said=said, memory=memory, used=None)
+        self.running[process.pid] = block
+        return block
+
+    def memory_for(self, data):
+        """The most that scrypt takes for a line of them. What is over the budget, of which a table costs twice its bytes, takes none."""
+        tables = tables_of(data) if self.is_check else ()
+        return max([self.memory, *(table for table in tables if table <= self.budget // 2)])
+
+    def wait_for_room(self, memory):
+        """Waits while as many processes run as there are processors, or while scrypt's memory has no room beside theirs."""
+        while self.running:
+            taken = sum(block.memory for block in self.running.values())
+            if len(self.running) < self.jobs and (not memory or taken + memory <= self.room):
+                break
+            self.wait_for_one()
+
+    def wait_for_one(self, options=0):
+        """Waits until a mkpasswd has ended, in whatever order, or with WNOHANG asks for one. Returns whether there was one."""
+        number, status, used = os.wait4(-1, options) if self.running else (0, 0, None)
+        block = self.running.pop(number, None)      # of a program that became pwhash there can be other children
+        if block:
+            block.used, block.process.returncode = used, os.waitstatus_to_exitcode(status)
+            processes.discard(block.process)
+        return number != 0
 
     def answered(self, block):
         """Waits for a mkpasswd, and gives its block the answers. Whatever is no answer to its line ends the run."""
-        _, status, used = os.wait4(block.process.pid, 0)
-        code = block.process.returncode = os.waitstatus_to_exitcode(status)
-        processes.discard(block.process)
+        while not block.used:
+            self.wait_for_one()
+        used, code = block.used, block.process.returncode
         with block.said as file:
-            *answers, rest = os.pread(file.fileno(), os.lseek(file.fileno(), 0, os.SEEK_CUR), 0).split(b"\n")
-        said = readable(re.search(b"(mkpasswd|error): .*|$", rest or b"".join(answers[-1:]))[0]) or "ended"
+            output = os.pread(file.fileno(), os.lseek(file.fileno(), 0, os.SEEK_CUR), 0)
+        *answers, rest = output.split(b"\n")
+        said = readable(re.search(b"(mkpasswd|error): .*|$", rest or b"".join(answers[-1:]))[0]) or "mkpasswd ended"
         if code == 2:
+            said = readable(re.search(b"(?m)^(mkpasswd|error): .*|$", output)[0]) or "mkpasswd ended"
             raise Stop(f"mkpasswd refuses the options: {said.removeprefix('mkpasswd: ')}. See pwhash --help.", 2)
         if code not in (0, 1) or rest or len(answers) != len(block.lines):
             raise Stop(f"{said} (status {code} at line {block.numbers[0]}).")
@@ -65,20 +104,25 @@ class Engine:
                 continue
             refusal, number = REFUSAL.fullmatch(answer), block.numbers[place]
             if not refusal or int(refusal[1]) != block.numbers[0] + place:
-                raise Stop(f"line {number} got no answer of its own: {readable(answer[:200])}")
+                raise Stop(f"line {number} got no answer of its own from {readable(os.fsencode(self.command[0]))}.")
             block.refusals[place] = refusal[2].decode()
             answers[place] = b"mkpasswd: line %d: %b" % (number, refusal[2])
+            if isinstance(line, Refused):
+                block.refusals[place] = line.reason
+                answers[place] = b"pwhash: line %d: %b" % (number, line.reason.encode())
         self.bad |= code == 1 or bool(block.refusals)
         self.size = max(1, min(MOST, int(len(answers) * SECONDS / max(used.ru_utime + used.ru_stime, SECONDS / 64))))
         return block
 
     def answers(self, pairs, total=0):
         """Gives blocks with their answers, in order; the last ones are smaller, so that processes end at once."""
-        pairs, order, most = iter(pairs), collections.deque(), 2 * self.jobs
+        pairs, order, most = iter(pairs), collections.deque(), 2 * self.jobs      # blocks that wait for those before them
         for pair in pairs:      # or None where lines come slowly
             if pair:
                 size = max(1, self.size // 8, min(self.size, (total - pair[0]) // most if total else MOST))
                 order.append(self.start([pair, *itertools.islice(itertools.takewhile(bool, pairs), size - 1)]))
-            while order and (len(order) >= most or os.waitid(os.P_PID, order[0].process.pid, ENDED)):
+            while self.wait_for_one(os.WNOHANG):
+                pass
+            while order and (len(order) >= most or order[0].used):
                 yield self.answered(order.popleft())
         yield from map(self.answered, order)

@@ -1,13 +1,26 @@
 """Lines that come in and go out, as bytes, since names and passwords have no encoding, and what the terminal shows."""
-import contextlib, csv, itertools, os, re, select, stat, time
+import contextlib, csv, errno, itertools, os, re, select, shlex, stat, time
 
 MARK = b"\xef\xbb\xbf"
+LONGEST_ROW = 1 << 17      # bytes of a line of a table, and of a field; csv takes no longer ones
 shown = False      # whether the terminal shows the progress
+
+class Refused(bytes):
+    """In place of a row that pwhash refuses: a line that mkpasswd refuses too, and the reason."""
+    reason = ""
+
+def refused(reason):
+    line = Refused()
+    line.reason = reason
+    return line
 
 class Source:
     def __init__(self, options):
-        self.options, self.absent, self.odd, self.total, is_stdin = options, [], 0, 0, options.file == "-"
-        self.name, self.fd = ("standard input", 0) if is_stdin else (options.file, os.open(options.file, os.O_RDONLY))
+        self.options, self.absent, self.marked, self.odd, self.total = options, [], [], 0, 0
+        is_stdin = options.file == "-"
+        self.name, self.fd = "standard input", 0
+        if not is_stdin:
+            self.name, self.fd = named(options.file), os.open(options.file, os.O_RDONLY)
         self.begun = os.fstat(self.fd)
         self.regular = stat.S_ISREG(self.begun.st_mode)
         if stat.S_ISDIR(self.begun.st_mode):
@@ -17,6 +30,25 @@ class Source:
         self.start = self.regular and os.lseek(self.fd, 0, os.SEEK_CUR)
         if self.regular and not options.quiet:
             self.total = sum(piece.count(b"\n") for piece in iter(lambda: os.read(self.fd, 1 << 19), b""))
+
+    def change(self):
+        """What changed of the file since it was opened, or nothing. Its ctime isn't asked: reading and chmod change it."""
+        if not self.regular:
+            return None
+        try:
+            now = os.fstat(self.fd) if self.options.file == "-" else os.stat(self.options.file)
+        except OSError:
+            return "it is gone"
+        if now.st_nlink == 0 or not os.path.samestat(now, self.begun):
+            return "another file took its place"
+        if now.st_size != self.begun.st_size:
+            return "its size"
+        return "its time" if now.st_mtime_ns != self.begun.st_mtime_ns else None
+
+    def path(self):
+        """A name of the file for a shell."""
+        path = os.readlink("/proc/self/fd/0") if self.options.file == "-" else self.options.file
+        return quoted(path)
 
     def lines(self):
         """Pairs of a number and a line, from the beginning, and None where they come slowly."""
@@ -34,45 +66,92 @@ class Source:
             piece = os.read(self.fd, 1 << 22)
             *lines, rest = (rest + piece).split(b"\n")
             lines += [rest] if rest and not piece else []
-            if windows:
-                lines = [line.removesuffix(b"\r").removeprefix(MARK * (n == 1)) for n, line in enumerate(lines, number)]
+            if windows:      # marks begin later lines, too, where lists were joined
+                lines = [line.removesuffix(b"\r").removeprefix(MARK) for line in lines]
             if self.options.locked:      # without what is in front of a locked hash
                 lines = [re.sub(rb"^([^:]*:)[!*]+(?=\$)", rb"\1", line) for line in lines]
+            if self.options.csv:
+                self.refuse_long_rows(lines + [rest], number)
             yield from enumerate(lines, number)
-            number, rest = number + len(lines), rest[:1 << 17]      # more than mkpasswd or csv takes
+            number, rest = number + len(lines), rest[:1 << 17]      # more than mkpasswd takes
+
+    def refuse_long_rows(self, lines, number):
+        for number, line in enumerate(lines, number):
+            if len(line) > LONGEST_ROW:
+                raise Stop(f"{self.name}, line {number}: longer than 128 KiB, which no row may be.")
 
     def rows(self):
         """Rows of a table as lines `name:password`. Between columns is what comes first: a comma, semicolon or tab."""
         texts = (pair[1].decode("latin-1") + "\n" for pair in self.whole_lines(True) if pair)
         first = next(texts, "").partition("\0")[0]      # of UTF-16 a piece, in which no column is found
         between = re.search("[,;\t]|$", re.sub('"[^"]*"', "", first))[0] or ","
-        columns = os.fsencode(self.options.columns or "name,password").decode("latin-1").lower().split(",")
         rows = csv.reader(itertools.chain([first], texts), delimiter=between, strict=True)
+        headings = self.next_row(rows)
+        wanted, has_names = self.wanted_columns(headings or [])
+        row = self.next_row(rows) if has_names else headings
+        while row is not None:
+            line = self.line_of(row, wanted, len(headings))
+            if has_names and row == headings:      # of another table that was joined to the first
+                line = refused("the heading again")
+            yield rows.line_num, line
+            row = self.next_row(rows)
+
+    def next_row(self, rows):
+        """The next row that isn't blank, or None after the last."""
+        row = []
         try:
-            names = [str(each).strip().lower() for each in (range(1, 99) if columns[0].isdecimal() else next(rows, ()))]
-            if len(columns) != 2 or [each for each in columns if names.count(each) != 1]:
-                raise Stop("--columns, by default name,password, needs two names, each once in the first row of "
-                           f"{self.name}, or if that has no names, numbers, as 1,2. Save UTF-16 as UTF-8.", 2)
-            for row in filter(None, rows):
-                fields = [row[names.index(each)] for each in columns if names.index(each) < len(row)]
-                if ":" in "".join(fields[:1]) or "\n" in "".join(fields):
-                    raise Stop(f"{self.name}, line {rows.line_num}: a colon in a name, or a line feed in a field.")
-                yield rows.line_num, ":".join(fields).encode("latin-1")
+            while row == []:
+                begun = rows.line_num + 1
+                row = next(rows, None)
         except csv.Error as error:
-            raise Stop(f"{self.name}, line {rows.line_num}: this is not CSV: {error}.") from None
+            what = f"this is not CSV: {error}"
+            if "field limit" in str(error):
+                what = "a field is longer than 128 KiB, or the quote that begins it has no end"
+            raise Stop(f"{self.name}, line {begun}: {what}.") from None
+        return row
+
+    def wanted_columns(self, first_row):
+        """The places of name and password in a row, and whether the first row has names of columns."""
+        columns = [column_name(os.fsencode(each)) for each in (self.options.columns or "name,password").split(",")]
+        has_names = not columns[0].isdecimal()
+        names = [str(number) for number in range(1, 99)]
+        if has_names:
+            names = [column_name(each.encode("latin-1")) for each in first_row]
+        if len(columns) != 2 or any(names.count(each) != 1 for each in columns):
+            raise Stop("--columns, by default name,password, needs two names, each once in the first row of "
+                       f"{self.name}, or if that has no names, numbers, as 1,2. Save UTF-16 as UTF-8.", 2)
+        return [names.index(each) for each in columns], has_names
+
+    def line_of(self, row, wanted, width):
+        """A row as a line `name:password`; of one that is too short only the name, which mkpasswd refuses."""
+        if len(row) > width:
+            return refused(f"{len(row)} fields, where the first row has {width}: a separator in a field needs quotes")
+        fields = [row[place] for place in wanted if place < len(row)]
+        if ":" in "".join(fields[:1]):
+            return refused("a colon in the name")
+        if "\n" in "".join(fields):
+            return refused("a line feed in a field")
+        return ":".join(fields).encode("latin-1")
 
     def paired(self, pairs):
         """Lines `name:password` as `name:field:password`, with the first field of a name; without a name, with each."""
         fields = dict(re.findall(rb"(?m)^([^:\n]*):([^:\n]*)", open(self.options.shadow, "rb").read())[::-1])
         if not fields:
-            raise Stop(f"{self.options.shadow} has no line name:field.", 2)
+            raise Stop(f"{named(self.options.shadow)} has no line name:field.", 2)
         def tried(number, line):
+            if isinstance(line, Refused):
+                return [(number, line)]
             name, _, password = line.partition(b":") if b":" in line else (b"", b":", line)
             names = [name] if name else reversed(fields)
             self.absent += [number] * (name != b"" and name not in fields and len(self.absent) < 20)
+            self.marked += [number] * ((b"\r" in line or MARK in line) and len(self.marked) < 20)
             self.odd += "\ufffd" in line.decode(errors="replace") or b"\0" in line
             return [(number, b"%b:%b:%b" % (each, fields[each], password)) for each in names if each in fields]
         return itertools.chain.from_iterable(tried(*pair) if pair else [pair] for pair in pairs)
+
+def column_name(data):
+    """A name of a column, as names are compared: however spelled in capitals, and not by bytes."""
+    return data.decode("utf-8", "surrogateescape").strip().casefold()
 
 class Stop(Exception):
     """Ends the run: a whole sentence, and the status if it isn't 3, or a signal as a negative number."""
@@ -81,6 +160,22 @@ def readable(data):
     """Bytes from outside for a terminal, which no character of them can command."""
     text = data.decode("utf-8", "backslashreplace")
     return text if text.isprintable() else "".join(each if each.isprintable() else ascii(each)[1:-1] for each in text)
+
+def named(path):
+    """The name of a file for a message."""
+    return readable(os.fsencode(path))
+
+def quoted(word):
+    """A word for a shell, in which nothing commands the terminal: bash, zsh and ksh read $'..', with numbers of bytes."""
+    data = os.fsencode(word)
+    if named(word) == word:
+        return shlex.quote(word)
+    plain = re.compile(rb"[^\x20-\x7e]|['\\]")
+    return "$'" + plain.sub(lambda found: b"\\%03o" % found[0][0], data).decode("ascii") + "'"
+
+def is_unheard(fd, error):
+    """Whether this is standard error, closed or a pipe that nobody reads, which ends no run."""
+    return fd == 2 and error.errno in (errno.EPIPE, errno.EBADF)
 
 def write(fd, lines):
     """Writes all of them, also where somebody made the descriptor non-blocking."""
@@ -93,16 +188,37 @@ def write(fd, lines):
         except BlockingIOError:
             time.sleep(0.02)
         except OSError as error:
+            if is_unheard(fd, error):
+                return
             error.filename = "standard output" if fd == 1 else None
             raise
 
 def say(sentence):
-    write(2, [f"pwhash: {sentence}".encode("utf-8", "surrogateescape")])
+    write(2, [f"pwhash: {readable(sentence.encode('utf-8', 'surrogateescape'))}".encode()])
+
+def open_terminal():
+    """The terminal, or None. What is there is never made: without O_CREAT, and no file is taken for it."""
+    with contextlib.suppress(OSError):
+        tty = os.open("/dev/tty", os.O_RDWR | os.O_NOCTTY)
+        if os.isatty(tty):
+            return tty
+        os.close(tty)
+    return None
 
 def on_terminal(text):
     """Writes on the terminal, if there is one and this is not in the background. Returns whether it did."""
-    with contextlib.suppress(OSError), open("/dev/tty", "wb", 0) as tty:
-        return os.tcgetpgrp(tty.fileno()) == os.getpgrp() and tty.write(text.encode("utf-8", "surrogateescape"))
+    tty = open_terminal()
+    if tty is None:
+        return False
+    try:
+        data, is_ours = text.encode("utf-8", "surrogateescape"), os.tcgetpgrp(tty) == os.getpgrp()
+        while is_ours and data:
+            data = data[os.write(tty, data):]
+        return is_ours
+    except OSError:
+        return False
+    finally:
+        os.close(tty)
 
 def clear():
     global shown

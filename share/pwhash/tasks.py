@@ -1,7 +1,9 @@
 """What pwhash does: it hashes a password or a file of them, checks passwords, and audits stored hashes."""
-import collections, contextlib, fcntl, itertools, json, os, re, signal, stat, string, time
+import collections, contextlib, itertools, json, os, re, string, time
 from engine import HASH, Engine
-from lines import MARK, Source, Stop, on_terminal, progress, readable, say, write
+from lines import MARK, Source, Stop, named, on_terminal, progress, readable, say, write
+from parts import output, refuse_changed
+from prompt import ask_password
 
 PLACES = {      # what --for prints for one hash; those with a name need --name
     None: "{hash}", "preseed-root": "d-i passwd/root-password-crypted password {hash}",
@@ -13,12 +15,16 @@ SERVICES = {    # the names that each service reads as they are
     None: rb"(?s).*", **dict.fromkeys(("apache", "nginx"), rb"[^#\s\0-\x1f\x7f][^\0-\x1f\x7f]*"),
     "dovecot": rb"[a-z0-9_.@-]+", "ldap": rb"[a-z0-9_-]+"}
 
+KEPT_HASH = re.compile(rb"(\$1\$|\$[56]\$(?:rounds=[0-9]+\$)?|\$7\$[./0-9A-Za-z]{11})([./0-9A-Za-z]+)\$([./0-9A-Za-z]+)")
+OF_PASSWORDS = ("line too long", "password too long", "password has a zero byte")      # refusals, whatever the account
+LONGEST_SURE = 64      # bytes of a password that no hash by -m and -R is too costly for
+
 def free(options):
     """An engine that hashes nothing: what it would hash is over its budget of 0."""
     return Engine("--batch", [word for word in options.words if not word.startswith("--budget=")] + ["--budget=0"])
 
 def new_password(options):
-    import getpass, secrets      # only here, since they are slow to begin
+    import secrets      # only here, since it is slow to begin
     if options.generate:
         password = "".join(secrets.choice(string.ascii_letters + string.digits) for _ in range(20))
         if not on_terminal(f"The password, shown only here: {password}\n"):
@@ -26,12 +32,16 @@ def new_password(options):
         return password.encode()
     if not os.isatty(0):
         return next((pair[1] for pair in Source(options).lines() if pair), b"")
-    signal.signal(signal.SIGTSTP, signal.SIG_IGN)      # the shell would show what is typed after Ctrl-Z
-    with contextlib.suppress(EOFError):      # of Ctrl-D
-        password = getpass.getpass("Password: ")
-        if password != getpass.getpass("Again: "):
-            raise Stop("the two passwords differ. Start again.", 2)
-        return os.fsencode(password)
+    return ask_password()
+
+def refuse_password(password):
+    """What nobody can mean to type at a login."""
+    if not password:
+        raise Stop("the password is empty. Give another.", 2)
+    if b"\r" in password:
+        raise Stop("the password has a carriage return in it, with which lines of Windows end. Leave it out: tr -d '\\r'", 2)
+    if MARK in password:
+        raise Stop("the password has a byte order mark in it, as files of Windows begin with one. Save it without.", 2)
 
 def one(options):
     """Hashes one password: asks for it, or reads the first line of standard input."""
@@ -41,8 +51,7 @@ def one(options):
         raise Stop("a --name begins with a letter or _; then up to 63 letters, digits and _.@- follow.", 2)
     next(free(options).answers([(1, b"x:")]))      # first, whether mkpasswd takes the options
     engine, password = Engine("--batch", options.words), new_password(options)
-    if not password or password.endswith(b"\r"):
-        raise Stop("the password is empty, or ends with a carriage return as lines of Windows do. Give another.", 2)
+    refuse_password(password)
     [block] = engine.answers([(1, b"x:" + password)])
     if block.refusals == {0: "over budget"}:
         raise Stop("over budget (by default 168 bytes; sha256crypt: 150). Give --budget 1300000000 (high -R: more).", 2)
@@ -54,13 +63,15 @@ def one(options):
 def doubts(number, line, names, service):
     """What mkpasswd hashes as it is, and hardly anybody wants. `names` has the first line of each name."""
     name, _, password = line.partition(b":")
-    first, text = names.setdefault(name, number), line.decode(errors="replace").strip("\r\ufeff")
+    first, text = names.setdefault(name, number), line.decode(errors="replace").replace("\r", "").replace("\ufeff", "")
     return [reason for reason, is_so in {
         "an empty password: Return alone logs in": password in (b"", b"\r"),
         "a carriage return ends the password; --windows leaves it out": password.endswith(b"\r"),
+        "a carriage return inside": b"\r" in line[:-1],
+        "a byte order mark begins the line; --windows leaves it out": line.startswith(MARK),
+        "a byte order mark inside": MARK in line[1:],
         "a blank at an end of name or password": any(each != each.strip() for each in text.split(":", 1)),
         "an invisible character": not text.isprintable(),
-        "a byte order mark begins the name; --windows leaves it out": number == 1 and name.startswith(MARK),
         "a heading, and no user": number == 1 and name.lower() in HEADINGS,
         f"the name again, after line {first}": first != number,
         "the service takes the name for another, or skips it": not re.fullmatch(SERVICES[service], name),
@@ -101,46 +112,39 @@ def look(source, options, engine, names):
         say(f"lines left out: {len(left_out):,}; all others can be hashed.")
     return left_out
 
-@contextlib.contextmanager
-def output(options, source):
-    """Opens OUT.part, for this run alone, which becomes OUT at the end."""
-    fd = os.open(options.out + ".part", os.O_RDWR | os.O_NOFOLLOW | os.O_CREAT, 0o600)
-    options.part = options.out + ".part"
-    try:
-        fcntl.flock(fd, fcntl.LOCK_EX | fcntl.LOCK_NB)
-    except BlockingIOError:
-        raise Stop(f"another run is writing {options.part}: wait for it.", 2) from None
-    part = os.fstat(fd)
-    if part.st_size and (not options.resume or source.begun.st_ctime_ns > part.st_mtime_ns):
-        how = f"{source.name} is newer; if no line changed, touch {options.part}" if options.resume else "add --resume"
-        how = f"{how}, else remove it" if options.run == file else "remove it, or name another file after -o"
-        raise Stop(f"{options.part} already exists: {how}.", 2)
-    os.fchmod(fd, 0o600)
-    yield fd
-    os.fsync(fd)
-    changed = source.regular and os.fstat(source.fd).st_ctime_ns != source.begun.st_ctime_ns
-    if changed or not os.path.samestat(part, os.lstat(options.part)):
-        raise Stop(f"{source.name} or {options.part} was changed meanwhile: remove the latter, and start anew.", 2)
-    os.rename(options.part, options.out)
+def common(hashed, has_given_salt):
+    """What all hashes of a run have in common: method and cost, the lengths of salt and digest, and the salt if one was given."""
+    setting, salt, digest = KEPT_HASH.fullmatch(hashed).groups()
+    return setting, salt if has_given_salt else len(salt), len(digest)
+
+def is_kept(options, line, answer, is_checked, first):
+    """Whether an answer in OUT.part is one to this line. What is checked is made again, else it has to be like the first one."""
+    name, hashed = line[:line.index(b":") + 1], answer[line.index(b":") + 1:-1]
+    if not answer.startswith(name) or not KEPT_HASH.fullmatch(hashed):
+        return False
+    if first and common(hashed, options.salt) != common(first, options.salt):
+        return False
+    if not is_checked:
+        return True
+    salt = KEPT_HASH.fullmatch(hashed)[2].decode()
+    [block] = Engine("--batch", options.words + ([] if options.salt else ["--salt=" + salt])).answers([(1, line)])
+    return block.answers == [answer[:-1]]
 
 def skip(fd, pairs, options, name):
     """Skips lines whose hashes are in OUT.part, behind their names. The first and the last are made again."""
     made = [answer for answer in open(fd, "rb", closefd=False) if answer.endswith(b"\n")]
+    first = None
     for place, answer in enumerate(made):
         number, line = next(pairs, (place + 1, b"\n:"))      # no answer fits a line that isn't there
-        fits = re.fullmatch(re.escape(line[:line.index(b":") + 1]) + HASH + b"\n", answer)
-        if fits and place in (0, len(made) - 1):
-            salt = answer.rsplit(b"$", 2)[1][11 if b":$7$" in answer else 0:].decode()
-            [block] = Engine("--batch", options.words + ["--salt=" + salt] * (not options.salt)).answers([(1, line)])
-            fits = block.answers == [answer[:-1]]
-        if not fits:
-            raise Stop(f"{options.part}, line {place + 1}: not of line {number} of {name}: name, password, -m, -R or "
-                       f"-S differ, or the line is gone. Correct that, or remove {options.part}.", 2)
+        if not is_kept(options, line, answer, place in (0, len(made) - 1), first):
+            raise Stop(f"{named(options.part)}, line {place + 1}: not of line {number} of {name}: name, password, -m, -R "
+                       f"or -S differ, or the line is gone. Correct that, or remove {named(options.part)}.", 2)
+        first = first or answer[line.index(b":") + 1:-1]
     os.ftruncate(fd, os.lseek(fd, sum(map(len, made)), os.SEEK_SET))
 
 def file(options):
     """Hashes lines name:password. A file is read twice, first to look for problems."""
-    source, engine = Source(options), Engine("--batch", options.words)
+    source, engine = Source(options), Engine("--batch", options.words, options.memory)
     if (options.out or options.look) and not source.regular:
         raise Stop("-o and --look need a file, which can be read twice. Give its name, or leave them out.", 2)
     names, doubted = {}, not source.regular and not options.accept_doubtful      # a pipe can't be looked at first
@@ -156,6 +160,8 @@ def file(options):
                 if place not in block.refusals and (found := doubts(number, line, names, options.service)):
                     engine.bad, block.refusals[place] = True, found[0]
                     block.answers[place] = f"pwhash: line {number}: {found[0]}".encode()
+            if options.out:
+                refuse_changed(options, source)      # what was hashed may be old by now
             show(fd, block)
     return engine.bad
 
@@ -168,21 +174,37 @@ def show(fd, block, new=False):
         write(2, filter(None, block.answers[place:place + 1]))
         begin = place + 1
 
+def untried(number, line, reason):
+    """Why a password of a list isn't tried for an account: for all the same sentence where it's the password, or the hash."""
+    name, field, password = line.split(b":", 2)
+    if reason in OF_PASSWORDS:
+        return f"line {number} isn't tried: {reason}"
+    if reason == "over budget" and len(password) > LONGEST_SURE:
+        return f"line {number} isn't tried for every name: {reason}"
+    return f"{readable(name)} isn't checked: {reason}"
+
 def check(options):
     """Checks lines name:field:password, where the field is what is stored: a hash, ! or nothing."""
-    source, engine, told = Source(options), Engine("--check", options.words), set()
+    memory = options.memory if options.rehash else 0
+    source, engine, told = Source(options), Engine("--check", options.words, memory, options.budget), set()
     with output(options, source) if options.out else contextlib.nullcontext(1) as fd:
         for block in progress(engine.answers(source.lines(), source.total), "checking", source.total):
             for place, reason in block.refusals.items() if options.shadow else ():      # once for all words
-                about = f"{readable(block.lines[place].partition(b':')[0])} isn't checked: {reason}".encode()
-                block.answers[place] = b"" if about in told else b"pwhash: " + about
+                line, number = block.lines[place], block.numbers[place]
+                about = f"line {number}: {reason}" if line == b"" else untried(number, line, reason)
+                block.answers[place] = b"" if about in told else f"pwhash: {about}".encode()
                 told.add(about)
+            if options.out:
+                refuse_changed(options, source)
             show(fd, block, options.out and options.rehash)
     if source.absent:
-        say(f"lines without an account in {options.shadow} (the first 20): {source.absent}.")
+        say(f"lines without an account in {named(options.shadow)} (the first 20): {source.absent}.")
+    if source.marked:
+        say("lines with a carriage return or a byte order mark in them (the first 20), of which --windows leaves out those "
+            f"that end or begin a line: {source.marked}.")
     if source.odd:
         say(f"lines that aren't UTF-8, or have a zero byte: {source.odd:,}.")
-    return engine.bad or bool(source.absent)
+    return engine.bad or bool(source.absent or source.marked)
 
 FINDINGS = {      # the colour of each, and what to do
     "no password": (31, "no password is asked for: set one, or lock the account with passwd -l NAME"),
@@ -208,8 +230,6 @@ def judged(number, answer, refusal):
 def audit(options):
     """Shows what is wrong with stored hashes; with --only-problems the worst first."""
     source, engine, counts = Source(options), Engine("--audit", options.words), collections.Counter()
-    if options.file == "/etc/shadow" and stat.S_ISREG(os.fstat(0).st_mode):
-        say("this audits /etc/shadow. To read standard input, give - as FILE.")
     rows = [] if options.json else [(-1, b"NAME                  METHOD             ROUNDS  FINDING")]
     def shown(finding, text, bare=options.json or not os.isatty(1) or os.getenv("NO_COLOR")):
         return (text if bare else f"\x1b[{FINDINGS[finding][0]}m{text}\x1b[m").encode()

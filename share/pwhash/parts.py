@@ -1,0 +1,199 @@
+"""OUT.part, in which a run writes, and which becomes OUT once it is whole.
+
+Somebody loads its hashes as root. So it is a new file, or with --resume one of the user's own,
+and OUT is that very file, whoever else can write in its folder.
+"""
+import argparse
+import contextlib
+import errno
+import fcntl
+import os
+import signal
+import stat
+from collections.abc import Iterator
+from typing import Optional
+
+from lines import Source, Stop, named, quoted, say
+from prompt import SIGNALS
+
+# Nothing waits for the other end of a pipe.
+FLAGS = os.O_RDWR | os.O_NOFOLLOW | os.O_NONBLOCK
+# What a file system without links, or a machine without /proc, answers.
+NO_LINKS = (errno.EPERM, errno.EOPNOTSUPP, errno.ENOSYS, errno.EMLINK, errno.EXDEV, errno.ENOENT)
+AT_FDCWD, RENAME_NOREPLACE = -100, 1
+
+
+@contextlib.contextmanager
+def output(options: argparse.Namespace, source: Source) -> Iterator[int]:
+    """Opens OUT.part, for this run alone, which becomes OUT at the end."""
+    part = options.out + ".part"
+    fd = open_part(part, options, source)
+    options.part = part
+    try:
+        yield fd
+        os.fsync(fd)
+        refuse_changed(options, source)
+        become(fd, options)
+    except BaseException as error:
+        options.advice = options.advice or changed(options, source)
+        is_wrong_use = isinstance(error, Stop) and error.args[1:] == (2,)
+        if source.change():
+            os.utime(fd, (0, 0))  # so FILE is newer, and --resume refuses
+        elif is_wrong_use and os.fstat(fd).st_size == 0:  # as of an option that mkpasswd refuses
+            remove(fd, part)
+        raise
+
+
+def open_part(part: str, options: argparse.Namespace, source: Source) -> int:
+    try:
+        found = os.lstat(part)
+    except FileNotFoundError:
+        return new_part(part)
+    fault = unfit(found)
+    if fault and options.resume:
+        way_out = "Remove it, or name another file after -o."
+        raise Stop(f"--resume doesn't take {named(part)}: {fault}. {way_out}", 2)
+    if fault:
+        way_out = f"remove it, or name another file after -o ({fault})"
+        raise Stop(f"{named(part)} already exists: {way_out}.", 2)
+    fd = os.open(part, FLAGS)
+    lock(fd, part)
+    now = os.fstat(fd)
+    if unfit(now) or not os.path.samestat(now, found):
+        raise Stop(f"{named(part)} was replaced just now. Start again.", 2)
+    refuse_to_go_on(part, now, options, source)
+    return fd
+
+
+def new_part(part: str) -> int:
+    try:
+        fd = os.open(part, FLAGS | os.O_CREAT | os.O_EXCL, 0o600)
+    except FileExistsError:
+        raise Stop(f"{named(part)} was made by another just now. Start again.", 2) from None
+    os.fchmod(fd, 0o600)
+    lock(fd, part)
+    return fd
+
+
+def unfit(status: os.stat_result) -> Optional[str]:
+    """Why a file can't be one that this user's run has left, or nothing."""
+    if stat.S_ISLNK(status.st_mode):
+        return "it is a symbolic link"
+    if not stat.S_ISREG(status.st_mode):
+        return "it is no regular file"
+    if status.st_uid != os.geteuid():
+        return "it belongs to another user"
+    if stat.S_IMODE(status.st_mode) != 0o600:
+        return f"its mode is {stat.S_IMODE(status.st_mode):04o}, not 0600"
+    return "it has another name too" if status.st_nlink != 1 else None
+
+
+def lock(fd: int, part: str) -> None:
+    try:
+        fcntl.flock(fd, fcntl.LOCK_EX | fcntl.LOCK_NB)
+    except BlockingIOError:
+        raise Stop(f"another run is writing {named(part)}: wait for it.", 2) from None
+
+
+def refuse_to_go_on(
+    part: str, status: os.stat_result, options: argparse.Namespace, source: Source
+) -> None:
+    """Refuses a part of an earlier run, unless --resume was given and FILE is the older one."""
+    exists = f"{named(part)} already exists"
+    if not options.can_resume:
+        raise Stop(f"{exists}: remove it, or name another file after -o.", 2)
+    if status.st_size and source.begun.st_mtime_ns > status.st_mtime_ns:
+        way_out = f"if no line changed: {touch(part, source)}; else remove {named(part)}"
+        raise Stop(f"{exists}, and {source.name} is newer; {way_out}.", 2)
+    if not options.resume:
+        raise Stop(f"{exists}: add --resume, else remove it.", 2)
+
+
+def touch(part: str, source: Source) -> str:
+    """What makes --resume go on, though FILE is newer than a part."""
+    return f"touch -r {source.path()} {quoted(part)} and add --resume"
+
+
+def changed(options: argparse.Namespace, source: Source) -> Optional[str]:
+    """What changed of FILE during the run, and what to do about it, or nothing."""
+    what = source.change()
+    if not what:
+        return None
+    way_out = f"remove {named(options.part)}, and start again"
+    if what == "its time" and options.can_resume:
+        way_out += f"; or if no line changed: {touch(options.part, source)}"
+    return f"{source.name} was changed during the run ({what}): {way_out}."
+
+
+def refuse_changed(options: argparse.Namespace, source: Source) -> None:
+    sentence = changed(options, source)
+    if sentence:
+        raise Stop(sentence, 2)
+
+
+def become(fd: int, options: argparse.Namespace) -> None:
+    """The part gets the name OUT, if nobody has it by now, and loses its own."""
+    if not has_name(fd, options.part):
+        part = named(options.part)
+        raise Stop(f"{part} was removed or replaced during the run. Start again.", 2)
+    before = signal.pthread_sigmask(signal.SIG_BLOCK, SIGNALS)  # none comes between the two
+    try:
+        link(fd, options)
+        remove(fd, options.part)
+    except FileExistsError:
+        if not options.can_resume:
+            options.advice = f"Rename {named(options.part)}."
+        out = named(options.out)
+        raise Stop(
+            f"{out} was made by another during the run, and stays as it is. All lines are done, "
+            f"in {named(options.part)}. First rename or remove {out}."
+        ) from None
+    finally:
+        signal.pthread_sigmask(signal.SIG_SETMASK, before)
+
+
+def link(fd: int, options: argparse.Namespace) -> None:
+    """Links the file that was written, whatever has its name by now; without links renames it."""
+    try:
+        os.link(f"/proc/self/fd/{fd}", options.out, src_dir_fd=fd, follow_symlinks=True)
+    except OSError as error:
+        if error.errno not in NO_LINKS or not has_name(fd, options.part):
+            error.filename = options.out
+            raise
+        rename_to_new(options)
+
+
+def rename_to_new(options: argparse.Namespace) -> None:
+    """Renames the part, but to no name that somebody has. Python has no call for that."""
+    import ctypes  # only here, since it is slow to begin
+
+    rename = getattr(ctypes.CDLL(None, use_errno=True), "renameat2", None)
+    number = errno.ENOSYS
+    if rename:
+        old, new = os.fsencode(options.part), os.fsencode(options.out)
+        is_refused = rename(AT_FDCWD, old, AT_FDCWD, new, RENAME_NOREPLACE)
+        number = ctypes.get_errno() if is_refused else 0
+    if number in (errno.EINVAL, errno.ENOSYS):
+        options.advice = f"Type mv -n {quoted(options.part)} {quoted(options.out)}"
+        raise Stop(
+            f"all lines are done, but here nothing can give {named(options.part)} another name "
+            "without perhaps replacing a file."
+        )
+    if number:
+        raise OSError(number, os.strerror(number), options.out)
+
+
+def has_name(fd: int, path: str) -> bool:
+    try:
+        return os.path.samestat(os.fstat(fd), os.lstat(path))
+    except FileNotFoundError:
+        return False
+
+
+def remove(fd: int, path: str) -> None:
+    """Takes this name from an open file, if it has it."""
+    try:
+        if has_name(fd, path):
+            os.unlink(path)
+    except OSError as error:
+        say(f"{named(path)} remains: {error.strerror}.")

@@ -1,0 +1,108 @@
+"""Asks at the terminal for a password, as bytes, since nothing says which encoding it has."""
+import os
+import select
+import signal
+import termios
+from typing import Any
+
+from lines import Stop, open_terminal
+
+# Those that end a run.
+SIGNALS = (signal.SIGINT, signal.SIGTERM, signal.SIGHUP, signal.SIGQUIT)
+# Places in what termios.tcgetattr returns.
+INPUT_FLAGS, LOCAL_FLAGS = 0, 3
+ECHO = termios.ECHO | termios.ECHOE | termios.ECHOK | termios.ECHONL
+
+
+def ask_password() -> bytes:
+    """The password, typed twice while the terminal shows nothing of it.
+
+    Standard input is a terminal, and serves where there is no /dev/tty.
+    """
+    signal.signal(signal.SIGTSTP, signal.SIG_IGN)  # the shell would show what is typed after Ctrl-Z
+    terminal = open_terminal()
+    try:
+        return ask_hidden(0 if terminal is None else terminal)
+    finally:
+        if terminal is not None:
+            os.close(terminal)
+
+
+def ask_hidden(fd: int) -> bytes:
+    try:
+        before = termios.tcgetattr(fd)
+    except termios.error:
+        raise cant_hide() from None
+    waiting = [number for number in SIGNALS if callable(signal.getsignal(number))]
+    signal.pthread_sigmask(signal.SIG_BLOCK, waiting)  # until the terminal is as it was
+    try:
+        hide(fd, before)
+        # A shell shows keys while the program is stopped.
+        signal.signal(signal.SIGCONT, lambda *_: hide(fd, before))
+        password = ask(fd, b"Password: ")
+        if ask(fd, b"Again: ") != password:
+            raise Stop("the two passwords differ. Start again.", 2)
+        return password
+    finally:
+        signal.signal(signal.SIGCONT, signal.SIG_DFL)
+        restore(fd, before)
+        signal.pthread_sigmask(signal.SIG_UNBLOCK, waiting)  # one that came ends the run here
+
+
+def hide(fd: int, before: list[Any]) -> None:
+    """From here on the terminal shows no key, gives whole lines, and Ctrl-C works."""
+    changed = [*before]
+    changed[INPUT_FLAGS] |= termios.ICRNL
+    changed[LOCAL_FLAGS] = changed[LOCAL_FLAGS] & ~ECHO | termios.ICANON | termios.ISIG
+    try:
+        termios.tcsetattr(fd, termios.TCSAFLUSH, changed)
+        is_hidden = not termios.tcgetattr(fd)[LOCAL_FLAGS] & ECHO
+    except termios.error:
+        is_hidden = False
+    if not is_hidden:
+        raise cant_hide()
+
+
+def cant_hide() -> Stop:
+    return Stop(
+        "this terminal can't hide what is typed, so no password is asked for. "
+        "Give it on standard input."
+    )
+
+
+def restore(fd: int, before: list[Any]) -> None:
+    """Nothing that was typed and not read is left for the shell, either."""
+    try:
+        termios.tcsetattr(fd, termios.TCSAFLUSH, before)
+    except termios.error:  # the terminal is gone
+        pass
+
+
+def ask(fd: int, prompt: bytes) -> bytes:
+    show(fd, prompt)
+    try:
+        return read_line(fd)
+    finally:
+        show(fd, b"\n")  # Return isn't shown
+
+
+def show(fd: int, text: bytes) -> None:
+    """Standard input can be a terminal that is open for reading only."""
+    try:
+        os.write(fd, text)
+    except OSError:
+        os.write(2, text)
+
+
+def read_line(fd: int) -> bytes:
+    """What is typed before Return."""
+    line = b""
+    while not line.endswith(b"\n"):
+        while not select.select([fd], [], [], 0.05)[0]:
+            if signal.sigpending().intersection(SIGNALS):
+                raise Stop("a signal ended the run.")
+        piece = os.read(fd, 4096)
+        if not piece:
+            raise Stop("Ctrl-D came before Return, so nothing is hashed. Start again.", 2)
+        line += piece
+    return line[:-1]

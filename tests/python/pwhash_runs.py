@@ -1,0 +1,277 @@
+"""Runs pwhash as a user does: in the current folder, at a terminal, on a machine with limits."""
+
+from __future__ import annotations
+
+import contextlib
+import dataclasses
+import os
+import pathlib
+import re
+import shlex
+import shutil
+import signal
+import statistics
+import subprocess
+import termios
+import time
+from collections.abc import Callable, Sequence
+from typing import Any
+
+import pexpect
+
+from support import ROOT, libxcrypt, missing
+
+PWHASH = str(ROOT / "bin" / "pwhash")
+MD5CRYPT = ("-m", "md5crypt", "-S", "xxxxxxxx")
+SLOW = ("-m", "sha512crypt", "-R", "20000", "-S", "saltsalt")
+
+
+@dataclasses.dataclass(frozen=True)
+class Ended:
+    """A command that ended."""
+
+    command: str
+    status: int
+    out: bytes
+    err: bytes
+
+    def __str__(self) -> str:
+        return f"{self.command}\nstatus {self.status}\nprinted {self.out!r}\nsaid {self.err!r}"
+
+
+def ended(process: subprocess.Popen[bytes], data: bytes = b"") -> Ended:
+    """Waits for a command, which gets the data."""
+    try:
+        out, err = process.communicate(data, timeout=120)
+    except subprocess.TimeoutExpired:
+        os.killpg(process.pid, signal.SIGKILL)
+        raise
+    words = process.args if isinstance(process.args, list) else [str(process.args)]
+    return Ended(shlex.join(map(os.fsdecode, words)), process.returncode, out or b"", err or b"")
+
+
+def started(*words: str | bytes, **options: Any) -> subprocess.Popen[bytes]:
+    """Starts pwhash in a process group of its own."""
+    return started_program(PWHASH, *words, **options)
+
+
+def started_program(*words: str | bytes, **options: Any) -> subprocess.Popen[bytes]:
+    with_defaults: dict[str, Any] = {
+        "stdin": subprocess.PIPE,
+        "stdout": subprocess.PIPE,
+        "stderr": subprocess.PIPE,
+        "start_new_session": True,
+    }
+    options = {**with_defaults, **options}
+    return subprocess.Popen(list(words), **options)
+
+
+def pwhash(*words: str | bytes, stdin: bytes = b"") -> Ended:
+    """Runs pwhash."""
+    return ended(started(*words), stdin)
+
+
+def shell(script: str, *words: str, stdin: bytes = b"") -> Ended:
+    """Runs a script, in which "$@" is pwhash with these words."""
+    return ended(started_program("/bin/sh", "-c", script, "sh", PWHASH, *words), stdin)
+
+
+def in_namespace(script: str, *words: str, stdin: bytes = b"") -> Ended:
+    """The same with mounts of its own, which only root can make."""
+    if os.geteuid() or subprocess.run(["unshare", "--mount", "true"], check=False).returncode:
+        missing("root, or unshare (Debian package util-linux), is missing")
+    command = ["unshare", "--mount", "/bin/sh", "-c", f"set -e\n{script}", "sh", PWHASH, *words]
+    return ended(started_program(*command), stdin)
+
+
+def save(name: str, data: bytes) -> str:
+    pathlib.Path(name).write_bytes(data)
+    return name
+
+
+def save_part(name: str, data: bytes) -> str:
+    """A part as a run leaves it."""
+    save(name, data)
+    os.chmod(name, 0o600)
+    return name
+
+
+def read(name: str) -> bytes:
+    return pathlib.Path(name).read_bytes()
+
+
+def hashed(password: bytes, setting: str = "$1$xxxxxxxx") -> bytes:
+    return libxcrypt(password, setting).encode()
+
+
+def lines_named_in(message: bytes) -> list[int]:
+    return [int(number) for number in re.findall(rb"line ([0-9]+)", message)]
+
+
+def wait_for(condition: Callable[[], bool]) -> None:
+    end = time.monotonic() + 60
+    while not condition():
+        assert time.monotonic() < end, "waited for a minute"
+        time.sleep(0.005)
+
+
+def has_begun(part: str = "hashes.part") -> bool:
+    return os.path.exists(part) and os.path.getsize(part) > 0
+
+
+def users(count: int) -> bytes:
+    return b"".join(b"user%d:password%d\n" % (number, number) for number in range(count))
+
+
+@dataclasses.dataclass(frozen=True)
+class Terminal:
+    """What a terminal showed, and how the command on it ended."""
+
+    status: int
+    shown: bytes
+    shows_keys_at_prompt: bool
+    shows_keys_afterwards: bool
+
+
+def shows_keys(terminal: int) -> bool:
+    return bool(termios.tcgetattr(terminal)[3] & termios.ECHO)
+
+
+def at_terminal(
+    words: Sequence[str], keys: Sequence[bytes], kill: int | None = None, utf8: bool = False
+) -> Terminal:
+    """Types keys, each at a prompt, then sends a signal if one is given."""
+    child = pexpect.spawn(PWHASH, list(words), timeout=60, echo=True)
+    flags = termios.tcgetattr(child.child_fd)
+    iutf8 = getattr(termios, "IUTF8", 0o40000)
+    flags[0] = flags[0] | iutf8 if utf8 else flags[0] & ~iutf8
+    termios.tcsetattr(child.child_fd, termios.TCSANOW, flags)
+    shown = b""
+    shows_at_prompt = False
+    for key in keys:
+        child.expect(rb": ")
+        shown += child.before + child.after
+        shows_at_prompt = shows_at_prompt or shows_keys(child.child_fd)
+        child.send(key)
+    if kill is not None:
+        child.expect(rb": ")
+        child.kill(kill)
+    child.expect(pexpect.EOF)
+    shown += child.before
+    shows_afterwards = shows_keys(child.child_fd)
+    child.close()
+    status = os.waitstatus_to_exitcode(child.status)
+    return Terminal(status, shown, shows_at_prompt, shows_afterwards)
+
+
+def type_secret(child: Any) -> bytes:
+    """Types "secret" at both prompts, the first of which is shown. Returns what is shown then."""
+    child.send(b"secret\r")
+    child.expect(rb"Again: ")
+    shown = bytes(child.before)
+    child.send(b"secret\r")
+    child.expect(pexpect.EOF)
+    shown += bytes(child.before)
+    child.close()
+    return shown
+
+
+@dataclasses.dataclass(frozen=True)
+class Load:
+    """What a run took beside its first thread: threads that compute, and bytes of memory."""
+
+    working: float
+    memory: int
+
+
+def tree(first: int) -> list[int]:
+    """A process and all that it has begun."""
+    children: dict[int, list[int]] = {}
+    for path in pathlib.Path("/proc").glob("[0-9]*/stat"):
+        with contextlib.suppress(OSError):
+            fields = path.read_text(encoding="latin-1").rpartition(")")[2].split()
+            children.setdefault(int(fields[1]), []).append(int(path.parent.name))
+    found = [first]
+    for process in found:
+        found += children.get(process, [])
+    return found
+
+
+def working_threads(process: int, first: int) -> int:
+    """Threads that compute or wait for a processor, without the first, which deals out work."""
+    count = 0
+    with contextlib.suppress(OSError):  # it has ended
+        for path in pathlib.Path(f"/proc/{process}/task").iterdir():
+            state = (path / "stat").read_text(encoding="latin-1").rpartition(")")[2].split()[0]
+            if state == "R" and path.name != str(first):
+                count += 1
+    return count
+
+
+def resident(process: int) -> int:
+    with contextlib.suppress(OSError):
+        pages = pathlib.Path(f"/proc/{process}/statm").read_text(encoding="ascii").split()[1]
+        return int(pages) * os.sysconf("SC_PAGE_SIZE")
+    return 0
+
+
+def load_of(process: subprocess.Popen[bytes]) -> Load:
+    """Watches a command until it ends."""
+    working: list[int] = []
+    memory = 0
+    while process.poll() is None:
+        processes = tree(process.pid)
+        count = sum(working_threads(each, process.pid) for each in processes)
+        if count:
+            working.append(count)
+        memory = max(memory, sum(resident(each) for each in processes if each != process.pid))
+        time.sleep(0.01)
+    return Load(statistics.median(working) if working else 0, memory)
+
+
+def watched(script: str, *words: str) -> tuple[Ended, Load]:
+    """Runs pwhash after a script that gives it what the machine shall look like."""
+    if os.geteuid() or not shutil.which("unshare"):
+        missing("root, or unshare (Debian package util-linux), is missing")
+    script = f'set -e\n{script}\nexec "$@"'
+    command = ["unshare", "--mount", "/bin/sh", "-c", script, "sh", PWHASH, *words]
+    with open("out", "wb") as out, open("err", "wb") as err:
+        options = {"stdin": subprocess.DEVNULL, "stdout": out, "stderr": err}
+        with started_program(*command, **options) as process:
+            load = load_of(process)
+    return Ended(shlex.join(command), process.returncode, read("out"), read("err")), load
+
+
+def some_processors(count: int) -> str:
+    available = sorted(os.sched_getaffinity(0))
+    if len(available) < 4:
+        missing("four processors are missing")
+    return f"taskset -cp {','.join(map(str, available[:count]))} $$ > mask"
+
+
+def available(mebibytes: int) -> str:
+    return f"""
+        sed 's/^MemAvailable:.*/MemAvailable:   {mebibytes << 10} kB/' /proc/meminfo > meminfo
+        mount --bind meminfo /proc/meminfo
+    """
+
+
+GROUP_VERSION_2 = """
+    mount -t tmpfs none /sys/fs/cgroup
+    echo 0::/above/own > group
+    mount --bind group /proc/$$/cgroup
+    mkdir -p /sys/fs/cgroup/above/own
+    cd /sys/fs/cgroup/above
+    echo max 100000 > own/cpu.max; echo max > own/memory.max; echo 0 > own/memory.current
+    echo max 100000 > cpu.max; echo max > memory.max; echo 0 > memory.current
+"""
+GROUP_VERSION_1 = """
+    mount -t tmpfs none /sys/fs/cgroup
+    printf '%s\\n' 7:memory:/own 5:cpu,cpuacct:/own 0::/ > group
+    mount --bind group /proc/$$/cgroup
+    mkdir -p /sys/fs/cgroup/cpu/own /sys/fs/cgroup/memory/own
+    cd /sys/fs/cgroup
+    echo -1 > cpu/own/cpu.cfs_quota_us; echo 100000 > cpu/own/cpu.cfs_period_us
+    echo 9223372036854771712 > memory/own/memory.limit_in_bytes
+    echo 0 > memory/own/memory.usage_in_bytes
+"""
