@@ -58,7 +58,7 @@ def arguments(words):
         raise Stop(f"{message}. See {parser.prog} --help.", 2)
     parser.error, parser._print_message = error, lambda text, _: write(1, [text.rstrip("\n").encode()])
     parser.set_defaults(**dict.fromkeys([*OPTIONS, "part", "advice"]), run=run, file=default)
-    parser.add_argument("--version", action="version", version="pwhash 2.0.0")
+    parser.add_argument("--version", action="version", version="pwhash 2.0.1")
     if command:
         help_text = "by default -" if default else "a file such as /etc/shadow, or - for standard input"
         parser.add_argument("file", nargs="?", default=default, metavar="FILE", help=help_text)
