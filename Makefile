@@ -5,7 +5,8 @@
 # make npm         makes build/npm, the package of it for npm pack
 # make install     installs all of it below PREFIX (default /usr/local); make uninstall removes it
 # make test        tests what is built: T=tests/lines.t one file; with STRICT=1 a tool that is missing is a failure
-# make check       every check there is: layers, gate, tests; with ANEW=1 the gate proves everything anew
+# make lint        runs formatters and linters over all that isn't proved
+# make check       every check there is: lint, layers, gate, tests; with ANEW=1 the gate proves everything anew
 # make bench       measures beside other programs, with the options in BENCH, and writes what docs/SPEED.md shows
 # make pictures    makes the pictures in docs again: the page, a terminal, the plots
 # make soak        answers LINES random lines of each kind, by SEED; make fuzz makes random calls, for FUZZ_SECONDS each
@@ -47,7 +48,7 @@ export DESTDIR PREFIX LIBDIR ARCHIVE RT
 SLOW = tests/deb.t tests/arm.t tests/python tests/pam.t
 T = $(SLOW) $(filter-out $(SLOW),$(wildcard tests/*.t))
 
-.PHONY: all run static lib web npm pictures fuzz test check layers specification site gate evidence bench soak install \
+.PHONY: all run static lib web npm pictures fuzz test check lint layers specification site gate evidence bench soak install \
 	uninstall dist image wheel deb clean FORCE
 .DELETE_ON_ERROR .SECONDARY:
 # rt takes all cores for itself.
@@ -167,9 +168,12 @@ fuzz: $(FUZZERS)
 test: $(TRIED)
 	tools/test $(T)
 
-# The layers, the specification and the gate come first, since they need nothing built.
-check: layers gate $(TRIED)
+# What needs nothing built comes first: lint, the layers, the specification and the gate.
+check: lint layers gate $(TRIED)
 	tools/test $(T)
+
+lint:
+	tools/lint
 
 layers: specification
 	tools/test tests/layers.t
