@@ -4,7 +4,8 @@
 # make web         builds build/mkpasswd.html, a page that makes and checks hashes, and build/mkpasswd.mjs, for node
 # make npm         makes build/npm, the package of it for npm pack
 # make install     installs all of it below PREFIX (default /usr/local); make uninstall removes it
-# make test        tests what is built: T=tests/lines.t one file; with STRICT=1 a tool that is missing is a failure
+# make test        tests what is built: ONLY='audit and not scrypt' the tests whose names match (pytest -k); with STRICT=1 a tool
+#                  that is missing is a failure
 # make check       every check there is: layers, gate, tests; with ANEW=1 the gate proves everything anew
 # make bench       measures beside other programs, with the options in BENCH, and writes what docs/SPEED.md shows
 # make pictures    makes the pictures in docs again: the page, a terminal, the plots
@@ -43,9 +44,6 @@ HAS_ARM = $(findstring /,$(shell aarch64-linux-gnu-gcc -print-file-name=libc.a 2
 TRIED = $(BUILT) $(PACKED) $(if $(WEB),$(NPM)) $(if $(HAS_ARM),$(ARM))
 # The scripts take these from the environment, whatever characters they have.
 export DESTDIR PREFIX LIBDIR ARCHIVE RT
-
-SLOW = tests/deb.t tests/arm.t tests/python tests/pam.t
-T = $(SLOW) $(filter-out $(SLOW),$(wildcard tests/*.t))
 
 .PHONY: all run static lib web npm pictures fuzz test check layers specification site gate evidence bench soak install \
 	uninstall dist image wheel deb clean FORCE
@@ -165,14 +163,14 @@ fuzz: $(FUZZERS)
 	done
 
 test: $(TRIED)
-	tools/test $(T)
+	tools/test $(if $(ONLY),-k '$(ONLY)')
 
 # The layers, the specification and the gate come first, since they need nothing built.
 check: layers gate $(TRIED)
-	tools/test $(T)
+	tools/test
 
 layers: specification
-	tools/test tests/layers.t
+	tools/test -k layers.t
 
 specification: build/SPECIFICATION.md
 
