@@ -4,9 +4,11 @@
 # make web         builds build/mkpasswd.html, a page that makes and checks hashes, and build/mkpasswd.mjs, for node
 # make npm         makes build/npm, the package of it for npm pack
 # make install     installs all of it below PREFIX (default /usr/local); make uninstall removes it
-# make test        tests what is built: T=tests/lines.t one file; with STRICT=1 a tool that is missing is a failure
+# make test        tests what is built: ONLY='audit and not scrypt' the tests whose names match
+#                  (pytest -k); with STRICT=1 a tool that is missing is a failure
 # make lint        runs formatters and linters over all that isn't proved
-# make check       every check there is: lint, layers, gate, tests; with ANEW=1 the gate proves everything anew
+# make check       every check there is: lint, layers, gate, tests; with ANEW=1 the gate proves
+#                  everything anew
 # make bench       measures beside other programs, with the options in BENCH, and writes what docs/SPEED.md shows
 # make pictures    makes the pictures in docs again: the page, a terminal, the plots
 # make soak        answers LINES random lines of each kind, by SEED; make fuzz makes random calls, for FUZZ_SECONDS each
@@ -45,10 +47,8 @@ TRIED = $(BUILT) $(PACKED) $(if $(WEB),$(NPM)) $(if $(HAS_ARM),$(ARM))
 # The scripts take these from the environment, whatever characters they have.
 export DESTDIR PREFIX LIBDIR ARCHIVE RT
 
-SLOW = tests/deb.t tests/arm.t tests/python tests/pam.t
-T = $(SLOW) $(filter-out $(SLOW),$(wildcard tests/*.t))
-
-.PHONY: all run static lib web npm pictures fuzz test check lint layers specification site gate evidence bench soak install \
+.PHONY: all run static lib web npm pictures fuzz test check lint layers specification site gate \
+	evidence bench soak install \
 	uninstall dist image wheel deb clean FORCE
 .DELETE_ON_ERROR .SECONDARY:
 # rt takes all cores for itself.
@@ -166,17 +166,17 @@ fuzz: $(FUZZERS)
 	done
 
 test: $(TRIED)
-	tools/test $(T)
+	tools/test $(if $(ONLY),-k '$(ONLY)')
 
 # What needs nothing built comes first: lint, the layers, the specification and the gate.
 check: lint layers gate $(TRIED)
-	tools/test $(T)
+	tools/test
 
 lint:
 	tools/lint
 
 layers: specification
-	tools/test tests/layers.t
+	tools/test -k layers.t
 
 specification: build/SPECIFICATION.md
 
