@@ -1,5 +1,6 @@
-/* Loaded before the C library: before a file is renamed to or exchanged with PATH, somebody else renames PATH.1 over it, the second
-   time PATH.2, and so on, where they are there. With NO_EXCHANGE the file system can't exchange; with KILL a file is never synced. */
+/* Loaded before the C library: before a file is renamed to or exchanged with PATH, somebody else
+   renames PATH.1 over it, the second time PATH.2, and so on, where they are there. With NO_EXCHANGE
+   the file system can't exchange; with KILL a file is never synced. */
 #define _GNU_SOURCE
 #include <errno.h>
 #include <limits.h>
@@ -14,7 +15,8 @@ int renameat2(int from_folder, const char *from, int to_folder, const char *to, 
     static int calls;
     char other[PATH_MAX];
 
-    snprintf(other, sizeof other, "%s.%d", to, ++calls);
+    if (snprintf(other, sizeof other, "%s.%d", to, ++calls) >= (int)sizeof other)
+        abort();
     syscall(SYS_renameat2, to_folder, other, to_folder, to, 0);
     if (flags && getenv("NO_EXCHANGE"))
         return errno = EINVAL, -1;

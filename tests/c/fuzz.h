@@ -1,4 +1,5 @@
-/* What the fuzzing targets share: pages that nobody may touch, and what each report and `out` must be. */
+/* What the fuzzing targets share: pages that nobody may touch, and what each report and `out` must
+ * be. */
 #include <crypt.h>
 #include <mkpasswd.h>
 #include <sys/mman.h>
@@ -16,7 +17,10 @@ static uint8_t *pages[3];
 static uint8_t *at_end(int number, const void *bytes, size_t len)
 {
     if (!pages[number]) {
-        pages[number] = (uint8_t *)mmap(NULL, 3 * PAGE, PROT_NONE, MAP_PRIVATE | MAP_ANONYMOUS, -1, 0) + PAGE;
+        const int kind = MAP_PRIVATE | MAP_ANONYMOUS;
+        uint8_t *first = mmap(NULL, (size_t)3 * PAGE, PROT_NONE, kind, -1, 0);
+
+        pages[number] = first + PAGE;
         MUST(mprotect(pages[number], PAGE, PROT_READ | PROT_WRITE) == 0);
     }
     return memcpy(pages[number] + PAGE - len, bytes, len);
@@ -31,16 +35,20 @@ static uint8_t *new_out(size_t room)
     return at_end(2, pattern, PAGE) + PAGE - room;
 }
 
-/* Tests the report, and that `out` has a text of its length or the token, and nothing else is written. */
+/* Tests the report, and that `out` has a text of its length or the token, and nothing else is
+ * written. */
 static int checked(int32_t result, const uint8_t *out, size_t room, const char *token)
 {
     size_t len = room ? strlen((const char *)out) : 0, place;
 
-    MUST(result == (report.reason > 0) && report.reason && report.reason >= -23 && report.reason <= 3 && !report.reserved);
+    MUST(result == (report.reason > 0) && report.reason && report.reason >= -23
+        && report.reason <= 3 && !report.reserved);
     MUST(result ? len == report.length : report.length == 0);
-    MUST(result || room == 0 || !token || (len == (room < 3 ? room - 1 : 2) && memcmp(out, token, len) == 0));
+    MUST(result || room == 0 || !token
+        || (len == (room < 3 ? room - 1 : 2) && memcmp(out, token, len) == 0));
     for (place = 0; place < PAGE; place++)
-        MUST(pages[2][place] == 0xa5 || (room && place >= PAGE - room && place <= PAGE - room + len));
+        MUST(pages[2][place] == 0xa5
+            || (room && place >= PAGE - room && place <= PAGE - room + len));
     return result;
 }
 

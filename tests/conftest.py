@@ -1,0 +1,69 @@
+"""How pytest runs the tests: what they need, which begin first, and the last lines."""
+from __future__ import annotations
+
+import os
+from collections import defaultdict
+from pathlib import Path
+
+import pytest
+from support import ROOT
+from support.needs import need
+
+NOTHING_CHOSEN = 5  # pytest's status where -k chose none of the tests
+ENDED = pytest.StashKey[int]()
+
+
+@pytest.fixture(scope="session", name="program")
+def fixture_program() -> Path:
+    """The built program, or another one like it: PROGRAM."""
+    path = Path(os.environ.get("PROGRAM", ROOT / "mkpasswd"))
+    if not os.access(path, os.X_OK):
+        pytest.fail(f"{path} is not built: run make", pytrace=False)
+    return path
+
+
+def pytest_runtest_setup(item: pytest.Item) -> None:
+    """Looks for what a test needs before its fixtures are made."""
+    for marker in item.iter_markers("needs"):
+        need(*marker.args)
+
+
+def pytest_collection_modifyitems(items: list[pytest.Item]) -> None:
+    """Puts the slow tests first: workers take tests in this order, and wait for the last."""
+    items.sort(key=lambda item: item.get_closest_marker("slow") is None)
+
+
+def pytest_sessionfinish(session: pytest.Session, exitstatus: int) -> None:
+    """Keeps the status for the last line."""
+    session.config.stash[ENDED] = int(exitstatus)
+
+
+def reason_of(report: pytest.TestReport) -> str:
+    """Why a test was skipped."""
+    if isinstance(report.longrepr, tuple):
+        return report.longrepr[2].removeprefix("Skipped: ")
+    return str(report.longrepr)
+
+
+def print_skipped(reports: list[pytest.TestReport]) -> None:
+    """Prints what was skipped, by the reason."""
+    tests_by_reason = defaultdict(list)
+    for report in reports:
+        tests_by_reason[reason_of(report)].append(report.nodeid)
+    for reason, tests in sorted(tests_by_reason.items()):
+        print(f"skipped: {reason}", *sorted(tests), sep="\n    ")
+
+
+def pytest_unconfigure(config: pytest.Config) -> None:
+    """Prints the last lines, after all that pytest prints."""
+    reporter = config.pluginmanager.get_plugin("terminalreporter")
+    is_worker = hasattr(config, "workerinput")
+    if reporter is None or is_worker or config.option.collectonly:
+        return
+    reports = defaultdict(list, reporter.stats)
+    failed = len(reports["failed"]) + len(reports["error"])
+    if failed == 0 and config.stash.get(ENDED, 1) not in (0, NOTHING_CHOSEN):
+        failed = 1  # an error within pytest, or an interruption
+    print_skipped(reports["skipped"])
+    passed, skipped = len(reports["passed"]), len(reports["skipped"])
+    print(f"{passed} passed, {failed} failed, {skipped} skipped")

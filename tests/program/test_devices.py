@@ -1,0 +1,457 @@
+"""Each read, write, allocation and draw of the program fails in turn, in each of its modes.
+
+Each such run has to end with the status 3, to name the fault, and to have printed nothing but what
+a run without a fault prints, the answers to all lines before in full. Where the words are refused
+the status stays 2, whatever becomes of the message.
+
+One failed allocation may be ignored, and the whole answer come: std shrinks the list of the
+arguments in the end, and if that fails it stays as it was.
+"""
+from __future__ import annotations
+
+import re
+from dataclasses import dataclass
+from pathlib import Path
+
+import pytest
+from support.libxcrypt import crypt
+from support.needs import built
+from support.preload import preload_library
+from support.process import Result, Word, assert_result, run, shown
+
+MESSAGES = {
+    "memory": b"mkpasswd: out of memory\n",
+    "random": b"mkpasswd: start fault\n",
+    "read": b"mkpasswd: read fault\n",
+    "write": b"mkpasswd: write fault\n",
+}
+
+
+@dataclass(frozen=True)
+class Call:
+    """A call that the program made."""
+
+    kind: str
+    size: int
+    descriptor: int  # 0 for a call without one
+    has_failed: bool = False
+
+
+@dataclass(frozen=True)
+class Traced:
+    """How a run ended, and the calls that it made."""
+
+    result: Result
+    calls: list[Call]
+
+    def count(self, kind: str) -> int:
+        """How many calls of a kind there were."""
+        return sum(call.kind == kind for call in self.calls)
+
+    @property
+    def has_failed_call(self) -> bool:
+        """Whether a call was made to fail."""
+        return any(call.has_failed for call in self.calls)
+
+
+class Tracer:
+    """Runs the program with tests/c/faults.c, which logs its calls and lets one of them fail."""
+
+    def __init__(self, program: Path, library: Path, log: Path) -> None:
+        self.program = program
+        self.library = library
+        self.log = log
+
+    def run(self, words: list[Word], given: bytes, fault: str | None = None) -> Traced:
+        """Runs the program; the fault is a kind and a number, as in `read 2`, or `short`."""
+        self.log.write_bytes(b"")
+        environment = {
+            "LD_PRELOAD": str(self.library),
+            "FAULT": fault,
+            "FAULT_LOG": str(self.log),
+        }
+        result = run(self.program, *words, stdin=given, env=environment)
+        lines = self.log.read_text(encoding="ascii").splitlines()
+        return Traced(result, [call_of(line) for line in lines])
+
+
+def call_of(line: str) -> Call:
+    """The call that a line of the log tells of."""
+    kind, size, descriptor, *failed = line.split()
+    return Call(kind, int(size), int(descriptor), bool(failed))
+
+
+@pytest.fixture(scope="module", name="library")
+def fixture_library(tmp_path_factory: pytest.TempPathFactory) -> Path:
+    return preload_library("faults", tmp_path_factory.mktemp("faults"))
+
+
+@pytest.fixture(name="tracer")
+def fixture_tracer(program: Path, library: Path, tmp_path: Path) -> Tracer:
+    return Tracer(program, library, tmp_path / "log")
+
+
+# ---- The modes
+
+MD5_WORDS: list[Word] = ["-m", "md5crypt", "-S", "xxxxxxxx"]
+TO_SCRYPT: list[Word] = ["--check", "--rehash", "-m", "scrypt", "-R", "6", "-S", "ab"]
+MD5 = b"$1$xxxxxxxx$UYCIxa628.9qXjpQCjM4a."
+SCRYPT_OF_X = b"$7$CU..../....ab$TioQ/OazCAbGpb/E7e054xV/7lAamSWFPOGclTgvmt0"
+OLD_SCRYPT = crypt(b"password", b"$7$2/..../....xxxxxxxx")
+NEW_SCRYPT = crypt(b"password", b"$7$BU..../....ab")
+# The third vector of RFC 7914, with a table of 16 MiB.
+THIRD_VECTOR = crypt(b"pleaseletmein", b"$7$C6..../....SodiumChloride")
+LINE_OF_16_MIB = b"ann:%b:password\n" % crypt(b"password", b"$7$C6..../....xxxxxxxx")
+LINE_OF_64_MIB = b"ann:%b:password\n" % crypt(b"password", b"$7$CU..../....ab")
+METHODS = b"Available methods:\nmd5crypt\nsha256crypt\nsha512crypt\nscrypt\n"
+FORM_OF_MD5 = r"\$1\$[./0-9A-Za-z]{8}\$[./0-9A-Za-z]{22}\n"
+FORM_OF_SHA512 = r"\$6\$[./0-9A-Za-z]{16}\$[./0-9A-Za-z]{86}\n"
+
+
+@dataclass(frozen=True)
+class Mode:
+    """What the program is asked to do, and what it prints if no call fails."""
+
+    title: str
+    words: list[Word]
+    given: bytes = b""
+    stdout: bytes = b""
+    form: str = ""  # of an output that isn't known
+    stderr: bytes = b""
+    status: int = 0
+    makes_hashes: bool = True  # or compares them, so that it draws a seed
+    draws_salt: bool = False
+    allocations_behind_an_answer: int = 0
+
+    def __str__(self) -> str:
+        return self.title
+
+    def assert_result(self, result: Result) -> None:
+        """The run is one without a fault."""
+        if not self.form:
+            assert_result(result, status=self.status, stdout=self.stdout, stderr=self.stderr)
+            return
+        assert_result(result, status=self.status, stdout=result.stdout, stderr=self.stderr)
+        is_of_form = re.fullmatch(self.form.encode(), result.stdout, re.DOTALL)
+        assert is_of_form, f"expected stdout: {self.form}\n{result}"
+
+    def can_begin_with(self, stdout: bytes, whole: bytes) -> bool:
+        """Whether an output can be that of a run that ended early; a drawn salt is another."""
+        if self.form:
+            return len(stdout) <= len(whole)
+        return self.stdout.startswith(stdout)
+
+
+# The hashes are openssl-passwd(1)'s and libxcrypt's.
+MODES = [
+    Mode("a password", [*MD5_WORDS, "password"], stdout=MD5 + b"\n"),
+    Mode(
+        "a password that is read",
+        [*MD5_WORDS, "-s"],
+        given=b"password\nmore\n",
+        stdout=MD5 + b"\n",
+    ),
+    Mode("scrypt", ["-m", "scrypt", "-S", "ab", "x"], stdout=SCRYPT_OF_X + b"\n"),
+    Mode("the methods", ["-m", "help"], stdout=METHODS, makes_hashes=False),
+    Mode("the version", ["-V"], form=r"mkpasswd [0-9.]+\n", makes_hashes=False),
+    Mode("help", ["--help"], form=r"Prints .*--stdin\.\n", makes_hashes=False),
+    Mode(
+        "a refusal",
+        ["-m", "sha1", "x"],
+        stderr=b"mkpasswd: unknown method\n",
+        status=2,
+        makes_hashes=False,
+    ),
+    Mode("a drawn salt", ["-m", "md5crypt", "password"], form=FORM_OF_MD5, draws_salt=True),
+    Mode("no words", [], given=b"password\n", form=FORM_OF_SHA512, draws_salt=True),
+    Mode(
+        "batch",
+        ["--batch", *MD5_WORDS],
+        given=b"ann:password\n:x\nbob:password\n",
+        stdout=b"ann:%b\nbob:%b\n" % (MD5, MD5),
+        stderr=b"mkpasswd: line 2: no name\n",
+        status=1,
+    ),
+    Mode(
+        "batch with drawn salts",
+        ["--batch", "-m", "md5crypt"],
+        given=b"ann:password\n",
+        form=f"ann:{FORM_OF_MD5}",
+        draws_salt=True,
+    ),
+    Mode(
+        "check",
+        ["--check"],
+        given=b"ann:%b:password\nbob:%b:pleaseletmein\n::\ncat:%b:Password\n"
+        % (MD5, THIRD_VECTOR, MD5),
+        stdout=b"ann:ok\nbob:ok\ncat:no\n",
+        stderr=b"mkpasswd: line 3: no name\n",
+        status=1,
+        allocations_behind_an_answer=3,
+    ),
+    Mode(
+        "rehash from scrypt",
+        ["--check", "--rehash", *MD5_WORDS],
+        given=b"bob:%b:password\n" % OLD_SCRYPT,
+        stdout=b"bob:ok:%b\n" % MD5,
+    ),
+    Mode(
+        "rehash between costs of scrypt",
+        TO_SCRYPT,
+        given=b"ann::\nbob:%b:password\n" % OLD_SCRYPT,
+        stdout=b"ann:none\nbob:ok:%b\n" % NEW_SCRYPT,
+        allocations_behind_an_answer=6,
+    ),
+    Mode(
+        "check with a table that is kept",
+        ["--check"],
+        given=LINE_OF_16_MIB * 2 + LINE_OF_64_MIB,
+        stdout=b"ann:ok\n" * 3,
+        allocations_behind_an_answer=5,
+    ),
+    Mode(
+        "audit",
+        ["--audit"],
+        given=b"ann:%b:1\n:x\nbob:!\neve:%b\ntim:x\n" % (MD5, NEW_SCRYPT),
+        stdout=b"ann:md5crypt:1000:1927022:outdated\nbob:locked\n"
+        b"eve:scrypt:8192/32/1:67135396:outdated\ntim:no scheme\n",
+        stderr=b"mkpasswd: line 2: no name\n",
+        status=1,
+        makes_hashes=False,
+    ),
+    Mode(
+        "rehash to scrypt",
+        TO_SCRYPT,
+        given=b"bob:%b:password\n" % MD5,
+        stdout=b"bob:ok:%b\n" % NEW_SCRYPT,
+    ),
+]
+
+
+@pytest.mark.parametrize("mode", MODES, ids=str)
+def test_without_a_fault_each_mode_prints_its_answers(tracer: Tracer, mode: Mode) -> None:
+    whole = tracer.run(mode.words, mode.given)
+    mode.assert_result(whole.result)
+    assert whole.count("memory") > 0, "it asks for memory"
+    assert whole.count("write") > 0, "it writes"
+    assert (whole.count("read") > 0) == (mode.given != b""), "it reads where it has to"
+    assert whole.count("random") == int(mode.makes_hashes), "it draws one seed, only for hashes"
+
+
+def assert_named(mode: Mode, kind: str, traced: Traced, whole: bytes) -> None:
+    """A run with a fault named it, and printed only what one without a fault prints before."""
+    result = traced.result
+    is_untold = kind == "write" and mode.status == 2
+    status, message = (2, b"") if is_untold else (3, MESSAGES[kind])
+    assert traced.has_failed_call, f"no call failed\n{result}"
+    assert result.status == status, f"expected status: {status}\n{result}"
+    assert result.stderr.endswith(message), f"expected stderr: ..{shown(message)}\n{result}"
+    before = result.stderr.removesuffix(message)
+    assert mode.stderr.startswith(before), f"expected stderr: {shown(mode.stderr)} cut\n{result}"
+    is_begun = mode.can_begin_with(result.stdout, whole)
+    assert is_begun, f"expected stdout: {shown(whole)} cut\n{result}"
+    if kind != "write":
+        assert result.stdout[-1:] in (b"", b"\n"), f"expected stdout: whole lines\n{result}"
+
+
+def assert_each_failed_call_is_named(tracer: Tracer, mode: Mode, kind: str) -> None:
+    """Each call of a kind fails in turn."""
+    whole = tracer.run(mode.words, mode.given)
+    for number in range(1, whole.count(kind) + 1):
+        traced = tracer.run(mode.words, mode.given, f"{kind} {number}")
+        assert_named(mode, kind, traced, whole.result.stdout)
+
+
+@pytest.mark.parametrize("mode", [mode for mode in MODES if mode.given], ids=str)
+def test_a_failed_read_is_named(tracer: Tracer, mode: Mode) -> None:
+    assert_each_failed_call_is_named(tracer, mode, "read")
+
+
+@pytest.mark.parametrize("mode", MODES, ids=str)
+def test_a_failed_write_is_named(tracer: Tracer, mode: Mode) -> None:
+    assert_each_failed_call_is_named(tracer, mode, "write")
+
+
+@pytest.mark.parametrize("mode", [mode for mode in MODES if mode.makes_hashes], ids=str)
+def test_a_failed_draw_is_named(tracer: Tracer, mode: Mode) -> None:
+    assert_each_failed_call_is_named(tracer, mode, "random")
+
+
+@pytest.mark.slow
+@pytest.mark.parametrize("mode", MODES, ids=str)
+def test_a_failed_allocation_is_named(tracer: Tracer, mode: Mode) -> None:
+    whole = tracer.run(mode.words, mode.given)
+    ignored, behind_an_answer = [], 0
+    for number in range(1, whole.count("memory") + 1):
+        traced = tracer.run(mode.words, mode.given, f"memory {number}")
+        result = traced.result
+        if (result.status, result.stderr) == (mode.status, mode.stderr):
+            ignored.append(f"memory {number}")
+            is_whole = len(result.stdout) == len(whole.result.stdout)
+            assert is_whole, f"expected stdout: {shown(whole.result.stdout)}\n{result}"
+            continue
+        assert_named(mode, "memory", traced, whole.result.stdout)
+        if result.stdout != b"":
+            behind_an_answer += 1
+    most_ignored = 1 if mode.words else 0
+    assert len(ignored) <= most_ignored, ignored
+    assert behind_an_answer == mode.allocations_behind_an_answer
+
+
+@pytest.mark.parametrize("mode", MODES, ids=str)
+def test_reads_and_writes_may_handle_one_byte_each(tracer: Tracer, mode: Mode) -> None:
+    whole = tracer.run(mode.words, mode.given).result
+    result = tracer.run(mode.words, mode.given, "short").result
+    mode.assert_result(result)
+    if not mode.draws_salt:
+        assert_result(result, status=mode.status, stdout=whole.stdout, stderr=mode.stderr)
+
+
+# ---- Memory
+
+# With N = 2^14 and p = 1 scrypt asks for a table of 128 N r bytes, or takes a kept one, the parts
+# of 128 r p, and the halves of 256 r. Nothing else about a line asks for memory.
+BEFORE_TABLE = 2097152
+BEFORE_PARTS = 16
+WITH_R_32 = [BEFORE_TABLE + 67108864, BEFORE_PARTS + 4096, BEFORE_PARTS + 8192]
+WITH_R_8 = [BEFORE_TABLE + 16777216, BEFORE_PARTS + 1024, BEFORE_PARTS + 2048]
+WITH_R_8_IN_A_KEPT_TABLE = WITH_R_8[1:]
+SHA256 = b"$5$xxxxxxxx$hP8Y3v5H039Gm6oEwYeXGQOqaUqXVrVPKrFK.zAzZPA"
+REFUSED_LINES = b"".join(
+    [
+        b"ann\n",
+        b":x\n",
+        b"n" * 65 + b":x\n",
+        b"ann:" + b"p" * 1025 + b"\n",
+        b"ann:a\0b\n",
+        b"l" * 2049 + b"\n",
+    ]
+)
+
+
+def allocated(tracer: Tracer, words: list[Word], given: bytes, status: int) -> list[int]:
+    """The sizes of all calls for memory of a run that ends with this status."""
+    traced = tracer.run(words, given)
+    assert traced.result.status == status, f"expected status: {status}\n{traced.result}"
+    return [call.size for call in traced.calls if call.kind == "memory"]
+
+
+@pytest.mark.parametrize(
+    ("words", "given", "status", "allocations"),
+    [
+        pytest.param(
+            ["--check"], b"ann:%b:password\n" % MD5, 0, [], id="a check by md5crypt, none"
+        ),
+        pytest.param(
+            ["--check"], b"ann:%b:password\n" % SHA256, 0, [], id="a check by sha256crypt, none"
+        ),
+        pytest.param(["--check"], LINE_OF_16_MIB, 0, WITH_R_8, id="a check by scrypt"),
+        pytest.param(
+            ["--check"],
+            LINE_OF_16_MIB * 2 + LINE_OF_64_MIB + LINE_OF_16_MIB,
+            0,
+            [*WITH_R_8, *WITH_R_8_IN_A_KEPT_TABLE, *WITH_R_32, *WITH_R_8],
+            id="checks by scrypt, of which one takes the table before",
+        ),
+        pytest.param(
+            ["--check", "--rehash", "-m", "scrypt"],
+            LINE_OF_16_MIB,
+            0,
+            [*WITH_R_8, *WITH_R_32],
+            id="a new hash by scrypt",
+        ),
+        pytest.param(
+            ["--check", "--rehash", "-m", "scrypt"],
+            LINE_OF_16_MIB.replace(b"password", b"passwort"),
+            1,
+            WITH_R_8,
+            id="a wrong password, without a new hash",
+        ),
+        pytest.param(
+            ["--batch", "-m", "md5crypt"], b"ann:password\n", 0, [], id="a hash by md5crypt, none"
+        ),
+        pytest.param(
+            ["--batch", "-m", "sha256crypt"],
+            b"ann:password\n",
+            0,
+            [],
+            id="a hash by sha256crypt, none",
+        ),
+        pytest.param(
+            ["--batch", "-m", "sha512crypt"],
+            b"ann:password\n",
+            0,
+            [],
+            id="a hash by sha512crypt, none",
+        ),
+        pytest.param(
+            ["--batch", "-m", "scrypt"], b"ann:password\n", 0, WITH_R_32, id="a hash by scrypt"
+        ),
+        pytest.param(
+            ["--batch", "-m", "scrypt", "--budget", "1000"],
+            b"ann:password\n",
+            1,
+            [],
+            id="a line over budget, none",
+        ),
+        pytest.param(["--audit"], LINE_OF_64_MIB, 1, [], id="an audit, none"),
+        pytest.param(["--batch", "-m", "scrypt"], REFUSED_LINES, 1, [], id="refused lines, none"),
+    ],
+)
+def test_a_line_asks_for_the_memory_of(
+    tracer: Tracer, words: list[Word], given: bytes, status: int, allocations: list[int]
+) -> None:
+    without_lines = allocated(tracer, words, b"", 0)
+    assert allocated(tracer, words, given, status) == [*without_lines, *allocations]
+
+
+# Two tables don't fit into the most addresses of these (kB), and none into the fewest.
+ADDRESSES = [*range(3000, 6500, 500), *range(18500, 24500, 500), 50_000, 65_000, 80_000]
+
+
+def assert_it_does_what_it_can(program: Path) -> None:
+    """In few addresses the program does what it can, and says what it lacks."""
+    endings = set()
+    for kilobytes in ADDRESSES:
+        limited = ["sh", "-c", 'ulimit -v "$0" && exec "$@"', kilobytes, program, "--check"]
+        result = run(*limited, stdin=LINE_OF_16_MIB + LINE_OF_64_MIB)
+        endings.add((result.status, result.stdout, result.stderr))
+    message = MESSAGES["memory"]
+    assert endings == {(0, b"ann:ok\n" * 2, b""), (3, b"ann:ok\n", message), (3, b"", message)}
+
+
+def test_in_few_addresses_the_program_does_what_it_can(program: Path) -> None:
+    assert_it_does_what_it_can(program)
+
+
+def test_in_few_addresses_the_static_program_does_what_it_can() -> None:
+    assert_it_does_what_it_can(built("build/x86-64/mkpasswd", "static"))
+
+
+# ---- Reads and writes
+
+
+def expected_calls(given: list[bytes], answers: list[tuple[int, bytes]]) -> list[Call]:
+    """A write for each answer once its line has been read, and reads of 512 bytes until the end."""
+    calls, length, read = [], 0, 0
+    for line, (descriptor, text) in zip(given, answers):
+        length += len(line)
+        while read < length:
+            calls.append(Call("read", 512, 0))
+            read += 512
+        calls.append(Call("write", len(text), descriptor))
+    return [*calls, Call("read", 512, 0)]
+
+
+def test_each_answer_and_each_message_is_one_write_once_its_line_is_read(tracer: Tracer) -> None:
+    given, answers = [], []
+    for number in range(1, 3001):
+        if number % 7 == 0:
+            given.append(b":x\n")
+            answers.append((2, b"mkpasswd: line %d: no name\n" % number))
+        else:
+            given.append(b"ann%d:password\n" % number)
+            answers.append((1, b"ann%d:%b\n" % (number, MD5)))
+    traced = tracer.run(["--batch", *MD5_WORDS], b"".join(given))
+    calls = [call for call in traced.calls if call.kind in ("read", "write")]
+    assert calls == expected_calls(given, answers)

@@ -1,0 +1,142 @@
+"""The program answers lines: random ones, many in an open pipe, and some into closed outputs.
+
+Audits are in test_audits.py.
+"""
+from __future__ import annotations
+
+import contextlib
+import os
+import re
+import subprocess
+import threading
+from dataclasses import dataclass
+from pathlib import Path
+from typing import IO, Iterator
+
+import pytest
+from support.libxcrypt import crypt
+from support.model.answers import differences
+from support.process import run, shown_command, started, status_of
+from support.random_lines.chunks import Chunk, chunks, tasks
+
+SEED = int(os.environ.get("SEED", "1"))
+MOST_MEMORY = 8192  # kB
+MANY = 20_000
+
+
+@pytest.mark.parametrize("chunk", chunks("hash", 1000) + chunks("hostile", 2500), ids=str)
+def test_random_lines_are_answered_by_the_rules(program: Path, chunk: Chunk) -> None:
+    """Each run prints what the model says, byte for byte. The seed gives the lines again."""
+    for task in tasks(SEED, chunk):
+        result = run(program, *task.job.words, stdin=task.given)
+        found = differences(task.job, task.given, result)
+        command = shown_command(result.command)
+        assert not found, "\n".join([f"SEED={SEED}: {chunk}: {command}", *found])
+
+
+# ---- Pipes
+
+
+@dataclass(frozen=True)
+class StoredFields:
+    """The fields of a long run of lines, with the password "password"."""
+
+    md5crypt = crypt(b"password", b"$1$xxxxxxxx")
+    # Memory is asked for also after millions of digests.
+    scrypt = crypt(b"password", b"$7$2/..../....ab")
+    locked = b"!" + b"x" * 900
+
+
+NAME = b"n" * 58  # so long that answers of more than a MiB fill each buffer
+
+
+def numbered_line(number: int) -> tuple[bytes, bytes]:
+    """A line, and its answer. All of them together take twice the memory that is allowed."""
+    field, verdict = StoredFields.locked, b"locked"
+    if number % 10 == 0:
+        field, verdict = StoredFields.md5crypt, b"ok"
+    if number % 1000 == 0:
+        field = StoredFields.scrypt
+    return b"%b%d:%b:password\n" % (NAME, number, field), b"%b%d:%b\n" % (NAME, number, verdict)
+
+
+def write_and_ignore_a_closed_pipe(pipe: IO[bytes], lines: Iterator[bytes]) -> None:
+    """Writes lines as far as somebody reads them; what comes back tells why nobody does."""
+    with contextlib.suppress(BrokenPipeError):
+        for line in lines:
+            pipe.write(line)
+        pipe.flush()
+
+
+def peak_of_memory(process: subprocess.Popen[bytes]) -> int:
+    """The most memory that a running process has had, in kB."""
+    status = Path(f"/proc/{process.pid}/status").read_text(encoding="ascii")
+    peak = re.search(r"^VmHWM:\s+(\d+) kB", status, re.MULTILINE)
+    assert peak is not None
+    return int(peak[1])
+
+
+def test_each_line_is_answered_in_little_memory_while_the_pipe_is_open(program: Path) -> None:
+    with started(program, "--check", stdin=subprocess.PIPE, stdout=subprocess.PIPE) as process:
+        assert process.stdin is not None and process.stdout is not None
+        lines = (numbered_line(number)[0] for number in range(1, MANY + 1))
+        arguments = (process.stdin, lines)
+        writer = threading.Thread(target=write_and_ignore_a_closed_pipe, args=arguments)
+        writer.start()
+        for number in range(1, MANY + 1):
+            assert process.stdout.readline() == numbered_line(number)[1], f"line {number}"
+        writer.join()
+        is_built_program = "PROGRAM" not in os.environ
+        if is_built_program:
+            assert peak_of_memory(process) <= MOST_MEMORY
+        process.stdin.close()
+        assert process.stdout.read() == b"", "there are more answers than lines"
+        process.wait()
+        assert status_of(process) == 0
+
+
+# ---- Closed outputs
+
+
+def status_after_its_reader_left(
+    process: subprocess.Popen[bytes], output: IO[bytes], line: bytes
+) -> int:
+    """The status of a process whose output is closed after ten lines, and which gets many more."""
+    assert process.stdin is not None
+    process.stdin.write(line * 10)
+    process.stdin.flush()
+    assert [output.readline() == b"" for _ in range(10)] == [False] * 10, "ten lines come out"
+    output.close()
+    with contextlib.suppress(BrokenPipeError):
+        process.stdin.write(line * 100_000)
+        process.stdin.flush()
+    with contextlib.suppress(BrokenPipeError):
+        process.stdin.close()
+    process.wait()
+    return status_of(process)
+
+
+def test_a_closed_output_is_a_write_fault_and_no_signal(program: Path, tmp_path: Path) -> None:
+    with (
+        (tmp_path / "errors").open("w+b") as errors,
+        started(
+            *(program, "--check"), stdin=subprocess.PIPE, stdout=subprocess.PIPE, stderr=errors
+        ) as process,
+    ):
+        assert process.stdout is not None
+        assert status_after_its_reader_left(process, process.stdout, b"a::x\n") == 3
+        errors.seek(0)
+        assert errors.read() == b"mkpasswd: write fault\n"
+
+
+def test_a_closed_error_output_ends_the_run_and_is_no_signal(program: Path, tmp_path: Path) -> None:
+    with (
+        (tmp_path / "answers").open("w+b") as answers,
+        started(
+            *(program, "--check"), stdin=subprocess.PIPE, stdout=answers, stderr=subprocess.PIPE
+        ) as process,
+    ):
+        assert process.stderr is not None
+        assert status_after_its_reader_left(process, process.stderr, b"y\n") == 3
+        answers.seek(0)
+        assert answers.read() == b""

@@ -1,0 +1,245 @@
+"""What no clause can say of the proved sources.
+
+No work bypasses the meter, memory is allocated only where a list says so, and nothing prints a
+password. Each rule is a search for words, so it sees mistakes, and can be evaded by whoever wants
+to. Comments and tests may have all words. Tests are files tests.rt and test_*.rt, folders tests,
+and what follows `mod tests {` in a file.
+"""
+from __future__ import annotations
+
+import re
+from dataclasses import dataclass
+from pathlib import Path
+from typing import Iterator
+
+import pytest
+from support import ROOT
+
+CRATES = ROOT / "crates"
+LIST_OF_CRATES = re.sub(r"#.*", "", (ROOT / "crates.txt").read_text(encoding="utf-8"))
+DIGESTS = r"(md5|sha1|sha2)"
+IMPLEMENTATIONS_OF_COUNTED = "prims_core/src/counted/counted_"
+EXPORTED_CALL = r'\bextern "C" fn '
+
+
+@dataclass(frozen=True)
+class Line:
+    """A line of code, without its comment."""
+
+    path: str  # below the folder of the crates
+    number: int
+    code: str
+
+    def __str__(self) -> str:
+        return f"{self.path}:{self.number}: {self.code.strip()}"
+
+
+def without_comments(text: str) -> str:
+    """Sources whose lines end where a comment begins."""
+    return re.sub(r"//.*", "", text)
+
+
+def read(path: Path) -> str:
+    """A source file."""
+    return path.read_text(encoding="utf-8")
+
+
+def source_files() -> list[Path]:
+    """All source files of the crates."""
+    crates = re.findall(r"^\w+", LIST_OF_CRATES, re.MULTILINE)
+    return sorted(path for crate in crates for path in (CRATES / crate / "src").rglob("*.rt"))
+
+
+def name_of(path: Path) -> str:
+    """The path of a source file below the folder of the crates."""
+    return str(path.relative_to(CRATES))
+
+
+def lines_of_code() -> Iterator[Line]:
+    """The lines that are no tests."""
+    for path in source_files():
+        if re.search(r"/tests/|/tests\.rt$|/test_", name_of(path)):
+            continue
+        for number, line in enumerate(read(path).split("\n"), 1):
+            if "mod tests {" in line:
+                break
+            yield Line(name_of(path), number, without_comments(line))
+
+
+@pytest.fixture(scope="module", name="code")
+def fixture_code() -> list[Line]:
+    return list(lines_of_code())
+
+
+def files_with_exported_calls() -> list[str]:
+    """The files of the calls for C, for a page and for node."""
+    names = {name_of(path): read(path) for path in source_files()}
+    exporting = ("crypt_c/src/", "crypt_web/src/")
+    return [
+        name
+        for name, text in names.items()
+        if name.startswith(exporting) and 'extern "C" fn' in text
+    ]
+
+
+# ---- Where words may stand
+
+ARGUMENTS = ["mkpasswd/src/command.rt", "mkpasswd/src/options.rt"]
+SCRYPT = "kdf_core/src/scrypt.rt"
+TABLES = ["prims_core/src/table.rt", "prims_core/src/scratch.rt"]
+ON_THE_WAY_TO_SCRYPT = [
+    "crypt_c/src/",
+    *("crypt_core/src/hash.rt", "crypt_core/src/memory.rt", "crypt_core/src/fits.rt"),
+    *("run_core/src/one.rt", "run_core/src/lines.rt", "run_core/src/answer.rt"),
+]
+
+
+@pytest.mark.parametrize(
+    ("pattern", "places"),
+    [
+        pytest.param(
+            rf"\b{DIGESTS}::|\buse {DIGESTS}\b|\b(Digest|Md5)\b",
+            [IMPLEMENTATIONS_OF_COUNTED],
+            id="only the implementations of Counted name a digest",
+        ),
+        pytest.param(
+            r"\bsalsa\b",
+            ["prims_core/src/lib.rt", "prims_core/src/salsa.rt", "prims_core/src/mix.rt"],
+            id="only what counts mixes blocks",
+        ),
+        pytest.param(
+            r"\bMeter::new\b",
+            ["program/src/main.rt", *files_with_exported_calls()],
+            id="only the program and the calls make a meter",
+        ),
+        # What has no allocator can't allocate; so a line is read, priced and refused without.
+        pytest.param(
+            r"\bGlobal\b",
+            [*TABLES, SCRYPT, *ON_THE_WAY_TO_SCRYPT, *ARGUMENTS],
+            id="only what leads to scrypt or to arguments gets the allocator",
+        ),
+        pytest.param(
+            r"\bin (\w+\.)?alloc\b|::\w+\(alloc\b|\.alloc\(\)",
+            [*TABLES, SCRYPT, *ARGUMENTS, "program/src/main.rt"],
+            id="memory is allocated only for scrypt and for arguments",
+        ),
+        # What has the bytes of a password is not printed, and a meter is not copied.
+        pytest.param(
+            r"\bimpl\b.*\b(Debug|Display) for (Password|PasswordFrom|Arguments|RoundStrings)\b",
+            [],
+            id="nothing that has a password implements Debug or Display",
+        ),
+        pytest.param(
+            r"\bimpl\b.*\b(Clone|Copy|Default) for (Meter)\b",
+            [],
+            id="a meter doesn't implement Clone, Copy or Default",
+        ),
+    ],
+)
+def test_words_stand_only_in_their_places(
+    code: list[Line], pattern: str, places: list[str]
+) -> None:
+    found = [line for line in code if re.search(pattern, line.code)]
+    elsewhere = [str(line) for line in found if not line.path.startswith(tuple(places))]
+    assert elsewhere == [], f"{pattern} stands only in {places}"
+
+
+@pytest.mark.parametrize(
+    ("traits", "types"),
+    [
+        pytest.param(
+            r"Debug|Display",
+            r"Password|PasswordFrom|Arguments|RoundStrings",
+            id="nothing that has a password derives Debug or Display",
+        ),
+        pytest.param(
+            r"Clone|Copy|Default", r"Meter", id="a meter doesn't derive Clone, Copy or Default"
+        ),
+    ],
+)
+def test_traits_are_not_derived(traits: str, types: str) -> None:
+    definition = re.compile(rf"(struct|enum) ({types})\b")
+    derivation = re.compile(rf"derive.*\b({traits})\b")
+    found = []
+    for path in source_files():
+        lines = read(path).split("\n")
+        for number, line in enumerate(lines):
+            if definition.search(line):
+                around = lines[max(0, number - 2) : number + 1]
+                found += [f"{name_of(path)}: {near}" for near in around if derivation.search(near)]
+    assert found == []
+
+
+def test_only_prims_core_depends_on_digests() -> None:
+    dependents = re.findall(rf"^(\w+).*:.*\b{DIGESTS}\b", LIST_OF_CRATES, re.MULTILINE)
+    assert {crate for crate, _ in dependents} <= {"prims_core"}
+
+
+def test_implementations_of_counted_offer_nothing_but_their_types() -> None:
+    found = []
+    for path in sorted(CRATES.glob(IMPLEMENTATIONS_OF_COUNTED + "*")):
+        for line in without_comments(read(path)).split("\n"):
+            if re.search(r"\bpub\b(?! struct Counted)", line):
+                found.append(f"{path.name}: {line}")
+    assert found == []
+
+
+def test_2_to_the_40_reads_and_writes_are_allowed() -> None:
+    assert "\nconst TURNS: u64 = 1 << 40;\n" in read(CRATES / "program/src/main.rt")
+
+
+# ---- Mixings and meters
+
+# These are steps of a mixing that another function counts.
+UNCOUNTED_STEPS = ("mix_blocks", "mixed_block")
+
+
+@dataclass(frozen=True)
+class Function:
+    """A function of the sources; two can have one name."""
+
+    name: str
+    body: str
+
+    def __str__(self) -> str:
+        return self.name
+
+
+def functions_of_mix() -> list[Function]:
+    """The functions of mix.rt, without clauses and tests."""
+    text = without_comments(read(CRATES / "prims_core/src/mix.rt"))
+    text = re.sub(r"^ *(requires|ensures) .*(\n {8,}.*)*", "", text, flags=re.MULTILINE)
+    text = re.sub(r"^mod tests.*", "", text, flags=re.MULTILINE | re.DOTALL)
+    found = re.findall(r"\bfn (\w+)(.*?)(?=\bfn |\Z)", text, re.DOTALL)
+    return [Function(name, body) for name, body in found]
+
+
+@pytest.mark.parametrize("function", functions_of_mix(), ids=str)
+def test_a_mixing_is_counted_once(function: Function) -> None:
+    """A function that counts a mixing does one, and one that counts none is a step of those.
+
+    A clause sees neither a mixing whose result is dropped nor one that is done twice.
+    """
+    mixings = re.findall(r"\b(?:block_mix|mix_\w+|mixed_block|salsa8\w*)\(", function.body)
+    counted = re.findall(r"\bcount_mix\(", function.body)
+    if function.name in UNCOUNTED_STEPS:
+        expected = (1, 0)
+    elif re.search(r"\bMeter\b", function.body):
+        expected = (1, 1)
+    else:
+        expected = (0, 0)
+    assert (len(mixings), len(counted)) == expected
+
+
+def exported_calls() -> Iterator[Function]:
+    """The calls for C, for a page and for node, and what precedes the first in each file."""
+    for name in files_with_exported_calls():
+        before, *calls = re.split(EXPORTED_CALL, without_comments(read(CRATES / name)))
+        yield Function(f"what precedes the calls of {name}", before)
+        for call in calls:
+            yield Function(call.split("(")[0], call)
+
+
+@pytest.mark.parametrize("call", [pytest.param(call, id=call.name) for call in exported_calls()])
+def test_a_call_makes_one_meter_at_most(call: Function) -> None:
+    assert len(re.findall(r"\bMeter::new\b", call.body)) <= 1

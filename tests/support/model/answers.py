@@ -1,0 +1,281 @@
+"""Lines: what the program has to answer to each, and in what a run differs from that."""
+from __future__ import annotations
+
+import enum
+import functools
+import re
+from collections import deque
+from dataclasses import dataclass, replace
+from typing import Iterator
+
+from ..process import Result, Word, shown
+from .audits import AuditPolicy, Finding, audit_policy, finding_of, is_locked, is_whole
+from .hashes import hash_of
+from .methods import BY_NAME, DIGIT, SHA512CRYPT, Method
+from .settings import SETTING_REFUSALS, Refused, Setting, read_setting, setting_of_options
+from .work import LONGEST_PASSWORD, Work, cost, work_of
+
+LONGEST_LINE = 2048
+LONGEST_NAME = 64
+LINE_REFUSALS = (
+    "line too long",
+    "no name",
+    "name too long",
+    "no password field",
+    "password too long",
+    "password has a zero byte",
+    *SETTING_REFUSALS,
+    "over budget",
+)
+
+
+class Mode(enum.Enum):
+    """The modes that read lines; the option is the value."""
+
+    BATCH = "--batch"
+    CHECK = "--check"
+    AUDIT = "--audit"
+
+
+@dataclass(frozen=True)
+class NewHash:
+    """The options for new hashes; None where one isn't given."""
+
+    method_name: str | None = None  # -m
+    cost: int | None = None  # -R
+    salt: bytes | None = None  # -S
+
+    @property
+    def method(self) -> Method:
+        """The method of new hashes."""
+        return SHA512CRYPT if self.method_name is None else BY_NAME[self.method_name]
+
+    @property
+    def words(self) -> list[Word]:
+        """The options as words of a command."""
+        words: list[Word] = []
+        if self.method_name is not None:
+            words += ["-m", self.method_name]
+        if self.cost is not None:
+            words += ["-R", self.cost]
+        if self.salt is not None:
+            words += ["-S", self.salt]
+        return words
+
+
+@dataclass(frozen=True)
+class Job:
+    """What a command has to do with its lines."""
+
+    mode: Mode
+    new_hash: NewHash = NewHash()
+    is_rehash: bool = False
+    shows_work: bool = False
+    budget: int | None = None  # 0 stands for none
+    first_line: int | None = None
+
+    @property
+    def words(self) -> list[Word]:
+        """The options as words of a command."""
+        words: list[Word] = [self.mode.value]
+        if self.is_rehash:
+            words.append("--rehash")
+        if self.shows_work:
+            words.append("--work")
+        words += self.new_hash.words
+        if self.budget is not None:
+            words += ["--budget", self.budget]
+        if self.first_line is not None:
+            words += ["--first-line", self.first_line]
+        return words
+
+    @functools.cached_property
+    def setting(self) -> Setting:
+        """The setting of new hashes, which has another salt where the program draws one."""
+        new = self.new_hash
+        return setting_of_options(new.method, new.cost, new.salt)
+
+    @functools.cached_property
+    def policy(self) -> AuditPolicy:
+        """What an audit compares with."""
+        return audit_policy(self.new_hash.method, self.new_hash.cost, self.budget)
+
+
+@dataclass(frozen=True)
+class StoredHash:
+    """The field of a line to check, where it begins with a setting."""
+
+    text: bytes
+    setting: Setting
+    is_replaced: bool  # by a new hash, where the password matches
+
+
+@dataclass(frozen=True)
+class Parsed:
+    """A line that isn't refused; its answer is made from this. Nothing is hashed yet."""
+
+    name: bytes
+    password: bytes = b""
+    cost: int = 0
+    finding: Finding | None = None  # of an audit
+    verdict: str | None = None  # of a check that needs no hash
+    stored: StoredHash | None = None  # of a check that needs one
+
+
+def parsed(job: Job, line: bytes) -> Parsed:
+    """A line by its parts, or the reason for which it is refused."""
+    fields_wanted = 3 if job.mode is Mode.CHECK else 2
+    if len(line) > LONGEST_LINE:
+        raise Refused("line too long")
+    name, *fields = line.split(b":", fields_wanted - 1)
+    if name == b"":
+        raise Refused("no name")
+    if len(name) > LONGEST_NAME:
+        raise Refused("name too long")
+    if len(fields) < fields_wanted - 1:
+        raise Refused("no password field")
+    if job.mode is Mode.AUDIT:
+        finding = finding_of(job.policy, fields[0].split(b":")[0])
+        return Parsed(name, cost=finding.cost, finding=finding)
+    line_parts = parsed_password(job, name, fields)
+    if job.budget and line_parts.cost > job.budget:
+        raise Refused("over budget")
+    return line_parts
+
+
+def parsed_password(job: Job, name: bytes, fields: list[bytes]) -> Parsed:
+    """The parts of a line that has a password."""
+    password = fields[-1]
+    if len(password) > LONGEST_PASSWORD:
+        raise Refused("password too long")
+    if b"\0" in password:
+        raise Refused("password has a zero byte")
+    if job.mode is Mode.BATCH:
+        return Parsed(name, password, cost(job.setting, len(password)))
+    return parsed_check(job, name, fields[0], password)
+
+
+def parsed_check(job: Job, name: bytes, field: bytes, password: bytes) -> Parsed:
+    """The parts of a line to check."""
+    if field == b"":
+        return Parsed(name, password, verdict="none")
+    if is_locked(field):
+        return Parsed(name, password, verdict="locked")
+    setting = read_setting(field)
+    is_replaced = job.is_rehash and setting.is_replaced_by(job.setting)
+    total = cost(setting, len(password))
+    if is_replaced:
+        total += cost(job.setting, len(password))
+    return Parsed(name, password, total, stored=StoredHash(field, setting, is_replaced))
+
+
+class Answerer:
+    """Answers the lines of one run.
+
+    A salt that the program draws, and what scrypt makes of some passwords, are known only from the
+    answer that came. A salt that was drawn twice is wrong.
+    """
+
+    def __init__(self, job: Job) -> None:
+        self.job = job
+        self.drawn_salts: set[bytes] = set()
+
+    def answer(self, line: Parsed, received: bytes) -> tuple[bytes, bool]:
+        """The answer that a line has to get, and whether the status is 1 for it."""
+        start = line.name + b":"
+        if line.finding is not None:
+            return start + line.finding.text.encode() + b"\n", line.finding.is_bad
+        if line.verdict is not None:
+            return start + line.verdict.encode() + self.work_text(Work()) + b"\n", False
+        work = Work()
+        if line.stored is not None:
+            if self.job.shows_work:
+                work = work_of(line.stored.setting, line.password)
+            if not matches(line.stored, line.password, received.startswith(start + b"ok")):
+                return start + b"no" + self.work_text(work) + b"\n", True
+            start += b"ok"
+            if not line.stored.is_replaced:
+                return start + self.work_text(work) + b"\n", False
+            start += b":"
+        setting = self.setting_of_new(received[len(start) :])
+        new = hash_of(setting, line.password) or b"(a hash that is not known)"
+        work += work_of(setting, line.password)
+        return start + new + self.work_text(work) + b"\n", False
+
+    def work_text(self, work: Work) -> bytes:
+        """What --work adds to an answer."""
+        return work.text if self.job.shows_work else b""
+
+    def setting_of_new(self, received_hash: bytes) -> Setting:
+        """The setting of a new hash: where the salt is drawn, with a good one that came."""
+        setting = self.job.setting
+        if self.job.new_hash.salt is not None:
+            return setting
+        salt = rb"(%b{%d})" % (DIGIT, len(setting.salt))
+        match = re.match(re.escape(setting.before_salt) + salt + rb"\$", received_hash)
+        if match is None or match[1] in self.drawn_salts:
+            return setting
+        self.drawn_salts.add(match[1])
+        return replace(setting, salt=match[1])
+
+
+def matches(stored: StoredHash, password: bytes, is_said: bool) -> bool:
+    """Whether a password matches; what the program said where no hash is known."""
+    if not is_whole(stored.setting, stored.text):
+        return False
+    text = hash_of(stored.setting, password)
+    return is_said if text is None else text == stored.text
+
+
+def lines_of(text: bytes) -> list[bytes]:
+    """Lines with their line feeds; the last may have none."""
+    return re.findall(rb"[^\n]*\n|[^\n]+\Z", text)
+
+
+@dataclass(frozen=True)
+class Expected:
+    """What the program has to print for a line."""
+
+    stream: str
+    text: bytes
+    is_bad: bool  # so that the status is 1
+
+
+def expected_of_lines(job: Job, given: bytes, answers: deque[bytes]) -> Iterator[Expected]:
+    """What the program has to print for each line; its answers are taken away as they are read."""
+    answerer = Answerer(job)
+    for number, line in enumerate(lines_of(given), job.first_line or 1):
+        try:
+            parts = parsed(job, line.removesuffix(b"\n"))
+        except Refused as refusal:
+            yield Expected(
+                "stderr", b"mkpasswd: line %d: %b\n" % (number, str(refusal).encode()), True
+            )
+            continue
+        text, is_bad = answerer.answer(parts, answers[0] if answers else b"")
+        yield Expected("stdout", text, is_bad)
+
+
+def differences(job: Job, given: bytes, result: Result) -> list[str]:
+    """In what a run differs from the rules: the first line of each stream, and the status."""
+    left = {"stdout": deque(lines_of(result.stdout)), "stderr": deque(lines_of(result.stderr))}
+    first_differences: dict[str, str] = {}
+    status = 0
+    given_lines = lines_of(given)
+    for line, expected in zip(given_lines, expected_of_lines(job, given, left["stdout"])):
+        stream = left[expected.stream]
+        received = stream.popleft() if stream else b""
+        status = max(status, int(expected.is_bad))
+        if received != expected.text and expected.stream not in first_differences:
+            first_differences[expected.stream] = (
+                f"of the line {shown(line)}\n"
+                f"expected {expected.stream}: {shown(expected.text)}\n"
+                f"its {expected.stream}: {shown(received)}"
+            )
+    found = list(first_differences.values())
+    for name, stream in left.items():
+        if stream and not first_differences:
+            found.append(f"expected {name}: no more lines\nits {name}: {shown(stream[0])}")
+    if result.status != status:
+        found.append(f"expected status: {status}\nits status: {result.status}")
+    return found

@@ -1,0 +1,171 @@
+"""Settings: how a hash begins, what it says, and why a text is none."""
+from __future__ import annotations
+
+import re
+from dataclasses import dataclass
+
+from .methods import (
+    BY_PREFIX,
+    DIGIT,
+    MD5CRYPT,
+    SCRYPT,
+    SHA256CRYPT,
+    SHA512CRYPT,
+    Method,
+    number_of,
+    numeral,
+)
+
+LONGEST_SETTING = 384
+LEAST_ROUNDS = 1000
+MOST_ROUNDS = 999_999_999
+UNWRITTEN_ROUNDS = 5000
+SCRYPT_CEILING = 8_388_608  # of N r p
+SHA_CRYPT = (SHA256CRYPT, SHA512CRYPT)
+
+SETTING_REFUSALS = (
+    "setting too long",
+    "bad character",
+    "unknown scheme",
+    "bad rounds",
+    "bad cost",
+    "scrypt range",
+    "above ceiling",
+    "bad salt",
+)
+
+
+class Refused(Exception):
+    """A setting or a line is refused; the text is the reason that the program prints."""
+
+
+@dataclass(frozen=True)
+class ScryptCost:
+    """The three numbers of scrypt, N as its logarithm."""
+
+    log_n: int
+    r: int
+    p: int
+
+    @property
+    def text(self) -> bytes:
+        """The eleven characters that a setting has."""
+        return numeral(self.log_n, 1) + numeral(self.r, 5) + numeral(self.p, 5)
+
+    @property
+    def product(self) -> int:
+        """N r p, by which two costs compare."""
+        return (self.r * self.p) << self.log_n
+
+
+@dataclass(frozen=True)
+class Setting:
+    """A method with its cost and its salt."""
+
+    method: Method
+    salt: bytes
+    written_rounds: int | None = None  # of SHA-crypt, where the text says them
+    scrypt: ScryptCost | None = None
+
+    @property
+    def rounds(self) -> int:
+        """The rounds of SHA-crypt."""
+        return UNWRITTEN_ROUNDS if self.written_rounds is None else self.written_rounds
+
+    @property
+    def scrypt_cost(self) -> ScryptCost:
+        """The numbers of a setting of scrypt."""
+        assert self.scrypt is not None
+        return self.scrypt
+
+    @property
+    def before_salt(self) -> bytes:
+        """The canonical text before the salt."""
+        if self.scrypt is not None:
+            return self.method.prefix + self.scrypt.text
+        if self.written_rounds is not None:
+            return self.method.prefix + b"rounds=%d$" % self.written_rounds
+        return self.method.prefix
+
+    @property
+    def text(self) -> bytes:
+        """The canonical text, with which a hash begins."""
+        return self.before_salt + self.salt
+
+    @property
+    def strength(self) -> int:
+        """The number by which two settings of one method compare."""
+        if self.scrypt is not None:
+            return self.scrypt.product
+        return 0 if self.method is MD5CRYPT else self.rounds
+
+    def is_replaced_by(self, new: Setting) -> bool:
+        """Whether a hash by this setting is outdated where new ones are by the other."""
+        return self.method is not new.method or self.strength < new.strength
+
+
+def clamped_rounds(rounds: int) -> int:
+    """The rounds that SHA-crypt makes for a number of rounds."""
+    return min(max(rounds, LEAST_ROUNDS), MOST_ROUNDS)
+
+
+def read_setting(text: bytes) -> Setting:
+    """The setting that a text begins with."""
+    if len(text) > LONGEST_SETTING:
+        raise Refused("setting too long")
+    if re.search(rb"[^\x21-\x7e]|[:;*!\\]", text):
+        raise Refused("bad character")
+    method, rest = BY_PREFIX.get(text[:3]), text[3:]
+    if method is None:
+        raise Refused("unknown scheme")
+    if method is SCRYPT:
+        return read_scrypt(rest)
+    rounds = None
+    if method in SHA_CRYPT and rest.startswith(b"rounds="):
+        rounds, rest = read_rounds(rest)
+    salt = rest.split(b"$")[0][: method.longest_salt]
+    return Setting(method, salt, rounds)
+
+
+def read_rounds(text: bytes) -> tuple[int, bytes]:
+    """The rounds that a text begins with, and what follows them."""
+    match = re.match(rb"rounds=([1-9][0-9]*)\$", text)
+    if match is None:
+        raise Refused("bad rounds")
+    return clamped_rounds(int(match[1])), text[match.end() :]
+
+
+def read_scrypt(text: bytes) -> Setting:
+    """The setting of scrypt, of what follows the prefix."""
+    match = re.match(rb"(%b)(%b{5})(%b{5})([^$]*)" % (DIGIT, DIGIT, DIGIT), text)
+    if match is None:
+        raise Refused("bad cost")
+    cost = ScryptCost(number_of(match[1]), number_of(match[2]), number_of(match[3]))
+    salt = match[4]
+    if 0 in (cost.log_n, cost.r, cost.p) or cost.log_n >= 16 * cost.r:
+        raise Refused("scrypt range")
+    if cost.product > SCRYPT_CEILING:
+        raise Refused("above ceiling")
+    if len(salt) > SCRYPT.longest_salt or not re.fullmatch(rb"%b*" % DIGIT, salt):
+        raise Refused("bad salt")
+    return Setting(SCRYPT, salt, scrypt=cost)
+
+
+def setting_of_options(method: Method, cost: int | None, salt: bytes | None) -> Setting:
+    """The setting of a new hash by the options -m, -R and -S.
+
+    Where the program draws the salt, another one of its length stands for that.
+    """
+    if salt is None:
+        salt = b"." * method.drawn_salt
+    if method is SCRYPT:
+        log_n = (cost or SCRYPT.recommended) + 7
+        return Setting(SCRYPT, salt, scrypt=ScryptCost(log_n, r=32, p=1))
+    if method is MD5CRYPT or not cost:
+        return Setting(method, salt)
+    return Setting(method, salt, clamped_rounds(cost))
+
+
+def recommended_setting(method: Method, cost: int | None, salt: bytes | None = None) -> Setting:
+    """The same where a cost of 0 or None stands for the recommended one, as audits and calls do."""
+    return setting_of_options(method, cost or method.recommended, salt)

@@ -1,0 +1,114 @@
+"""What a hash costs: the four numbers of --work, and the bound that a budget is compared with."""
+from __future__ import annotations
+
+from dataclasses import dataclass
+
+from .hashes import second_digest
+from .methods import MD5CRYPT, Method
+from .settings import SHA_CRYPT, Setting, recommended_setting
+
+LONGEST_PASSWORD = 1024
+LEAST_LOGIN_LIMIT = 150_000_000
+USUAL_LONGEST_PASSWORD = 64  # a limit allows twice what a hash of this length costs
+HIGHEST_BYTE = 255
+
+
+@dataclass(frozen=True)
+class Work:
+    """The work of hashes."""
+
+    digests: int = 0
+    hashed: int = 0  # bytes
+    mixings: int = 0  # of scrypt's blocks
+    memory: int = 0  # bytes
+
+    def __add__(self, other: Work) -> Work:
+        return Work(
+            self.digests + other.digests,
+            self.hashed + other.hashed,
+            self.mixings + other.mixings,
+            self.memory + other.memory,
+        )
+
+    @property
+    def text(self) -> bytes:
+        """What --work adds to an answer."""
+        return b":%d:%d:%d:%d" % (self.digests, self.hashed, self.mixings, self.memory)
+
+
+def binary_digits(length: int) -> str:
+    """The binary digits of a length, none of 0."""
+    return f"{length:b}" if length else ""
+
+
+def md5crypt_work(salt: int, password: int) -> Work:
+    """The work of md5crypt with a salt and a password of so many bytes."""
+    two_messages = 2 * (2 * password + salt) + 3 + len(binary_digits(password))
+    rounds = 1000 * (16 + password) + 666 * salt + 857 * password
+    return Work(1002, two_messages + rounds)
+
+
+def sha_crypt_work(setting: Setting, password: int, first_byte: int) -> Work:
+    """The work of SHA-crypt with a password of so many bytes.
+
+    The salt is repeated as often as the first byte of the second message's digest says.
+    """
+    salt, rounds, width = len(setting.salt), setting.rounds, setting.method.digest_size
+    digits = binary_digits(password)
+    two_messages = 2 * (2 * password + salt)
+    two_messages += digits.count("1") * width + digits.count("0") * password
+    repeated = password * password + salt * (16 + first_byte)
+    of_rounds = rounds * (width + password)
+    of_rounds += salt * (rounds - (rounds + 2) // 3)
+    of_rounds += password * (rounds - (rounds + 6) // 7)
+    return Work(rounds + 4, two_messages + repeated + of_rounds)
+
+
+def scrypt_work(setting: Setting, password: int) -> Work:
+    """The work of scrypt with a password of so many bytes; of a long one HMAC takes the digest."""
+    numbers = setting.scrypt_cost
+    salt, blocks = len(setting.salt), numbers.r * numbers.p
+    is_long = password > 64
+    hashed = 4 * blocks * (164 + salt) + 164 + 128 * blocks
+    return Work(
+        digests=8 * blocks + (3 if is_long else 2),
+        hashed=hashed + (password if is_long else 0),
+        mixings=2 * numbers.product // numbers.r,
+        memory=128 * numbers.r << numbers.log_n,
+    )
+
+
+def work_of_length(setting: Setting, password: int, first_byte: int) -> Work:
+    """The work of a hash of a password of so many bytes."""
+    if setting.scrypt is not None:
+        return scrypt_work(setting, password)
+    if setting.method is MD5CRYPT:
+        return md5crypt_work(len(setting.salt), password)
+    return sha_crypt_work(setting, password, first_byte)
+
+
+def work_of(setting: Setting, password: bytes) -> Work:
+    """The exact work of the hash of a password."""
+    first_byte = 0
+    if setting.method in SHA_CRYPT:
+        first_byte = second_digest(setting.method, password, setting.salt)[0]
+    return work_of_length(setting, len(password), first_byte)
+
+
+def cost(setting: Setting, password: int) -> int:
+    """The most that a hash of a password of so many bytes can cost."""
+    work = work_of_length(setting, password, HIGHEST_BYTE)
+    mixed = 0 if setting.scrypt is None else 128 * setting.scrypt.r * work.mixings
+    return work.hashed + mixed
+
+
+def login_limit(method: Method, rounds: int | None, password: int) -> int:
+    """What a login and a new hash by this policy may cost where no budget is given.
+
+    It is nothing for a password of so many bytes whose new hash would cost more than the limit.
+    """
+    setting = recommended_setting(method, rounds)
+    limit = max(LEAST_LOGIN_LIMIT, 2 * cost(setting, USUAL_LONGEST_PASSWORD))
+    if password > LONGEST_PASSWORD or cost(setting, password) > limit:
+        return 0
+    return limit

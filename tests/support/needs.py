@@ -1,0 +1,74 @@
+"""What tests need of the machine: commands, files and Python modules, in Debian's packages.
+
+What is missing skips a test, or fails it with STRICT=1. What can't be had on this machine, as
+another processor, skips it also then.
+"""
+from __future__ import annotations
+
+import functools
+import importlib.util
+import os
+import shutil
+from pathlib import Path
+from typing import NoReturn
+
+import pytest
+
+from . import ROOT
+
+PACKAGES = ROOT / "tests/packages.txt"
+
+
+def missing(what: str, remedy: str) -> NoReturn:
+    """Ends a test that lacks something."""
+    reason = f"{what} is missing ({remedy})"
+    if os.environ.get("STRICT") == "1":
+        pytest.fail(reason, pytrace=False)
+    pytest.skip(reason)
+
+
+def not_applicable(reason: str) -> NoReturn:
+    """Ends a test that says nothing on this machine, also with STRICT=1."""
+    pytest.skip(f"not applicable: {reason}")
+
+
+@functools.cache
+def package_of() -> dict[str, str]:
+    """The package of each name that tests ask for."""
+    packages = {}
+    for line in PACKAGES.read_text(encoding="ascii").splitlines():
+        words = line.split("#")[0].split()
+        for name in words:
+            packages[name] = words[0]
+    return packages
+
+
+def is_there(name: str) -> bool:
+    """Whether a file /.., a Python module python3-.., or else a command is on this machine."""
+    if name.startswith("/"):
+        return Path(name).exists()
+    if name.startswith("python3-"):
+        return importlib.util.find_spec(name.removeprefix("python3-")) is not None
+    return shutil.which(name) is not None
+
+
+def need(*names: str) -> None:
+    """Ends the test where one of these is missing."""
+    for name in names:
+        package = package_of()[name]
+        if not is_there(name):
+            missing(name, f"Debian package {package}")
+
+
+def built(path: str, target: str) -> Path:
+    """A file of the tree that `make TARGET` builds. Where it isn't there, the test ends."""
+    file = ROOT / path
+    if not file.exists():
+        missing(path, f"make {target}")
+    return file
+
+
+def need_root() -> None:
+    """Ends the test where it isn't run by the superuser."""
+    if os.geteuid() != 0:
+        missing("the superuser", "run the tests as root")

@@ -1,0 +1,200 @@
+"""Hostile lines: by the grammar, at the limits, and good lines that were changed."""
+from __future__ import annotations
+
+import re
+from dataclasses import dataclass
+from typing import Callable, Sequence
+
+from ..model.answers import Job, Mode
+from . import fields, names
+from .source import LOWER, Source
+
+FRAGMENTS = [
+    *(b":", b"::", b"$", b"$$", b"*", b"!", b"\0", b"\r", b"\xc3\xa9", b"\xff", b"rounds="),
+    *(b"rounds=1000$", b"$1$", b"$5$", b"$6$", b"$7$", b"0", b"00", b"9", b"999999999", b" "),
+    *(b"\t", b"\x7f", b"\\", b";", b".", b"/"),
+]
+# Fields that a long salt can follow, and those whose rest is not looked at.
+LONG_STARTS = [b"$1$", b"$5$", b"$5$rounds=1$", b"$9$", b"$7$2/..../....ab$"]
+REPEATED_STARTS = [b"$1$ab$", b"$6$rounds=1000$ab$", b"$6$rounds=0$", b"$7$", b"*"]
+SCRYPT_STARTS = [b"$7$0/..../...."] * 4 + [b"$7$./..../....", b"$7$J6..../...."]
+SHORT_LINES = [
+    *(b"", b":", b"::", b":::", b":x", b":$1$a:", b"\0", b"\r", b"n", b"n:", b"n::", b"n:::"),
+    *(b"n::\0", b"n:!"),
+]
+
+
+@dataclass(frozen=True)
+class KnownHash:
+    """A hash with its password."""
+
+    text: bytes
+    password: bytes
+
+
+def hostile_line(source: Source, job: Job, hashes: Sequence[KnownHash]) -> bytes:
+    """A line for a job; what it has of good hashes is one of these."""
+    make = new_line if job.mode is Mode.BATCH else stored_line
+    line = source.by_weight(
+        (13, lambda: line_at_a_limit(source, job)),
+        (3, lambda: junk(source)),
+        (84, lambda: make(source, job, hashes)),
+    )
+    if job.mode is Mode.AUDIT and source.chance(0.3):
+        line = re.sub(rb":[^:]*\Z", b"", line)
+    return line.replace(b"\n", b"\r")
+
+
+def new_line(source: Source, _job: Job, _hashes: Sequence[KnownHash]) -> bytes:
+    """A name and a password."""
+    line = names.name(source) + b":" + names.password(source)
+    return mutated(source, line) if source.chance(0.24) else line
+
+
+def stored_line(source: Source, job: Job, hashes: Sequence[KnownHash]) -> bytes:
+    """A name, a stored field and a password."""
+    known = source.one_of(*hashes)
+    text, password = known.text, known.password
+    changed = 24 if job.mode is Mode.AUDIT else 10
+    return source.by_weight(
+        (15, lambda: mutated_known(source, known)),
+        (16, lambda: joined(source, text, password)),
+        (4, lambda: joined(source, text, names.wrong_password(source, password))),
+        (changed, lambda: joined(source, fields.changed_hash(source, text), password)),
+        (49 - changed, lambda: joined(source, any_field(source, text), names.password(source))),
+    )
+
+
+def joined(source: Source, field: bytes, password: bytes) -> bytes:
+    """A line of three parts."""
+    return b":".join([names.name(source), field, password])
+
+
+def mutated_known(source: Source, known: KnownHash) -> bytes:
+    """A good line with a few changes."""
+    name = source.characters(source.between(1, 9), LOWER)
+    return mutated(source, b":".join([name, known.text, known.password]))
+
+
+def any_field(source: Source, text: bytes) -> bytes:
+    """A field that is no good hash."""
+    locked = (b"", b"!", b"*", b"!!", b"!" + text, b"*" + text, b"!\0")
+    return source.by_weight(
+        (13, lambda: source.one_of(*locked)),
+        (13, lambda: fields.field_of_other_scheme(source)),
+        (74, lambda: fields.field(source)),
+    )
+
+
+# ---- Limits
+
+
+def line_at_a_limit(source: Source, job: Job) -> bytes:
+    """A line at a limit: of any job, or of those with a field."""
+    if job.mode is Mode.BATCH:
+        return any_line_at_a_limit(source, b"")
+    if source.chance(0.5):
+        return field_at_a_limit(source)
+    return any_line_at_a_limit(source, source.one_of(b"!:", b"*:"))
+
+
+def any_line_at_a_limit(source: Source, field: bytes) -> bytes:
+    """A line whose name, password or length is at a limit, with this field."""
+    ways: list[Callable[[], bytes]] = [
+        lambda: source.characters(source.between(63, 66), b"n\xc3") + b":" + field + b"x",
+        lambda: source.characters(source.between(63, 66), b"n") + source.one_of(b"", b":"),
+        lambda: b"n:" + field + source.characters(source.between(1023, 1026), b"p:"),
+        lambda: b"n:" + field + b"p" * source.between(1022, 1025) + b"\0",
+        lambda: long_line(source, field, source.one_of(b"p", b":"), source.between(2040, 2050)),
+        lambda: long_line(source, field, source.pieces(50, FRAGMENTS), source.between(50, 1500)),
+    ]
+    return source.one_of(*ways)()
+
+
+def long_line(source: Source, field: bytes, piece: bytes, count: int) -> bytes:
+    """A line of so many equal pieces behind the field."""
+    name = source.one_of(b"n", b"", b"n" * 65)
+    return name + b":" + field + piece * count
+
+
+def field_at_a_limit(source: Source) -> bytes:
+    """A line whose field is at a limit."""
+    ways: list[Callable[[], bytes]] = [
+        lambda: b"!" + b"x" * source.between(2035, 2039) + b":password",
+        lambda: long_salt(source) + b":p",
+        lambda: repeated_to_the_limit(source) + b":p",
+        lambda: scrypt_at_the_ceiling(source) + b":p",
+        lambda: scrypt_with_a_long_salt(source) + b":p",
+        lambda: b"$7$2/..../...." + source.one_of(b"a", b" ", b"!", b"_", b"") + b":p",
+    ]
+    return b"n:" + source.one_of(*ways)()
+
+
+def long_salt(source: Source) -> bytes:
+    """A setting with a long salt, which can have characters that aren't allowed."""
+    characters = b"a" + source.one_of(b"b", b" ", b"!")
+    return source.one_of(*LONG_STARTS) + source.characters(source.between(367, 385), characters)
+
+
+def repeated_to_the_limit(source: Source) -> bytes:
+    """A field of the most bytes that a setting may have, or nearly so many."""
+    return (source.one_of(*REPEATED_STARTS) + b"ab" * 192)[: source.between(382, 387)]
+
+
+def scrypt_at_the_ceiling(source: Source) -> bytes:
+    """A setting of scrypt whose product is the ceiling, or next to it."""
+    cost = fields.cost_at_the_ceiling(source)
+    return b"$7$" + cost.text + fields.salt(source, source.between(0, 9))
+
+
+def scrypt_with_a_long_salt(source: Source) -> bytes:
+    """A setting of scrypt with the longest salt, or nearly."""
+    salt = fields.salt(source, source.between(85, 88))
+    return source.one_of(*SCRYPT_STARTS) + salt + source.one_of(b"", b"$", b"$x", b"_")
+
+
+def junk(source: Source) -> bytes:
+    """A line that no rule of lines or settings is meant for."""
+    return source.one_of(
+        *SHORT_LINES,
+        b"\xff" * source.between(1, 99),
+        source.bytes_except(source.between(0, 300), b"\n"),
+        source.pieces(source.between(1, 30), FRAGMENTS),
+    )
+
+
+# ---- Changes
+
+
+def mutated(source: Source, line: bytes) -> bytes:
+    """A line with one to three changes in any place."""
+    for _ in range(source.between(1, 3)):
+        line = mutated_once(source, line)
+    return line
+
+
+def mutated_once(source: Source, line: bytes) -> bytes:
+    """A line with one change."""
+    place = source.between(0, len(line))
+    length = source.between(1, source.one_of(1, 4, 40))
+    before, after = line[:place], line[place:]
+    ways: list[Callable[[], bytes]] = [
+        lambda: before + with_another_bit(source, after[:1]) + after[1:],
+        lambda: before + after[length:],
+        lambda: before + source.one_of(*FRAGMENTS) + after,
+        lambda: before + after[:length] + after,
+        lambda: source.one_of(before, after),
+        lambda: before + source.one_of(*FRAGMENTS) * many(source) + after,
+        lambda: line.replace(b":", source.one_of(b"", b"::", b";", b"\0:"), 1),
+    ]
+    return source.one_of(*ways)()
+
+
+def with_another_bit(source: Source, byte: bytes) -> bytes:
+    """A byte, if there is one, with one bit that is another."""
+    return bytes(value ^ 1 << source.between(0, 7) for value in byte)
+
+
+def many(source: Source) -> int:
+    """How often a fragment is repeated."""
+    return source.between(1, source.one_of(8, 400, 2048))

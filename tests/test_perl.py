@@ -1,0 +1,69 @@
+"""Runs the tests that are not of this harness yet: those in Perl, and those of the Python package.
+
+Each file, or half of the package's tests, is one test here. What it skips is listed with the
+reason, and what failed in it is shown.
+"""
+from __future__ import annotations
+
+import re
+import sys
+
+import pytest
+from support import ROOT
+from support.process import Result, run
+
+TESTS = ROOT / "tests"
+HOUR = 3600  # what takes longer hangs
+BEGUN_FIRST = ("deb.t", "arm.t", "pam.t")  # they take longest
+
+
+def perl_files() -> list[str]:
+    """The names of the files, those that take longest first."""
+    names = sorted(path.name for path in TESTS.glob("*.t"))
+    return sorted(names, key=lambda name: name not in BEGUN_FIRST)
+
+
+def assert_passed(result: Result, failing: str) -> None:
+    """Fails the test with the lines that match, and the errors, where a run failed."""
+    if result.status == 0 and not result.has_timed_out:
+        return
+    lines = result.stdout.decode(errors="replace").splitlines()
+    shown = [line for line in lines if re.search(failing, line)]
+    errors = result.stderr.decode(errors="replace")
+    pytest.fail("\n".join([f"status {result.status}", *shown, errors]), pytrace=False)
+
+
+def skip_if_incomplete(reasons: list[str]) -> None:
+    """Ends the test as one that is skipped, where parts of it are."""
+    if reasons:
+        pytest.skip("in part: " + "; ".join(sorted(set(reasons))))
+
+
+@pytest.mark.slow
+@pytest.mark.parametrize("name", perl_files())
+def test_in_perl(name: str) -> None:
+    """The file ends well, and prints a plan and no failed test."""
+    result = run("perl", TESTS / name, timeout=HOUR)
+    assert_passed(result, r"^\s*not ok |^\s*#|^Bail out!")
+    output = result.stdout.decode(errors="replace")
+    assert re.search(r"^1\.\.\d+", output, re.MULTILINE), f"no plan:\n{result}"
+    skip_if_incomplete(re.findall(r"^ok.*# skip (.*)", output, re.MULTILINE))
+
+
+@pytest.mark.slow
+@pytest.mark.needs("python3-hypothesis", "python3-passlib")
+@pytest.mark.parametrize(
+    "half",
+    [
+        pytest.param("test_hashers.py", id="the handlers for Django and passlib"),
+        pytest.param("--ignore=test_hashers.py", id="all others"),
+    ],
+)
+def test_of_the_python_package(half: str) -> None:
+    """A session of its own, since its conftest changes the whole process."""
+    words = [sys.executable, "-B", "-m", "pytest", "-p", "no:xdist", "-q", "-rfEs", "--tb=short"]
+    environment = {"LC_ALL": "C.UTF-8", "PYTEST_ADDOPTS": None, "PYTHONPATH": None}
+    result = run(*words, "--color=no", half, env=environment, cwd=TESTS / "python", timeout=HOUR)
+    assert_passed(result, "")
+    output = result.stdout.decode(errors="replace")
+    skip_if_incomplete(re.findall(r"^SKIPPED \[\d+\] \S+: (.*)", output, re.MULTILINE))
