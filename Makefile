@@ -170,7 +170,7 @@ check: layers gate $(TRIED)
 	tools/test
 
 layers: specification
-	tools/test -k layers.t
+	tools/test program/test_sources.py
 
 specification: build/SPECIFICATION.md
 

@@ -1,7 +1,7 @@
 package Model;
 
 # The rules of docs/FORMATS.md and of the standards that it names, read a second time and not out of the code: settings and
-# their refusals, the work and the cost of a hash, hashes, lines and their answers. Hashes are those of perl's crypt, which is
+# their refusals, the work and the cost of a hash, hashes, and which lines are refused. Hashes are those of perl's crypt, which is
 # libxcrypt; where that doesn't take a password they are made here, but for scrypt, where they are not known.
 
 use strict;
@@ -12,8 +12,7 @@ use Exporter qw(import);
 use List::Util qw(max min sum0);
 
 our @EXPORT = qw(%limits %kinds %types %most_salt %made_salt %packed_length @characters @setting_refusals @line_refusals
-    forget shown numeral scrypt_cost setting read_setting made_setting new_setting is_replaced counts cost policy_limit hash_of
-    job judged differences);
+    numeral scrypt_cost setting read_setting made_setting new_setting is_replaced counts cost policy_limit hash_of job judged);
 
 our %limits = (
     password => 1024, setting => 384, line => 2048, name => 64, least_rounds => 1000, most_rounds => 999999999, ceiling => 8388608,
@@ -35,13 +34,6 @@ my %value;
 @value{@characters} = 0 .. 63;
 my %digest = (1 => \&md5, 5 => \&sha256, 6 => \&sha512);
 my %digest_length = (1 => 16, 5 => 32, 6 => 64);
-
-# A text of any bytes, to be printed.
-sub shown {
-    my ($text) = @_;
-    $text =~ s/([^\x20-\x7e]|["\\])/sprintf '\\x%02x', ord $1/ge;
-    return '"' . (length $text > 3000 ? substr($text, 0, 3000) . '..' : $text) . '"';
-}
 
 # ---- Settings
 
@@ -205,9 +197,8 @@ sub made_by_hand {
     return "$setting->{front}\$" . packed($kind, $last);
 }
 
-# The same, libxcrypt's wherever it takes the two; nothing where it takes no scrypt. Hashes are kept until forgotten.
+# The same, libxcrypt's wherever it takes the two; nothing where it takes no scrypt. Hashes are kept.
 my %kept;
-sub forget { %kept = () }
 
 sub hash_of {
     my ($setting, $password) = @_;
@@ -327,74 +318,6 @@ sub judged {
     }
     return { refusal => 'over budget' } if defined $job->{budget} && $judged{cost} > $job->{budget};
     return \%judged;
-}
-
-# Whether the field is the hash of the password: 1, 0, or nothing where that is not known.
-sub is_fit {
-    my ($judged) = @_;
-    my ($field, $setting) = @$judged{qw(field setting)};
-    return 0 if !is_whole($setting, $field);
-    my $hash = hash_of($setting, $judged->{password});
-    return defined $hash ? $hash eq $field || 0 : undef;
-}
-
-# The answer that the line has to get, beside the one that it got: a salt that was drawn is only known from that.
-sub answer {
-    my ($job, $judged, $got, $salts) = @_;
-    return ("$judged->{name}:$judged->{finding}\n", $judged->{is_bad}) if defined $judged->{finding};
-    my ($verdict, $password) = @$judged{qw(verdict password)};
-    my $text = "$judged->{name}:";
-    my @work = (0, 0, 0, 0);
-    if ($judged->{setting}) {
-        $verdict = is_fit($judged) // index($got, "${text}ok") == 0 ? 'ok' : 'no';
-        @work = work_of($judged->{setting}, $password) if $job->{is_work};
-    }
-    my $is_new = !$verdict || $verdict eq 'ok' && $judged->{is_replaced};
-    $text .= $verdict . ($is_new ? ':' : '') if $verdict;
-    if ($is_new) {
-        my $setting = $job->{setting};
-        $setting = drawn($setting, substr($got, min(length $got, length $text)), $salts) unless defined $job->{salt};
-        $text .= hash_of($setting, $password) // '(no hash is known)';
-        my @more = work_of($setting, $password);
-        $work[$_] += $more[$_] for 0 .. 3;
-    }
-    return ($text . ($job->{is_work} ? join '', map { ":$_" } @work : '') . "\n", ($verdict // '') eq 'no');
-}
-
-# The setting with the salt that this text has. Without a good and new one it is another setting than the text's.
-sub drawn {
-    my ($setting, $text, $salts) = @_;
-    my $length = length $setting->{salt};
-    my $front = substr $setting->{front}, 0, -$length;
-    my ($salt) = $text =~ /\A\Q$front\E(${of_alphabet}{$length})\$/;
-    return $setting if !defined $salt || $salts->{$salt}++;
-    return { %$setting, salt => $salt, front => $front . $salt };
-}
-
-# In what a run of a job over an input differs from the rules: of each stream the first line, and the status. A run is
-# what Suite's run returns.
-sub differences {
-    my ($job, $input, $run) = @_;
-    my @answers = $run->{out} =~ /[^\n]*\n|[^\n]+\z/g;
-    my @faults = $run->{err} =~ /[^\n]*\n|[^\n]+\z/g;
-    my @lines = split /\n/, $input, -1;
-    pop @lines if @lines && $lines[-1] eq '';
-    my ($status, $number, %salts, %is_told, @differences) = (0, ($job->{first_line} // 1) - 1);
-    for my $line (@lines) {
-        my $judged = judged($job, $line);
-        $number++;
-        my $refusal = $judged->{refusal};
-        my $stream = defined $refusal ? 'fault output' : 'output';
-        my $got = shift @{ defined $refusal ? \@faults : \@answers } // '';
-        my ($wanted, $is_no) = defined $refusal ? ("mkpasswd: line $number: $refusal\n", 1) : answer($job, $judged, $got, \%salts);
-        $status = 1 if $is_no;
-        next if $got eq $wanted || $is_told{$stream}++;
-        push @differences, "line $number " . shown($line) . ": $stream " . shown($got) . ', and not ' . shown($wanted);
-    }
-    push @differences, 'more output: ' . shown($answers[0]) if @answers && !%is_told;
-    push @differences, 'more fault output: ' . shown($faults[0]) if @faults && !%is_told;
-    push @differences, "status $run->{status}, and not $status" if $run->{status} != $status;
-    return @differences;
 }
 
 1;
