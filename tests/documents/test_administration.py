@@ -164,8 +164,9 @@ def test_a_new_password_that_is_empty_changes_no_account(machine: Machine) -> No
     assert machine.entries() == before, followed.lacks("no account has changed")
 
 
-# A password of 169 bytes is one byte too long for the default budget.
-SOME_GOOD_LINES = b"ann:password\nbob:%b\nsecret\neve:password\n:secret\n%b\n" % (
+# A password of 169 bytes is one byte too long for the default budget. The last line has a name for
+# the second time.
+SOME_GOOD_LINES = b"ann:password\nbob:%b\nsecret\neve:password\n:secret\n%b\nann:secret\n" % (
     b"x" * 169,
     b"secret" * 11,
 )
@@ -189,8 +190,9 @@ def test_good_lines_are_loaded_and_the_others_are_not(
 
 
 def test_other_lines_are_shown_by_number_and_without_passwords(good_lines: Followed) -> None:
-    numbers = {int(number) for number in re.findall(r"line (\d+)", good_lines.errors)}
-    assert numbers == {2, 3, 5, 6}, good_lines.lacks("messages about the lines 2, 3, 5 and 6")
+    numbers = re.findall(r"^[^0-9\n]*line (\d+)", good_lines.errors, re.MULTILINE)
+    is_complete = sorted(numbers) == ["2", "3", "5", "6", "7"]
+    assert is_complete, good_lines.lacks("messages about the lines 2, 3, 5, 6 and 7")
     output = good_lines.result.stdout + good_lines.result.stderr
     assert b"secret" not in output, good_lines.lacks("no password")
     assert good_lines.result.stdout == b"", good_lines.lacks("nothing on standard output")
@@ -307,7 +309,7 @@ USERS = [f"user{number}" for number in range(1, 61)]
 # $0 is the size of the disk, $1 the recipe. What it makes for a service is printed.
 ON_SMALL_DISK = """\
 mount -t tmpfs -o size=$0k none full && cd full && ln -s ../passwords ../list . || exit
-sh -c "$1" 2> /dev/null
+sh -c "$1"
 cat at.passwords 2> /dev/null
 """
 
@@ -340,8 +342,30 @@ RECIPES = [
 ]
 
 
-def fields_after(machine: Machine, recipe: Recipe, pages: int) -> list[str]:
-    """The fields of all accounts, and of a service's file, after a recipe on a disk so small."""
+@dataclass(frozen=True)
+class OnSmallDisk:
+    """A recipe that was followed on a small disk, and the fields of all accounts after it.
+
+    Those of a service's file are among them.
+    """
+
+    recipe: Recipe
+    result: Result
+    fields: list[str]
+
+    @property
+    def new(self) -> list[str]:
+        """The fields that are no longer as they were before."""
+        return [field for field in self.fields if field != OUTDATED]
+
+    def lacks(self, expected: str) -> str:
+        """What a failure says."""
+        places = ", ".join(str(marked(mark, "sh").place) for mark in self.recipe.marks)
+        return f"{places}\nexpected: {expected}\nnew fields: {self.new}\n{self.result}"
+
+
+def follow_on_small_disk(machine: Machine, recipe: Recipe, pages: int) -> OnSmallDisk:
+    """Follows a recipe where its own files have so much room."""
     if run("unshare", "--mount", "true").status != 0:
         missing("a mount of its own", "run the tests where the superuser may mount")
     machine.set_accounts({user: OUTDATED for user in USERS})
@@ -357,25 +381,22 @@ def fields_after(machine: Machine, recipe: Recipe, pages: int) -> list[str]:
         cwd=machine.folder,
     )
     files = machine.shadow.read_text(encoding="ascii") + result.stdout.decode()
-    return re.findall(r"^user\d+:([^:\n]*)", files, re.MULTILINE)
-
-
-def is_old_or_whole(field: str) -> bool:
-    """Whether a field is as it was before, or a hash of the password."""
-    return field == OUTDATED or is_hash_of(field, "password")
+    fields = re.findall(r"^user\d+:([^:\n]*)", files, re.MULTILINE)
+    return OnSmallDisk(recipe, result, fields)
 
 
 @pytest.mark.needs("unshare")
 @pytest.mark.parametrize("pages", range(1, PAGES_FOR_ALL), ids="{} pages".format)
 @pytest.mark.parametrize("recipe", RECIPES, ids=str)
 def test_a_full_disk_leaves_whole_hashes(machine: Machine, recipe: Recipe, pages: int) -> None:
-    odd = [field for field in fields_after(machine, recipe, pages) if not is_old_or_whole(field)]
-    assert odd == [], f"{recipe}: expected: each field is the old hash, or a new one that is whole"
+    followed = follow_on_small_disk(machine, recipe, pages)
+    odd = [field for field in followed.new if not is_hash_of(field, "password")]
+    assert odd == [], followed.lacks("each field is the old hash, or a new one that is whole")
 
 
 @pytest.mark.needs("unshare")
 @pytest.mark.parametrize("recipe", RECIPES, ids=str)
 def test_a_small_disk_with_room_gets_all_hashes(machine: Machine, recipe: Recipe) -> None:
-    fields = fields_after(machine, recipe, PAGES_FOR_ALL)
-    new = [field for field in fields if is_hash_of(field, "password") and field != OUTDATED]
-    assert len(new) == len(USERS), f"{recipe}: expected: a new hash for each user, not {fields}"
+    followed = follow_on_small_disk(machine, recipe, PAGES_FOR_ALL)
+    whole = [field for field in followed.new if is_hash_of(field, "password")]
+    assert len(whole) == len(USERS), followed.lacks("a new hash for each user")

@@ -16,11 +16,11 @@ import pytest
 from support import ROOT
 from support.model.methods import METHODS
 from support.process import Result, assert_result, run
-from support.shells import BASH_COMPLETION, Place, Shell, bash, bash_with_package, fish, zsh
+from support.shells import BASH_COMPLETION, Surroundings, Shell, bash, bash_with_package, fish, zsh
 
 pytestmark = pytest.mark.xdist_group("completions")  # so that each shell starts once
 
-Start = Callable[[Place], AbstractContextManager[Shell]]
+Start = Callable[[Surroundings], AbstractContextManager[Shell]]
 
 FILES = ["logins", "sha256sums"]  # in the folder where the shells stand
 METHOD_NAMES = [method.name for method in METHODS]
@@ -37,10 +37,10 @@ def fixture_made(program: Path, tmp_path_factory: pytest.TempPathFactory) -> tup
     return folder, result
 
 
-@pytest.fixture(scope="module", name="place")
-def fixture_place(
+@pytest.fixture(scope="module", name="surroundings")
+def fixture_surroundings(
     made: tuple[Path, Result], commands: Path, tmp_path_factory: pytest.TempPathFactory
-) -> Place:
+) -> Surroundings:
     """Where the shells stand."""
     completions, result = made
     result.required()
@@ -61,7 +61,7 @@ def fixture_place(
         "INPUTRC": None,
         "XDG_DATA_HOME": None,
     }
-    return Place(completions, folder, scratch, environment)
+    return Surroundings(completions, folder, scratch, environment)
 
 
 def in_shell(start: Start, name: str, *needed: str) -> object:
@@ -79,9 +79,9 @@ def in_shell(start: Start, name: str, *needed: str) -> object:
         in_shell(fish, "fish", "fish"),
     ],
 )
-def fixture_shell(request: pytest.FixtureRequest, place: Place) -> Iterator[Shell]:
+def fixture_shell(request: pytest.FixtureRequest, surroundings: Surroundings) -> Iterator[Shell]:
     """A shell, until the tests in it are done."""
-    with request.param(place) as shell:
+    with request.param(surroundings) as shell:
         yield shell
 
 

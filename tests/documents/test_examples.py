@@ -35,7 +35,7 @@ from support.process import Changes, Result, assert_result, run, shown
 
 Play = Callable[[Place], Played]
 
-LINES_OF_PAST = ("CHANGELOG.md",)  # where targets of make are told that there were
+HISTORY = "CHANGELOG.md"  # which may name targets of make that are gone
 
 
 # ---- Console blocks
@@ -70,7 +70,9 @@ def fixture_play(environment: Changes, tmp_path_factory: pytest.TempPathFactory)
     def play(place: Place) -> Played:
         of_document = examples_of(place.path)
         places = [example.place for example in of_document]
-        assert place in places, f"{place}: nothing runs this command: it is in no `console` block"
+        assert (
+            place in places
+        ), f"{place}: this command is in no `console` block, so nothing runs it"
         if place.path not in players:
             folder = tmp_path_factory.mktemp("examples")
             players[place.path] = Player(of_document, folder, environment)
@@ -99,9 +101,8 @@ def test_a_console_block_begins_with_a_command(block: Block) -> None:
 def test_a_shell_parses_a_block(block: Block) -> None:
     result = run(block.language, "-n", stdin=block.code.encode())
     is_parsed = result.status == 0 and result.stdout + result.stderr == b""
-    assert (
-        is_parsed
-    ), f"{block.place}: expected: a shell parses it, and prints nothing\n{block.code}{result}"
+    expected = f"{block.place}: expected: a shell parses this, and prints nothing"
+    assert is_parsed, f"{expected}\n{block.code}{result}"
 
 
 def targets_named(path: Path) -> dict[str, Place]:
@@ -117,7 +118,7 @@ def targets_named(path: Path) -> dict[str, Place]:
 def mentions() -> Iterator[object]:
     """A parameter for each target of make that each document names."""
     for path in documents():
-        if name_of(path) not in LINES_OF_PAST:
+        if name_of(path) != HISTORY:
             for target, place in targets_named(path).items():
                 yield pytest.param(target, place, id=f"{name_of(path)}: make {target}")
 

@@ -62,7 +62,7 @@ end
 
 
 @dataclass(frozen=True)
-class Place:
+class Surroundings:
     """Where a shell stands, with completions that were made for it."""
 
     completions: Path  # a folder of them
@@ -97,16 +97,18 @@ class InTerminal:
 
 
 @contextlib.contextmanager
-def in_terminal(place: Place, keys: str, command: list[str], changes: Changes) -> Iterator[Shell]:
+def in_terminal(
+    surroundings: Surroundings, keys: str, command: list[str], changes: Changes
+) -> Iterator[Shell]:
     """Runs a shell in a terminal until the end of the block."""
     import pexpect
 
-    environment = changed_environment({**place.environment, **changes, "TERM": "dumb"})
+    environment = changed_environment({**surroundings.environment, **changes, "TERM": "dumb"})
     terminal = pexpect.spawn(
         command[0],
         command[1:],
         timeout=SECONDS,
-        cwd=str(place.folder),
+        cwd=str(surroundings.folder),
         env=environment,
         encoding="utf-8",
         dimensions=WIDE,
@@ -119,29 +121,29 @@ def in_terminal(place: Place, keys: str, command: list[str], changes: Changes) -
 
 
 @contextlib.contextmanager
-def bash(place: Place, package: str = "") -> Iterator[Shell]:
+def bash(surroundings: Surroundings, package: str = "") -> Iterator[Shell]:
     """Bash, which reads the completions itself, or by the package bash-completion."""
-    settings = place.scratch / "bashrc"
+    settings = surroundings.scratch / "bashrc"
     settings.write_text(BASHRC, encoding="ascii")
-    changes = {"package": package, "made": str(place.completions)}
+    changes = {"package": package, "made": str(surroundings.completions)}
     command = ["bash", "--rcfile", str(settings), "-i"]
-    with in_terminal(place, f"\t{KEY}", command, changes) as shell:
+    with in_terminal(surroundings, f"\t{KEY}", command, changes) as shell:
         yield shell
 
 
 @contextlib.contextmanager
-def bash_with_package(place: Place) -> Iterator[Shell]:
+def bash_with_package(surroundings: Surroundings) -> Iterator[Shell]:
     """Bash with the package bash-completion, which finds completions by a command's name."""
-    with bash(place, package=BASH_COMPLETION) as shell:
+    with bash(surroundings, package=BASH_COMPLETION) as shell:
         yield shell
 
 
 @contextlib.contextmanager
-def zsh(place: Place) -> Iterator[Shell]:
+def zsh(surroundings: Surroundings) -> Iterator[Shell]:
     """Zsh without the system's settings."""
-    (place.scratch / ".zshrc").write_text(ZSHRC, encoding="ascii")
-    changes = {"ZDOTDIR": str(place.scratch), "made": str(place.completions)}
-    with in_terminal(place, KEY, ["zsh", "-d", "-i"], changes) as shell:
+    (surroundings.scratch / ".zshrc").write_text(ZSHRC, encoding="ascii")
+    changes = {"ZDOTDIR": str(surroundings.scratch), "made": str(surroundings.completions)}
+    with in_terminal(surroundings, KEY, ["zsh", "-d", "-i"], changes) as shell:
         yield shell
 
 
@@ -160,16 +162,16 @@ class Fish:
 
 
 @contextlib.contextmanager
-def fish(place: Place) -> Iterator[Shell]:
+def fish(surroundings: Surroundings) -> Iterator[Shell]:
     """Fish without settings."""
-    script = place.scratch / "answer.fish"
+    script = surroundings.scratch / "answer.fish"
     script.write_text(FISH, encoding="ascii")
-    environment: Changes = {**place.environment, "made": str(place.completions)}
+    environment: Changes = {**surroundings.environment, "made": str(surroundings.completions)}
     with started(
         *("fish", "--no-config", script),
         stdin=subprocess.PIPE,
         stdout=subprocess.PIPE,
         env=environment,
-        cwd=place.folder,
+        cwd=surroundings.folder,
     ) as process:
         yield Fish(process)
