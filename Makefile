@@ -190,7 +190,7 @@ lint:
 	tools/lint
 
 layers: specification
-	tools/test -k layers.t
+	tools/test program/test_sources.py
 
 specification: build/SPECIFICATION.md
 

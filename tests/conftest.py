@@ -1,7 +1,9 @@
 """How pytest runs the tests: what they need, which begin first, and the last lines."""
 from __future__ import annotations
 
+import ctypes
 import os
+import signal
 from collections import defaultdict
 from pathlib import Path
 
@@ -11,6 +13,7 @@ from support.needs import need
 
 NOTHING_CHOSEN = 5  # pytest's status where -k chose none of the tests
 ENDED = pytest.StashKey[int]()
+PR_SET_PDEATHSIG = 1  # of prctl(2)
 
 
 @pytest.fixture(scope="session", name="program")
@@ -20,6 +23,19 @@ def fixture_program() -> Path:
     if not os.access(path, os.X_OK):
         pytest.fail(f"{path} is not built: run make", pytrace=False)
     return path
+
+
+def is_worker(config: pytest.Config) -> bool:
+    """Whether this process runs tests for another one, as xdist's do."""
+    return hasattr(config, "workerinput")
+
+
+def pytest_configure(config: pytest.Config) -> None:
+    """Ends what a test started with the process that runs tests, and that with the first one."""
+    if is_worker(config):
+        ctypes.CDLL(None).prctl(PR_SET_PDEATHSIG, signal.SIGTERM)
+    if is_worker(config) or not config.getoption("numprocesses", None):
+        signal.signal(signal.SIGTERM, signal.default_int_handler)
 
 
 def pytest_runtest_setup(item: pytest.Item) -> None:
@@ -57,8 +73,7 @@ def print_skipped(reports: list[pytest.TestReport]) -> None:
 def pytest_unconfigure(config: pytest.Config) -> None:
     """Prints the last lines, after all that pytest prints."""
     reporter = config.pluginmanager.get_plugin("terminalreporter")
-    is_worker = hasattr(config, "workerinput")
-    if reporter is None or is_worker or config.option.collectonly:
+    if reporter is None or is_worker(config) or config.option.collectonly:
         return
     reports = defaultdict(list, reporter.stats)
     failed = len(reports["failed"]) + len(reports["error"])

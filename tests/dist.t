@@ -109,7 +109,7 @@ subtest 'the program elsewhere' => sub {
     my @enter = grep { run(@$_, '/', 'true')->{status} == 0 } ['chroot'], [qw(unshare --user --map-root-user chroot)];
     needs('a chroot that is permitted' => 'none: run it as root', @enter > 0) or return;
     run('install', '-D', "$tree/bin/mkpasswd", "$alone/bin/mkpasswd");
-    passes_there('in an empty folder', "@{ $enter[0] } $alone /bin/mkpasswd", qw(program passwords lines));
+    passes_there('in an empty folder', "@{ $enter[0] } $alone /bin/mkpasswd");
 };
 
 subtest 'image' => sub {

@@ -44,18 +44,15 @@ sub program {
     return $path;
 }
 
-# Tests that the program which this command runs passes these tests.
+# Tests that the program which this command runs passes the tests of the program, two at once.
 sub passes_there {
-    my ($where, $command, @tests) = @_;
+    my ($where, $command) = @_;
     my $program = "$scratch/$where";
     spew($program, qq(#!/bin/sh\nexec $command "\$@"\n));
     chmod 0755, $program;
-    my %with = (env => { PROGRAM => $program, T_ONLY => undef }, timeout => 3000);
-    my @runs = in_processes(2, sub { run(\%with, $^X, "$root/tests/$_[0].t") }, @tests);
-    for (0 .. $#tests) {
-        my ($run) = @{ $runs[$_] // [{}] };
-        is($run->{status}, 0, "$tests[$_].t $where") or diag($run->{out} // 'it ended early', $run->{err} // '');
-    }
+    my @pytest = (qw(/usr/bin/python3 -B -m pytest -n 2), map { "program/test_$_.py" } qw(audits lines passwords program));
+    my $run = run({ dir => "$root/tests", env => { PROGRAM => $program, PYTEST_ADDOPTS => undef }, timeout => 3500 }, @pytest);
+    is($run->{status}, 0, "the program's tests $where") or diag($run->{out}, $run->{err});
 }
 
 # Starts a command in a process group of its own, and returns its number. A hash has paths for its input, `from`, its output,

@@ -1,4 +1,4 @@
-"""What tests need of the machine: commands, files and Python modules, in Debian's packages.
+"""What tests need of the machine: commands, files and Python modules of Debian's packages; root.
 
 What is missing skips a test, or fails it with STRICT=1. What can't be had on this machine, as
 another processor, skips it also then.
@@ -15,6 +15,7 @@ from typing import NoReturn
 import pytest
 
 from . import ROOT
+from .process import run
 
 PACKAGES = ROOT / "tests/packages.txt"
 
@@ -52,12 +53,25 @@ def is_there(name: str) -> bool:
     return shutil.which(name) is not None
 
 
+def can_make_namespaces() -> bool:
+    """Whether this process may have mounts, processes and a network of its own."""
+    if os.geteuid() != 0:
+        return False
+    words = ["unshare", "--mount", "--net", "--pid", "--fork", "--kill-child", "--mount-proc"]
+    return run(*words, "true").status == 0
+
+
 def need(*names: str) -> None:
-    """Ends the test where one of these is missing."""
+    """Ends the test where one of these is missing; `root` and `namespaces` are names too."""
     for name in names:
-        package = package_of()[name]
-        if not is_there(name):
-            missing(name, f"Debian package {package}")
+        if name == "root":
+            if os.geteuid() != 0:
+                missing("the superuser", "run the tests as root")
+        elif name == "namespaces":
+            if not can_make_namespaces():
+                missing("unshare", "run the tests as root where namespaces can be made")
+        elif not is_there(name):
+            missing(name, f"Debian package {package_of()[name]}")
 
 
 def built(path: str, target: str) -> Path:
@@ -66,9 +80,3 @@ def built(path: str, target: str) -> Path:
     if not file.exists():
         missing(path, f"make {target}")
     return file
-
-
-def need_root() -> None:
-    """Ends the test where it isn't run by the superuser."""
-    if os.geteuid() != 0:
-        missing("the superuser", "run the tests as root")

@@ -3,8 +3,8 @@
 //!
 //! Both are static libraries, which no crate can depend on, so this is a library below them. A call that can hash takes a
 //! new meter, and its report has all that this meter counted. So it hashes nothing that it does not report: nothing above
-//! the budget, without capacity for the hash, or after a refusal, but for the decoy of a login. tests/layers.t checks that
-//! it makes no other meter.
+//! the budget, without capacity for the hash, or after a refusal, but for the decoy of a login.
+//! tests/program/test_sources.py checks that it makes no other meter.
 #![tactic(auto)]
 
 pub mod audit;

@@ -1,0 +1,402 @@
+"""The recipes of a document for administrators, followed on a machine with files of its own.
+
+The commands are the document's, but for the paths of files and for cron's schedule; chpasswd is
+the system's, on a password file in a scratch folder.
+"""
+from __future__ import annotations
+
+import re
+import shlex
+import shutil
+import time
+from collections.abc import Mapping
+from dataclasses import dataclass
+from pathlib import Path
+
+import pytest
+from support.documents import Block, marked
+from support.examples import is_hash_of
+from support.needs import missing, need_root
+from support.process import Changes, Result, run
+
+pytestmark = pytest.mark.needs("chpasswd")
+
+AGED = ":19000:0:99999:7:::"  # the fields of a shadow file that follow the hash
+SECONDS_OF_DAY = 86_400
+SCHEDULE = re.compile(r"^(?:\S+ ){5}root ", re.MULTILINE)  # of a line for cron
+RECOMMENDED = "$6$rounds=656000$"
+
+LOCKED = "!"
+# Both libxcrypt's, of "password".
+OUTDATED = "$5$rounds=1000$ab$1w1vy5uCLDQWfIMwmaMatnSGmBa34fZnvo3JO2w3CP1"
+CURRENT = (
+    "$6$rounds=656000$ab$hc10aHkXN.GF5BQag9FBjeGeBnJXHj4GHeiS9SEq5r1wLkbQRKB4zP9d0pztZ6D3nYaEdp3"
+    "LiHXS5HEc4ufoq0"
+)
+OVER_BUDGET = "$6$rounds=999999999$ab$x"
+MALFORMED = "$7$C6....../..ab$x"
+YESCRYPT = "$y$j9T$ab$x"
+
+
+def today() -> int:
+    """The date as a shadow file has it."""
+    return int(time.time()) // SECONDS_OF_DAY
+
+
+@dataclass(frozen=True)
+class Entry:
+    """What a shadow file has of an account."""
+
+    field: str
+    rest: str  # the date of the last change, and what follows
+
+    def has_new_password(self, password: str, not_before: int) -> bool:
+        """Whether the field is a hash by the recommended cost, and the date is that of the run."""
+        dates = [AGED.replace("19000", str(day)) for day in range(not_before, today() + 1)]
+        is_recommended = self.field.startswith(RECOMMENDED)
+        return is_recommended and self.rest in dates and is_hash_of(self.field, password)
+
+
+@dataclass(frozen=True)
+class Machine:
+    """A folder where recipes are followed, and a system of which they change the passwords."""
+
+    system: Path
+    folder: Path
+    environment: Changes
+    began: int  # the date when the test began
+
+    @property
+    def shadow(self) -> Path:
+        return self.system / "etc/shadow"
+
+    def set_accounts(self, fields: Mapping[str, str]) -> None:
+        """Replaces all accounts by these, each with what its field is."""
+        names = sorted(fields)
+        users = [f"{name}:x:1000:1000::/:/bin/sh\n" for name in names]
+        (self.system / "etc/passwd").write_text("".join(users), encoding="ascii")
+        entries = [f"{name}:{fields[name]}{AGED}\n" for name in names]
+        self.shadow.write_text("".join(entries), encoding="ascii")
+
+    def entries(self) -> dict[str, Entry]:
+        """The accounts by their names."""
+        parts = [line.split(":", 2) for line in self.shadow.read_text().splitlines()]
+        return {name: Entry(field, f":{rest}") for name, field, rest in parts}
+
+    def write(self, name: str, content: bytes) -> None:
+        """Writes a file of the folder."""
+        (self.folder / name).write_bytes(content)
+
+    def follow(self, mark: str, language: str = "sh") -> "Followed":
+        """Follows a recipe."""
+        block = marked(mark, language)
+        shadow = shlex.quote(str(self.shadow))
+        commands = SCHEDULE.sub("", block.code)
+        commands = re.sub(r" /etc/shadow\b", f" {shadow}", commands)
+        commands = commands.replace("pwhash audit", f"pwhash audit {shadow}")
+        result = run("sh", "-c", commands, env=self.environment, cwd=self.folder)
+        return Followed(block, result)
+
+    def has_new_password(self, name: str, password: str) -> bool:
+        """Whether an account has a hash of the password, made since the test began."""
+        return self.entries()[name].has_new_password(password, self.began)
+
+
+@dataclass(frozen=True)
+class Followed:
+    """A recipe that was followed."""
+
+    block: Block
+    result: Result
+
+    @property
+    def lines(self) -> list[str]:
+        """The lines that it printed, with one blank for several."""
+        text = self.result.stdout.decode()
+        return [" ".join(line.split()) for line in text.splitlines()]
+
+    @property
+    def errors(self) -> str:
+        """What it printed on standard error."""
+        return self.result.stderr.decode()
+
+    def lacks(self, expected: str) -> str:
+        """What a failure says."""
+        return f"{self.block.place}\nexpected: {expected}\n{self.result}"
+
+
+@pytest.fixture(name="machine")
+def fixture_machine(environment: Changes, tmp_path: Path) -> Machine:
+    need_root()
+    (tmp_path / "system/etc").mkdir(parents=True)
+    (tmp_path / "bin").mkdir()
+    (tmp_path / "folder").mkdir()
+    chpasswd = tmp_path / "bin/chpasswd"
+    of_system = shutil.which("chpasswd")
+    chpasswd.write_text(f"#!/bin/sh\nexec {of_system} -R '{tmp_path}/system' \"$@\"\n", "ascii")
+    chpasswd.chmod(0o755)
+    path = f"{tmp_path}/bin:{environment['PATH']}"
+    return Machine(tmp_path / "system", tmp_path / "folder", {**environment, "PATH": path}, today())
+
+
+THREE_LOCKED = {"ann": LOCKED, "bob": LOCKED, "eve": LOCKED}
+
+
+# ---- Passwords from a file
+
+
+def test_new_passwords_are_those_of_the_file(machine: Machine) -> None:
+    machine.set_accounts(THREE_LOCKED)
+    machine.write("passwords", b"ann:password\nbob:pass:word\n")
+    followed = machine.follow("new passwords")
+    assert followed.result.status == 0, followed.lacks("status 0")
+    assert followed.result.stdout + followed.result.stderr == b"", followed.lacks("nothing printed")
+    assert machine.has_new_password("ann", "password"), followed.lacks("a new hash for ann")
+    assert machine.has_new_password("bob", "pass:word"), followed.lacks("a new hash for bob")
+
+
+def test_a_new_password_that_is_empty_changes_no_account(machine: Machine) -> None:
+    machine.set_accounts(THREE_LOCKED)
+    before = machine.entries()
+    machine.write("passwords", b"ann:password\nbob:\n")
+    followed = machine.follow("new passwords")
+    assert followed.result.status == 1, followed.lacks("status 1")
+    assert machine.entries() == before, followed.lacks("no account has changed")
+
+
+# A password of 169 bytes is one byte too long for the default budget. The last line has a name for
+# the second time.
+SOME_GOOD_LINES = b"ann:password\nbob:%b\nsecret\neve:password\n:secret\n%b\nann:secret\n" % (
+    b"x" * 169,
+    b"secret" * 11,
+)
+
+
+@pytest.fixture(name="good_lines")
+def fixture_good_lines(machine: Machine) -> Followed:
+    machine.set_accounts(THREE_LOCKED)
+    machine.write("passwords", SOME_GOOD_LINES)
+    return machine.follow("good lines")
+
+
+def test_good_lines_are_loaded_and_the_others_are_not(
+    machine: Machine, good_lines: Followed
+) -> None:
+    assert good_lines.result.status == 0, good_lines.lacks("status 0, chpasswd's")
+    assert machine.has_new_password("ann", "password"), good_lines.lacks("a new hash for ann")
+    assert machine.has_new_password("eve", "password"), good_lines.lacks("a new hash for eve")
+    is_kept = machine.entries()["bob"] == Entry(LOCKED, AGED)
+    assert is_kept, good_lines.lacks("bob keeps the field and the date")
+
+
+def test_other_lines_are_shown_by_number_and_without_passwords(good_lines: Followed) -> None:
+    numbers = re.findall(r"^[^0-9\n]*line (\d+)", good_lines.errors, re.MULTILINE)
+    is_complete = sorted(numbers) == ["2", "3", "5", "6", "7"]
+    assert is_complete, good_lines.lacks("messages about the lines 2, 3, 5, 6 and 7")
+    output = good_lines.result.stdout + good_lines.result.stderr
+    assert b"secret" not in output, good_lines.lacks("no password")
+    assert good_lines.result.stdout == b"", good_lines.lacks("nothing on standard output")
+
+
+# ---- Passwords that are known
+
+ACCOUNTS = {
+    "ann": OUTDATED,
+    "bob": LOCKED + OUTDATED,
+    "eve": OUTDATED,
+    "kim": CURRENT,
+    "zoe": OVER_BUDGET,
+}
+
+
+@pytest.fixture(name="known_passwords")
+def fixture_known_passwords(machine: Machine) -> Followed:
+    machine.set_accounts(ACCOUNTS)
+    machine.write("list", b"eve:guess\neve:password\r\nbob:x\nzoe:x\nann:word\nnobody:x\n")
+    return machine.follow("known passwords")
+
+
+def test_who_has_a_password_of_a_list_is_printed(known_passwords: Followed) -> None:
+    assert known_passwords.lines == ["eve:ok"], known_passwords.lacks("eve alone")
+
+
+def test_an_account_whose_hash_is_over_the_budget_is_named(known_passwords: Followed) -> None:
+    is_named = re.search(r"^pwhash: zoe .*over budget$", known_passwords.errors, re.MULTILINE)
+    assert is_named, known_passwords.lacks("a message that zoe is over the budget")
+
+
+def test_a_line_without_an_account_is_named(known_passwords: Followed) -> None:
+    numbers = re.search(r"without an account in .*: \[(.*)\]", known_passwords.errors)
+    assert numbers and numbers[1] == "6", known_passwords.lacks("a message about line 6")
+
+
+def test_one_password_is_tried_for_every_account(machine: Machine) -> None:
+    machine.set_accounts(ACCOUNTS)
+    machine.write("list", b"password\n")
+    followed = machine.follow("known passwords")
+    assert followed.lines == ["ann:ok", "eve:ok", "kim:ok"], followed.lacks("ann, eve and kim")
+
+
+def test_accounts_whose_password_is_listed_move_to_another_method(machine: Machine) -> None:
+    machine.set_accounts(ACCOUNTS)
+    before = machine.entries()
+    names = ["bob", "kim", "zoe", "nobody"]
+    right = "".join(f"{name}:password\n" for name in names)
+    machine.write("list", f"ann:guess\nann:password\neve:guess\n{right}".encode())
+    followed = machine.follow("another method")
+    assert followed.result.status == 0, followed.lacks("status 0")
+    assert machine.has_new_password("ann", "password"), followed.lacks("a new hash for ann")
+    after = machine.entries()
+    changed = [name for name in before if after[name] != before[name]]
+    assert changed == ["ann"], followed.lacks(f"ann alone has changed, and not {changed}")
+
+
+# ---- Audits
+
+AUDITED = {
+    **ACCOUNTS,
+    "amy": "",
+    "joe": LOCKED,
+    "max": LOCKED + LOCKED + OVER_BUDGET,
+    "sam": MALFORMED,
+    "tom": YESCRYPT,
+}
+WHICH_NEED_CARE = {
+    "ann": "ann sha256crypt 1000 outdated",
+    "eve": "eve sha256crypt 1000 outdated",
+    "amy": "amy no password",
+    "sam": "sam malformed above ceiling",
+    "zoe": "zoe sha512crypt 999999999 over budget",
+}
+WHICH_ARE_WELL = {
+    "kim": "kim sha512crypt 656000 current",
+    "tom": "tom yescrypt unknown",
+}
+
+
+def lines_of_accounts(followed: Followed) -> set[str]:
+    """What an audit printed of accounts, without its heading and its summary."""
+    return {line for line in followed.lines if line.partition(" ")[0] in AUDITED}
+
+
+def test_an_audit_shows_what_each_hash_is_like(machine: Machine) -> None:
+    machine.set_accounts(AUDITED)
+    followed = machine.follow("audits")
+    expected = {*WHICH_NEED_CARE.values(), *WHICH_ARE_WELL.values()}
+    absent = expected - lines_of_accounts(followed)
+    assert not absent, followed.lacks(f"these lines too: {sorted(absent)}")
+
+
+def test_cron_mails_the_accounts_that_need_care_and_no_others(machine: Machine) -> None:
+    machine.set_accounts(AUDITED)
+    followed = machine.follow("audit by cron", "text")
+    expected = set(WHICH_NEED_CARE.values())
+    assert lines_of_accounts(followed) == expected, followed.lacks(f"{sorted(expected)}")
+
+
+def test_cron_mails_nothing_if_no_account_needs_care(machine: Machine) -> None:
+    machine.set_accounts({"joe": "*", "kim": CURRENT, "tom": YESCRYPT})
+    followed = machine.follow("audit by cron", "text")
+    assert followed.result.status == 0, followed.lacks("status 0")
+    assert followed.result.stdout + followed.result.stderr == b"", followed.lacks("nothing printed")
+
+
+# ---- A disk that is full at each command: nobody gets a part of a hash
+
+KIB_OF_PAGE = 4
+PAGES_FOR_ALL = 8  # so many have room for all that a recipe makes
+USERS = [f"user{number}" for number in range(1, 61)]
+# $0 is the size of the disk, $1 the recipe. What it makes for a service is printed.
+ON_SMALL_DISK = """\
+mount -t tmpfs -o size=$0k none full && cd full && ln -s ../passwords ../list . || exit
+sh -c "$1"
+cat at.passwords 2> /dev/null
+"""
+
+
+@dataclass(frozen=True)
+class Recipe:
+    """Blocks that are followed one after the other."""
+
+    marks: tuple[str, ...]
+
+    def __str__(self) -> str:
+        return " and ".join(self.marks)
+
+    def commands(self, shadow: Path) -> str:
+        """The commands, of which each block has a shell of its own. Their hashes cost little.
+
+        A service's file is on the small disk.
+        """
+        blocks = "".join(f"({marked(mark, 'sh').code})\n" for mark in self.marks)
+        blocks = re.sub(r"pwhash (file|check)", r"pwhash \1 -R 1000", blocks)
+        blocks = re.sub(r" /etc/nginx/", " at.", blocks)
+        return re.sub(r" /etc/shadow\b", f" {shlex.quote(str(shadow))}", blocks)
+
+
+RECIPES = [
+    Recipe(("new passwords",)),
+    Recipe(("good lines",)),
+    Recipe(("another method",)),
+    Recipe(("hashes for services", "nginx")),
+]
+
+
+@dataclass(frozen=True)
+class OnSmallDisk:
+    """A recipe that was followed on a small disk, and the fields of all accounts after it.
+
+    Those of a service's file are among them.
+    """
+
+    recipe: Recipe
+    result: Result
+    fields: list[str]
+
+    @property
+    def new(self) -> list[str]:
+        """The fields that are no longer as they were before."""
+        return [field for field in self.fields if field != OUTDATED]
+
+    def lacks(self, expected: str) -> str:
+        """What a failure says."""
+        places = ", ".join(str(marked(mark, "sh").place) for mark in self.recipe.marks)
+        return f"{places}\nexpected: {expected}\nnew fields: {self.new}\n{self.result}"
+
+
+def follow_on_small_disk(machine: Machine, recipe: Recipe, pages: int) -> OnSmallDisk:
+    """Follows a recipe where its own files have so much room."""
+    if run("unshare", "--mount", "true").status != 0:
+        missing("a mount of its own", "run the tests where the superuser may mount")
+    machine.set_accounts({user: OUTDATED for user in USERS})
+    lines = "".join(f"{user}:password\n" for user in USERS).encode()
+    machine.write("passwords", lines)
+    machine.write("list", lines)
+    (machine.folder / "full").mkdir()
+    result = run(
+        *("unshare", "--mount", "sh", "-c", ON_SMALL_DISK),
+        KIB_OF_PAGE * pages,
+        recipe.commands(machine.shadow),
+        env=machine.environment,
+        cwd=machine.folder,
+    )
+    files = machine.shadow.read_text(encoding="ascii") + result.stdout.decode()
+    fields = re.findall(r"^user\d+:([^:\n]*)", files, re.MULTILINE)
+    return OnSmallDisk(recipe, result, fields)
+
+
+@pytest.mark.needs("unshare")
+@pytest.mark.parametrize("pages", range(1, PAGES_FOR_ALL), ids="{} pages".format)
+@pytest.mark.parametrize("recipe", RECIPES, ids=str)
+def test_a_full_disk_leaves_whole_hashes(machine: Machine, recipe: Recipe, pages: int) -> None:
+    followed = follow_on_small_disk(machine, recipe, pages)
+    odd = [field for field in followed.new if not is_hash_of(field, "password")]
+    assert odd == [], followed.lacks("each field is the old hash, or a new one that is whole")
+
+
+@pytest.mark.needs("unshare")
+@pytest.mark.parametrize("recipe", RECIPES, ids=str)
+def test_a_small_disk_with_room_gets_all_hashes(machine: Machine, recipe: Recipe) -> None:
+    followed = follow_on_small_disk(machine, recipe, PAGES_FOR_ALL)
+    whole = [field for field in followed.new if is_hash_of(field, "password")]
+    assert len(whole) == len(USERS), followed.lacks("a new hash for each user")

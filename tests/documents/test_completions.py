@@ -1,0 +1,213 @@
+"""Completions in bash, zsh and fish, as somebody meets them who presses Tab.
+
+The options that a shell offers are those of the help, and the methods those of the formats. Other
+values are not offered, and files only after a redirection, or where pwhash reads them.
+"""
+from __future__ import annotations
+
+import os
+import re
+from collections.abc import Iterator
+from contextlib import AbstractContextManager
+from pathlib import Path
+from typing import Callable
+
+import pytest
+from support import ROOT
+from support.model.methods import METHODS
+from support.process import Result, assert_result, run
+from support.shells import BASH_COMPLETION, Surroundings, Shell, bash, bash_with_package, fish, zsh
+
+pytestmark = pytest.mark.xdist_group("completions")  # so that each shell starts once
+
+Start = Callable[[Surroundings], AbstractContextManager[Shell]]
+
+FILES = ["logins", "sha256sums"]  # in the folder where the shells stand
+METHOD_NAMES = [method.name for method in METHODS]
+
+
+# ---- The completions, and the shells that read them
+
+
+@pytest.fixture(scope="module", name="made")
+def fixture_made(program: Path, tmp_path_factory: pytest.TempPathFactory) -> tuple[Path, Result]:
+    """A folder with the completions, and how the command ended that wrote them."""
+    folder = tmp_path_factory.mktemp("completions")
+    result = run(ROOT / "tools/completions", program, ROOT / "bin/pwhash", folder)
+    return folder, result
+
+
+@pytest.fixture(scope="module", name="surroundings")
+def fixture_surroundings(
+    made: tuple[Path, Result], commands: Path, tmp_path_factory: pytest.TempPathFactory
+) -> Surroundings:
+    """Where the shells stand."""
+    completions, result = made
+    result.required()
+    scratch = tmp_path_factory.mktemp("shells")
+    folder = scratch / "folder"
+    folder.mkdir()
+    for name in FILES:
+        (folder / name).touch()
+    installed = scratch / "share/bash-completion/completions"
+    installed.mkdir(parents=True)
+    for path in completions.glob("*.bash"):
+        (installed / path.name).symlink_to(path)
+    environment = {
+        "HOME": str(scratch),
+        "PATH": f"{commands}:{os.environ['PATH']}",
+        "XDG_DATA_DIRS": f"{scratch}/share:/usr/local/share:/usr/share",
+        "BASH_COMPLETION_USER_DIR": None,
+        "INPUTRC": None,
+        "XDG_DATA_HOME": None,
+    }
+    return Surroundings(completions, folder, scratch, environment)
+
+
+def in_shell(start: Start, name: str, *needed: str) -> object:
+    """A parameter for a shell."""
+    return pytest.param(start, id=name, marks=pytest.mark.needs("python3-pexpect", *needed))
+
+
+@pytest.fixture(
+    scope="module",
+    name="shell",
+    params=[
+        in_shell(bash, "bash"),
+        in_shell(bash_with_package, "bash-completion", BASH_COMPLETION),
+        in_shell(zsh, "zsh", "zsh"),
+        in_shell(fish, "fish", "fish"),
+    ],
+)
+def fixture_shell(request: pytest.FixtureRequest, surroundings: Surroundings) -> Iterator[Shell]:
+    """A shell, until the tests in it are done."""
+    with request.param(surroundings) as shell:
+        yield shell
+
+
+def offered(shell: Shell, line: str) -> list[str]:
+    """The words that a shell offers at the end of a line, in the alphabet's order.
+
+    Zsh puts "=" after an option that takes a value, and all but bash repeat "--method=".
+    """
+    words = [re.sub(r"\A--method=(?=.)|=\Z", "", word) for word in shell.offered(line)]
+    return sorted(words)
+
+
+def assert_offered(shell: Shell, line: str, expected: list[str]) -> None:
+    """Fails the test unless a shell offers exactly these words."""
+    found = offered(shell, line)
+    assert found == sorted(expected), f"typed, and then Tab: '{line}'"
+
+
+def test_completions_are_written_and_nothing_is_printed(made: tuple[Path, Result]) -> None:
+    assert_result(made[1])
+
+
+# ---- Options
+
+
+def option_rows(program: Path) -> list[str]:
+    """The rows of options in the help of mkpasswd, each with all names of its option."""
+    text = run(program, "--help").required().stdout.decode()
+    return re.findall(r"^ +(-.*?)(?:  |$)", text, re.MULTILINE)
+
+
+def names_in(rows: list[str]) -> list[str]:
+    """The names of options."""
+    return [name for row in rows for name in re.findall(r"(?<!\S)--?[A-Za-z][\w-]*", row)]
+
+
+def names_with_value(rows: list[str]) -> list[str]:
+    """The names of options that take a value of which none is known."""
+    rows_with_value = [row for row in rows if row.endswith(">") and "--method" not in row]
+    return names_in(rows_with_value)
+
+
+def test_a_hyphen_offers_all_options_of_the_help(shell: Shell, program: Path) -> None:
+    assert_offered(shell, "mkpasswd -", names_in(option_rows(program)))
+
+
+def test_two_hyphens_offer_the_long_options_of_the_help(shell: Shell, program: Path) -> None:
+    names = names_in(option_rows(program))
+    assert_offered(shell, "mkpasswd --", [name for name in names if name.startswith("--")])
+
+
+@pytest.mark.parametrize("form", ["OPTION ", "OPTION lo", "OPTION=lo"])
+def test_no_file_is_a_value_of_an_option(shell: Shell, program: Path, form: str) -> None:
+    options = names_with_value(option_rows(program))
+    assert options != [], "expected: options with a value in the help of mkpasswd"
+    lines = [f"mkpasswd {form.replace('OPTION', option)}" for option in options]
+    words = {line: offered(shell, line) for line in lines}
+    assert {line: found for line, found in words.items() if found} == {}
+
+
+# Tables: what is typed before Tab, and the words that are offered.
+RESTS_OF_OPTIONS = {
+    "mkpasswd --check --meth": ["--method"],
+    "mkpasswd.proved --check --reh": ["--rehash"],
+    "pwhash --gen": ["--generate"],
+    "pwhash file --skip-r": ["--skip-refused"],
+    "pwhash audit --o": ["--only-problems"],
+}
+
+
+@pytest.mark.parametrize("line", RESTS_OF_OPTIONS)
+def test_the_rest_of_an_option_is_offered(shell: Shell, line: str) -> None:
+    assert_offered(shell, line, RESTS_OF_OPTIONS[line])
+
+
+@pytest.mark.parametrize("line", ["pwhash file --gen", "pwhash audit --reh"])
+def test_an_option_of_another_command_of_pwhash_is_not_offered(shell: Shell, line: str) -> None:
+    assert_offered(shell, line, [])
+
+
+# ---- Values and commands
+
+METHODS_OFFERED = {
+    "mkpasswd -m ": [*METHOD_NAMES, "help"],
+    "mkpasswd --batch --method sha": ["sha256crypt", "sha512crypt"],
+    "mkpasswd --method=sc": ["scrypt"],
+    "pwhash -m ": METHOD_NAMES,
+    "pwhash -m sc": ["scrypt"],
+}
+
+
+@pytest.mark.parametrize("line", METHODS_OFFERED)
+def test_methods_are_offered(shell: Shell, line: str) -> None:
+    assert_offered(shell, line, METHODS_OFFERED[line])
+
+
+WORDS_OF_PWHASH = {
+    "pwhash au": ["audit"],
+    "pwhash file --for ": ["apache", "dovecot", "ldap", "nginx"],
+    "pwhash --for pre": ["preseed-root", "preseed-user"],
+}
+
+
+@pytest.mark.parametrize("line", WORDS_OF_PWHASH)
+def test_the_words_of_pwhash_are_offered(shell: Shell, line: str) -> None:
+    assert_offered(shell, line, WORDS_OF_PWHASH[line])
+
+
+# ---- Files
+
+FILES_OFFERED = {
+    "mkpasswd --check < lo": ["logins"],
+    "mkpasswd -m md5crypt < ": FILES,
+    "mkpasswd --batch < logins > sha": ["sha256sums"],
+    "pwhash audit lo": ["logins"],
+    "pwhash check --shadow sha": ["sha256sums"],
+}
+
+
+@pytest.mark.parametrize("line", FILES_OFFERED)
+def test_files_are_offered_where_one_is_read_or_written(shell: Shell, line: str) -> None:
+    assert_offered(shell, line, FILES_OFFERED[line])
+
+
+@pytest.mark.parametrize(
+    "line", ["mkpasswd ", "mkpasswd lo", "mkpasswd --check lo", "pwhash check -R "]
+)
+def test_no_file_is_offered_where_none_is_read(shell: Shell, line: str) -> None:
+    assert_offered(shell, line, [])
