@@ -93,7 +93,6 @@ class Machine:
         shadow = shlex.quote(str(self.shadow))
         commands = SCHEDULE.sub("", block.code)
         commands = re.sub(r" /etc/shadow\b", f" {shadow}", commands)
-        commands = commands.replace("pwhash audit", f"pwhash audit {shadow}")
         result = run("sh", "-c", commands, env=self.environment, cwd=self.folder)
         return Followed(block, result)
 
