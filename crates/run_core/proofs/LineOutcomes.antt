@@ -1,17 +1,20 @@
 -- What a line comes to, by its parts and its field.
-use Rattle.std.proofs.Common.{◌≡◌, ℕ, Bool, true, false, List, [], ◌∷◌, ◌++◌, codes, slice_index, length, Option, Some, None, Ok, inl, inr, refl, sym, ap, subst, ◌∙◌, true≢false, arith}
-use Rattle.std.specs.Prelude.{◌≢◌}
+use Rattle.std.proofs.Common.{◌≡◌, ℕ, Bool, true, false, List, [], ◌∷◌, ◌++◌, codes, slice_index, length, Option, Some, None, inl, inr, refl, sym, ap, subst, ◌∙◌, true≢false, arith}
+use Rattle.std.specs.Prelude.{◌≢◌, Result, Ok, Err}
 use Rattle.std.specs.Bool.{Decides}
 use Rattle.std.specs.Str.{bytes_eq}
 use Rattle.std.proofs.lemmas.Option.{none-some}
 use Rattle.std.proofs.lemmas.Slice.Eq.{bytes_eq-Decides}
 use Rattle.rand_core.specs.Stream.{Stream}
 use Rattle.crypt_core.specs.Crypt.{crypt}
-use Rattle.crypt_core.specs.Readings.{IsReadOneWay}
+use Rattle.crypt_core.specs.Readings.{IsFieldReading, IsReadOneWay}
 use Rattle.crypt_core.specs.Settings.{BeginsWith, SettingValue, Spells}
 use Rattle.crypt_core.specs.MethodLimits.{prefix}
 use Rattle.crypt_core.specs.Schemes.{method_of}
 use Rattle.crypt_core.specs.StoredFields.{IsStored, StoredHash}
+use Rattle.prims_core.specs.declared.meter.Work.{Work}
+use Rattle.crypt_core.specs.declared.hash.HashFault.{HashFault}
+use Rattle.crypt_core.specs.declared.setting.fault.SettingFault.{SettingFault}
 use Rattle.crypt_core.specs.declared.method.Method.{Method}
 use Rattle.crypt_core.specs.declared.method.Method.TheVariants.{Md5crypt}
 use Rattle.crypt_core.specs.declared.stored.StoredField.{StoredField}
@@ -23,7 +26,7 @@ use Rattle.run_core.specs.JobOptions.{check_cost, is_outdated}
 use Rattle.run_core.specs.LineAnswers.{ComesTo, IsAnswer, IsCostly, IsPasswordAnswer, answer_of, refusal}
 use Rattle.run_core.specs.Lines.{HasParts, IsLineRefused, Parts}
 use Rattle.run_core.specs.Makers.{made_cost_by}
-use Rattle.run_core.specs.Private.Answers.{IsChecked, IsSettled, field_cost}
+use Rattle.run_core.specs.Private.Answers.{Concludes, IsChecked, IsSettled, Settles, field_cost}
 use Rattle.run_core.specs.Private.Lines.{HasSoundParts, IsFieldOf, IsLine}
 use Rattle.run_core.specs.declared.answer.Outcome.{Outcome}
 use Rattle.run_core.specs.declared.answer.Outcome.TheVariants.{Match, Rehashed, Misfit, Audited}
@@ -32,11 +35,12 @@ use Rattle.run_core.specs.declared.job.Job.{Job}
 use Rattle.run_core.specs.declared.line.Kind.{Kind}
 use Rattle.run_core.specs.declared.line.Kind.TheVariants.{Batch, Check, Audit}
 use Rattle.run_core.specs.declared.line.LineFault.{LineFault}
+use Rattle.run_core.specs.declared.line.LineFault.TheVariants.{OverBudget}
 use Rattle.run_core.proofs.OneCut.{parts_unique}
 
 -- ---- what a line costs
 
-above_none : (budget : Option ℕ) → ¬ IsAbove budget 0
+pub above_none : (budget : Option ℕ) → ¬ IsAbove budget 0
 above_none None above = above
 above_none (Some budget) above = omega arith
 
@@ -68,7 +72,7 @@ costly_by kind job line name password (Some field) (Some (fields.Hash stored)) t
 costly_by kind job line name password None (Some stored) taken of above = absurd of
 costly_by kind job line name password (Some field) None taken of above = absurd of
 
-pub costly : (kind : Kind) (job : Job) (line name password : List ℕ) (stored : Option StoredField) → IsLine kind line name password stored
+costly : (kind : Kind) (job : Job) (line name password : List ℕ) (stored : Option StoredField) → IsLine kind line name password stored
     → IsAbove job.budget (field_cost job stored (length password)) → IsCostly kind job line
 costly kind job line name password stored is above = costly_by kind job line name password is.field stored is.taken is.field_of above
 
@@ -188,27 +192,72 @@ refused_answer Audit job number line stream fault refused = inl (fault, refused,
 refused_answer kind job number line stream fault refused = inl (fault, refused, refl)
 
 -- a line that is not to be audited gets the answer for its password
-pub password_answer : (kind : Kind) (job : Job) (number : ℕ) (line : List ℕ) (stream : Stream) (answer : Answer) → kind ≢ Audit
+password_answer : (kind : Kind) (job : Job) (number : ℕ) (line : List ℕ) (stream : Stream) (answer : Answer) → kind ≢ Audit
     → IsPasswordAnswer kind job number line stream answer → IsAnswer kind job number line stream answer
 password_answer Audit job number line stream answer other is = absurd (other refl)
 password_answer kind job number line stream answer other is = is
 
 -- one that is gets the finding of its field
-pub audit_answer : (kind : Kind) (job : Job) (number : ℕ) (line : List ℕ) (stream : Stream) (name field : List ℕ) (finding : Finding) → kind ≡ Audit
-    → HasSoundParts kind line (parts_with name [] (Some field)) → Finds job field finding
-    → IsAnswer kind job number line stream (answer_of job name (Audited finding) [])
-audit_answer Audit job number line stream name field finding is taken finds =
-    inr (taken.sound, parts_with name [] (Some field), taken.cut, field, refl, finding, finds, refl)
-audit_answer Batch job number line stream name field finding is taken finds = absurd cc
-audit_answer Check job number line stream name field finding is taken finds = absurd cc
+pub audit_answer : (kind : Kind) (job : Job) (number : ℕ) (line : List ℕ) (stream : Stream) (parts : Parts) (field : List ℕ) (finding : Finding) → kind ≡ Audit
+    → HasSoundParts kind line parts → parts.field ≡ Some field → Finds job field finding
+    → IsAnswer kind job number line stream (answer_of job parts.name (Audited finding) [])
+audit_answer Audit job number line stream parts field finding is taken fielded finds =
+    inr (taken.sound, parts, taken.cut, field, fielded, finding, finds, refl)
+audit_answer Batch job number line stream parts field finding is taken fielded finds = absurd cc
+audit_answer Check job number line stream parts field finding is taken fielded finds = absurd cc
 
-pub decided : (kind : Kind) (job : Job) (number : ℕ) (line : List ℕ) (stream : Stream) (name password : List ℕ) (stored : Option StoredField)
+decided : (kind : Kind) (job : Job) (number : ℕ) (line : List ℕ) (stream : Stream) (name password : List ℕ) (stored : Option StoredField)
     (hashings : List Hashing) (outcome : Outcome) → IsLine kind line name password stored
     → ¬ IsAbove job.budget (field_cost job stored (length password))
     → IsSettled job password stored stream hashings outcome → IsPasswordAnswer kind job number line stream (answer_of job name outcome hashings)
 decided kind job number line stream name password stored hashings outcome is within settled =
     let comes = settled_by kind job line stream name password is.field stored hashings outcome is.taken is.field_of within settled in
     inr (inr (is.taken.sound, comes.0, parts_with name password is.field, is.taken.cut, outcome, comes.1, refl))
+
+-- the step for a line with this field concludes as that for its password settles
+pub concludes : (kind : Kind) (job : Job) (line name password : List ℕ) (stored : Option StoredField) (stream : Stream) (before after : Work) (new_stream : Stream)
+    (result : Result (Result Outcome LineFault) HashFault) → IsLine kind line name password stored
+    → Settles job password stored stream before after new_stream result → Concludes kind job line name stream before after new_stream result
+concludes kind job line name password stored stream before after new_stream (Ok (Ok outcome)) is (within, hashings, settled, counts, left) = (
+  hashings,
+  (λ number. password_answer kind job number line stream (answer_of job name outcome hashings) is.unaudited
+      (decided kind job number line stream name password stored hashings outcome is within settled)),
+  counts,
+  left,
+)
+concludes kind job line name password stored stream before after new_stream (Ok (Err fault)) is (above, over, counts, left) = (
+  (λ number. subst (λ (f : LineFault). IsAnswer kind job number line stream (refusal number f)) (sym over)
+      (password_answer kind job number line stream (refusal number OverBudget) is.unaudited
+      (inr (inl (costly kind job line name password stored is above, refl))))),
+  counts,
+  left,
+)
+concludes kind job line name password stored stream before after new_stream (Err fault) is (within, outcome, hashings, settled, refused) = (
+  outcome,
+  hashings,
+  (λ number. password_answer kind job number line stream (answer_of job name outcome hashings) is.unaudited
+      (decided kind job number line stream name password stored hashings outcome is within settled)),
+  refused,
+)
+
+-- ---- a line by its parts
+
+pub line_of : (kind : Kind) (line : List ℕ) (parts : Parts) (stored : Option StoredField) → HasSoundParts kind line parts → kind ≢ Audit
+    → IsFieldOf parts.field stored → IsLine kind line parts.name parts.password stored
+line_of kind line parts stored taken unaudited field_of = record { unaudited = unaudited; field = parts.field; taken = taken; field_of = field_of }
+
+-- a line without a field is not to be audited
+pub unfielded : (kind : Kind) (line : List ℕ) (parts : Parts) → HasParts kind line parts → parts.field ≡ None → kind ≢ Audit
+unfielded Audit line parts has none same = none-some has.0 (sym none ∙ has.4)
+unfielded Batch line parts has none same = absurd cc
+unfielded Check line parts has none same = absurd cc
+
+-- a field that was read
+pub read_as : (field : List ℕ) (fielded : Option (List ℕ)) (result : Result StoredField SettingFault) (found stored : StoredField) → result ≡ Ok found
+    → found ≡ stored → IsFieldReading field result → IsReadOneWay field → fielded ≡ Some field → IsFieldOf fielded (Some stored)
+read_as field fielded result found stored ok is reading once some =
+    let same : result ≡ Ok stored = cc in
+    subst (λ (f : Option (List ℕ)). IsFieldOf f (Some stored)) (sym some) (subst (IsFieldReading field) same reading, once)
 
 -- ---- what a check would come to, if its memory were not refused
 

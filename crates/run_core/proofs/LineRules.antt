@@ -3,7 +3,7 @@ use Rattle.std.proofs.Common.{◌≡◌, ℕ, ◌≤◌, ◌<◌, List, [], ◌�
 use Rattle.std.proofs.lemmas.Bool.{cases_order}
 use Rattle.std.proofs.lemmas.List.{nil_from_length}
 use Rattle.crypt_core.specs.Passwords.{IsPassword, IsPasswordRefused, password_faults, password_limit}
-use Rattle.std.specs.Prelude.{◌≢◌, Result, Ok, Err}
+use Rattle.std.specs.Prelude.{◌≢◌, Ok, Err}
 use Rattle.crypt_core.specs.Readings.{IsFieldReading, IsReadOneWay}
 use Rattle.crypt_core.specs.Refusals.{FailsStage, IsRefused, setting_faults}
 use Rattle.crypt_core.specs.Rules.{IsFirstBroken}
@@ -14,15 +14,12 @@ use Rattle.crypt_core.specs.declared.password.PasswordFault.{PasswordFault}
 use Rattle.crypt_core.specs.declared.password.PasswordFault.TheVariants.{TooLong, HasNul}
 use Rattle.crypt_core.specs.declared.setting.fault.SettingFault.{SettingFault}
 use Rattle.run_core.specs.Texts.{colon}
-use Rattle.run_core.specs.Lines.{BreaksLine, HasFront, HasParts, IsLineRefused, IsSound, Parts, line_faults, line_limit, name_limit}
-use Rattle.run_core.specs.Private.Lines.{HasBehind, HasSoundParts, HasTask, IsCutOrWhole, IsGoodName, IsNamed, IsTaskReading, IsTooLong, LacksParts, Parses}
+use Rattle.run_core.specs.Lines.{BreaksLine, HasFront, HasParts, IsCut, IsLineRefused, IsSound, Parts, line_faults, line_limit, name_limit}
+use Rattle.run_core.specs.Private.Lines.{HasSoundParts, IsCutOrWhole, IsGoodName, IsNamed, IsTooLong}
 use Rattle.run_core.specs.declared.line.Kind.{Kind}
 use Rattle.run_core.specs.declared.line.Kind.TheVariants.{Batch, Check, Audit}
-use Rattle.run_core.specs.declared.line.Line.{Line}
 use Rattle.run_core.specs.declared.line.LineFault.{LineFault}
 use Rattle.run_core.specs.declared.line.LineFault.TheVariants.{LineTooLong, NoName, NameTooLong, NoPassword, Password, Setting, OverBudget}
-use Rattle.run_core.specs.declared.line.Task.{Task}
-use Rattle.run_core.specs.declared.line.Task.TheVariants as tasks
 use Rattle.crypt_core.proofs.FirstBroken.{first_breaks, first_mapped, first_unique}
 use Rattle.run_core.proofs.OneCut.{cut_unique, cut_has_colon, name_unique, parts_unique}
 
@@ -73,22 +70,15 @@ refused_for_long_name kind line name back short cut long =
 
 -- ---- parts
 
--- the parts of a line, by what follows its name
-parts_from_behind : (kind : Kind) (line name : List ℕ) (back field : Option (List ℕ)) (password : List ℕ) → IsCutOrWhole line name back
-    → HasBehind kind back field password → HasParts kind line (record { name = name; field = field; password = password })
-parts_from_behind Batch line name back field password cut behind = (subst (IsCutOrWhole line name) behind.0 cut, behind.1)
-parts_from_behind Check line name back field password cut behind =
-    (behind.1, behind.0, subst (IsCutOrWhole line name) behind.2 cut, behind.3, behind.4)
-parts_from_behind Audit line name back field password cut behind =
-    (behind.1, behind.0, subst (IsCutOrWhole line name) behind.2 cut, behind.3, behind.4, behind.5)
+-- a line without a colon has none
+pub no_parts_uncut : (kind : Kind) (line : List ℕ) → ¬ Contains line colon → (parts : Parts) → HasParts kind line parts → ⊥
+no_parts_uncut Batch line uncut parts cut = uncut (cut_has_colon line parts.name parts.password cut.0)
+no_parts_uncut kind line uncut parts cut = uncut (cut_has_colon line parts.name cut.1 cut.2)
 
-has_no_parts : (kind : Kind) (line name : List ℕ) (back : Option (List ℕ)) → IsCutOrWhole line name back → LacksParts kind back
-    → (parts : Parts) → HasParts kind line parts → ⊥
-has_no_parts Batch line name None whole lacks parts cut = whole.1 (subst (λ (bytes : List ℕ). Contains bytes colon) whole.0 (cut_has_colon line parts.name parts.password cut.0))
-has_no_parts kind line name None whole lacks parts cut = whole.1 (subst (λ (bytes : List ℕ). Contains bytes colon) whole.0 (cut_has_colon line parts.name cut.1 cut.2))
-has_no_parts Check line name (Some back) first lacks parts cut =
-    lacks (subst (λ (bytes : List ℕ). Contains bytes colon) (sym (cut_unique first cut.2).1) (cut_has_colon cut.1 cut.0 parts.password cut.3))
-has_no_parts kind line name (Some back) first lacks parts cut = lacks
+-- nor has a line to check without a second one
+pub no_parts_cut_once : (line name back : List ℕ) → IsCut line name back → ¬ Contains back colon → (parts : Parts) → HasParts Check line parts → ⊥
+no_parts_cut_once line name back first uncut parts cut =
+    uncut (subst (λ (bytes : List ℕ). Contains bytes colon) (sym (cut_unique first cut.2).1) (cut_has_colon cut.1 cut.0 parts.password cut.3))
 
 -- ---- the rules before that of the field
 
@@ -99,41 +89,36 @@ pub record IsEntry (kind : Kind) (line : List ℕ) (parts : Parts) : Type 0 wher
   pub cut : HasParts kind line parts
   pub password : IsPassword parts.password
 
-abbrev IsFieldRefused : List ℕ → SettingFault → Type 0
+abbrev pub IsFieldRefused : List ℕ → SettingFault → Type 0
 IsFieldRefused field fault = IsStored field × IsRefused field fault
 
-pub refused_without_parts : (kind : Kind) (line name : List ℕ) (back : Option (List ℕ)) → IsNamed line name back → LacksParts kind back
+pub refused_without_parts : (kind : Kind) (line : List ℕ) → IsNamed line → ((parts : Parts) → ¬ HasParts kind line parts)
     → IsLineRefused kind line NoPassword
-refused_without_parts kind line name back named lacks =
-    refused_after_name kind line name named.short named.good (name_of_cut line name back named.cut) NoPassword
-    (inl (refl, has_no_parts kind line name back named.cut lacks))
+refused_without_parts kind line named lacks =
+    refused_after_name kind line named.name named.short named.good named.front NoPassword (inl (refl, lacks))
 
 -- a password gets one refusal at most, which is that of its first broken rule
 first_of_password : (bytes : List ℕ) (fault : PasswordFault) → IsPasswordRefused bytes fault → IsFirstBroken password_faults (IsPasswordRefused bytes) fault
 first_of_password bytes TooLong refused = inl (refl, refused)
 first_of_password bytes HasNul refused = inr ((λ long. omega (arith, long, refused.0)), inl (refl, refused))
 
-pub refused_password : (kind : Kind) (line name : List ℕ) (back field : Option (List ℕ)) (password : List ℕ) (fault : PasswordFault)
-    → IsNamed line name back → HasBehind kind back field password → IsPasswordRefused password fault
+pub refused_password : (kind : Kind) (line : List ℕ) (parts : Parts) (fault : PasswordFault)
+    → IsNamed line → HasParts kind line parts → IsPasswordRefused parts.password fault
     → IsLineRefused kind line (Password fault)
-refused_password kind line name back field password fault named behind refused =
-    let parts : Parts = record { name = name; field = field; password = password } in
-    let cut = parts_from_behind kind line name back field password named.cut behind in
-    refused_after_name kind line name named.short named.good (name_of_cut line name back named.cut) (Password fault) (inr (
+refused_password kind line parts fault named cut refused =
+    refused_after_name kind line named.name named.short named.good named.front (Password fault) (inr (
       (λ lacks. lacks parts cut),
-      first_mapped Password password_faults (map Setting setting_faults) (λ broken. BreaksLine kind broken line) (IsPasswordRefused password)
+      first_mapped Password password_faults (map Setting setting_faults) (λ broken. BreaksLine kind broken line) (IsPasswordRefused parts.password)
           (λ own breaks. (parts, cut, breaks))
           (λ own breaks. subst (λ (p : Parts). IsPasswordRefused p.password own) (parts_unique kind line breaks.0 parts breaks.1 cut) breaks.2)
-          fault (first_of_password password fault refused),
+          fault (first_of_password parts.password fault refused),
     ))
 
-pub entry_from_behind : (kind : Kind) (line name : List ℕ) (back field : Option (List ℕ)) (password : List ℕ) → IsNamed line name back
-    → HasBehind kind back field password → IsPassword password
-    → IsEntry kind line (record { name = name; field = field; password = password })
-entry_from_behind kind line name back field password named behind is_password = record {
+pub entry_of : (kind : Kind) (line : List ℕ) (parts : Parts) → IsNamed line → HasParts kind line parts → IsPassword parts.password → IsEntry kind line parts
+entry_of kind line parts named cut is_password = record {
   short = named.short;
-  good = named.good;
-  cut = parts_from_behind kind line name back field password named.cut behind;
+  good = subst IsGoodName (name_unique line named.name parts.name named.front (name_of_parts kind line parts cut)) named.good;
+  cut = cut;
   password = is_password;
 }
 
@@ -174,9 +159,8 @@ sound_entry kind line parts entry right fault breaks = go fault breaks
         right fault refused.0 breaks.0 refused.1 refused.2
     go OverBudget breaks = breaks
 
-pub taken_without_field : (kind : Kind) (line : List ℕ) (parts : Parts) → IsEntry kind line parts → parts.field ≡ None → HasSoundParts kind line parts
-taken_without_field kind line parts entry none =
-    record { sound = sound_entry kind line parts entry (λ fault field unaudited some refused. cc); cut = entry.cut }
+pub sound_without_field : (kind : Kind) (line : List ℕ) (parts : Parts) → IsEntry kind line parts → parts.field ≡ None → IsSound kind line
+sound_without_field kind line parts entry none = sound_entry kind line parts entry (λ fault field unaudited some refused. cc)
 
 -- a field that was read is not refused
 read_field : (field : List ℕ) (stored : StoredField) → IsReadOneWay field → IsFieldReading field (Ok stored) → (fault : SettingFault) → IsFieldRefused field fault → ⊥
@@ -187,19 +171,19 @@ read_field field (Hash stored) one read fault refused =
     let both : Ok stored.setting ≡ Err fault = one (Ok stored.setting) (Err fault) read.1.spells refused.1 in
     absurd cc
 
-pub taken_with_field : (kind : Kind) (line : List ℕ) (parts : Parts) (field : List ℕ) (stored : StoredField) → IsEntry kind line parts → parts.field ≡ Some field
-    → IsReadOneWay field → IsFieldReading field (Ok stored) → HasSoundParts kind line parts
-taken_with_field kind line parts field stored entry is one read = record {
-  sound = sound_entry kind line parts entry (λ fault other unaudited some refused.
-      let same : other ≡ field = cc in
-      read_field field stored one read fault (subst IsStored same refused.0, subst (λ (bytes : List ℕ). IsRefused bytes fault) same refused.1));
-  cut = entry.cut;
-}
+pub sound_with_field : (kind : Kind) (line : List ℕ) (parts : Parts) (field : List ℕ) (stored : StoredField) → IsEntry kind line parts → parts.field ≡ Some field
+    → IsReadOneWay field → IsFieldReading field (Ok stored) → IsSound kind line
+sound_with_field kind line parts field stored entry is one read = sound_entry kind line parts entry (λ fault other unaudited some refused.
+    let same : other ≡ field = cc in
+    read_field field stored one read fault (subst IsStored same refused.0, subst (λ (bytes : List ℕ). IsRefused bytes fault) same refused.1))
 
--- the field of a line to audit breaks no rule of the line
-pub taken_to_audit : (kind : Kind) (line : List ℕ) (parts : Parts) → kind ≡ Audit → IsEntry kind line parts → HasSoundParts kind line parts
-taken_to_audit kind line parts audited entry =
-    record { sound = sound_entry kind line parts entry (λ fault other unaudited some refused. absurd (unaudited audited)); cut = entry.cut }
+-- a line to audit has no password, and its field breaks no rule of the line
+pub sound_to_audit : (kind : Kind) (line : List ℕ) (parts : Parts) → kind ≡ Audit → IsNamed line → HasParts kind line parts → IsSound kind line
+sound_to_audit Audit line parts audited named cut =
+    let is_password = subst IsPassword (sym cut.5) (omega arith, λ some. omega (arith, some.1)) in
+    sound_entry Audit line parts (entry_of Audit line parts named cut is_password) (λ fault other unaudited some refused. absurd (unaudited refl))
+sound_to_audit Batch line parts audited named cut = absurd cc
+sound_to_audit Check line parts audited named cut = absurd cc
 
 -- the first rule that its field breaks as a setting is the first that an entry breaks
 pub refused_field : (kind : Kind) (line : List ℕ) (parts : Parts) (field : List ℕ) (fault : SettingFault) → kind ≢ Audit → IsEntry kind line parts
@@ -234,46 +218,6 @@ pub sound_not_refused : (kind : Kind) (line : List ℕ) (fault : LineFault) → 
 unfolding IsLineRefused
 sound_not_refused kind line fault sound refused = sound fault (first_breaks line_faults (λ broken. BreaksLine kind broken line) fault refused)
 
--- ---- a line, by its name and what follows it
-
-pub parsed : (kind : Kind) (line : List ℕ) (name : List ℕ) (back : Option (List ℕ)) (task : Task) → IsNamed line name back → IsTaskReading kind back (Ok task)
-    → HasTask kind line name task
-parsed kind line name back (tasks.Password password None) named (unaudited, None, behind, is_password, field_of) = record {
-  unaudited = unaudited;
-  field = None;
-  taken = taken_without_field kind line _ (entry_from_behind kind line name back None password named behind is_password) refl;
-  field_of = tt;
-}
-parsed kind line name back (tasks.Password password None) named (unaudited, Some field, behind, is_password, field_of) = absurd field_of
-parsed kind line name back (tasks.Password password (Some stored)) named (unaudited, None, behind, is_password, field_of) = absurd field_of
-parsed kind line name back (tasks.Password password (Some stored)) named (unaudited, Some field, behind, is_password, field_of) = record {
-  unaudited = unaudited;
-  field = Some field;
-  taken = taken_with_field kind line _ field stored (entry_from_behind kind line name back (Some field) password named behind is_password) refl field_of.1 field_of.0;
-  field_of = field_of;
-}
-parsed kind line name back (tasks.Audit field) named (audited, behind) =
-    (audited, taken_to_audit kind line _ audited (entry_from_behind kind line name back (Some field.now) [] named behind (omega arith, λ some. omega (arith, some.1))))
-
-pub refused_parsing : (kind : Kind) (line : List ℕ) (name : List ℕ) (back : Option (List ℕ)) (fault : LineFault) → IsNamed line name back
-    → IsTaskReading kind back (Err fault) → IsLineRefused kind line fault
-refused_parsing kind line name back NoPassword named lacks = refused_without_parts kind line name back named lacks
-refused_parsing kind line name back (Password fault) named (field, password, behind, refused) =
-    refused_password kind line name back field password fault named behind refused
-refused_parsing kind line name back (Setting fault) named (unaudited, field, password, behind, is_password, stored, refused) =
-    refused_field kind line _ field fault unaudited (entry_from_behind kind line name back (Some field) password named behind is_password) refl (stored, refused)
-refused_parsing kind line name back fault named never = absurd never
-
--- a parser that finds a refusal finds the only one
-pub refused_once : (kind : Kind) (line : List ℕ) (result : Result Line LineFault) (fault : LineFault) → Parses kind line result
-    → IsLineRefused kind line fault → result ≡ Err fault
-refused_once kind line (Err other) fault refused also = ap Err (refusal_unique kind line other fault refused also)
-refused_once kind line (Ok found) fault parses refused = absurd (go found.task parses)
-  where
-    go : (task : Task) → HasTask kind line found.name.now task → ⊥
-    go (tasks.Password password stored) is = sound_not_refused kind line fault is.taken.sound refused
-    go (tasks.Audit field) is = sound_not_refused kind line fault is.1.sound refused
-
 -- ---- a line that is too long
 
 -- it is refused, whatever its bytes are
@@ -283,6 +227,16 @@ too_long-refused kind line long = inl (refl, long)
 
 -- ---- a line that breaks no rule
 
+-- its password and its field are right
+pub sound_password : (kind : Kind) (line : List ℕ) (parts : Parts) (fault : PasswordFault) → HasSoundParts kind line parts
+    → ¬ IsPasswordRefused parts.password fault
+sound_password kind line parts fault taken refused = taken.sound (Password fault) (parts, taken.cut, refused)
+
+pub sound_field : (kind : Kind) (line : List ℕ) (parts : Parts) (field : List ℕ) (fault : SettingFault) → HasSoundParts kind line parts → kind ≢ Audit
+    → parts.field ≡ Some field → ¬ IsFieldRefused field fault
+sound_field kind line parts field fault taken unaudited is refused =
+    taken.sound (Setting fault) (unaudited, parts, field, taken.cut, is, refused.0, refused.1)
+
 -- its password is short
 pub sound_short : (kind : Kind) (line : List ℕ) (parts : Parts) → IsSound kind line → HasParts kind line parts → length parts.password ≤ password_limit
 sound_short kind line parts sound has = elim (cases_order (length parts.password) password_limit) [
@@ -290,5 +244,15 @@ sound_short kind line parts sound has = elim (cases_order (length parts.password
   | inr other ↦ elim other [
     | inl below ↦ omega (arith, below)
     | inr above ↦ absurd (sound (Password TooLong) (parts, has, above))
+  ]
+]
+
+-- and so is its name
+pub sound_name : (kind : Kind) (line : List ℕ) (parts : Parts) → HasSoundParts kind line parts → length parts.name ≤ name_limit
+sound_name kind line parts taken = elim (cases_order (length parts.name) name_limit) [
+  | inl same ↦ omega (arith, same)
+  | inr other ↦ elim other [
+    | inl below ↦ omega (arith, below)
+    | inr above ↦ absurd (taken.sound NameTooLong (parts.name, name_of_parts kind line parts taken.cut, above))
   ]
 ]

@@ -1,32 +1,31 @@
 //! Outcomes of passwords and lines, and the output line of each. An outcome is a value; its line is rendered once,
 //! after all work is done.
-ghost use Rattle.std.specs.Prelude.{◌≡◌, ℕ, List, decimal, ◌+◌, ◌*◌, ◌<◌, ◌≤◌, ◌++◌, ◌↔◌, [], IsTrue, length, Ok, IfOk, OnOk, OnErr};
+ghost use Rattle.std.specs.Prelude.{◌≡◌, ℕ, List, decimal, ◌+◌, ◌*◌, ◌<◌, ◌≤◌, ◌++◌, [], length, Some, None, Ok, IfOk, OnOk, OnErr};
 ghost use Rattle.arrayvec.specs.ArrayVec.{array_vec_len};
 ghost use Rattle.crypt_core.specs.Crypt.{IsAfterRefusedGrowth};
-ghost use Rattle.crypt_core.specs.Passwords.{password_limit};
 ghost use Rattle.crypt_core.specs.Work.{raised_by, work, work_limit};
 ghost use Rattle.prims_core.specs.Meter.{HasRoom};
 ghost use Rattle.prims_core.specs.Work.{IsWithin};
 ghost use Rattle.run_core.specs.Answers.{Answer, is_misfit, new_hash, rendered, shows_work, work_text};
 ghost use Rattle.run_core.specs.Audits.{finding_text, rounds_text};
-ghost use Rattle.crypt_core.specs.Standings.{IsAbove};
 ghost use Rattle.run_core.specs.LineAnswers.{refusal};
 ghost use Rattle.run_core.specs.Lines.{name_limit};
 ghost use Rattle.run_core.specs.Makers.{bytes_of, next_setting, stream_after};
-ghost use Rattle.run_core.specs.Private.Answers.{Decides, IsRaisedBelow, Renders, Settles, count_text, field_cost, front_by, wanted_text};
+ghost use Rattle.run_core.specs.Private.Answers.{Concludes, Decides, IsRaisedBelow, Renders, Settles, count_text, front_by, wanted_text};
 ghost use Rattle.run_core.specs.Private.Headroom.{HasCountsForLine, answer_limit, count_limit, finding_limit, front_limit, line_work_limit, number_limit, rounds_limit};
-ghost use Rattle.run_core.specs.Private.Lines.{Represents};
+ghost use Rattle.run_core.specs.Private.Lines.{AreSound, HasSoundParts, Represents, parts_of};
 ghost use Rattle.run_core.specs.Texts.{as_line};
+ghost use Rattle.crypt_core.specs.declared.stored.StoredField.TheVariants.{Hash};
 
 use crate::audit::{Finding, audit, standing_text};
 use crate::job::Job;
-use crate::line::{Kind, LineFault, NAME_LIMIT, Task, parse_line};
+use crate::line::{Kind, LineFault, NAME_LIMIT, Parts, inspect};
 use crate::reader::buffer::LineBuffer;
 use arrayvec::ArrayVec;
 use crypt_core::hash::{HASH_LIMIT, HashFault, Hashed, hash};
 use crypt_core::password::Password;
 use crypt_core::scheme::Scheme;
-use crypt_core::stored::StoredField;
+use crypt_core::stored::{StoredField, StoredHash};
 use crypt_core::work::cost;
 use itoa::Buffer;
 use prims_core::meter::{Meter, Work};
@@ -104,9 +103,9 @@ pub(crate) struct Answered<'a> {
 
 /// Decides the answer to a line, or the reason for its refusal.
 ///
-/// It refuses a line that breaks a rule, or that can cost more than the budget, before it hashes anything. It draws
-/// three random numbers for a salt that it makes; for a rehash it draws them after the verdict. An audit hashes and draws
-/// nothing, and refuses no line for its cost.
+/// It refuses a line that breaks a rule ([`inspect`]), or that can cost more than the budget, before it hashes anything.
+/// It draws three random numbers for a salt that it makes; for a rehash it draws them after the verdict. An audit hashes
+/// and draws nothing, and refuses no line for its cost.
 ///
 /// # Errors
 ///
@@ -125,90 +124,111 @@ pub(crate) fn answer_line<'a, R: Rng>(
     ensures short { IfOk result (λ answer. IfOk answer (λ answered. length answered.name.now ≤ name_limit)) }
     ensures small { IsRaisedBelow line_work_limit meter.old meter.new }
 {
-    let line = match parse_line(kind, line) {
-        Ok(line) => line,
+    let LineBuffer::Bytes(bytes) = line else {
+        return Ok(Err(LineFault::LineTooLong));
+    };
+    let bytes = bytes.as_slice();
+    if let Some(fault) = inspect(kind, bytes) {
+        return Ok(Err(fault));
+    }
+    // A line that breaks no rule has its parts.
+    let parts = Parts::of(kind, bytes).unwrap();
+    let before = meter.reading();
+    let outcome = match outcome_of(alloc, kind, job, &parts, rng, meter)? {
+        Ok(outcome) => outcome,
         Err(fault) => return Ok(Err(fault)),
     };
-    let (password, field) = match &line.task {
-        Task::Password(password, field) => (password, field),
-        Task::Audit(field) => {
-            return Ok(Ok(Answered {
-                name: line.name,
-                outcome: Outcome::Audited(audit(job, field)),
-                work: NO_WORK,
-            }));
-        }
-    };
-    if is_over_budget(job, password, field) {
-        return Ok(Err(LineFault::OverBudget));
-    }
-    let before = meter.reading();
-    let outcome = outcome_of(alloc, job, password, field, rng, meter)?;
     Ok(Ok(Answered {
-        name: line.name,
+        name: parts.name,
         outcome,
         work: meter.work_since(&before),
     }))
 }
 
-// Returns whether the line can cost more than the budget.
-fn is_over_budget(job: &Job, password: &Password, field: &Option<StoredField<'_>>) -> bool
-    requires { length password.now ≤ password_limit }
-    ensures { IsTrue result ↔ IsAbove job.now.budget (field_cost job.now field.now (length password.now)) }
+// Returns the outcome of a line that breaks no rule, or refuses it for its cost. Its password and its field are valid.
+fn outcome_of<R: Rng>(
+    alloc: Global,
+    kind: Kind,
+    job: &Job,
+    parts: &Parts<'_>,
+    rng: &mut R,
+    meter: &mut Meter,
+) -> Result<Result<Outcome, LineFault>, HashFault>
+    requires counts { HasCountsForLine meter.old }
+    requires sound { AreSound kind (parts_of parts.now) }
+    ensures settles { (line : List ℕ) → HasSoundParts kind line (parts_of parts.now)
+        → Concludes kind job.now line parts.now.name.now (R.stream rng.old) meter.old meter.new (R.stream rng.new) result }
+    ensures rises { IsWithin meter.old meter.new }
+    ensures small { IsRaisedBelow line_work_limit meter.old meter.new }
 {
-    job.is_exceeded_by(cost_of(job, password, field))
-}
-
-// Returns the greatest cost of the hashes for the line.
-fn cost_of(job: &Job, password: &Password, field: &Option<StoredField<'_>>) -> u64
-    requires { length password.now ≤ password_limit }
-    ensures { result ≡ field_cost job.now field.now (length password.now) }
-{
-    let password_len = password.bytes().len();
-    match field {
-        None => job.maker.cost(password_len),
-        Some(StoredField::Empty | StoredField::Locked) => 0,
-        Some(StoredField::Hash(stored)) => {
-            let old = cost(stored.setting(), password_len);
-            if job.renews(stored) {
-                old + job.maker.cost(password_len)
-            } else {
-                old
-            }
+    let Some(field) = parts.field else {
+        let password = Password::new(parts.password).unwrap();
+        return hash_within_budget(alloc, job, &password, rng, meter);
+    };
+    if kind == Kind::Audit {
+        return Ok(Ok(Outcome::Audited(audit(job, field))));
+    }
+    match StoredField::read(field).unwrap() {
+        StoredField::Empty => Ok(Ok(Outcome::NoHash)),
+        StoredField::Locked => Ok(Ok(Outcome::Locked)),
+        StoredField::Hash(stored) => {
+            let password = Password::new(parts.password).unwrap();
+            check_within_budget(alloc, job, &stored, &password, rng, meter)
         }
     }
 }
 
-// Returns the outcome of a valid line within the budget. Without a field it hashes the password. With a stored hash it
-// compares the password with that, and rehashes a matching password if the setting is out of date.
-fn outcome_of<R: Rng>(
+// Hashes the password, unless that can cost more than the budget.
+fn hash_within_budget<R: Rng>(
     alloc: Global,
     job: &Job,
     password: &Password,
-    field: &Option<StoredField<'_>>,
     rng: &mut R,
     meter: &mut Meter,
-) -> Result<Outcome, HashFault>
-    requires { HasCountsForLine meter.old }
-    ensures settles { Settles job.now password.now field.now (R.stream rng.old) meter.old meter.new (R.stream rng.new) result }
+) -> Result<Result<Outcome, LineFault>, HashFault>
+    requires counts { HasCountsForLine meter.old }
+    ensures settles { Settles job.now password.now None (R.stream rng.old) meter.old meter.new (R.stream rng.new) result }
     ensures rises { IsWithin meter.old meter.new }
     ensures small { IsRaisedBelow line_work_limit meter.old meter.new }
 {
-    let Some(field) = field else {
-        return Ok(Outcome::Hashed(make_hash(alloc, job, password, rng, meter)?));
+    if job.is_exceeded_by(job.maker.cost(password.bytes().len())) {
+        return Ok(Err(LineFault::OverBudget));
+    }
+    Ok(Ok(Outcome::Hashed(make_hash(alloc, job, password, rng, meter)?)))
+}
+
+// Compares the password with its stored hash, and rehashes a matching one if the setting is out of date. It does neither
+// if both can cost more than the budget.
+fn check_within_budget<R: Rng>(
+    alloc: Global,
+    job: &Job,
+    stored: &StoredHash<'_>,
+    password: &Password,
+    rng: &mut R,
+    meter: &mut Meter,
+) -> Result<Result<Outcome, LineFault>, HashFault>
+    requires counts { HasCountsForLine meter.old }
+    ensures settles { Settles job.now password.now (Some (Hash stored.now)) (R.stream rng.old) meter.old meter.new (R.stream rng.new) result }
+    ensures rises { IsWithin meter.old meter.new }
+    ensures small { IsRaisedBelow line_work_limit meter.old meter.new }
+{
+    let password_len = password.bytes().len();
+    let is_outdated = job.renews(stored);
+    let new_cost = if is_outdated {
+        job.maker.cost(password_len)
+    } else {
+        0
     };
-    let stored = match field {
-        StoredField::Empty => return Ok(Outcome::NoHash),
-        StoredField::Locked => return Ok(Outcome::Locked),
-        StoredField::Hash(stored) => stored,
-    };
+    if job.is_exceeded_by(cost(stored.setting(), password_len) + new_cost) {
+        return Ok(Err(LineFault::OverBudget));
+    }
     if !stored.fits(&alloc, password, meter)? {
-        return Ok(Outcome::Misfit);
+        return Ok(Ok(Outcome::Misfit));
     }
-    if !job.renews(stored) {
-        return Ok(Outcome::Match);
+    if !is_outdated {
+        return Ok(Ok(Outcome::Match));
     }
-    Ok(Outcome::Rehashed(make_hash(alloc, job, password, rng, meter)?))
+    Ok(Ok(Outcome::Rehashed(make_hash(alloc, job, password, rng, meter)?)))
 }
 
 /// Hashes a password with the next setting of the job.

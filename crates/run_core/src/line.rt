@@ -1,15 +1,13 @@
 //! Lines of an input, `name:password` to hash, `name:field:password` to check or `name:field` to audit, and the first
 //! rule that a line breaks.
-ghost use Rattle.std.specs.Prelude.{◌≡◌, ℕ, ◌≤◌, List, length, Some, IfSome, IfNone, MatchOption, IfOk, IfErr, Contains};
-ghost use Rattle.run_core.specs.Lines.{IsCut, IsLineRefused, IsSound, name_limit};
+ghost use Rattle.std.specs.Prelude.{◌≡◌, ℕ, List, Some, IfSome, IfNone, MatchOption, IfOk, IfErr, Contains};
+ghost use Rattle.run_core.specs.Lines.{HasParts, IsCut, IsLineRefused, IsSound, Parts as LineParts};
 ghost use Rattle.run_core.specs.Texts.{colon};
 ghost use Rattle.run_core.specs.Makers.{bytes_of};
-ghost use Rattle.run_core.specs.Private.Lines.{IsCutOrWhole, IsNamed, IsTaskReading, Parses, Represents};
+ghost use Rattle.run_core.specs.Private.Lines.{IsCutOrWhole, IsNamed, parts_of};
 ghost use Rattle.run_core.specs.declared.line.Kind.{Kind as LineKind};
 ghost use Rattle.run_core.specs.declared.line.LineFault.{LineFault as Refusal};
 
-use crate::reader::buffer::LineBuffer;
-use arrayvec::ArrayVec;
 use crypt_core::password::{Password, PasswordFault};
 use crypt_core::setting::SettingFault;
 use crypt_core::stored::StoredField;
@@ -104,79 +102,86 @@ pub fn inspect(kind: Kind, line: &[u8]) -> Option<LineFault>
     ensures refused { IfSome result (IsLineRefused kind line.now) }
     ensures each_refusal { (fault : Refusal) → IsLineRefused kind line.now fault → result ≡ Some fault }
 {
-    let mut buffer = LineBuffer::new();
-    buffer.append(line);
-    parse_line(kind, &buffer).err()
+    check(kind, line).err()
 }
 
-/// A line that breaks no rule: its name, and what is to be done.
-#[derive(Drop)]
-pub(crate) struct Line<'a> {
-    pub(crate) name: &'a [u8],
-    pub(crate) task: Task<'a>,
-}
-
-/// What is to be done with a line.
-#[derive(Drop)]
-pub(crate) enum Task<'a> {
-    /// Hash the password, or check it against the stored field. Only a line to check has one.
-    Password(Password, Option<StoredField<'a>>),
-    /// Audit the field.
-    Audit(&'a [u8]),
-}
-
-/// Reads a line, given without its line feed.
-///
-/// # Errors
-///
-/// - The first rule that the line breaks, but never `OverBudget`.
-pub(crate) fn parse_line(kind: Kind, line: &LineBuffer) -> Result<Line<'_>, LineFault>
-    ensures parses { (text : List ℕ) → Represents line.now text → Parses kind text result }
-    ensures short { IfOk result (λ line. length line.name.now ≤ name_limit) }
+// Checks the rules of a line in their order.
+fn check(kind: Kind, line: &[u8]) -> Result<(), LineFault>
+    ensures sound { IfOk result (λ _. IsSound kind line.now) }
+    ensures refused { IfErr result (IsLineRefused kind line.now) }
 {
-    let LineBuffer::Bytes(bytes) = line else {
-        return Err(LineFault::LineTooLong);
+    check_name(line)?;
+    let Some(parts) = Parts::of(kind, line) else {
+        return Err(LineFault::NoPassword);
     };
-    let (name, back) = name_of(bytes)?;
-    let task = task_of(kind, back)?;
-    Ok(Line { name, task })
+    if kind == Kind::Audit {
+        return Ok(());
+    }
+    Password::new(parts.password)?;
+    let Some(field) = parts.field else {
+        return Ok(());
+    };
+    StoredField::read(field)?;
+    Ok(())
 }
 
-// Returns the name, and what follows its colon if there is one.
-fn name_of(line: &ArrayVec<u8, LINE_LIMIT>) -> Result<(&[u8], Option<&[u8]>), LineFault>
-    ensures named { IfOk result (λ x. IsNamed line.now.items x.0.now (bytes_of x.1)) }
-    ensures refused { IfErr result (λ fault. (kind : LineKind) → IsLineRefused kind line.now.items fault) }
+// Checks the length of a line, and its name.
+fn check_name(line: &[u8]) -> Result<(), LineFault>
+    ensures named { IfOk result (λ _. IsNamed line.now) }
+    ensures refused { IfErr result (λ fault. (kind : LineKind) → IsLineRefused kind line.now fault) }
 {
-    let (name, back) = cut_front(line.as_slice());
+    if line.len() > LINE_LIMIT {
+        return Err(LineFault::LineTooLong);
+    }
+    let (name, _) = cut_front(line);
     if name.is_empty() {
         return Err(LineFault::NoName);
     }
     if name.len() > NAME_LIMIT {
         return Err(LineFault::NameTooLong);
     }
-    Ok((name, back))
+    Ok(())
 }
 
-// Reads what is to be done, from what follows the name's colon.
-fn task_of(kind: Kind, back: Option<&[u8]>) -> Result<Task<'_>, LineFault>
-    ensures { IsTaskReading kind (bytes_of back.entry) result }
-{
-    let Some(back) = back else {
-        return Err(LineFault::NoPassword);
-    };
-    match kind {
-        Kind::Batch => Ok(Task::Password(Password::new(back)?, None)),
-        Kind::Check => {
-            let Some((field, password)) = cut(back) else {
-                return Err(LineFault::NoPassword);
-            };
-            let password = Password::new(password)?;
-            let field = StoredField::read(field)?;
-            Ok(Task::Password(password, Some(field)))
-        }
-        Kind::Audit => {
-            let (field, _) = cut_front(back);
-            Ok(Task::Audit(field))
+/// The parts of a line, which colons separate.
+#[derive(Drop)]
+pub(crate) struct Parts<'a> {
+    pub(crate) name: &'a [u8],
+    /// The field to check or to audit. A line to hash has none.
+    pub(crate) field: Option<&'a [u8]>,
+    /// The password. That of a line to audit is empty.
+    pub(crate) password: &'a [u8],
+}
+
+impl<'a> Parts<'a> {
+    /// Splits a line at its first colon, and one to check or to audit at its second. Returns `None` if it lacks one,
+    /// but a line to audit may lack the second.
+    pub(crate) fn of(kind: Kind, line: &'a [u8]) -> Option<Parts<'a>>
+        ensures { MatchOption result ((parts : LineParts) → ¬ HasParts kind line.now parts) (λ parts. HasParts kind line.now (parts_of parts)) }
+    {
+        let (name, back) = cut(line)?;
+        match kind {
+            Kind::Batch => Some(Parts {
+                name,
+                field: None,
+                password: back,
+            }),
+            Kind::Check => {
+                let (field, password) = cut(back)?;
+                Some(Parts {
+                    name,
+                    field: Some(field),
+                    password,
+                })
+            }
+            Kind::Audit => {
+                let (field, _) = cut_front(back);
+                Some(Parts {
+                    name,
+                    field: Some(field),
+                    password: b"",
+                })
+            }
         }
     }
 }

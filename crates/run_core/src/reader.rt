@@ -123,7 +123,7 @@ impl LineReader {
         if self.at_end {
             return Ok(false);
         }
-        self.buffer = LineBuffer::new();
+        self.buffer.clear();
         'fetches: while !self.piece.take_line(&mut self.buffer) {
             if !self.piece.fetch(input, left)? {
                 self.at_end = true;

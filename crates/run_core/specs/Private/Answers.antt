@@ -1,5 +1,5 @@
 -- The results of the steps that decide an answer.
-use Rattle.std.specs.Prelude.{◌≡◌, ◌≢◌, Bool, ℕ, ◌+◌, ◌<◌, true, false, List, [], ◌∷◌, ◌++◌, decimal, if◌then◌else◌, Option, Some, None, Result, Ok, Err}
+use Rattle.std.specs.Prelude.{◌≡◌, ◌≢◌, Bool, ℕ, ◌+◌, ◌<◌, true, false, List, [], ◌∷◌, ◌++◌, decimal, length, if◌then◌else◌, Option, Some, None, Result, Ok, Err}
 use Rattle.rand_core.specs.Stream.{Stream}
 use Rattle.prims_core.specs.Work.{no_work}
 use Rattle.prims_core.specs.declared.meter.Work.{Work}
@@ -19,6 +19,8 @@ use Rattle.run_core.specs.declared.answer.Outcome.TheVariants.{Hashed, Match, Re
 use Rattle.run_core.specs.declared.job.Job.{Job}
 use Rattle.run_core.specs.declared.line.Kind.{Kind}
 use Rattle.run_core.specs.declared.line.LineFault.{LineFault}
+use Rattle.run_core.specs.declared.line.LineFault.TheVariants.{OverBudget}
+use Rattle.crypt_core.specs.Standings.{IsAbove}
 use Rattle.run_core.specs.declared.tally.Tally.{Tally}
 use Rattle.run_core.specs.Texts.{colon}
 
@@ -37,12 +39,6 @@ field_cost job None password_length = made_cost_by job.maker password_length
 field_cost job (Some (fields.Hash stored)) password_length = check_cost job stored.setting password_length
 field_cost job (Some other) password_length = 0
 
--- Makes hashings stream before after new_stream result: these hashes were made in order, with their work and their
--- random numbers; or scrypt could not allocate for one of them.
-abbrev pub Makes : List Hashing → Stream → Work → Work → Stream → {A : Type 0} → Result A HashFault → Type 0
-Makes hashings stream before after new_stream (Ok made) = (after ≡ after_work before hashings) × (new_stream ≡ stream_left stream hashings)
-Makes hashings stream before after new_stream (Err fault) = IsRefusedAmong before hashings after new_stream
-
 -- IsChecked job password stored stream hashings outcome: comparing the password with its stored hash has this outcome,
 -- and takes these hashes. If scrypt could not allocate, the outcome is what it would have been.
 abbrev pub IsChecked : Job → List ℕ → StoredHash → Stream → List Hashing → Outcome → Type 0
@@ -56,11 +52,6 @@ IsChecked job password stored stream hashings (Rehashed hash) =
     × (hashings ≡ hashing password stored.setting stream ∷ new_hashing job password stream ∷ [])
 IsChecked job password stored stream hashings outcome = ⊥
 
--- IsResult Is result outcome: `Is` is true of the outcome, which is the result unless scrypt could not allocate.
-abbrev pub IsResult : (Outcome → Type 0) → Result Outcome HashFault → Outcome → Type 0
-IsResult Is (Ok made) outcome = Is outcome × (made ≡ outcome)
-IsResult Is (Err fault) outcome = Is outcome
-
 -- IsSettled job password field stream hashings outcome: the password with this field has this outcome, and takes these
 -- hashes.
 abbrev pub IsSettled : Job → List ℕ → Option StoredField → Stream → List Hashing → Outcome → Type 0
@@ -71,12 +62,31 @@ IsSettled job password (Some fields.Locked) stream hashings outcome = (outcome �
 IsSettled job password (Some (fields.Hash stored)) stream hashings outcome = IsChecked job password stored stream hashings outcome
 
 -- Settles job password field stream before after new_stream result: the step for a password with this field ended with
--- this result.
-abbrev pub Settles : Job → List ℕ → Option StoredField → Stream → Work → Work → Stream → Result Outcome HashFault → Type 0
-Settles job password field stream before after new_stream result =
-    (outcome : Outcome) × (hashings : List Hashing)
-    × IsResult (IsSettled job password field stream hashings) result outcome
-    × Makes hashings stream before after new_stream result
+-- this result. It was refused for its cost, or it has this outcome. If scrypt could not allocate, `outcome` is the one
+-- that it would have had.
+abbrev pub Settles : Job → List ℕ → Option StoredField → Stream → Work → Work → Stream → Result (Result Outcome LineFault) HashFault → Type 0
+Settles job password field stream before after new_stream (Ok (Ok outcome)) =
+    (¬ IsAbove job.budget (field_cost job field (length password)))
+    × (hashings : List Hashing) × IsSettled job password field stream hashings outcome
+    × (after ≡ after_work before hashings) × (new_stream ≡ stream_left stream hashings)
+Settles job password field stream before after new_stream (Ok (Err fault)) =
+    IsAbove job.budget (field_cost job field (length password)) × (fault ≡ OverBudget) × (after ≡ before) × (new_stream ≡ stream)
+Settles job password field stream before after new_stream (Err fault) =
+    (¬ IsAbove job.budget (field_cost job field (length password)))
+    × (outcome : Outcome) × (hashings : List Hashing) × IsSettled job password field stream hashings outcome
+    × IsRefusedAmong before hashings after new_stream
+
+-- Concludes kind job line name stream before after new_stream result: the step for a line with this name, which breaks
+-- no rule, ended with this result, whatever the line's number is.
+abbrev pub Concludes : Kind → Job → List ℕ → List ℕ → Stream → Work → Work → Stream → Result (Result Outcome LineFault) HashFault → Type 0
+Concludes kind job line name stream before after new_stream (Ok (Ok outcome)) =
+    (hashings : List Hashing) × ((number : ℕ) → IsAnswer kind job number line stream (answer_of job name outcome hashings))
+    × (after ≡ after_work before hashings) × (new_stream ≡ stream_left stream hashings)
+Concludes kind job line name stream before after new_stream (Ok (Err fault)) =
+    ((number : ℕ) → IsAnswer kind job number line stream (refusal number fault)) × (after ≡ before) × (new_stream ≡ stream)
+Concludes kind job line name stream before after new_stream (Err fault) =
+    (outcome : Outcome) × (hashings : List Hashing) × ((number : ℕ) → IsAnswer kind job number line stream (answer_of job name outcome hashings))
+    × IsRefusedAmong before hashings after new_stream
 
 -- Renders job number answer next: `next` is the answer with this number that the value stands for. The counts of the
 -- value are those of its hashes.

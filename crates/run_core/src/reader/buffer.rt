@@ -22,6 +22,16 @@ impl LineBuffer {
         LineBuffer::Bytes(ArrayVec::new())
     }
 
+    /// Empties the buffer for the next line. Of the bytes of the last one, none is read again.
+    pub(crate) fn clear(&mut self)
+        ensures { Represents self.new [] }
+    {
+        match self {
+            LineBuffer::Bytes(bytes) => bytes.clear(),
+            LineBuffer::TooLong => *self = LineBuffer::new(),
+        }
+    }
+
     pub(crate) fn is_empty(&self) -> bool
         ensures { (line : List ℕ) → Represents self.now line → IsTrue result ↔ (line ≡ []) }
     {

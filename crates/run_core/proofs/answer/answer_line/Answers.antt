@@ -1,74 +1,53 @@
-use Rattle.std.proofs.Common.{◌≡◌, List, [], length, subst, arith, true≢false, inl, inr, sym, refl, ap, ◌∙◌}
+use Rattle.std.proofs.Common.{◌≡◌, ℕ, List, ap, sym, subst, ◌∙◌, refl, rules, Option, Some, None}
+use Rattle.std.specs.Prelude.{Result, Ok, MatchOption}
+use Rattle.std.specs.Option.{IsSome}
 use Rattle.std.proofs.lemmas.Result.{err_from_is_err_and}
 use Rattle.prims_core.specs.Work.{no_work}
 use Rattle.prims_core.specs.declared.meter.Work.{Work}
 use Rattle.crypt_core.specs.Work.{raised_by}
 use Rattle.run_core.specs.Answers.{Hashing, after_work}
-use Rattle.crypt_core.specs.Standings.{IsAbove}
 use Rattle.run_core.specs.LineAnswers.{answer_of, refusal}
-use Rattle.run_core.specs.Private.Answers.{field_cost}
-use Rattle.run_core.specs.Private.Headroom.{line_work_limit}
+use Rattle.run_core.specs.Lines.{HasParts, Parts}
+use Rattle.run_core.specs.Private.Answers.{Concludes}
+use Rattle.run_core.specs.Private.Lines.{HasSoundParts, Represents, parts_of}
 use Rattle.run_core.specs.declared.answer.Outcome.{Outcome}
-use Rattle.run_core.specs.declared.answer.Outcome.TheVariants.{Audited}
-use Rattle.run_core.specs.Private.Lines.{HasTask}
-use Rattle.run_core.specs.declared.line.LineFault.TheVariants.{OverBudget}
-use Rattle.run_core.proofs.ToldCounts.{after_hashings, small_rise}
-use Rattle.run_core.proofs.LineOutcomes.{audit_answer, costly, decided, password_answer, refused_answer}
+use Rattle.run_core.specs.declared.line.LineFault.{LineFault}
+use Rattle.run_core.specs.declared.line.LineFault.TheVariants.{LineTooLong, NoPassword}
+use Rattle.run_core.specs.declared.reader.buffer.LineBuffer.{LineBuffer}
+use Rattle.run_core.proofs.ToldCounts.{after_hashings}
+use Rattle.run_core.proofs.LineOutcomes.{refused_answer}
+use Rattle.run_core.proofs.LineRules.{sound_name, too_long-refused}
 use Rattle.run_core.proofs.answer.answer_line.Goals as goal
 
-pub returns-in-Err-clause-decides : goal.returns-in-Err-clause-decides
-returns-in-Err-clause-decides g c text stands number =
-    let refused = c.in-Err.ensures.parses text stands in (
-      refusal number c.in-Err.fault,
-      refused_answer c.args.kind c.args.job.now number text (g.R.Rng.stream c.args.rng.now) c.in-Err.fault refused,
+pub returns-in_default-clause-decides : goal.returns-in_default-clause-decides
+returns-in_default-clause-decides g c = λ text stands number.
+    let refused = too_long-refused c.args.kind text (subst (λ (buffer : LineBuffer). Represents buffer text) c.in_default.is stands) in (
+      refusal number LineTooLong,
+      refused_answer c.args.kind c.args.job.now number text (g.R.Rng.stream c.args.rng.now) LineTooLong refused,
       refl,
       refl,
       refl,
     )
 
-pub returns-in-Audit-clause-decides : goal.returns-in-Audit-clause-decides
-returns-in-Audit-clause-decides g c text stands number =
-    let name = c.in-Ok.line.name.now in
-    let read = subst (HasTask c.args.kind text name) c.in-Audit.is (c.in-Ok.ensures.parses text stands) in (
-      answer_of c.args.job.now name (Audited c.audit.result) [],
-      audit_answer c.args.kind c.args.job.now number text (g.R.Rng.stream c.args.rng.now) name c.in-Audit.field.now c.audit.result read.0 read.1 c.audit.ensures,
-      (refl, refl),
-      refl,
-      refl,
-    )
+-- a line that does not lack its parts has some
+has_some : {A : Type 0} (result : Option A) (Lacks : Type 0) (Has : A → Type 0) → MatchOption result Lacks Has → ¬ Lacks → IsSome result
+has_some (Some found) Lacks Has has never = search rules
+has_some None Lacks Has lacks never = absurd (never lacks)
 
-pub returns-then-is_over_budget-clause-decides : goal.returns-then-is_over_budget-clause-decides
-returns-then-is_over_budget-clause-decides g c text stands number =
-    let above = c.is_over_budget.ensures.0 c.if-is_over_budget.true in
-    let line = subst (HasTask c.args.kind text c.in-Ok.line.name.now) c.in-Password.is (c.in-Ok.ensures.parses text stands) in
-    let is_costly = costly c.args.kind c.args.job.now text _ _ _ line above in (
-      refusal number OverBudget,
-      password_answer c.args.kind c.args.job.now number text (g.R.Rng.stream c.args.rng.now) (refusal number OverBudget) line.unaudited (inr (inl (is_costly, refl))),
-      refl,
-      refl,
-      refl,
-    )
-
-pub work_since-requires : goal.work_since-requires
-work_since-requires g c = record {
-  earlier = rw c.reading-before.ensures c.outcome_of.ensures.rises;
-  small = rw c.reading-before.ensures (small_rise line_work_limit c.args.meter.now c.outcome_of.new.meter (omega arith) c.outcome_of.ensures.small);
-}
+pub unwrap-parts-requires : goal.unwrap-parts-requires
+unwrap-parts-requires g c =
+    has_some c.of.result ((parts : Parts) → ¬ HasParts c.args.kind c.as_slice-bytes.result.now parts) _ c.of.ensures
+    (c.in_default-inspect.ensures.sound NoPassword)
 
 pub returns-in_err-outcome-clause-decides : goal.returns-in_err-outcome-clause-decides
-returns-in_err-outcome-clause-decides g c text stands =
-    let stream = g.R.Rng.stream c.args.rng.now in
+returns-in_err-outcome-clause-decides g c = λ text stands.
+    let is : c.in-Bytes.bytes.items ≡ text = subst (λ (buffer : LineBuffer). Represents buffer text) c.in-Bytes.is stands in
+    let parts = parts_of c.unwrap-parts.result in
+    let taken : HasSoundParts c.args.kind c.as_slice-bytes.result.now parts =
+    record { sound = c.in_default-inspect.ensures.sound; cut = rw c.unwrap-parts.ensures at c.of.ensures } in
     let p = err_from_is_err_and c.from_residual.result c.from_residual.ensures.1 in
-    let settles = c.in_err-outcome.ensures.settles in
-    let line = subst (HasTask c.args.kind text c.in-Ok.line.name.now) c.in-Password.is (c.in-Ok.ensures.parses text stands) in
-    let within : ¬ IsAbove c.args.job.now.budget (field_cost c.args.job.now c.in-Password.field (length c.in-Password.password)) =
-    λ above. true≢false (sym (c.is_over_budget.ensures.1 above) ∙ c.if-is_over_budget.false) in
-    rw p.1 (λ number. (
-      answer_of c.args.job.now c.in-Ok.line.name.now settles.0 settles.1,
-      password_answer c.args.kind c.args.job.now number text stream _ line.unaudited
-          (decided c.args.kind c.args.job.now number text stream _ _ _ settles.1 settles.0 line within settles.2),
-      settles.3,
-    ))
+    let ends = c.in_err-outcome.ensures.settles text (subst (λ (t : List ℕ). HasSoundParts c.args.kind t parts) (c.as_slice-bytes.ensures.value ∙ is) taken) in
+    rw p.1 (λ number. (answer_of c.args.job.now parts.name ends.0 ends.1, ends.2 number, ends.3))
 
 -- the work that is told is that of the hashes
 told_work : (before after reading told : Work) (hashings : List Hashing) → after ≡ after_work before hashings → reading ≡ before
@@ -77,21 +56,30 @@ told_work before after reading told hashings made read raised =
     sym (raised (after_work no_work hashings) (made ∙ (after_hashings before hashings ∙ ap (λ (w : Work). raised_by w (after_work no_work hashings)) (sym read))))
 
 pub returns-clause-decides : goal.returns-clause-decides
-returns-clause-decides g c text stands number =
+returns-clause-decides g c = λ text stands number.
     let job = c.args.job.now in
-    let name = c.in-Ok.line.name.now in
     let stream = g.R.Rng.stream c.args.rng.now in
-    let settles = c.in_ok-outcome.ensures.settles in
-    let line = subst (HasTask c.args.kind text name) c.in-Password.is (c.in-Ok.ensures.parses text stands) in
-    let within : ¬ IsAbove job.budget (field_cost job c.in-Password.field (length c.in-Password.password)) =
-    λ above. true≢false (sym (c.is_over_budget.ensures.1 above) ∙ c.if-is_over_budget.false) in (
-      answer_of job name settles.0 settles.1,
-      password_answer c.args.kind job number text stream _ line.unaudited
-          (decided c.args.kind job number text stream _ _ _ settles.1 settles.0 line within settles.2.0),
+    let is : c.in-Bytes.bytes.items ≡ text = subst (λ (buffer : LineBuffer). Represents buffer text) c.in-Bytes.is stands in
+    let parts = parts_of c.unwrap-parts.result in
+    let taken : HasSoundParts c.args.kind c.as_slice-bytes.result.now parts =
+    record { sound = c.in_default-inspect.ensures.sound; cut = rw c.unwrap-parts.ensures at c.of.ensures } in
+    let result : c.in_ok-outcome.field-0 ≡ Ok c.in-Ok.outcome = c.in-Ok.is in
+    let settles = c.in_ok-outcome.ensures.settles text (subst (λ (t : List ℕ). HasSoundParts c.args.kind t parts) (c.as_slice-bytes.ensures.value ∙ is) taken) in
+    let ends = subst (λ (r : Result Outcome LineFault).
+    Concludes c.args.kind job text parts.name stream c.args.meter.now c.outcome_of.new.meter (g.R.Rng.stream c.outcome_of.new.rng) (Ok r)) result settles in (
+      answer_of job parts.name c.in-Ok.outcome ends.0,
+      ends.1 number,
       (
-        ap (λ (o : Outcome). answer_of job name o settles.1) (sym settles.2.1),
-        told_work c.args.meter.now c.outcome_of.new.meter c.reading-before.result c.work_since.result settles.1 settles.3.0 c.reading-before.ensures c.work_since.ensures.raised,
+        refl,
+        told_work c.args.meter.now c.outcome_of.new.meter c.reading-before.result c.work_since.result ends.0 ends.2 c.reading-before.ensures c.work_since.ensures.raised,
       ),
-      settles.3.0,
-      settles.3.1,
+      ends.2,
+      ends.3,
     )
+
+pub returns-clause-short : goal.returns-clause-short
+returns-clause-short g c =
+    let parts = parts_of c.unwrap-parts.result in
+    let taken : HasSoundParts c.args.kind c.as_slice-bytes.result.now parts =
+    record { sound = c.in_default-inspect.ensures.sound; cut = rw c.unwrap-parts.ensures at c.of.ensures } in
+    sound_name c.args.kind c.as_slice-bytes.result.now parts taken

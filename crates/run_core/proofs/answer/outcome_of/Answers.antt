@@ -1,123 +1,117 @@
-use Rattle.std.proofs.Common.{◌≡◌, ℕ, List, [], ◌∷◌, Some, true, false, true≢false, refl, sym, ap, subst, ◌∙◌}
-use Rattle.std.proofs.lemmas.Result.{err_from_is_err_and}
-use Rattle.prims_core.specs.declared.meter.Work.{Work}
-use Rattle.crypt_core.specs.Crypt.{IsAfterRefusedGrowth, crypt}
-use Rattle.crypt_core.specs.Work.{raised_by, work}
+use Rattle.std.proofs.Common.{◌≡◌, ℕ, List, [], Option, Some, None, refl, sym, ap, subst, true≢false, rules}
+use Rattle.std.specs.Prelude.{◌≢◌, Result, Ok, Err}
+use Rattle.std.specs.Result.{IfErr, IsOk}
+use Rattle.crypt_core.specs.Passwords.{IsPasswordRefused}
+use Rattle.crypt_core.specs.Readings.{IsFieldReading}
+use Rattle.crypt_core.specs.declared.setting.fault.SettingFault.{SettingFault}
 use Rattle.crypt_core.specs.declared.stored.StoredField.{StoredField}
-use Rattle.crypt_core.specs.declared.stored.StoredField.TheVariants.{Hash}
-use Rattle.run_core.specs.Answers.{hashing, new_hash, new_hashing}
-use Rattle.run_core.specs.JobOptions.{is_outdated}
-use Rattle.run_core.specs.Makers.{next_setting}
-use Rattle.run_core.specs.declared.answer.Outcome.TheVariants.{Hashed, Match, Misfit, Rehashed}
-use Rattle.run_core.proofs.LineOutcomes.{would_check}
+use Rattle.crypt_core.specs.declared.stored.StoredField.TheVariants.{Empty, Locked, Hash}
+use Rattle.run_core.specs.Makers.{bytes_of}
+use Rattle.run_core.specs.Private.Answers.{Settles}
+use Rattle.run_core.specs.Private.Lines.{IsFieldOf, parts_of}
+use Rattle.run_core.specs.declared.answer.Outcome.TheVariants.{NoHash, Locked as LockedOutcome}
+use Rattle.run_core.specs.declared.line.Kind.TheVariants.{Audit}
+use Rattle.run_core.specs.contracts.line.Kind.{the_type}
+use denote.Enum.Bare.{same_true}
+use Rattle.run_core.proofs.LineOutcomes.{above_none, audit_answer, concludes, line_of, read_as, unfielded}
+use Rattle.run_core.proofs.LineRules.{IsFieldRefused, sound_field, sound_password}
 use Rattle.run_core.proofs.answer.outcome_of.Goals as goal
 
--- ---- a password to hash
+-- what cannot be refused is right
+right : {A E : Type 0} (result : Result A E) (Refused : E → Type 0) → IfErr result Refused → ((fault : E) → ¬ Refused fault) → IsOk result
+right (Ok found) Refused refused never = search rules
+right (Err fault) Refused refused never = absurd (never fault refused)
 
-pub returns-in_err-make_hash-clause-settles : goal.returns-in_err-make_hash-clause-settles
-returns-in_err-make_hash-clause-settles g c =
-    let job = c.args.job.now in
-    let password = c.args.password.now in
-    let stream = g.R.Rng.stream c.args.rng.now in
-    let p = err_from_is_err_and c.from_residual.result c.from_residual.ensures.1 in
-    rw (p.1, c.in_default.is) (
-      Hashed (new_hash job password stream),
-      new_hashing job password stream ∷ [],
-      (refl, refl),
-      ([], new_hashing job password stream, [], refl, c.in_err-make_hash.ensures.refused, c.make_hash.ensures.stream),
-    )
+read_right : (field : List ℕ) (result : Result StoredField SettingFault) → IsFieldReading field result → ((fault : SettingFault) → ¬ IsFieldRefused field fault) → IsOk result
+read_right field (Ok found) reading never = search rules
+read_right field (Err fault) reading never = absurd (never fault reading)
+
+pub unwrap-password-requires : goal.unwrap-password-requires
+unwrap-password-requires g c =
+    let parts = parts_of c.args.parts.now in
+    let sound = c.requires.sound in
+    right c.new.result (IsPasswordRefused parts.password) c.new.ensures.refused (λ fault. sound_password c.args.kind sound.0 parts fault sound.1)
 
 pub returns-in_default-clause-settles : goal.returns-in_default-clause-settles
-returns-in_default-clause-settles g c =
+returns-in_default-clause-settles g c = λ line taken.
     let job = c.args.job.now in
-    let password = c.args.password.now in
+    let parts = parts_of c.args.parts.now in
     let stream = g.R.Rng.stream c.args.rng.now in
-    rw c.in_default.is (
-      Hashed (new_hash job password stream),
-      new_hashing job password stream ∷ [],
-      ((refl, refl), ap (λ (h : List ℕ). Hashed h) c.in_ok-make_hash.ensures.hash),
-      (c.in_ok-make_hash.ensures.count, c.make_hash.ensures.stream),
+    let after = c.hash_within_budget.new.meter in
+    let left = g.R.Rng.stream c.hash_within_budget.new.rng in
+    let result = c.hash_within_budget.result in
+    let none : parts.field ≡ None = ap bytes_of c.in_default.is in
+    let password = (rw c.unwrap-password.ensures at c.new.ensures.ok).0 in
+    let settles = subst (λ (p : List ℕ). Settles job p None stream c.args.meter.now after left result) password c.hash_within_budget.ensures.settles in
+    let is = line_of c.args.kind line parts None taken (unfielded c.args.kind line parts taken.cut none)
+    (subst (λ (f : Option (List ℕ)). IsFieldOf f None) (sym none) tt) in
+    concludes c.args.kind job line parts.name parts.password None stream c.args.meter.now after left result is settles
+
+pub returns-then-eq-clause-settles : goal.returns-then-eq-clause-settles
+returns-then-eq-clause-settles g c = λ line taken.
+    let audited : c.args.kind ≡ Audit = same_true the_type (search rules) _ _ (sym c.if-eq.ensures) in
+    let parts = parts_of c.args.parts.now in
+    let fielded : parts.field ≡ Some c.in-Some.field.now = ap bytes_of c.in-Some.is in (
+      [],
+      (λ number. audit_answer c.args.kind c.args.job.now number line (g.R.Rng.stream c.args.rng.now) parts c.in-Some.field.now c.audit.result audited taken fielded c.audit.ensures),
+      refl,
+      refl,
     )
 
--- ---- a password to check
+pub unwrap-requires : goal.unwrap-requires
+unwrap-requires g c =
+    let parts = parts_of c.args.parts.now in
+    let sound = c.requires.sound in
+    let fielded : parts.field ≡ Some c.in-Some.field.now = ap bytes_of c.in-Some.is in
+    let unaudited : c.args.kind ≢ Audit = λ same. true≢false (sym (rw same at c.if-eq.ensures)) in
+    read_right c.in-Some.field.now c.read.result c.read.ensures.reading
+    (λ fault. sound_field c.args.kind sound.0 parts c.in-Some.field.now fault sound.1 unaudited fielded)
 
-pub returns-in_err-fits-clause-settles : goal.returns-in_err-fits-clause-settles
-returns-in_err-fits-clause-settles g c =
+pub returns-in-Empty-clause-settles : goal.returns-in-Empty-clause-settles
+returns-in-Empty-clause-settles g c = λ line taken.
     let job = c.args.job.now in
-    let password = c.args.password.now in
-    let stored = c.in-Hash.stored in
-    let field_is : c.args.field.now ≡ Some (Hash stored) = c.in-Some.is ∙ ap (λ (f : StoredField). Some f) c.in-Hash.is in
+    let parts = parts_of c.args.parts.now in
     let stream = g.R.Rng.stream c.args.rng.now in
-    let p = err_from_is_err_and c.from_residual-in_err-fits.result c.from_residual-in_err-fits.ensures.1 in
-    let would = would_check job password stored stream in
-    rw (p.1, field_is) (
-      would.outcome,
-      hashing password stored.setting stream ∷ would.more,
-      would.checked,
-      ([], hashing password stored.setting stream, would.more, refl, c.in_err-fits.ensures.metered.refused, refl),
-    )
+    let meter = c.args.meter.now in
+    let unaudited : c.args.kind ≢ Audit = λ same. true≢false (sym (rw same at c.if-eq.ensures)) in
+    let field_of = read_as c.in-Some.field.now parts.field c.read.result c.unwrap.result Empty c.unwrap.ensures c.in-Empty.is
+    c.read.ensures.reading c.read.ensures.one_reading (ap bytes_of c.in-Some.is) in
+    concludes c.args.kind job line parts.name parts.password (Some Empty) stream meter meter stream (Ok (Ok NoHash))
+    (line_of c.args.kind line parts (Some Empty) taken unaudited field_of)
+    (above_none job.budget, [], (refl, refl), refl, refl)
 
-pub returns-then-not-branch-clause-settles : goal.returns-then-not-branch-clause-settles
-returns-then-not-branch-clause-settles g c =
-    let password = c.args.password.now in
-    let stored = c.in-Hash.stored in
-    let field_is : c.args.field.now ≡ Some (Hash stored) = c.in-Some.is ∙ ap (λ (f : StoredField). Some f) c.in-Hash.is in
-    let stream = g.R.Rng.stream c.args.rng.now in
-    let verdict = c.in_ok-fits.ensures.verdict in
-    rw field_is (
-      Misfit,
-      hashing password stored.setting stream ∷ [],
-      (((λ same. true≢false (sym (verdict.1 same) ∙ c.if-not-branch.true)), refl), refl),
-      (c.in_ok-fits.ensures.metered.count, refl),
-    )
-
-pub returns-then-not-renews-clause-settles : goal.returns-then-not-renews-clause-settles
-returns-then-not-renews-clause-settles g c =
+pub returns-in-Locked-clause-settles : goal.returns-in-Locked-clause-settles
+returns-in-Locked-clause-settles g c = λ line taken.
     let job = c.args.job.now in
-    let password = c.args.password.now in
-    let stored = c.in-Hash.stored in
-    let field_is : c.args.field.now ≡ Some (Hash stored) = c.in-Some.is ∙ ap (λ (f : StoredField). Some f) c.in-Hash.is in
+    let parts = parts_of c.args.parts.now in
     let stream = g.R.Rng.stream c.args.rng.now in
-    let same : crypt password stored.setting ≡ stored.text = c.in_ok-fits.ensures.verdict.0 c.if-not-branch.false in
-    let recent : is_outdated job stored.setting ≡ false = sym c.renews.ensures ∙ c.if-not-renews.true in
-    rw field_is (
-      Match,
-      hashing password stored.setting stream ∷ [],
-      ((same, recent, refl), refl),
-      (c.in_ok-fits.ensures.metered.count, refl),
-    )
+    let meter = c.args.meter.now in
+    let unaudited : c.args.kind ≢ Audit = λ same. true≢false (sym (rw same at c.if-eq.ensures)) in
+    let field_of = read_as c.in-Some.field.now parts.field c.read.result c.unwrap.result Locked c.unwrap.ensures c.in-Locked.is
+    c.read.ensures.reading c.read.ensures.one_reading (ap bytes_of c.in-Some.is) in
+    concludes c.args.kind job line parts.name parts.password (Some Locked) stream meter meter stream (Ok (Ok LockedOutcome))
+    (line_of c.args.kind line parts (Some Locked) taken unaudited field_of)
+    (above_none job.budget, [], (refl, refl), refl, refl)
 
-pub returns-in_err-make_hash-2-clause-settles : goal.returns-in_err-make_hash-2-clause-settles
-returns-in_err-make_hash-2-clause-settles g c =
+pub returns-in-Hash-clause-settles : goal.returns-in-Hash-clause-settles
+returns-in-Hash-clause-settles g c = λ line taken.
     let job = c.args.job.now in
-    let password = c.args.password.now in
-    let stored = c.in-Hash.stored in
-    let field_is : c.args.field.now ≡ Some (Hash stored) = c.in-Some.is ∙ ap (λ (f : StoredField). Some f) c.in-Hash.is in
+    let parts = parts_of c.args.parts.now in
+    let stored = Some (Hash c.in-Hash.stored) in
     let stream = g.R.Rng.stream c.args.rng.now in
-    let p = err_from_is_err_and c.from_residual-in_err-make_hash-2.result c.from_residual-in_err-make_hash-2.ensures.1 in
-    let same : crypt password stored.setting ≡ stored.text = c.in_ok-fits.ensures.verdict.0 c.if-not-branch.false in
-    let outdated : is_outdated job stored.setting ≡ true = sym c.renews.ensures ∙ c.if-not-renews.false in
-    let refused = subst (λ (counts : Work). IsAfterRefusedGrowth counts (next_setting job.maker stream).scheme c.make_hash-2.new.meter) c.in_ok-fits.ensures.metered.count c.in_err-make_hash-2.ensures.refused in
-    rw (p.1, field_is) (
-      Rehashed (new_hash job password stream),
-      hashing password stored.setting stream ∷ new_hashing job password stream ∷ [],
-      (same, outdated, refl, refl),
-      (hashing password stored.setting stream ∷ [], new_hashing job password stream, [], refl, refused, c.make_hash-2.ensures.stream),
-    )
+    let after = c.check_within_budget.new.meter in
+    let left = g.R.Rng.stream c.check_within_budget.new.rng in
+    let result = c.check_within_budget.result in
+    let unaudited : c.args.kind ≢ Audit = λ same. true≢false (sym (rw same at c.if-eq.ensures)) in
+    let field_of = read_as c.in-Some.field.now parts.field c.read.result c.unwrap.result (Hash c.in-Hash.stored) c.unwrap.ensures c.in-Hash.is
+    c.read.ensures.reading c.read.ensures.one_reading (ap bytes_of c.in-Some.is) in
+    let password = (rw c.unwrap-password-in-Hash.ensures at c.new-in-Hash.ensures.ok).0 in
+    let settles = subst (λ (p : List ℕ). Settles job p stored stream c.args.meter.now after left result) password c.check_within_budget.ensures.settles in
+    concludes c.args.kind job line parts.name parts.password stored stream c.args.meter.now after left result
+    (line_of c.args.kind line parts stored taken unaudited field_of) settles
 
-pub returns-clause-settles : goal.returns-clause-settles
-returns-clause-settles g c =
-    let job = c.args.job.now in
-    let password = c.args.password.now in
-    let stored = c.in-Hash.stored in
-    let field_is : c.args.field.now ≡ Some (Hash stored) = c.in-Some.is ∙ ap (λ (f : StoredField). Some f) c.in-Hash.is in
-    let stream = g.R.Rng.stream c.args.rng.now in
-    let same : crypt password stored.setting ≡ stored.text = c.in_ok-fits.ensures.verdict.0 c.if-not-branch.false in
-    let outdated : is_outdated job stored.setting ≡ true = sym c.renews.ensures ∙ c.if-not-renews.false in
-    let count = subst (λ (counts : Work). c.make_hash-2.new.meter ≡ raised_by counts (work password (next_setting job.maker stream))) c.in_ok-fits.ensures.metered.count c.in_ok-make_hash-2.ensures.count in
-    rw field_is (
-      Rehashed (new_hash job password stream),
-      hashing password stored.setting stream ∷ new_hashing job password stream ∷ [],
-      ((same, outdated, refl, refl), ap (λ (h : List ℕ). Rehashed h) c.in_ok-make_hash-2.ensures.hash),
-      (count, c.make_hash-2.ensures.stream),
-    )
+pub unwrap-password-requires-in-Hash : goal.unwrap-password-requires-in-Hash
+unwrap-password-requires-in-Hash g c =
+    let parts = parts_of c.args.parts.now in
+    let sound = c.requires.sound in
+    right c.new-in-Hash.result (IsPasswordRefused parts.password) c.new-in-Hash.ensures.refused (λ fault. sound_password c.args.kind sound.0 parts fault sound.1)

@@ -1,9 +1,18 @@
-use Rattle.std.proofs.Common.{rules, []}
-use Rattle.run_core.proofs.LineRules.{refused_once}
+use Rattle.std.proofs.Common.{◌≡◌, ◌∙◌, ℕ, List, ap}
+use Rattle.std.specs.Prelude.{Result, Ok, Err, Some}
+use Rattle.std.specs.Result.{IfOk, IfErr, result_err}
+use Rattle.run_core.specs.Lines.{IsLineRefused, IsSound}
+use Rattle.run_core.specs.declared.line.LineFault.{LineFault}
+use Rattle.run_core.specs.declared.line.Kind.{Kind}
+use Rattle.run_core.proofs.LineRules.{refusal_unique, sound_not_refused}
 use Rattle.run_core.proofs.line.inspect.Goals as goal
+
+-- a check that finds a refusal finds the only one
+refused_once : {A : Type 0} (kind : Kind) (line : List ℕ) (result : Result A LineFault) (fault : LineFault) → IfOk result (λ _. IsSound kind line)
+    → IfErr result (IsLineRefused kind line) → IsLineRefused kind line fault → result_err result ≡ Some fault
+refused_once kind line (Ok unit) fault sound other refused = absurd (sound_not_refused kind line fault sound refused)
+refused_once kind line (Err other) fault sound first refused = ap Some (refusal_unique kind line other fault first refused)
 
 pub returns-clause-each_refusal : goal.returns-clause-each_refusal
 returns-clause-each_refusal c = λ fault refused.
-    let parses = c.parse_line.ensures.parses c.args.line.now (c.append.ensures [] c.new-buffer.ensures) in
-    let same = refused_once c.args.kind c.args.line.now c.parse_line.result fault parses refused in
-    search (rules, same)
+    c.err.ensures.value ∙ refused_once c.args.kind c.args.line.now c.check.result fault c.check.ensures.sound c.check.ensures.refused refused
