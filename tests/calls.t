@@ -48,7 +48,7 @@ my %number = map { $reasons[$_] => 3 - $_ } grep { $reasons[$_] ne '' } 0 .. $#r
 my %steps = (
     verify => 'password field budget memory compare', needs_rehash => 'setting made replace', setting => 'made room',
     new => 'password made budget room draw memory', hash => 'password setting budget room memory', bound => 'length setting tell',
-    work => 'password setting budget memory',
+    work => 'password setting budget memory', limit => 'made admit', rounds => 'length made fit',
     audit => 'made field within whole keep',
 );
 our $refused = 0;    # which allocation is refused, from 1
@@ -63,17 +63,17 @@ sub line {
     return login_line($password, $text, @n) if $name eq 'login';
     ($password, $text, $room) = ($password // "\0", $text // '', $room // 0);
     my ($setting, $made, $hash, $refusal);
-    my ($cost, $allocations, $drawn, @work) = (0, 0, 0, (0) x 5);
+    my ($cost, $allocations, $drawn, $longest, $rounds, @work) = (0, 0, 0, 0, 0, (0) x 5);
     my $scratch = sub { my ($r, $p) = @$setting{qw(r p)}; $r ? (128 * $r * $p, 256 * $r) : (0, 0) };
     my %step = (
         password => sub { length $password > 1024 ? 'password too long' : $password =~ /\0/ ? 'password has a zero byte' : '' },
-        length => sub { $n[0] > 1024 ? 'password too long' : '' },
+        length => sub { $n[$name eq 'rounds' ? 3 : 0] > 1024 ? 'password too long' : '' },
         setting => sub { ref($setting = read_setting($text)) ? '' : $setting },
         field => sub { $text eq '' ? 'no hash' : $text =~ /^[!*]/ ? 'locked' : ref($setting = read_setting($text)) ? '' : $setting },
         made => sub {
             return 'unknown method' if $n[0] !~ /^[1567]$/;
             return 'cost' if $n[0] == 7 && $n[1] !~ /^([06-9]|1[01])$/;
-            return 'cost' if $name =~ /new|audit/ && $n[0] =~ /[56]/ && $n[1] && ($n[1] < 1000 || $n[1] > 999_999_999);
+            return 'cost' if $name =~ /new|audit|limit|rounds/ && $n[0] =~ /[56]/ && $n[1] && ($n[1] < 1000 || $n[1] > 999_999_999);
             $made = new_setting(@n[0, 1], salt_of($made_salt{ $n[0] }, $name eq 'setting' ? @n[2 .. 4] : @words ? @words : (0) x 3));
             $setting //= $made;
             return '';
@@ -82,6 +82,19 @@ sub line {
         within => sub {
             ($made, my ($own, $limit)) = Model::audit_policy(@n[0, 1]);
             return ($cost = cost($setting, 1024)) > ($n[2] || $own) || !$n[2] && cost($setting, 0) > $limit ? 'over budget' : '';
+        },
+        admit => sub {
+            $cost = $n[2] || policy_limit(@n[0, 1], 0);
+            my @within = grep { cost($made, $_) <= $cost } 0 .. 1024;
+            return 'over budget' if !@within;
+            ($longest, $rounds) = ($within[-1], Model::rounds_of($made));
+            return '';
+        },
+        fit => sub {
+            my $fitted = Model::fitted($made, $n[2] || policy_limit(@n[0, 1], 0), $n[3]);
+            $cost = cost($fitted // $made, $n[3]);
+            $rounds = Model::rounds_of($fitted) if $fitted;
+            return $fitted ? '' : 'over budget';
         },
         whole => sub { Model::is_whole($setting, $text) ? '' : 'dead' },
         keep => sub { is_replaced($setting, $made) ? 'replaced' : '' },
@@ -109,13 +122,13 @@ sub line {
         tell => sub { ($cost, @work) = (cost($setting, $n[0]), counts($setting, $n[0], 255), sum0($scratch->())); '' },
     );
     $refusal ||= $step{$_}->() for split / /, $steps{$name};
-    my ($out, $length) = ('unchanged', 0);
+    my ($out, $length) = ('unchanged', $longest);
     if ($name =~ /^(new|hash|setting)$/ && $room) {
         $out = $refusal ? substr $name eq 'hash' && $text =~ /^\*0/ ? '*1' : '*0', 0, $room - 1 : $hash // $setting->{front};
         $length = length $out if !$refusal;
     }
     my $reason = $number{ $refusal || { verify => 'fits', needs_rehash => 'outdated' }->{$name} || 'done' };
-    return join ' ', $refusal ? 0 : 1, $reason, $length, $cost, (map { $_ || 0 } @work), 0, $allocations, 0, $drawn, $out;
+    return join ' ', $refusal ? 0 : 1, $reason, $length, $cost, (map { $_ || 0 } @work), $rounds, $allocations, 0, $drawn, $out;
 }
 
 # The row of a call, which is a list as line takes it.
@@ -298,6 +311,22 @@ subtest 'the limit of a policy' => sub {
     @words = ();
 };
 
+# A length and a cost on each side of what is within a limit.
+subtest 'limits' => sub {
+    my @policies = (@methods, @no_methods, [5, 999], [6, 1_000_000_000], [6, 75_357], [5, 76_597], [6, 999_999_999], [1, 4_294_967_295]);
+    my @calls;
+    for my $policy (@policies) {
+        my $is_made = $policy->[0] =~ /^[1567]$/ && line('limit', '', '', 0, @$policy, 0) =~ /^1/;
+        my $setting = $is_made && new_setting(@$policy);
+        my @costs = $setting ? map { cost($setting, $_) } 0, 8, 64, 65, 169, 1023, 1024 : 9;
+        for my $own (0, 1, $most, map { ($_ - 1, $_, $_ + 1) } @costs) {
+            push @calls, ['limit', '', '', 0, @$policy, $own], map { ['rounds', '', '', 0, @$policy, $own, $_] } 0, 64, 169, 1024, 1025, $most;
+        }
+    }
+    are_made('each side of a limit', [], @calls);
+    are_made('in eight threads', ['threads 8'], @calls[0 .. 500]);
+};
+
 # One number in each language, which is what the library takes for 0.
 subtest 'the recommended rounds' => sub {
     my ($rounds) = (printed($driver, 'setting - - 145 6 0 1 2 3'))[0] =~ /rounds=(\d+)/;
@@ -473,7 +502,8 @@ sub told {
 
 subtest 'warnings' => sub {
     my @calls = ('verify(bytes, 1, bytes, 1, 1, &report)', 'login(bytes, 1, bytes, 1, 6, 0, 1, &report)', 'new(bytes, 1, 6, 0, 1, out, 145, &report)', 'needs_rehash(bytes, 1, 6, 0, &report)',
-        'audit(bytes, 1, 6, 0, 0, &report)', 'bound(bytes, 1, 1, &report)', 'hash(bytes, 1, bytes, 1, 1, out, 145, &report)', 'setting(6, 0, 1, 2, 3, out, 145, &report)');
+        'audit(bytes, 1, 6, 0, 0, &report)', 'bound(bytes, 1, 1, &report)', 'hash(bytes, 1, bytes, 1, 1, out, 145, &report)', 'setting(6, 0, 1, 2, 3, out, 145, &report)',
+        'limit(6, 0, 0, &report)', 'rounds(1, 6, 0, 0, &report)');
     my @strings = ('verify_str(0, 0, 1, 0)', 'login_str(0, 0, 6, 0, 1, 0)', 'new_str(0, 6, 0, 1, 0, 0, 0)', 'needs_rehash_str(0, 6, 0, 0)', 'bound_str(0, 1, 0)',
         'audit_str(0, 6, 0, 0, 0)', 'hash_str(0, 0, 1, 0, 0, 0)', 'setting_str(6, 0, 1, 2, 3, 0, 0, 0)');
     my @long = ('new_str("", 6, 0, 1, text, 145, 0)', 'hash_str("", "", 1, text, 145, 0)', 'setting_str(6, 0, 1, 2, 3, text, 145, 0)',
@@ -564,12 +594,15 @@ int main(void)
     struct mkpasswd_report report;
     char out[MKPASSWD_TEXT_SIZE];
     return !mkpasswd_hash_str("password", "$7$46..../....SodiumChloride", MKPASSWD_BUDGET, out, sizeof out, &report)
+        || fwrite(&report, sizeof report, 1, stdout) != 1 || !mkpasswd_limit(6, 0, MKPASSWD_TWICE, &report)
         || fwrite(&report, sizeof report, 1, stdout) != 1;
 }
 END
     my $program = build('report', $cc, '-std=c99', @strict, "$scratch/report.c", @static) or return;
-    # N is 64, r is 8: each field has a value of its own.
-    is_deeply([unpack 'l<L<Q<7', run($program)->{out}], [3, 72, 137_956, 66, 6884, 128, 65_536, 3072, 0], 'each field at its place');
+    # N is 64, r is 8: each field has a value of its own. The last two are of the longest password and its rounds.
+    my ($hash, $limit) = unpack '(a64)2', run($program)->{out};
+    is_deeply([unpack 'l<L<Q<6L<L<', $hash], [3, 72, 137_956, 66, 6884, 128, 65_536, 3072, 0, 0], 'each field at its place');
+    is_deeply([unpack 'l<L<Q<6L<L<', $limit], [3, 168, 253_921_472, 0, 0, 0, 0, 0, 656_000, 0], 'and those of a limit');
 };
 
 # What no clause can say of the object: what is called, and how hashes are compared.
@@ -598,7 +631,7 @@ subtest 'what is installed' => sub {
         my ($symbols, $parts, $names) = map { run(@$_)->{out} } ['objdump', '-T', "$libs/libmkpasswd.so"],
             ['objdump', '-p', "$libs/libmkpasswd.so"], ['nm', '-g', '--defined-only', "$libs/libmkpasswd.a"];
         my %exported = map { / \*UND\*\t/ ? () : / (MKPASSWD_[\d.]+) +(mkpasswd_\w+)$/ ? ($2 => $1) : () } $symbols =~ /^([0-9a-f]{16} .*)$/mg;
-        my %later = (mkpasswd_login => '.1', mkpasswd_audit => '.2');
+        my %later = (mkpasswd_login => '.1', mkpasswd_audit => '.2', mkpasswd_limit => '.3', mkpasswd_rounds => '.3');
         my %versions = map { ($_ => 'MKPASSWD_2' . ($later{$_} // '')) } @declared;
         is_deeply(\%exported, \%versions, 'the shared library has just these, each in its version');
         is_deeply([sort $names =~ /^\S+ \w (\S+)$/mg], \@declared, 'the static library has just these');

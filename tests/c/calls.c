@@ -208,6 +208,8 @@ static int32_t make(const struct row *row, uint8_t *out, struct mkpasswd_report 
         : IS("needs_rehash_str") ? mkpasswd_needs_rehash_str(str, method, rounds, report)
         : IS("audit") ? mkpasswd_audit(text, len, method, rounds, n[2], report)
         : IS("audit_str") ? mkpasswd_audit_str(str, method, rounds, n[2], report)
+        : IS("limit") ? mkpasswd_limit(method, rounds, n[2], report)
+        : IS("rounds") ? mkpasswd_rounds((size_t)n[3], method, rounds, n[2], report)
         : IS("bound") ? mkpasswd_bound(text, len, (size_t)n[0], report)
         : IS("bound_str") ? mkpasswd_bound_str(str, (size_t)n[0], report)
         : IS("hash") ? mkpasswd_hash(password, pass_len, text, len, n[0], out, room, report)
@@ -256,7 +258,8 @@ __attribute__((noinline)) static void perform(struct job *job)
         is_in_call = 0;
         sprintf(job->line, "%" PRId32 " %" PRId32 " %" PRIu32 " %" PRIu64 " %" PRIu64 " %" PRIu64 " %" PRIu64 " %" PRIu64
             " %" PRIu64 " %" PRIu64 " %ld %ld %ld %s", result, report->reason, report->length, report->cost, work->digests,
-            work->bytes, work->mixes, work->table, work->scratch, report->reserved, allocations, blocks, drawn,
+            work->bytes, work->mixes, work->table, work->scratch,
+            (uint64_t)report->reserved << 32 | report->rounds, allocations, blocks, drawn,
             left_in(job->out_page, row->room));
         if (pass == 1 && strcmp(job->first, job->line) != 0)
             strcat(strcat(job->line, " DIFFERS FROM "), job->first);

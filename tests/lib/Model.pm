@@ -147,6 +147,20 @@ sub policy_limit {
     return $length > $limits{password} || cost($setting, $length) > $limit ? 0 : $limit;
 }
 
+# The rounds of which a setting of new hashes is made.
+sub rounds_of { my ($setting) = @_; return $setting->{kind} == 7 ? $setting->{log} - 7 : $setting->{rounds} // 0 }
+
+# The setting of a new hash within a limit, of a password of so many bytes: the given one, or SHA-crypt with fewer rounds.
+sub fitted {
+    my ($setting, $limit, $length) = @_;
+    return $setting if cost($setting, $length) <= $limit;
+    my ($kind, $salt) = @$setting{qw(kind salt)};
+    return if $kind != 5 && $kind != 6;
+    my $left = max(0, $limit - cost({ %$setting, rounds => 0 }, $length));
+    my $fewer = made_setting($kind, max(1, int($left / ($digest_length{$kind} + 2 * $length + length $salt))), $salt);
+    return cost($fewer, $length) <= $limit ? $fewer : undef;
+}
+
 # The exact counts of the hash of a password.
 sub work_of {
     my ($setting, $password) = @_;
