@@ -87,7 +87,7 @@ extern "C" {
 
 /* The budget of mkpasswd_login() and mkpasswd_new() that needs no number: twice what a new hash with the same method and rounds
  * costs for a password of 64 bytes, and at least MKPASSWD_BUDGET. Nobody who logs in can raise it. A longer password whose new
- * hash would cost more is refused at once, whatever is stored; FORMATS.md in share/doc has the lengths. With a large enough
+ * hash would cost more is refused at once, whatever is stored; mkpasswd_limit() reports its length. With a large enough
  * budget of your own all MKPASSWD_PASSWORD_LIMIT bytes work; one of -1 is the greatest, and protects against nothing.
  *
  * Only scrypt needs memory: each concurrent call 64 MiB for a new hash by default, and never more than half as many bytes as
@@ -149,20 +149,24 @@ struct mkpasswd_work {
 
 struct mkpasswd_report {
     int32_t reason;            /* one of the above */
-    uint32_t length;           /* of what is in `out`, without its zero byte; 0 if the call returned 0 or has no `out` */
+    uint32_t length;           /* of what is in `out`, without its zero byte; of mkpasswd_limit() that of the longest password;
+                                  0 if the call returned 0 or has no `out` */
     uint64_t cost;             /* the greatest cost of a hash with this setting, for a password of this length: the bytes it
                                   digests and mixes. It is below 2^42. If password and setting (or method and rounds) are
                                   valid it is reported even if the call returns 0; otherwise, and by
                                   mkpasswd_needs_rehash() and mkpasswd_setting(), it is 0. Of mkpasswd_login() it is that
-                                  of the stored hash, of mkpasswd_audit() that for MKPASSWD_PASSWORD_LIMIT bytes. */
+                                  of the stored hash, of mkpasswd_audit() that for MKPASSWD_PASSWORD_LIMIT bytes, of
+                                  mkpasswd_limit() the limit, and of mkpasswd_rounds() that of a hash with these rounds. */
     struct mkpasswd_work work; /* what the call did, all 0 if it neither hashed nor allocated; of mkpasswd_bound() the bound */
-    uint64_t reserved;         /* 0 */
+    uint32_t rounds;           /* of mkpasswd_limit() and mkpasswd_rounds() the rounds of new hashes, else 0 */
+    uint32_t reserved;         /* 0 */
 };
 
 typedef char mkpasswd_report_has_64_bytes[sizeof(struct mkpasswd_report) == 64 ? 1 : -1];
-typedef char mkpasswd_report_has_fields_at_0_4_8_16_56[offsetof(struct mkpasswd_report, reason) == 0
+typedef char mkpasswd_report_has_fields_at_0_4_8_16_56_60[offsetof(struct mkpasswd_report, reason) == 0
     && offsetof(struct mkpasswd_report, length) == 4 && offsetof(struct mkpasswd_report, cost) == 8
-    && offsetof(struct mkpasswd_report, work) == 16 && offsetof(struct mkpasswd_report, reserved) == 56 ? 1 : -1];
+    && offsetof(struct mkpasswd_report, work) == 16 && offsetof(struct mkpasswd_report, rounds) == 56
+    && offsetof(struct mkpasswd_report, reserved) == 60 ? 1 : -1];
 typedef char mkpasswd_work_has_fields_at_0_8_16_24_32[offsetof(struct mkpasswd_work, digests) == 0
     && offsetof(struct mkpasswd_work, bytes) == 8 && offsetof(struct mkpasswd_work, mixes) == 16
     && offsetof(struct mkpasswd_work, table) == 24 && offsetof(struct mkpasswd_work, scratch) == 32 ? 1 : -1];
@@ -227,6 +231,23 @@ MKPASSWD_EXPORT MKPASSWD_CHECKED MKPASSWD_NONNULL(5) int32_t mkpasswd_needs_reha
  * also if mkpasswd_login() by the same method, rounds and MKPASSWD_TWICE would refuse even the empty password as such. */
 MKPASSWD_EXPORT MKPASSWD_CHECKED MKPASSWD_NONNULL(6) int32_t mkpasswd_audit(const uint8_t *stored, size_t stored_len,
     uint32_t method, uint32_t rounds, uint64_t budget, struct mkpasswd_report *report) MKPASSWD_READS(stored, 1, 2);
+
+/* Reports what a service's method, rounds and budget admit: `cost` is the most that a login or a new hash may cost, which is the
+ * budget, or the number of bytes that MKPASSWD_TWICE stands for; `length` is that of the longest password whose new hash costs
+ * no more (it and all shorter ones are within the limit, and all longer ones above); and `rounds` are those of new hashes, so
+ * for rounds of 0 the recommended ones. It returns 0 if method or rounds are not valid for mkpasswd_new(), and with
+ * MKPASSWD_OVER_BUDGET if a new hash even of the empty password costs more; `cost` is the limit then too. */
+MKPASSWD_EXPORT MKPASSWD_CHECKED MKPASSWD_NONNULL(4) int32_t mkpasswd_limit(uint32_t method, uint32_t rounds, uint64_t budget,
+    struct mkpasswd_report *report);
+
+/* Reports rounds with which a new hash of each password of the given length is within that limit, for a service that must have a
+ * hash of a longer password too. They are the service's own, or else fewer rounds of SHA-crypt, as many as surely fit. With
+ * MKPASSWD_TWICE there always are some; with a budget of your own it returns 0 with MKPASSWD_OVER_BUDGET if even 1000 rounds
+ * cost more. `cost` is that of the hash. Fewer rounds have a lower limit of their own, so give mkpasswd_new() the `cost` of
+ * mkpasswd_limit() as budget, and mkpasswd_login() too. These rounds show how long the password is to whoever sees the hash, and
+ * mkpasswd_needs_rehash() calls it outdated. */
+MKPASSWD_EXPORT MKPASSWD_CHECKED MKPASSWD_NONNULL(5) int32_t mkpasswd_rounds(size_t password_len, uint32_t method,
+    uint32_t rounds, uint64_t budget, struct mkpasswd_report *report);
 
 /* Reports the greatest cost and work of a hash with the setting in a stored hash, for any password of the given length.
  * It hashes nothing; `work` is the bound of each count. */

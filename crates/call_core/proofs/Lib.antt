@@ -1,5 +1,6 @@
 pub mod AuditReports
 pub mod CheckReports
+pub mod FittedSchemes
 pub mod LoginPromises
 pub mod LoginReports
 pub mod MadeSchemes

@@ -1,18 +1,27 @@
 -- The limit on the cost of a login and of a new hash: the budget of the call, or one that its method and rounds give.
 --
 -- `number` is that of a method, and `len` the length of a password in bytes.
-use Rattle.std.specs.Prelude.{ℕ, ◌==◌, ◌||◌, ◌&&◌, Bool, true, if◌then◌else◌, nat_le, nat_lt}
+use Rattle.std.specs.Prelude.{◌≡◌, ℕ, ◌≤◌, ◌==◌, ◌||◌, ◌&&◌, Bool, true, false, if◌then◌else◌, nat_le, nat_lt, Option, Some, None}
 use Rattle.std.specs.Option.{option_map_or}
-use Rattle.crypt_core.specs.MadeSettings.{made_scheme}
+use Rattle.prims_core.specs.Work.{no_work}
+use Rattle.crypt_core.specs.MadeSettings.{made_scheme, rounds_of}
 use Rattle.crypt_core.specs.Methods.{method_numbered}
 use Rattle.crypt_core.specs.Passwords.{password_limit}
 -- The limit of a policy.
 pub use Rattle.crypt_core.specs.Policies.{new_cost, policy_limit}
-use Rattle.crypt_core.specs.Policies.{chosen_rounds}
+use Rattle.crypt_core.specs.Policies.{IsLongestWithin, chosen_rounds, fitted}
+use Rattle.crypt_core.specs.Replacements.{is_replaced_by}
 use Rattle.crypt_core.specs.Rounds.{clamped}
 use Rattle.crypt_core.specs.declared.method.Method.{Method}
 use Rattle.crypt_core.specs.declared.method.Method.TheVariants as methods
 use Rattle.crypt_core.specs.declared.scheme.Scheme.{Scheme}
+use Rattle.call_core.specs.Arguments.{IsSchemeMade, OnLength, OnScheme, Refuses, TakesNewRounds}
+use Rattle.call_core.specs.Reports.{refused, reported}
+use Rattle.call_core.specs.declared.limit.Limit.{Limit}
+use Rattle.call_core.specs.declared.limit.Limit.TheVariants.{Policy, Bytes}
+use Rattle.call_core.specs.declared.reason.Reason.TheVariants.{Done}
+use Rattle.call_core.specs.declared.reason.Refusal.TheVariants.{OverBudget}
+use Rattle.call_core.specs.declared.report.Report.{Report}
 
 -- The budget that stands for the limit of the policy: MKPASSWD_TWICE in C.
 abbrev pub twice : ℕ
@@ -39,3 +48,48 @@ method_limit method rounds len = if takes_new_rounds method rounds then limit_by
 abbrev pub limit_of : ℕ → ℕ → ℕ → ℕ → ℕ
 limit_of number rounds budget len =
     if budget == twice then option_map_or (λ (method : Method). method_limit method rounds len) (method_numbered number) 0 else budget
+
+-- meant budget: the limit that a budget stands for.
+abbrev pub meant : ℕ → Limit
+meant budget = if budget == twice then Policy else Bytes budget
+
+-- limit_bytes limit scheme: the limit in bytes digested and mixed, by a policy whose new hashes have this scheme.
+abbrev pub limit_bytes : Limit → Scheme → ℕ
+limit_bytes Policy scheme = policy_limit scheme
+limit_bytes (Bytes budget) scheme = budget
+
+-- ---- what a policy admits
+
+-- limit_report scheme limit longest: the report of a limit: it, the length of the longest password, and the rounds; or that no
+-- new hash is within the limit.
+abbrev pub limit_report : Scheme → ℕ → Option ℕ → Report
+limit_report scheme limit (Some longest) = record (reported Done longest limit no_work) { rounds = rounds_of scheme }
+limit_report scheme limit None = refused OverBudget limit
+
+-- The report of mkpasswd_limit and web_limit: the limit, and the length of the longest password whose new hash is within it.
+abbrev pub Limits : ℕ → ℕ → Limit → Report → Type 0
+Limits number rounds limit report =
+    OnScheme TakesNewRounds number rounds (Refuses report) (λ scheme.
+    (longest : Option ℕ) × IsLongestWithin scheme (limit_bytes limit scheme) longest
+    × (report ≡ limit_report scheme (limit_bytes limit scheme) longest))
+
+-- rounds_report scheme len own: the report of the rounds of a new hash of a password of this length, and of its cost; or that
+-- none is within the limit, with the cost by the policy's scheme.
+abbrev pub rounds_report : Scheme → ℕ → Option Scheme → Report
+rounds_report scheme len (Some own) = record (reported Done 0 (new_cost own len) no_work) { rounds = rounds_of own }
+rounds_report scheme len None = refused OverBudget (new_cost scheme len)
+
+-- The report of mkpasswd_rounds and web_rounds: the rounds of the fitted scheme.
+abbrev pub Fits : ℕ → ℕ → ℕ → Limit → Report → Type 0
+Fits len number rounds limit report =
+    OnLength len (Refuses report) (OnScheme TakesNewRounds number rounds (Refuses report) (λ scheme.
+    report ≡ rounds_report scheme len (fitted scheme (limit_bytes limit scheme) len)))
+
+-- What holds of the reported rounds, by a policy with this scheme: the method takes them for new hashes, one of a password of
+-- this length has the reported cost, which is at most the limit, and they are no more than the policy's.
+pub record AreFitted (len number limit : ℕ) (scheme : Scheme) (report : Report) : Type 0 where
+  pub own : Scheme
+  pub makes : IsSchemeMade TakesNewRounds number report.rounds own
+  pub price : report.cost ≡ new_cost own len
+  pub within : report.cost ≤ limit
+  pub fewer : is_replaced_by scheme own ≡ false

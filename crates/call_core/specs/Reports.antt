@@ -12,10 +12,11 @@ use Rattle.call_core.specs.declared.reason.Refusal.{Refusal}
 use Rattle.call_core.specs.declared.reason.Refusal.TheVariants.{OutOfMemory}
 use Rattle.call_core.specs.declared.report.Report.{Report}
 
--- The report of a reason: `len` bytes were written, a hash costs at most `most`, and `counts` is the work.
+-- The report of a reason: `len` bytes were written, a hash costs at most `most`, and `counts` is the work. Only the calls on
+-- a policy report rounds.
 abbrev pub reported : Reason → ℕ → ℕ → Work → Report
 reported reason len most counts =
-    record { reason = (reason_row reason).0; length = len; cost = most; work = counts; reserved = 0 }
+    record { reason = (reason_row reason).0; length = len; cost = most; work = counts; rounds = 0; reserved = 0 }
 
 -- The report of a refusal before any hashing, with the cost, or 0 if it is not known yet.
 abbrev pub refused : Refusal → ℕ → Report

@@ -1,15 +1,95 @@
-//! The limit on the cost of a login and of a new hash: the budget of the call, or one that its method and rounds give.
-ghost use Rattle.std.specs.Prelude.{◌≡◌, ◌≢◌, ◌≤◌};
+//! The limit on the cost of a login and of a new hash: the budget of the call, or one that its method and rounds give. Nothing
+//! here hashes or allocates.
+ghost use Rattle.std.specs.Prelude.{◌≡◌, ◌≢◌, ◌≤◌, ◌<ℤ◌, pos};
+ghost use Rattle.crypt_core.specs.Passwords.{password_limit};
+ghost use Rattle.crypt_core.specs.Policies.{NeverFits};
 ghost use Rattle.crypt_core.specs.declared.scheme.Scheme.{Scheme as Made};
 ghost use Rattle.call_core.specs.Arguments.{IsSchemeMade, TakesNewRounds};
-ghost use Rattle.call_core.specs.Limits.{limit_by, limit_of, new_cost, twice};
+ghost use Rattle.call_core.specs.Limits.{AreFitted, Fits, Limits, limit_by, limit_bytes, limit_of, meant, new_cost, twice};
 
 use crate::reading::new_scheme_of;
-use crypt_core::password::PASSWORD_LIMIT;
+use crate::reason::Refusal;
+use crate::report::Report;
+use crypt_core::password::{PASSWORD_LIMIT, PasswordFault};
 use crypt_core::scheme::Scheme;
 
 /// The budget that stands for the limit of the policy.
 const TWICE: u64 = 0;
+
+/// The limit on the cost of a login and of a new hash.
+#[derive(Clone, Copy, Debug, PartialEq, Eq)]
+pub enum Limit {
+    /// That of the policy by which new hashes have the method and the rounds: [`Scheme::policy_limit`].
+    Policy,
+    /// A budget of the caller's own, in bytes digested and mixed.
+    Bytes(u64),
+}
+
+impl Limit {
+    /// Returns the limit that a budget stands for: 0 stands for that of the policy.
+    pub fn of(budget: u64) -> Limit
+        ensures { result ≡ meant budget }
+    {
+        if budget == TWICE {
+            Limit::Policy
+        } else {
+            Limit::Bytes(budget)
+        }
+    }
+
+    /// Returns the limit in bytes digested and mixed, by a policy whose new hashes have the scheme.
+    pub fn bytes(self, scheme: &Scheme) -> u64
+        ensures { result ≡ limit_bytes self scheme.now }
+    {
+        match self {
+            Limit::Policy => scheme.policy_limit(),
+            Limit::Bytes(budget) => budget,
+        }
+    }
+}
+
+/// Reports the limit, the length of the longest password whose new hash with the method and the rounds is within it, and the
+/// rounds, which for 0 are the recommended ones. If no new hash is within the limit, it is `OverBudget`, with the limit.
+pub fn report_limit(method: u32, rounds: u32, limit: Limit) -> Report
+    ensures limits { Limits method rounds limit result }
+    ensures reserved { result.reserved ≡ 0 }
+{
+    let scheme = match new_scheme_of(method, rounds) {
+        Ok(scheme) => scheme,
+        Err(refusal) => return Report::from(refusal),
+    };
+    let limit = limit.bytes(&scheme);
+    match scheme.longest_within(limit) {
+        Some(longest) => Report::of_rounds(scheme.rounds(), longest as u32, limit),
+        None => Report::refused(Refusal::OverBudget, limit),
+    }
+}
+
+/// Reports the rounds of a new hash that is within the limit, of a password of `password_len` bytes, and its cost, by a policy of
+/// the method and the rounds: these, or for SHA-crypt fewer. If there are none, it is `OverBudget`, with the cost by the
+/// policy's rounds.
+pub fn report_rounds(password_len: usize, method: u32, rounds: u32, limit: Limit) -> Report
+    ensures fits { Fits password_len method rounds limit result }
+    ensures fitted { (scheme : Made) → IsSchemeMade TakesNewRounds method rounds scheme → pos 0 <ℤ result.reason
+        → AreFitted password_len method (limit_bytes limit scheme) scheme result }
+    ensures none { (scheme : Made) → IsSchemeMade TakesNewRounds method rounds scheme → password_len ≤ password_limit
+        → ¬ (pos 0 <ℤ result.reason) → NeverFits scheme (limit_bytes limit scheme) password_len }
+    ensures policy { (scheme : Made) → IsSchemeMade TakesNewRounds method rounds scheme → password_len ≤ password_limit
+        → limit ≡ Limit.Policy → pos 0 <ℤ result.reason }
+    ensures reserved { result.reserved ≡ 0 }
+{
+    if password_len > PASSWORD_LIMIT {
+        return Report::from(PasswordFault::TooLong);
+    }
+    let scheme = match new_scheme_of(method, rounds) {
+        Ok(scheme) => scheme,
+        Err(refusal) => return Report::from(refusal),
+    };
+    match scheme.fitted(limit.bytes(&scheme), password_len) {
+        Some(fitted) => Report::of_rounds(fitted.rounds(), 0, fitted.new_cost(password_len)),
+        None => Report::refused(Refusal::OverBudget, scheme.new_cost(password_len)),
+    }
+}
 
 /// Returns the limit on the cost of a hash, for a password of `password_len` bytes.
 ///

@@ -1,5 +1,6 @@
 //! The report of a call, and the string that it leaves in the caller's bytes.
 ghost use Rattle.std.specs.Prelude.{◌≡◌, ◌↔◌, ◌⊎◌, ◌<ℤ◌, pos};
+ghost use Rattle.prims_core.specs.Work.{no_work};
 ghost use Rattle.call_core.specs.Reports.{Leaves, put, refused, reported, token};
 
 use crate::reason::{Reason, Refusal};
@@ -23,14 +24,17 @@ pub const NO_WORK: Work = Work {
 pub struct Report {
     /// The number of the reason: above 0 if the call returned 1, and below 0 if it returned 0.
     pub reason: i32,
-    /// The number of bytes written to `out`, without the byte 0, if the call returned 1.
+    /// The number of bytes written to `out`, without the byte 0, if the call returned 1. In the report of a limit it is that of
+    /// the longest password.
     pub length: u32,
     /// The greatest cost of a hash with this setting and a password of this length, once both are known to be valid.
     pub cost: u64,
     /// All the work that was done. In the report of a bound it is the greatest work.
     pub work: Work,
+    /// The rounds of new hashes, in the report of a limit or of rounds, or else 0.
+    pub rounds: u32,
     /// Always 0.
-    pub reserved: u64,
+    pub reserved: u32,
 }
 
 // C and the page read the fields at fixed places.
@@ -46,7 +50,18 @@ impl Report {
             length,
             cost,
             work,
+            rounds: 0,
             reserved: 0,
+        }
+    }
+
+    /// Returns the report of a policy's rounds, with a length and a cost. Nothing was hashed.
+    pub fn of_rounds(rounds: u32, length: u32, cost: u64) -> Report
+        ensures { result ≡ record (reported Reason.Done length cost no_work) { rounds = rounds } }
+    {
+        Report {
+            rounds,
+            ..Report::new(Reason::Done, length, cost, NO_WORK)
         }
     }
 

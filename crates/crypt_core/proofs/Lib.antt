@@ -1,5 +1,6 @@
 pub mod BytesWithinCost
 pub mod CanonicalSpells
+pub mod CostGrowth
 pub mod CountSums
 pub mod CycleLemmas
 pub mod DecimalDigits
@@ -8,6 +9,7 @@ pub mod DollarFields
 pub mod EachMethod
 pub mod FirstBroken
 pub mod FirstRefusal
+pub mod FittedRounds
 pub mod GroupNumbers
 pub mod HashedTexts
 pub mod MadeSaltLemmas

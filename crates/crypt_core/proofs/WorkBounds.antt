@@ -38,7 +38,7 @@ scrypt-small params a password salt most password_short salt_short =
 -- ---- the digested bytes: those for the binary digits of the length
 
 -- a number below 2 ^ k has at most k digits
-at_most_k : (k one other most n : ℕ) → one ≤ most → other ≤ most → n < 2 ^ k → digit_bytes one other n ≤ k * most
+pub at_most_k : (k one other most n : ℕ) → one ≤ most → other ≤ most → n < 2 ^ k → digit_bytes one other n ≤ k * most
 at_most_k k one other most zero small too below = omega arith
 at_most_k zero one other most (suc n) small too below = absurd (omega (arith, below))
 at_most_k (suc k) one other most (suc n) small too below =

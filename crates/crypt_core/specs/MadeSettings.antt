@@ -1,6 +1,6 @@
 -- Settings made of a method, rounds and a salt, and the refusal if one can't be made. The rounds are the number that the
 -- command takes as `-R`: for SHA-crypt its rounds, and for scrypt the logarithm of N, less 7.
-use Rattle.std.specs.Prelude.{◌≡◌, ℕ, ◌+◌, ◌<◌, ◌≤◌, ◌⊎◌, ◌==◌, if◌then◌else◌, true, false, List, [], ◌∷◌, length, All, Contains, Option, Some, None}
+use Rattle.std.specs.Prelude.{◌≡◌, ℕ, ◌+◌, ◌-◌, ◌<◌, ◌≤◌, ◌⊎◌, ◌==◌, if◌then◌else◌, true, false, List, [], ◌∷◌, length, All, Contains, Option, Some, None}
 use Rattle.prims_core.specs.Alphabet.{alphabet}
 use Rattle.kdf_core.specs.Params.{ScryptParams}
 use Rattle.crypt_core.specs.declared.method.Method.{Method}
@@ -31,6 +31,13 @@ made_scheme methods.Md5crypt rounds = Md5crypt
 made_scheme methods.Sha256crypt rounds = Shacrypt Sha256 (made_rounds rounds)
 made_scheme methods.Sha512crypt rounds = Shacrypt Sha512 (made_rounds rounds)
 made_scheme methods.Scrypt rounds = Scrypt (made_params rounds)
+
+-- rounds_of scheme: the rounds of which `made_scheme` makes it: SHA-crypt's own, and of scrypt the logarithm of N, less 7. md5crypt
+-- ignores them, and they are 0.
+abbrev pub rounds_of : Scheme → ℕ
+rounds_of Md5crypt = 0
+rounds_of (Shacrypt sha rounds) = rounds.count
+rounds_of (Scrypt params) = params.log_n - 7
 
 -- salted scheme numbers: a scheme with a new salt, which three random numbers make.
 abbrev pub salted : Scheme → List ℕ → SettingValue

@@ -1,13 +1,16 @@
 -- The policy that this project recommends: rounds for new hashes, a limit on the cost of a login, and a budget for audits.
-use Rattle.std.specs.Prelude.{ℕ, ◌*◌, ◌==◌, if◌then◌else◌, max}
+use Rattle.std.specs.Prelude.{ℕ, ◌+◌, ◌-◌, ◌*◌, ◌/◌, ◌<◌, ◌≤◌, ◌==◌, ◌↔◌, if◌then◌else◌, max, nat_le, true, Option, Some, None}
 use Rattle.crypt_core.specs.MadeSettings.{made_scheme}
 use Rattle.crypt_core.specs.Methods.{method_row}
 use Rattle.crypt_core.specs.Passwords.{password_limit}
-use Rattle.crypt_core.specs.Schemes.{method_of}
-use Rattle.crypt_core.specs.Work.{cost_by}
+use Rattle.crypt_core.specs.Rounds.{IsRounds, Rounds, clamped}
+use Rattle.crypt_core.specs.Schemes.{method_of, sha_method}
+use Rattle.crypt_core.specs.Work.{cost_by, greatest_byte, shacrypt_bytes}
 use Rattle.crypt_core.specs.declared.method.Method.{Method}
 use Rattle.crypt_core.specs.declared.method.Method.TheVariants.{Md5crypt, Sha256crypt, Sha512crypt, Scrypt}
 use Rattle.crypt_core.specs.declared.scheme.Scheme.{Scheme}
+use Rattle.crypt_core.specs.declared.scheme.Scheme.TheVariants.{Shacrypt}
+use Rattle.crypt_core.specs.declared.scheme.Sha.{Sha}
 
 -- recommended_rounds method: the rounds that new hashes should have, as `made_scheme` takes them. Those of md5crypt are fixed.
 abbrev pub recommended_rounds : Method → ℕ
@@ -32,6 +35,50 @@ limit_floor = 150000000
 -- password of 64 bytes costs. It doesn't depend on the password of a login, so nobody who logs in can raise it.
 abbrev pub policy_limit : Scheme → ℕ
 policy_limit scheme = max limit_floor (2 * new_cost scheme 64)
+
+-- IsLongestWithin scheme limit longest: of the lengths that a password can have, exactly those up to `longest` are within the
+-- limit: a new hash with this scheme costs no more. Without one no length is.
+abbrev pub IsLongestWithin : Scheme → ℕ → Option ℕ → Type 0
+IsLongestWithin scheme limit (Some longest) =
+    (longest ≤ password_limit) × ((len : ℕ) → len ≤ password_limit → (new_cost scheme len ≤ limit ↔ len ≤ longest))
+IsLongestWithin scheme limit None = (len : ℕ) → len ≤ password_limit → limit < new_cost scheme len
+
+-- ---- rounds for a longer password
+
+-- opening_bytes sha len: the most bytes of the messages before the rounds, in a new hash of a password of this length.
+abbrev pub opening_bytes : Sha → ℕ → ℕ
+opening_bytes sha len =
+    shacrypt_bytes (method_row (sha_method sha)).digest_len greatest_byte 0 len (method_row (sha_method sha)).made_salt_length
+
+-- longest_round sha len: the most bytes of the message of a round: a digest, the password twice, and a made salt.
+abbrev pub longest_round : Sha → ℕ → ℕ
+longest_round sha len = (method_row (sha_method sha)).digest_len + 2 * len + (method_row (sha_method sha)).made_salt_length
+
+-- fitting_rounds sha limit len: as many longest rounds as the limit has left after the opening, but no fewer than rounds can
+-- be.
+abbrev pub fitting_rounds : Sha → ℕ → ℕ → ℕ
+fitting_rounds sha limit len = clamped ((limit - opening_bytes sha len) / longest_round sha len)
+
+-- fewer_rounds scheme limit len: SHA-crypt with that many rounds, if a new hash with them is within the limit. The cost of the
+-- other methods hardly depends on the password.
+abbrev pub fewer_rounds : Scheme → ℕ → ℕ → Option Scheme
+fewer_rounds (Shacrypt sha rounds) limit len =
+    let fewer = Shacrypt sha (record { count = fitting_rounds sha limit len; is_written = true }) in
+    if nat_le (new_cost fewer len) limit then Some fewer else None
+fewer_rounds scheme limit len = None
+
+-- fitted scheme limit len: the scheme of a new hash of a password of this length that is within the limit, by a policy with
+-- this scheme. It is the policy's own if that is within it.
+abbrev pub fitted : Scheme → ℕ → ℕ → Option Scheme
+fitted scheme limit len = if nat_le (new_cost scheme len) limit then Some scheme else fewer_rounds scheme limit len
+
+-- NeverFits scheme limit len: a new hash of a password of this length costs more than the limit, with SHA-crypt by whatever
+-- rounds.
+abbrev pub NeverFits : Scheme → ℕ → ℕ → Type 0
+NeverFits (Shacrypt sha rounds) limit len = (other : Rounds) → IsRounds other → limit < new_cost (Shacrypt sha other) len
+NeverFits scheme limit len = limit < new_cost scheme len
+
+-- ---- audits
 
 -- greatest_cost_by scheme: the cost of a hash of the longest password with this scheme and the longest salt.
 abbrev pub greatest_cost_by : Scheme → ℕ

@@ -2,20 +2,24 @@
 //! budget that goes with them. The calls for C and audits take them where the caller names none; the command has other
 //! defaults for hashing.
 
-ghost use Rattle.std.specs.Prelude.{◌≡◌, ◌^◌, ◌<◌, ◌≤◌, length};
+ghost use Rattle.std.specs.Prelude.{◌≡◌, ◌^◌, ◌<◌, ◌≤◌, length, false, true, IfNone, IfSome, IsSome};
 ghost use Rattle.crypt_core.specs.MadeSettings.{TakesRounds};
 ghost use Rattle.crypt_core.specs.MethodLimits.{salt_limit};
-ghost use Rattle.crypt_core.specs.Policies.{audit_budget, chosen_budget, chosen_rounds, greatest_cost_by, new_cost, policy_limit, recommended_rounds};
+ghost use Rattle.crypt_core.specs.Policies.{IsLongestWithin, NeverFits, audit_budget, chosen_budget, chosen_rounds, fewer_rounds, fitted, fitting_rounds, greatest_cost_by, longest_round, new_cost, opening_bytes, policy_limit, recommended_rounds};
 ghost use Rattle.crypt_core.specs.Passwords.{password_limit};
-ghost use Rattle.crypt_core.specs.Schemes.{method_of};
+ghost use Rattle.crypt_core.specs.Replacements.{is_replaced_by};
+ghost use Rattle.crypt_core.specs.Rounds.{clamped};
+ghost use Rattle.crypt_core.specs.Schemes.{IsScheme, method_of};
 ghost use Rattle.crypt_core.specs.Settings.{SettingValue};
 ghost use Rattle.crypt_core.specs.Standings.{greatest_cost};
 ghost use Rattle.crypt_core.specs.Work.{cost};
 
 use crate::made_salt::made_salt_length;
-use crate::method::Method;
+use crate::method::{Method, SHACRYPT_SALT_LIMIT};
 use crate::password::PASSWORD_LIMIT;
 use crate::scheme::{Rounds, Scheme, Sha};
+use crate::work::shacrypt_bound;
+use prims_core::counted::{Counted, CountedSha256, CountedSha512};
 
 /// The recommended rounds of SHA-crypt.
 pub const RECOMMENDED_ROUNDS: u32 = 656_000;
@@ -63,6 +67,7 @@ impl Scheme {
         requires { password_len ≤ password_limit }
         ensures cost { result ≡ new_cost self.now password_len }
         ensures below { result < 2 ^ 42 }
+        ensures in_range { IsScheme self.now }
     {
         self.cost(password_len, made_salt_length(self.method()))
     }
@@ -75,6 +80,51 @@ impl Scheme {
             → cost kept 0 ≤ result }
     {
         LIMIT_FLOOR.max(2 * self.new_cost(HALF_LIMIT_LEN))
+    }
+
+    /// Returns the length of the longest password whose new hash with this scheme costs at most `limit`, in bytes. It is `None`
+    /// if even that of the empty password costs more.
+    pub fn longest_within(&self, limit: u64) -> Option<usize>
+        ensures { IsLongestWithin self.now limit result }
+    {
+        if self.new_cost(0) > limit {
+            return None;
+        }
+        let mut within = 0;
+        let mut above = PASSWORD_LIMIT + 1;
+        'lengths: while above - within > 1 {
+            let middle = (within + above) / 2;
+            if self.new_cost(middle) > limit {
+                above = middle;
+            } else {
+                within = middle;
+            }
+        }
+        Some(within)
+    }
+
+    /// Returns the scheme of a new hash that costs at most `limit`, of a password of `password_len` bytes, by a policy with this
+    /// scheme, or `None` if there is none.
+    ///
+    /// It is the policy's own, if that is within the limit. Otherwise SHA-crypt has `(limit - opening) / longest` rounds, but at
+    /// least 1000, where `opening` bytes are digested before the rounds, and `longest` at most in each round. So it never has
+    /// more rounds than the policy, and with the policy's own limit there always is one.
+    ///
+    /// Precondition: `password_len` is at most [`PASSWORD_LIMIT`].
+    pub fn fitted(&self, limit: u64, password_len: usize) -> Option<Scheme>
+        requires { password_len ≤ password_limit }
+        ensures fitted { result ≡ fitted self.now limit password_len }
+        ensures within { IfSome result (λ scheme. new_cost scheme password_len ≤ limit) }
+        ensures own { new_cost self.now password_len ≤ limit → result ≡ Some self.now }
+        ensures method { IfSome result (λ scheme. method_of scheme ≡ method_of self.now) }
+        ensures kept { IfSome result (λ scheme. is_replaced_by self.now scheme ≡ false) }
+        ensures none { IfNone result (NeverFits self.now limit password_len) }
+        ensures policy { policy_limit self.now ≤ limit → IsSome result }
+    {
+        if self.new_cost(password_len) <= limit {
+            return Some(*self);
+        }
+        fewer_rounds(self, limit, password_len)
     }
 
     /// Returns the greatest cost of a hash with this scheme, in bytes digested and mixed: that of the longest password and
@@ -109,4 +159,54 @@ impl Scheme {
             budget
         }
     }
+}
+
+// Returns the scheme with as many rounds as fit the limit, if it is SHA-crypt and a new hash with them is within the limit.
+fn fewer_rounds(scheme: &Scheme, limit: u64, password_len: usize) -> Option<Scheme>
+    requires { password_len ≤ password_limit }
+    ensures { result ≡ fewer_rounds scheme.now limit password_len }
+{
+    let Scheme::Shacrypt(sha, _) = *scheme else {
+        return None;
+    };
+    let fewer = Scheme::Shacrypt(sha, fitting_rounds(sha, limit, password_len));
+    if fewer.new_cost(password_len) > limit {
+        return None;
+    }
+    Some(fewer)
+}
+
+// Returns as many rounds as the limit has room for after the opening, if each is one of the longest, but at least 1000.
+fn fitting_rounds(sha: Sha, limit: u64, password_len: usize) -> Rounds
+    requires { password_len ≤ password_limit }
+    ensures { result ≡ record { count = fitting_rounds sha limit password_len; is_written = true } }
+{
+    let password = password_len as u64;
+    let left = limit.saturating_sub(opening_bytes(sha, password));
+    Rounds::written(left / longest_round(sha, password))
+}
+
+// Returns the most bytes of the messages before the rounds, in a new hash of a password of this length.
+fn opening_bytes(sha: Sha, password: u64) -> u64
+    requires { password ≤ password_limit }
+    ensures { result ≡ opening_bytes sha password }
+{
+    let salt = SHACRYPT_SALT_LIMIT as u64;
+    let work = match sha {
+        Sha::Sha256 => shacrypt_bound::<CountedSha256>(0, password, salt),
+        Sha::Sha512 => shacrypt_bound::<CountedSha512>(0, password, salt),
+    };
+    work.bytes
+}
+
+// Returns the most bytes of the message of a round, of a new hash of a password of this length.
+fn longest_round(sha: Sha, password: u64) -> u64
+    requires { password ≤ password_limit }
+    ensures { result ≡ longest_round sha password }
+{
+    let digest = match sha {
+        Sha::Sha256 => CountedSha256::LEN,
+        Sha::Sha512 => CountedSha512::LEN,
+    };
+    digest as u64 + 2 * password + SHACRYPT_SALT_LIMIT as u64
 }

@@ -3,7 +3,7 @@
 
 ghost use Rattle.std.specs.Prelude.{◌≡◌, ◌+◌, ◌≤◌, ◌↔◌, IsOk, IfOk, IfErr, true, false};
 ghost use Rattle.kdf_core.specs.Params.{IsAccepted};
-ghost use Rattle.crypt_core.specs.MadeSettings.{TakesRounds, made_scheme};
+ghost use Rattle.crypt_core.specs.MadeSettings.{TakesRounds, made_scheme, rounds_of};
 ghost use Rattle.crypt_core.specs.Replacements.{is_replaced_by};
 ghost use Rattle.crypt_core.specs.Rounds.{IsRounds, default_rounds, clamped};
 ghost use Rattle.crypt_core.specs.Schemes.{IsScheme, method_of};
@@ -169,6 +169,18 @@ impl Scheme {
                 prove!(params.log_n() > 0);
                 Method::Scrypt
             }
+        }
+    }
+
+    /// Returns the rounds of which [`Scheme::made`] makes such a scheme: SHA-crypt's own, for scrypt the logarithm of N less 7,
+    /// and 0 for md5crypt, which ignores them.
+    pub fn rounds(&self) -> u32
+        ensures { result ≡ rounds_of self.now }
+    {
+        match self {
+            Scheme::Md5crypt => 0,
+            Scheme::Shacrypt(_, rounds) => rounds.count(),
+            Scheme::Scrypt(params) => u32::from(params.log_n()).saturating_sub(LOG_ABOVE_ROUNDS),
         }
     }
 

@@ -120,9 +120,9 @@ fn md5crypt_bound(password: u64, salt: u64) -> Work
     )
 }
 
-// Returns the bound for SHA-crypt, which repeats the salt 16 + a times. Only hashing finds the byte a, so the bound has
-// 255.
-fn shacrypt_bound<H: Counted>(rounds: u32, password: u64, salt: u64) -> Work
+/// Returns the bound for SHA-crypt, which repeats the salt 16 + a times. Only hashing finds the byte a, so the bound has
+/// 255.
+pub(crate) fn shacrypt_bound<H: Counted>(rounds: u32, password: u64, salt: u64) -> Work
     requires rounds { rounds ≤ max_rounds }
     requires password { password ≤ password_limit }
     requires salt { salt ≤ shacrypt_salt_limit }

@@ -14,6 +14,8 @@
 ghost use Rattle.std.specs.Prelude.{◌≡◌, ◌≢◌, ◌≤◌, ◌↔◌, true, pos, [], ◌∷◌, length, take};
 ghost use Rattle.prims_core.specs.Work.{no_work};
 ghost use Rattle.crypt_core.specs.Crypt.{allocates};
+ghost use Rattle.crypt_core.specs.Passwords.{password_limit};
+ghost use Rattle.crypt_core.specs.Policies.{NeverFits};
 ghost use Rattle.crypt_core.specs.Settings.{SettingValue, Spells};
 ghost use Rattle.crypt_core.specs.Work.{cost};
 ghost use Rattle.crypt_core.specs.declared.scheme.Scheme.{Scheme};
@@ -21,7 +23,7 @@ ghost use Rattle.call_core.specs.Arguments.{IsSchemeMade, TakesNewRounds};
 ghost use Rattle.call_core.specs.Audits.{Audits, ForeseesLogins, IsCurrent};
 ghost use Rattle.call_core.specs.Checks.{IsDead, NeedsNoMemory, Opens, Verifies};
 ghost use Rattle.call_core.specs.Hashes.{Hashes};
-ghost use Rattle.call_core.specs.Limits.{limit_of};
+ghost use Rattle.call_core.specs.Limits.{AreFitted, Fits, Limits, limit_bytes, limit_of, meant, twice};
 ghost use Rattle.call_core.specs.Logins.{IsUncheckable, JudgesStoredHash, LogsIn, TreatsFieldsAlike};
 ghost use Rattle.call_core.specs.Rehashes.{IsOutdated, Rehashes};
 ghost use Rattle.call_core.specs.Reports.{Answers, put, token};
@@ -30,7 +32,7 @@ ghost use Rattle.call_core.specs.Settings.{Bounds, PutsSetting};
 use call_core::audit::report_audit;
 use call_core::bound::report_bound;
 use call_core::hash::put_hash;
-use call_core::limit::limit_of;
+use call_core::limit::{Limit, limit_of, report_limit, report_rounds};
 use call_core::login::log_in;
 use call_core::rehash::report_rehash;
 use call_core::report::{Report, tell};
@@ -254,6 +256,59 @@ pub extern "C" fn web_audit(
     ensures idle { report.new.work ≡ no_work }
 {
     tell(report, report_audit(field, method, rounds, budget))
+}
+
+/// Reports the limit on the cost of a login and of a new hash, by a method, rounds and a budget, and the length of the longest
+/// password whose new hash is within it, as `mkpasswd_limit` does for C.
+///
+/// The cost in the report is the limit: the budget, or for 0 the limit of the policy. Of the lengths of a password exactly those
+/// up to the length in the report are within it. The rounds in the report are those of new hashes, which for 0 are the
+/// recommended ones.
+///
+/// # Errors
+///
+/// - `UnknownMethod`, `Cost`: no method has the number, or a new hash cannot have the rounds.
+/// - `OverBudget`: no new hash is within the limit. The cost in the report is the limit.
+#[unsafe(no_mangle)]
+pub extern "C" fn web_limit(method: u32, rounds: u32, budget: u64, report: &mut Report) -> i32
+    ensures answers { Answers result report.new }
+    ensures limits { Limits method rounds (meant budget) report.new }
+{
+    tell(report, report_limit(method, rounds, Limit::of(budget)))
+}
+
+/// Reports the rounds of a new hash that is within the limit of a method, rounds and a budget, for any password of this length, and
+/// the cost of that hash, as `mkpasswd_rounds` does for C.
+///
+/// They are the policy's own, if a hash with them is within the limit, or else fewer rounds of SHA-crypt, but as few as 1000 are
+/// enough. A caller gives them to `mkpasswd_new`, with the limit that [`web_limit`] reports as the budget, since fewer
+/// rounds have a lower limit of their own; and the same budget to [`web_login`].
+///
+/// # Errors
+///
+/// - `Password`: the length exceeds that of any password.
+/// - `UnknownMethod`, `Cost`: no method has the number, or a new hash cannot have the rounds.
+/// - `OverBudget`: no hash of such a password is within the limit, with SHA-crypt by whatever rounds. With a budget of 0 there
+///   always is one.
+#[unsafe(no_mangle)]
+pub extern "C" fn web_rounds(
+    password_len: usize,
+    method: u32,
+    rounds: u32,
+    budget: u64,
+    report: &mut Report,
+) -> i32
+    ensures answers { Answers result report.new }
+    ensures fits { Fits password_len method rounds (meant budget) report.new }
+    ensures fitted { (scheme : Scheme) → IsSchemeMade TakesNewRounds method rounds scheme → result ≡ pos 1
+        → AreFitted password_len method (limit_bytes (meant budget) scheme) scheme report.new }
+    ensures none { (scheme : Scheme) → IsSchemeMade TakesNewRounds method rounds scheme → password_len ≤ password_limit
+        → result ≡ pos 0 → NeverFits scheme (limit_bytes (meant budget) scheme) password_len }
+    ensures policy { (scheme : Scheme) → IsSchemeMade TakesNewRounds method rounds scheme → password_len ≤ password_limit
+        → budget ≡ twice → result ≡ pos 1 }
+{
+    let told = report_rounds(password_len, method, rounds, Limit::of(budget));
+    tell(report, told)
 }
 
 /// Reports the greatest cost and the greatest work of a hash with this setting, for any password of this length.

@@ -1,0 +1,90 @@
+-- The rounds of a scheme make it again, those of a fitted scheme too.
+use Rattle.std.proofs.Common.{◌≡◌, ◌==◌, ◌<◌, ◌≤◌, ◌∙◌, ℕ, Bool, Option, Some, None, true, false, nat_le, if◌then◌else◌, inl, inr, refl, ap, sym, arith}
+use Rattle.crypt_core.specs.MadeSettings.{made_params, made_rounds, made_scheme, rounds_of}
+use Rattle.crypt_core.specs.Policies.{chosen_rounds, fewer_rounds, fitted, fitting_rounds, new_cost}
+use Rattle.crypt_core.specs.Rounds.{clamped}
+use Rattle.crypt_core.specs.declared.method.Method.TheVariants as methods
+use Rattle.crypt_core.specs.declared.scheme.Scheme.{Scheme}
+use Rattle.crypt_core.specs.declared.scheme.Scheme.TheVariants.{Md5crypt, Shacrypt, Scrypt}
+use Rattle.crypt_core.specs.declared.scheme.Sha.{Sha}
+use Rattle.crypt_core.specs.declared.scheme.Sha.TheVariants.{Sha256, Sha512}
+use Rattle.call_core.specs.Arguments.{IsSchemeMade, TakesNewRounds}
+
+-- ---- SHA-crypt
+
+-- rounds in range make themselves, with a field
+count_made : (n : ℕ) → made_rounds (chosen_rounds methods.Sha512crypt (clamped n)) ≡ record { count = clamped n; is_written = true }
+count_made n = go (clamped n) (omega arith) (omega arith) where
+  go : (count : ℕ) → 0 < count → clamped count ≡ count → made_rounds (chosen_rounds methods.Sha512crypt count) ≡ record { count = count; is_written = true }
+  go count some same =
+      let none : (count == 0) ≡ false = grind (arith, some) in
+      rw (none, none, same) refl
+
+-- and those of new hashes have a field
+new_rounds : (rounds : ℕ) → made_rounds (chosen_rounds methods.Sha512crypt rounds)
+    ≡ record { count = clamped (chosen_rounds methods.Sha512crypt rounds); is_written = true }
+new_rounds rounds = go (rounds == 0) refl where
+  go : (default : Bool) → (rounds == 0) ≡ default → made_rounds (if default then 656000 else rounds)
+      ≡ record { count = clamped (if default then 656000 else rounds); is_written = true }
+  go true e = refl
+  go false e = rw e refl
+
+-- ---- scrypt
+
+again : (rounds : ℕ) → 6 ≤ rounds → rounds ≤ 11
+    → made_scheme methods.Scrypt (chosen_rounds methods.Scrypt (rounds_of (Scrypt (made_params rounds)))) ≡ Scrypt (made_params rounds)
+again rounds low high =
+    let some : (rounds == 0) ≡ false = grind (arith, low) in
+    let same : rounds_of (Scrypt (made_params rounds)) ≡ rounds = rw some (omega arith) in
+    rw (same, some, some) refl
+
+-- ---- each scheme
+
+-- the rounds of a scheme of new hashes make it
+pub remade : (number rounds : ℕ) (scheme : Scheme) → IsSchemeMade TakesNewRounds number rounds scheme
+    → IsSchemeMade TakesNewRounds number (rounds_of scheme) scheme
+remade number rounds scheme (methods.Md5crypt, named, takes, is) = rw is (methods.Md5crypt, named, tt, refl)
+remade number rounds scheme (methods.Sha256crypt, named, takes, is) =
+    let made : scheme ≡ Shacrypt Sha256 (record { count = clamped (chosen_rounds methods.Sha512crypt rounds); is_written = true }) =
+    is ∙ ap (Shacrypt Sha256) (new_rounds rounds) in
+    rw made (methods.Sha256crypt, named, inr (omega arith), sym (ap (Shacrypt Sha256) (count_made (chosen_rounds methods.Sha512crypt rounds))))
+remade number rounds scheme (methods.Sha512crypt, named, takes, is) =
+    let made : scheme ≡ Shacrypt Sha512 (record { count = clamped (chosen_rounds methods.Sha512crypt rounds); is_written = true }) =
+    is ∙ ap (Shacrypt Sha512) (new_rounds rounds) in
+    rw made (methods.Sha512crypt, named, inr (omega arith), sym (ap (Shacrypt Sha512) (count_made (chosen_rounds methods.Sha512crypt rounds))))
+remade number rounds scheme (methods.Scrypt, named, inl none, is) =
+    let made : scheme ≡ Scrypt (made_params 7) = rw none at is in
+    rw made (methods.Scrypt, named, inr (omega arith, omega arith), sym (again 7 (omega arith) (omega arith)))
+remade number rounds scheme (methods.Scrypt, named, inr (low, high), is) =
+    let some : (rounds == 0) ≡ false = grind (arith, low) in
+    let made : scheme ≡ Scrypt (made_params rounds) = rw some at is in
+    let same : rounds_of (Scrypt (made_params rounds)) ≡ rounds = rw some (omega arith) in
+    rw (made, same) (methods.Scrypt, named, inr (low, high), rw (some, some) refl)
+
+-- as do those of one with fewer rounds
+clamped_own : (sha : Sha) (n : ℕ) (within : Bool) (own : Scheme)
+    → (if within then Some (Shacrypt sha (record { count = clamped n; is_written = true })) else None) ≡ Some own
+    → Shacrypt sha (record { count = clamped n; is_written = true }) ≡ own
+clamped_own sha n true own e = cc e
+clamped_own sha n false own e = absurd (cc e)
+
+fewer_made : (number rounds limit len : ℕ) (scheme own : Scheme) → IsSchemeMade TakesNewRounds number rounds scheme
+    → fewer_rounds scheme limit len ≡ Some own → IsSchemeMade TakesNewRounds number (rounds_of own) own
+fewer_made number rounds limit len scheme own (methods.Md5crypt, named, takes, is) e = absurd (cc (rw is at e))
+fewer_made number rounds limit len scheme own (methods.Scrypt, named, takes, is) e = absurd (cc (rw is at e))
+fewer_made number rounds limit len scheme own (methods.Sha256crypt, named, takes, is) e =
+    let same = clamped_own Sha256 _ _ own (rw is at e) in
+    rw (← same) (methods.Sha256crypt, named, inr (omega arith), sym (ap (Shacrypt Sha256) (count_made _)))
+fewer_made number rounds limit len scheme own (methods.Sha512crypt, named, takes, is) e =
+    let same = clamped_own Sha512 _ _ own (rw is at e) in
+    rw (← same) (methods.Sha512crypt, named, inr (omega arith), sym (ap (Shacrypt Sha512) (count_made _)))
+
+pub fitted_made : (number rounds limit len : ℕ) (scheme own : Scheme) → IsSchemeMade TakesNewRounds number rounds scheme
+    → fitted scheme limit len ≡ Some own → IsSchemeMade TakesNewRounds number (rounds_of own) own
+fitted_made number rounds limit len scheme own makes = go (nat_le (new_cost scheme len) limit) where
+  go : (within : Bool) → (if within then Some scheme else fewer_rounds scheme limit len) ≡ Some own
+      → IsSchemeMade TakesNewRounds number (rounds_of own) own
+  go true e =
+      let same : scheme ≡ own = cc e in
+      rw (← same) (remade number rounds scheme makes)
+  go false e = fewer_made number rounds limit len scheme own makes e

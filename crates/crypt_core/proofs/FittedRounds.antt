@@ -1,0 +1,198 @@
+-- Rounds for a longer password: as many longest rounds as the limit has left after the opening.
+use Rattle.std.proofs.Common.{◌≡◌, ℕ, ◌+◌, ◌-◌, ◌*◌, ◌/◌, ◌<◌, ◌≤◌, Bool, true, false, nat_le, if◌then◌else◌, Option, Some, None, inl, inr, refl, arith}
+use Rattle.std.specs.Int.{div_ceil}
+use Rattle.std.specs.Prelude.{IfNone, IfSome, IsSome}
+use Rattle.std.proofs.lemmas.Bool.{cases_lt}
+use Rattle.std.proofs.lemmas.Bool.Decides.{nat_tests}
+use Rattle.std.proofs.Math.Nat.{div-mul-le_self, mul-le-mul, mul-le-mul_right}
+use Rattle.kdf_core.specs.Hmac.{key_digests}
+use Rattle.crypt_core.specs.Cycle.{digit_bytes}
+use Rattle.crypt_core.specs.Policies.{NeverFits, fewer_rounds, fitting_rounds, limit_floor, new_cost, policy_limit}
+use Rattle.crypt_core.specs.Replacements.{is_replaced_by}
+use Rattle.crypt_core.specs.Rounds.{Rounds, clamped}
+use Rattle.crypt_core.specs.Schemes.{IsScheme, method_of, sha_method}
+use Rattle.crypt_core.specs.Work.{rounds_bytes, shacrypt_bytes}
+use Rattle.crypt_core.specs.declared.scheme.Scheme.{Scheme}
+use Rattle.crypt_core.specs.declared.scheme.Scheme.TheVariants.{Md5crypt, Shacrypt, Scrypt}
+use Rattle.crypt_core.specs.declared.scheme.Sha.TheVariants.{Sha256, Sha512}
+use Rattle.crypt_core.proofs.WorkBounds.{at_most_k}
+
+-- ---- the bytes of more rounds
+
+rounds_more : (n most digest len salt : ℕ) → n ≤ most → rounds_bytes n digest len salt ≤ rounds_bytes most digest len salt
+rounds_more n most digest len salt few =
+    let all : n * (digest + len) ≤ most * (digest + len) = mul-le-mul_right (digest + len) few in
+    let salted : (n - div_ceil n 3) * salt ≤ (most - div_ceil most 3) * salt = mul-le-mul_right salt (omega arith) in
+    let twice : (n - div_ceil n 7) * len ≤ (most - div_ceil most 7) * len = mul-le-mul_right len (omega arith) in
+    omega (arith, all, salted, twice)
+
+sha_more : (n most digest len salt : ℕ) → n ≤ most → shacrypt_bytes digest 255 n len salt ≤ shacrypt_bytes digest 255 most len salt
+sha_more n most digest len salt few = omega (arith, rounds_more n most digest len salt few)
+
+-- no round has more bytes than the longest
+rounds_longest : (n digest len salt : ℕ) → rounds_bytes n digest len salt ≤ n * (digest + 2 * len + salt)
+rounds_longest n digest len salt =
+    let salted : (n - div_ceil n 3) * salt ≤ n * salt = mul-le-mul_right salt (omega arith) in
+    let twice : (n - div_ceil n 7) * len ≤ n * len = mul-le-mul_right len (omega arith) in
+    omega (arith, salted, twice)
+
+-- ---- the rounds that fit
+
+abbrev fitting : ℕ → ℕ → ℕ → ℕ
+fitting digest limit len = (limit - shacrypt_bytes digest 255 0 len 16) / (digest + 2 * len + 16)
+
+-- one of them or fewer cost no more than the limit, if it has as much as the opening
+fitting_within : (digest limit len n : ℕ) → shacrypt_bytes digest 255 0 len 16 ≤ limit → n ≤ fitting digest limit len
+    → shacrypt_bytes digest 255 n len 16 ≤ limit
+fitting_within digest limit len n opened few =
+    let per = digest + 2 * len + 16 in
+    let left = limit - shacrypt_bytes digest 255 0 len 16 in
+    let most : left / per * per ≤ left = div-mul-le_self left per in
+    let all : n * per ≤ left / per * per = mul-le-mul_right per few in
+    let longest = rounds_longest n digest len 16 in
+    omega (arith, most, all, longest, opened)
+
+-- with one round or more the limit has as much as the opening
+opened_by : (digest limit len n : ℕ) → n ≤ fitting digest limit len → 0 < n → shacrypt_bytes digest 255 0 len 16 ≤ limit
+opened_by digest limit len n few some = elim (cases_lt limit (shacrypt_bytes digest 255 0 len 16)) [
+  | inl less ↦
+      let none : limit - shacrypt_bytes digest 255 0 len 16 ≡ 0 = omega (arith, less) in
+      let nothing : fitting digest limit len ≡ 0 = rw none (omega arith) in
+      absurd (omega (arith, nothing, few, some))
+  | inr enough ↦ enough
+]
+
+-- so rounds in range cost more than the limit only if they are more than those that fit
+fewer_fit : (digest limit len count : ℕ) → 1000 ≤ count → limit < shacrypt_bytes digest 255 count len 16
+    → clamped (fitting digest limit len) ≤ count
+fewer_fit digest limit len count many above = elim (cases_lt (fitting digest limit len) count) [
+  | inl more ↦ omega (arith, many, more)
+  | inr fewer ↦
+      let opened = opened_by digest limit len count fewer (omega (arith, many)) in
+      let within = fitting_within digest limit len count opened fewer in
+      absurd (omega (arith, within, above))
+]
+
+-- if even these cost more, they are the fewest, and all others cost more too
+never_fits : (digest limit len count : ℕ) → 1000 ≤ count → limit < shacrypt_bytes digest 255 (clamped (fitting digest limit len)) len 16
+    → limit < shacrypt_bytes digest 255 count len 16
+never_fits digest limit len count many above = elim (cases_lt (fitting digest limit len) 1000) [
+  | inl less ↦
+      let fewest : clamped (fitting digest limit len) ≡ 1000 = omega (arith, less) in
+      let more = sha_more 1000 count digest len 16 many in
+      omega (arith, rw fewest at above, more)
+  | inr enough ↦
+      let fewer : clamped (fitting digest limit len) ≤ fitting digest limit len = omega (arith, enough) in
+      let opened = opened_by digest limit len (clamped (fitting digest limit len)) fewer (omega arith) in
+      let within = fitting_within digest limit len (clamped (fitting digest limit len)) opened fewer in
+      absurd (omega (arith, within, above))
+]
+
+-- ---- each scheme
+
+pub fewer_kept : (scheme : Scheme) (limit len : ℕ) → IsScheme scheme → limit < new_cost scheme len
+    → IfSome (fewer_rounds scheme limit len) (λ fewer. is_replaced_by scheme fewer ≡ false)
+fewer_kept Md5crypt limit len is above = tt
+fewer_kept (Shacrypt Sha256 rounds) limit len is above =
+    go (nat_le (shacrypt_bytes 32 255 (clamped (fitting 32 limit len)) len 16) limit) (fewer_fit 32 limit len rounds.count (omega (arith, is.0)) above)
+  where
+    go : (within : Bool) → clamped (fitting 32 limit len) ≤ rounds.count
+        → IfSome (if within then Some (Shacrypt Sha256 (record { count = clamped (fitting 32 limit len); is_written = true })) else None)
+        (λ fewer. is_replaced_by (Shacrypt Sha256 rounds) fewer ≡ false)
+    go true less = grind (arith, nat_tests, less)
+    go false less = tt
+fewer_kept (Shacrypt Sha512 rounds) limit len is above =
+    go (nat_le (shacrypt_bytes 64 255 (clamped (fitting 64 limit len)) len 16) limit) (fewer_fit 64 limit len rounds.count (omega (arith, is.0)) above)
+  where
+    go : (within : Bool) → clamped (fitting 64 limit len) ≤ rounds.count
+        → IfSome (if within then Some (Shacrypt Sha512 (record { count = clamped (fitting 64 limit len); is_written = true })) else None)
+        (λ fewer. is_replaced_by (Shacrypt Sha512 rounds) fewer ≡ false)
+    go true less = grind (arith, nat_tests, less)
+    go false less = tt
+fewer_kept (Scrypt params) limit len is above = tt
+
+-- they are within the limit, and of the same method
+pub fewer_within : (scheme : Scheme) (limit len : ℕ)
+    → IfSome (fewer_rounds scheme limit len) (λ fewer. (new_cost fewer len ≤ limit) × (method_of fewer ≡ method_of scheme))
+fewer_within Md5crypt limit len = tt
+fewer_within (Shacrypt sha rounds) limit len =
+    go (Shacrypt sha (record { count = fitting_rounds sha limit len; is_written = true })) refl
+    (nat_le (new_cost (Shacrypt sha (record { count = fitting_rounds sha limit len; is_written = true })) len) limit) refl
+  where
+    go : (fewer : Scheme) → method_of fewer ≡ sha_method sha → (within : Bool) → nat_le (new_cost fewer len) limit ≡ within
+        → IfSome (if within then Some fewer else None) (λ fewer. (new_cost fewer len ≤ limit) × (method_of fewer ≡ sha_method sha))
+    go fewer same true test = (grind (arith, nat_tests, test), same)
+    go fewer same false test = tt
+fewer_within (Scrypt params) limit len = tt
+
+-- without fewer rounds that fit there are none
+none_fits : (scheme : Scheme) (limit len : ℕ) → IsScheme scheme → limit < new_cost scheme len → fewer_rounds scheme limit len ≡ None
+    → NeverFits scheme limit len
+none_fits Md5crypt limit len is above none = above
+none_fits (Shacrypt Sha256 rounds) limit len is above none = λ other range. elim (cases_lt limit
+    (shacrypt_bytes 32 255 (clamped (fitting 32 limit len)) len 16)) [
+      | inl more ↦ never_fits 32 limit len other.count (omega (arith, range.0)) more
+      | inr less ↦
+          let test : nat_le (shacrypt_bytes 32 255 (clamped (fitting 32 limit len)) len 16) limit ≡ true = grind (arith, nat_tests, less) in
+          absurd (cc (rw test at none))
+    ]
+none_fits (Shacrypt Sha512 rounds) limit len is above none = λ other range. elim (cases_lt limit
+    (shacrypt_bytes 64 255 (clamped (fitting 64 limit len)) len 16)) [
+      | inl more ↦ never_fits 64 limit len other.count (omega (arith, range.0)) more
+      | inr less ↦
+          let test : nat_le (shacrypt_bytes 64 255 (clamped (fitting 64 limit len)) len 16) limit ≡ true = grind (arith, nat_tests, less) in
+          absurd (cc (rw test at none))
+    ]
+none_fits (Scrypt params) limit len is above none = above
+
+-- ---- a policy's own limit
+
+-- SHA-crypt with the fewest rounds costs less than the floor
+fewest_within : (digest len : ℕ) → digest ≤ 64 → len ≤ 1024 → shacrypt_bytes digest 255 1000 len 16 ≤ limit_floor
+fewest_within digest len small short =
+    let digits : digit_bytes digest len len ≤ 11 * 1024 = at_most_k 11 digest len 1024 len (omega (arith, small)) short (omega (arith, short)) in
+    let square : len * len ≤ 1024 * 1024 = mul-le-mul short short in
+    omega (arith, digits, square, small, short)
+
+floored : (scheme : Scheme) → limit_floor ≤ policy_limit scheme
+floored scheme = grind arith
+
+abbrev fewest : Rounds
+fewest = record { count = 1000; is_written = true }
+
+-- a policy's limit is not below each new hash
+policy_never_above : (scheme : Scheme) (limit len : ℕ) → len ≤ 1024 → policy_limit scheme ≤ limit → NeverFits scheme limit len → ⊥
+policy_never_above Md5crypt limit len short least never =
+    let digits : digit_bytes 1 1 len ≤ 11 * 1 = at_most_k 11 1 1 1 len (omega arith) (omega arith) (omega (arith, short)) in
+    let floor = floored Md5crypt in
+    absurd (omega (arith, digits, never, least, short, floor))
+policy_never_above (Shacrypt Sha256 rounds) limit len short least never =
+    let more = never fewest (refl, λ is. absurd (cc is)) in
+    let less = fewest_within 32 len (omega arith) short in
+    let floor = floored (Shacrypt Sha256 rounds) in
+    absurd (omega (arith, more, less, least, floor))
+policy_never_above (Shacrypt Sha512 rounds) limit len short least never =
+    let more = never fewest (refl, λ is. absurd (cc is)) in
+    let less = fewest_within 64 len (omega arith) short in
+    let floor = floored (Shacrypt Sha512 rounds) in
+    absurd (omega (arith, more, less, least, floor))
+policy_never_above (Scrypt params) limit len short least never =
+    let digest : key_digests len ≤ 1 = grind (arith, nat_tests) in
+    let key : key_digests len * len ≤ 1 * 1024 = mul-le-mul digest short in
+    let twice : 2 * new_cost (Scrypt params) 64 ≤ policy_limit (Scrypt params) = grind arith in
+    absurd (omega (arith, key, never, least, twice))
+
+-- so with it some rounds fit
+pub policy_fits : (scheme : Scheme) (limit len : ℕ) → IsScheme scheme → limit < new_cost scheme len → len ≤ 1024 → policy_limit scheme ≤ limit
+    → IsSome (fewer_rounds scheme limit len)
+policy_fits scheme limit len is above short least = go (fewer_rounds scheme limit len) refl where
+  go : (fewer : Option Scheme) → fewer_rounds scheme limit len ≡ fewer → IsSome fewer
+  go (Some fewer) e = refl
+  go None e = absurd (policy_never_above scheme limit len short least (none_fits scheme limit len is above e))
+
+pub none_then : (scheme : Scheme) (limit len : ℕ) → IsScheme scheme → limit < new_cost scheme len
+    → IfNone (fewer_rounds scheme limit len) (NeverFits scheme limit len)
+none_then scheme limit len is above = go (fewer_rounds scheme limit len) refl where
+  go : (fewer : Option Scheme) → fewer_rounds scheme limit len ≡ fewer → IfNone fewer (NeverFits scheme limit len)
+  go (Some fewer) e = tt
+  go None e = none_fits scheme limit len is above e
