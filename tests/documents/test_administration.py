@@ -16,10 +16,9 @@ from pathlib import Path
 import pytest
 from support.documents import Block, marked
 from support.examples import is_hash_of
-from support.needs import missing, need_root
 from support.process import Changes, Result, run
 
-pytestmark = pytest.mark.needs("chpasswd")
+pytestmark = pytest.mark.needs("root", "chpasswd")
 
 AGED = ":19000:0:99999:7:::"  # the fields of a shadow file that follow the hash
 SECONDS_OF_DAY = 86_400
@@ -126,7 +125,6 @@ class Followed:
 
 @pytest.fixture(name="machine")
 def fixture_machine(environment: Changes, tmp_path: Path) -> Machine:
-    need_root()
     (tmp_path / "system/etc").mkdir(parents=True)
     (tmp_path / "bin").mkdir()
     (tmp_path / "folder").mkdir()
@@ -365,8 +363,6 @@ class OnSmallDisk:
 
 def follow_on_small_disk(machine: Machine, recipe: Recipe, pages: int) -> OnSmallDisk:
     """Follows a recipe where its own files have so much room."""
-    if run("unshare", "--mount", "true").status != 0:
-        missing("a mount of its own", "run the tests where the superuser may mount")
     machine.set_accounts({user: OUTDATED for user in USERS})
     lines = "".join(f"{user}:password\n" for user in USERS).encode()
     machine.write("passwords", lines)
@@ -384,7 +380,7 @@ def follow_on_small_disk(machine: Machine, recipe: Recipe, pages: int) -> OnSmal
     return OnSmallDisk(recipe, result, fields)
 
 
-@pytest.mark.needs("unshare")
+@pytest.mark.needs("namespaces")
 @pytest.mark.parametrize("pages", range(1, PAGES_FOR_ALL), ids="{} pages".format)
 @pytest.mark.parametrize("recipe", RECIPES, ids=str)
 def test_a_full_disk_leaves_whole_hashes(machine: Machine, recipe: Recipe, pages: int) -> None:
@@ -393,7 +389,7 @@ def test_a_full_disk_leaves_whole_hashes(machine: Machine, recipe: Recipe, pages
     assert odd == [], followed.lacks("each field is the old hash, or a new one that is whole")
 
 
-@pytest.mark.needs("unshare")
+@pytest.mark.needs("namespaces")
 @pytest.mark.parametrize("recipe", RECIPES, ids=str)
 def test_a_small_disk_with_room_gets_all_hashes(machine: Machine, recipe: Recipe) -> None:
     followed = follow_on_small_disk(machine, recipe, PAGES_FOR_ALL)

@@ -97,7 +97,8 @@ def offered(shell: Shell, line: str) -> list[str]:
 def assert_offered(shell: Shell, line: str, expected: list[str]) -> None:
     """Fails the test unless a shell offers exactly these words."""
     found = offered(shell, line)
-    assert found == sorted(expected), f"typed, and then Tab: '{line}'"
+    message = f"typed before Tab: '{line}'\nexpected: {sorted(expected)}\noffered: {found}"
+    assert found == sorted(expected), message
 
 
 def test_completions_are_written_and_nothing_is_printed(made: tuple[Path, Result]) -> None:
@@ -139,7 +140,8 @@ def test_no_file_is_a_value_of_an_option(shell: Shell, program: Path, form: str)
     assert options != [], "expected: options with a value in the help of mkpasswd"
     lines = [f"mkpasswd {form.replace('OPTION', option)}" for option in options]
     words = {line: offered(shell, line) for line in lines}
-    assert {line: found for line, found in words.items() if found} == {}
+    problems = [f"'{line}' offers {found}" for line, found in words.items() if found]
+    assert not problems, "expected: nothing offered\n" + "\n".join(problems)
 
 
 # Tables: what is typed before Tab, and the words that are offered.

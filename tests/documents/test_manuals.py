@@ -100,7 +100,8 @@ def test_the_manual_of_mkpasswd_begins_with_the_words_of_its_help(
 ) -> None:
     expected = purposes_in(help_of(program)).get(option, f"{option} in mkpasswd --help")
     found = purposes_in(shown_manual(MKPASSWD)).get(option, "")
-    assert found[: len(expected)] == expected, f"{name_of(MKPASSWD)}: {option}"
+    message = f"{name_of(MKPASSWD)}: {option}\nexpected: {expected} ..\nfound: {found}"
+    assert found.startswith(expected), message
 
 
 @pytest.mark.needs("mandoc")
@@ -174,4 +175,5 @@ def test_the_manual_has_in_their_order(heading: str, expected: list[str]) -> Non
     wanted = {" ".join(text.split()) for text in expected}
     heads = [" ".join(head.split()) for head in re.findall(r"^(\S.*?) {2,}", section, re.MULTILINE)]
     found = [head for head in heads if head in wanted]
-    assert found == expected, f"{name_of(MKPASSWD)}: the first column of {heading}"
+    column = f"{name_of(MKPASSWD)}: the first column of {heading}"
+    assert found == expected, f"{column}\nexpected: {expected}\nfound: {found}"

@@ -68,7 +68,7 @@ def test_the_pages_are_well_formed(site: Site) -> None:
             ElementTree.parse(page)
         except ElementTree.ParseError as error:
             problems.append(f"{page.name}: {error}")
-    assert problems == []
+    assert not problems, "expected: pages that are well-formed\n" + "\n".join(problems)
 
 
 # ---- Links
@@ -87,9 +87,18 @@ class Link:
         return re.match("https?:", self.target) is not None
 
 
+def elements_of(page: Path) -> Iterator[ElementTree.Element]:
+    """The elements of a page that is well-formed."""
+    try:
+        tree = ElementTree.parse(page)
+    except ElementTree.ParseError as error:
+        raise AssertionError(f"{page.name} isn't well-formed: {error}") from None
+    return tree.iter()
+
+
 def links_in(page: Path) -> Iterator[Link]:
     """The links of a page, and the files that it shows."""
-    for element in ElementTree.parse(page).iter():
+    for element in elements_of(page):
         for name in ("href", "src"):
             target = element.get(name)
             if target is not None:
@@ -108,7 +117,7 @@ def links_in_hashing_page(site: Site) -> Iterator[Link]:
 def places_in(page: Path) -> Iterator[str]:
     """The page, and each place in it that a link can name."""
     yield page.name
-    for element in ElementTree.parse(page).iter():
+    for element in elements_of(page):
         identifier = element.get("id")
         if identifier is not None:
             yield f"{page.name}#{identifier}"
@@ -124,4 +133,4 @@ def test_no_link_is_dead(site: Site) -> None:
         if not link.is_elsewhere and link.target not in places
         if not (site.folder / link.target).is_file()
     ]
-    assert dead == []
+    assert not dead, "expected: links that lead somewhere\n" + "\n".join(dead)

@@ -13,7 +13,6 @@ from pathlib import Path
 
 import pytest
 from support.library import SOURCES, Builder
-from support.needs import need_root
 from support.process import Changes, shown_command, started
 from support.stored_fields import MD5CRYPT, SCRYPT_OF_PASSWORD
 
@@ -130,10 +129,10 @@ def test_nothing_is_left_in_memory_that_malloc_keeps(residue: Path, case: Case) 
     assert_nothing_left(residue, case.words(24, is_locked=False), environment)
 
 
+@pytest.mark.needs("root")
 @pytest.mark.parametrize("case", LARGE_TABLES, ids=str)
 def test_nothing_is_left_in_memory_that_is_locked(residue: Path, case: Case) -> None:
     """The system can't take locked pages back, so the library has to write over them."""
-    need_root()
     environment = {"GLIBC_TUNABLES": KEEPS_MEMORY}
     assert_nothing_left(residue, case.words(24, is_locked=True), environment)
 
