@@ -1,6 +1,6 @@
 // Reads rows of JSON, [password, field], and tells for each what a policy's login, loginAsync, verify, needsRehash and describe
 // say, how many digests login made by the module's reports, what it gave to store, and whether the module's memory is then as
-// it was before the first call. tests/npm.t knows the answers.
+// it was before the first call. tests/web/test_npm.py knows the answers.
 import { readFileSync } from 'node:fs';
 
 const memories = [];

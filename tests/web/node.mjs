@@ -1,6 +1,6 @@
-// Runs mkpasswd.mjs and the page's worker in node, and tells what they say: to the rows, to each line of standard input, which has
-// a password and its hash in hexadecimal, and to other passwords, what a hash of scrypt costs, and what audits find.
-// tests/web.t knows the answers.
+// Runs mkpasswd.mjs and the page's worker in node, and reports what they say: to the rows, to each line of standard input, which
+// has a password and its hash in hexadecimal, and to other passwords, what a hash of scrypt costs, and what audits find.
+// test_node.py knows the answers.
 import { readFileSync } from 'node:fs';
 import vm from 'node:vm';
 

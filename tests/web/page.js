@@ -1,5 +1,6 @@
-// What a visitor does, as the body of a function that a WebDriver runs in the page: hashes are made and checked, others are
-// refused, one is stopped, and the page tries to send something. tests/web.t fills in the rows and the server.
+// Does what a visitor does, as the body of a function that a browser evaluates in the page: makes and checks hashes, has others
+// refused, stops one, and tries to send something. It reports what the page showed. test_page.py fills in @ROWS@, @CURRENT@ and
+// @SERVER@, and knows what the page should show.
 const element = (id) => document.getElementById(id);
 const status = (form) => element(form).querySelector('p[role=status]').textContent;
 const button = (name) => document.querySelector(`[data-${name}]`);

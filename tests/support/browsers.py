@@ -1,0 +1,197 @@
+"""Browsers without a window: each opens an address and evaluates a script there.
+
+Chromium and WebKit have drivers in Debian, which Selenium calls. Debian has no driver for Firefox,
+which speaks WebDriver BiDi itself: JSON over a WebSocket. A browser and all its processes end with
+the `with` that started it, or after half an hour.
+"""
+from __future__ import annotations
+
+import contextlib
+import json
+import re
+import subprocess
+import time
+from pathlib import Path
+from typing import Any, Callable, ContextManager, Iterator, Protocol
+
+from .process import Changes, Word, started
+
+SECONDS_TO_START = 120
+SECONDS_TO_EVALUATE = 600
+SECONDS_TO_LIVE = 1800
+LISTENING = "0A"  # the state of a socket in /proc/net/tcp
+
+
+class Browser(Protocol):
+    """A browser that runs."""
+
+    def evaluate(self, address: str, script: str) -> Any:
+        """Opens an address, and returns what the body of a function returns or promises there."""
+
+
+class DrivenBrowser:
+    """A browser with a driver, to which Selenium is connected."""
+
+    def __init__(self, driver: Any) -> None:
+        self._driver = driver
+        driver.set_page_load_timeout(SECONDS_TO_EVALUATE)
+        driver.set_script_timeout(SECONDS_TO_EVALUATE)
+
+    def evaluate(self, address: str, script: str) -> Any:
+        """Opens an address, and returns what the body of a function returns or promises there."""
+        self._driver.get(address)
+        return self._driver.execute_script(script)
+
+
+class Firefox:
+    """Firefox, by the commands of WebDriver BiDi. Its answers are matched by their numbers."""
+
+    def __init__(self, address: str) -> None:
+        import websocket
+
+        self._socket = websocket.create_connection(
+            address, timeout=SECONDS_TO_EVALUATE, suppress_origin=True
+        )
+        self._number = 0
+        self._call("session.new", capabilities={})
+        self._tab = self._call("browsingContext.getTree")["contexts"][0]["context"]
+
+    def _call(self, method: str, **params: Any) -> Any:
+        self._number += 1
+        self._socket.send(json.dumps({"id": self._number, "method": method, "params": params}))
+        answer = json.loads(self._socket.recv())
+        while answer.get("id") != self._number:  # an event
+            answer = json.loads(self._socket.recv())
+        if answer["type"] != "success":
+            raise AssertionError(f"Firefox refuses {method}: {answer['message']}")
+        return answer["result"]
+
+    def evaluate(self, address: str, script: str) -> Any:
+        """Opens an address, and returns what the body of a function returns or promises there.
+
+        That has to be a string, a number or a boolean.
+        """
+        self._call("browsingContext.navigate", context=self._tab, url=address, wait="complete")
+        answer = self._call(
+            "script.callFunction",
+            functionDeclaration=f"() => {{ {script}\n }}",
+            awaitPromise=True,
+            target={"context": self._tab},
+        )
+        if answer["type"] == "exception":
+            raise AssertionError(f"{address}: {answer['exceptionDetails']['text']}")
+        return answer["result"].get("value")
+
+
+@contextlib.contextmanager
+def chromium(folder: Path) -> Iterator[Browser]:
+    """Starts Chromium and its driver. The folder is theirs."""
+    from selenium import webdriver
+
+    options = webdriver.ChromeOptions()
+    for argument in ("--headless=new", "--no-sandbox", f"--user-data-dir={folder}/profile"):
+        options.add_argument(argument)
+    command = ("chromedriver", "--port=0")
+    with started_with_log(*command, folder=folder, env={"TMPDIR": str(folder)}) as process:
+        port = wait_for_output(process, folder, r"started successfully on port (\d+)")
+        yield connected(int(port), options)
+
+
+@contextlib.contextmanager
+def firefox(folder: Path) -> Iterator[Browser]:
+    """Starts Firefox. The folder is its own."""
+    command = ("firefox-esr", "--headless", "--profile", folder, "--remote-debugging-port=0")
+    environment = {"HOME": str(folder), "TMPDIR": str(folder)}
+    with started_with_log(*command, folder=folder, env=environment) as process:
+        address = wait_for_output(process, folder, r"WebDriver BiDi listening on (\S+)")
+        yield Firefox(f"{address}/session")
+
+
+@contextlib.contextmanager
+def webkit(folder: Path) -> Iterator[Browser]:
+    """Starts WebKit and its driver, on a screen of their own. The folder is theirs."""
+    from selenium.webdriver.common.options import ArgOptions
+
+    command = ("WebKitWebDriver", "--port=0")
+    with screen() as display:
+        environment = {"DISPLAY": display, "HOME": str(folder), "TMPDIR": str(folder)}
+        with started_with_log(*command, folder=folder, env=environment) as process:
+            port = wait_for(lambda: listening_port(process), process, folder)
+            yield connected(port, ArgOptions())
+
+
+BROWSERS: dict[str, Callable[[Path], ContextManager[Browser]]] = {
+    "Chromium": chromium,
+    "Firefox": firefox,
+    "WebKit": webkit,
+}
+
+
+def connected(port: int, options: Any) -> Browser:
+    """A session with the driver that listens on this port of this machine."""
+    from selenium import webdriver
+    from selenium.webdriver.remote.remote_connection import RemoteConnection
+
+    # A driver that hangs answers nothing.
+    RemoteConnection.set_timeout(SECONDS_TO_EVALUATE + SECONDS_TO_START)
+    options.ignore_local_proxy_environment_variables()
+    return DrivenBrowser(webdriver.Remote(f"http://127.0.0.1:{port}", options=options))
+
+
+@contextlib.contextmanager
+def screen() -> Iterator[str]:
+    """Starts an X server without a screen, and gives the name of its display."""
+    command = ("Xvfb", "-displayfd", "1", "-screen", "0", "1280x1024x24", "-nolisten", "tcp")
+    with started(*command, stdout=subprocess.PIPE, timeout=SECONDS_TO_LIVE) as process:
+        assert process.stdout is not None
+        number = process.stdout.readline().decode().strip()
+        assert number, "Xvfb doesn't start"
+        try:
+            yield f":{number}"
+        finally:
+            process.terminate()  # killed, it would leave files in /tmp
+            with contextlib.suppress(subprocess.TimeoutExpired):
+                process.wait(timeout=10)
+
+
+# ---- Programs that say when they have started
+
+
+@contextlib.contextmanager
+def started_with_log(
+    *command: Word, folder: Path, env: Changes
+) -> Iterator[subprocess.Popen[bytes]]:
+    """Runs a command beside the block. What it prints is in the file `log` of the folder."""
+    with (folder / "log").open("wb") as log:
+        with started(*command, stdout=log, stderr=log, env=env, timeout=SECONDS_TO_LIVE) as process:
+            yield process
+
+
+def wait_for(find: Callable[[], Any], process: subprocess.Popen[bytes], folder: Path) -> Any:
+    """Returns what is found, once something is."""
+    end = time.monotonic() + SECONDS_TO_START
+    while process.poll() is None and time.monotonic() < end:
+        found = find()
+        if found:
+            return found
+        time.sleep(0.05)
+    log = (folder / "log").read_text(errors="replace")
+    raise AssertionError(f"{process.args!r} doesn't start, and prints:\n{log}")
+
+
+def wait_for_output(process: subprocess.Popen[bytes], folder: Path, pattern: str) -> str:
+    """Returns the group of a pattern, once the command has printed that."""
+    log = folder / "log"
+    match = wait_for(lambda: re.search(pattern, log.read_text(errors="replace")), process, folder)
+    return str(match[1])
+
+
+def listening_port(process: subprocess.Popen[bytes]) -> int | None:
+    """The port of 127.0.0.1 on which a process listens. WebKitWebDriver doesn't print it."""
+    sockets = {str(link.readlink()) for link in Path(f"/proc/{process.pid}/fd").iterdir()}
+    for line in Path("/proc/net/tcp").read_text(encoding="ascii").splitlines()[1:]:
+        fields = line.split()
+        address, state, inode = fields[1], fields[3], fields[9]
+        if state == LISTENING and f"socket:[{inode}]" in sockets:
+            return int(address.split(":")[1], 16)
+    return None

@@ -1,0 +1,381 @@
+"""mkpasswd.mjs and the page's worker in node, and the module of WebAssembly that both have.
+
+node.mjs runs them once with the tables below, and with random passwords whose hashes libxcrypt
+made. Each test is about one part of what it reports.
+"""
+from __future__ import annotations
+
+import json
+import random
+import re
+from collections import Counter
+from dataclasses import dataclass
+from pathlib import Path
+
+import pytest
+from support import ROOT
+from support.libxcrypt import LONGEST_PASSWORD, crypt
+from support.model.hashes import hash_of
+from support.model.settings import read_setting
+from support.model.work import cost
+from support.process import run
+from support.reports import Report, report_of_node
+
+# One worker of pytest-xdist runs node.mjs.
+pytestmark = pytest.mark.xdist_group("node")
+
+SALT_CHARACTERS = "./0123456789ABCDEFGHIJKLMNOPQRSTUVWXYZabcdefghijklmnopqrstuvwxyz"
+SCRYPT_SETTING = "$7$46..../....SodiumChloride"  # N is 64, r is 8
+
+
+# ---- Tables that node.mjs gets
+
+
+@dataclass(frozen=True)
+class Refusal:
+    """A stored hash and a password, and what verify gives: false, or the reason of its error."""
+
+    title: str
+    stored: str
+    password: str
+    reason: str | bool
+
+
+REFUSALS = [
+    Refusal(
+        "a password of 1025 bytes",
+        stored="$6$s$x",
+        password="x" * 1025,
+        reason="MKPASSWD_REFUSED_PASSWORD_TOO_LONG",
+    ),
+    Refusal(
+        "a password with a zero byte",
+        stored="$6$s$x",
+        password="x\0y",
+        reason="MKPASSWD_REFUSED_PASSWORD_ZERO_BYTE",
+    ),
+    Refusal(
+        "a setting that is too long",
+        stored="$6$" + "x" * 400,
+        password="x",
+        reason="MKPASSWD_REFUSED_SETTING_TOO_LONG",
+    ),
+    Refusal(
+        "a character of another alphabet",
+        stored="$6$s\u00e4lt$x",
+        password="x",
+        reason="MKPASSWD_REFUSED_BAD_CHARACTER",
+    ),
+    Refusal(
+        "bcrypt",
+        stored="$2b$05$x",
+        password="x",
+        reason="MKPASSWD_REFUSED_UNKNOWN_SCHEME",
+    ),
+    Refusal(
+        "rounds without a number",
+        stored="$5$rounds=$x",
+        password="x",
+        reason="MKPASSWD_REFUSED_BAD_ROUNDS",
+    ),
+    Refusal(
+        "a hash above the budget",
+        stored="$6$rounds=999999999$s$x",
+        password="x",
+        reason="MKPASSWD_OVER_BUDGET",
+    ),
+    Refusal(
+        "scrypt above its ceiling",
+        stored="$7$M0..../....s",
+        password="x",
+        reason="MKPASSWD_REFUSED_ABOVE_CEILING",
+    ),
+    Refusal("a locked field, which no password matches", "!x", "x", reason=False),
+    Refusal("an empty field, which no password matches", "", "x", reason=False),
+]
+
+OLD_HASH = crypt(b"password", b"$1$xxxxxxxx").decode()
+NEW_HASH = crypt(b"password", b"$6$rounds=656000$saltsaltsaltsalt").decode()
+SCRYPT_HASH = "$7$CU..../....LzFEGmON4JIztNMS/Q/mbZ$jf5lUIMYwzPnralpdXTIZjbsGtiybQ9Ao3j4131xzaC"
+
+
+@dataclass(frozen=True)
+class Audit:
+    """A field, a policy, and what `describe` says of the field, or the reason of its error."""
+
+    title: str
+    found: str
+    field: str
+    policy: tuple[str | int, ...] = ()  # method, rounds and budget
+
+
+# What md5crypt digests of 1,024 bytes, and what 656000 rounds of sha512crypt do: 1927022 and
+# 1297572512 bytes.
+AUDITS = [
+    Audit("a recommended hash", "sha512crypt:1297572512:current", NEW_HASH),
+    Audit("a hash of md5crypt", "md5crypt:1927022:outdated", OLD_HASH),
+    Audit(
+        "a hash of md5crypt, which is wanted",
+        "md5crypt:1927022:current",
+        OLD_HASH,
+        policy=("md5crypt",),
+    ),
+    Audit(
+        "a hash with a round less than wanted",
+        "sha512crypt:1297572512:outdated",
+        NEW_HASH,
+        policy=("sha512crypt", 656_001),
+    ),
+    Audit(
+        "a hash that costs a byte more than the budget",
+        "md5crypt:1927022:over budget",
+        OLD_HASH,
+        policy=("md5crypt", 0, 1_927_021),
+    ),
+    Audit("a hash that was cut", "sha512crypt:1297572512:dead", NEW_HASH[:99]),
+    Audit("a hash with a character more", "md5crypt:1927022:dead", f"{OLD_HASH}."),
+    Audit("a locked hash", "locked", f"!{OLD_HASH}"),
+    Audit("an empty field", "none", ""),
+    Audit("bcrypt", "unknown", "$2b$05$x"),
+    Audit("descrypt", "unknown", "abJnggxhB/yWI"),
+    Audit("scrypt", "scrypt:unknown", SCRYPT_HASH),
+    Audit("a word", "no scheme", "hello"),
+    Audit("rounds without a number", "malformed:bad rounds", "$5$rounds=$x"),
+    Audit(
+        "rounds that sha512crypt doesn't have",
+        "MKPASSWD_REFUSED_COST",
+        NEW_HASH,
+        policy=("sha512crypt", 12),
+    ),
+    Audit(
+        "a method that new hashes don't have",
+        "MKPASSWD_REFUSED_UNKNOWN_METHOD",
+        NEW_HASH,
+        policy=("bcrypt",),
+    ),
+]
+
+
+# ---- Random passwords
+
+
+@dataclass(frozen=True)
+class Stored:
+    """A password and its hash."""
+
+    password: bytes
+    text: bytes
+
+    def __str__(self) -> str:
+        return f"{self.password.hex() or '-'}: {self.text.decode()}"
+
+    @property
+    def line(self) -> bytes:
+        """What node.mjs reads."""
+        return f"{self.password.hex()} {self.text.hex()}\n".encode()
+
+
+def random_hash(generator: random.Random, number: int) -> Stored:
+    """The hash of a random password: short ones, and up to what libxcrypt takes."""
+    longest = 39 if number % 9 else LONGEST_PASSWORD
+    length = generator.randint(0, longest)
+    password = bytes(generator.randint(2, 255) for _ in range(length))  # 1 makes a wrong one
+    prefix = ("$1$", "$5$", "$6$", "$5$rounds=1001$", "$6$rounds=1999$")[number % 5]
+    salt = "".join(generator.choices(SALT_CHARACTERS, k=generator.randint(0, 17)))
+    return Stored(password, crypt(password, (prefix + salt).encode()))
+
+
+def longest_hash() -> Stored:
+    """The hash of a password of 1,024 bytes, which libxcrypt doesn't take."""
+    password = b"x" * 1024
+    text = hash_of(read_setting(b"$6$xxxxxxxx"), password)
+    assert text is not None
+    return Stored(password, text)
+
+
+@pytest.fixture(scope="module")
+def hashes(seed: int) -> list[Stored]:
+    generator = random.Random(seed)
+    return [*(random_hash(generator, number) for number in range(1000)), longest_hash()]
+
+
+@pytest.fixture(scope="module")
+def report(
+    node: str, web_build: Path, hashes: list[Stored], tmp_path_factory: pytest.TempPathFactory
+) -> Report:
+    """What node.mjs reports."""
+    # Beside no package.json: a module of its own.
+    module = tmp_path_factory.mktemp("module") / "mkpasswd.mjs"
+    module.write_bytes((web_build / "mkpasswd.mjs").read_bytes())
+    words = (
+        module,
+        web_build / "mkpasswd.html",
+        json.dumps([[row.stored, row.password] for row in REFUSALS]),
+        SCRYPT_SETTING,
+        json.dumps([[row.field, *row.policy] for row in AUDITS]),
+    )
+    lines = b"".join(stored.line for stored in hashes)
+    return report_of_node(node, ROOT / "tests/web/node.mjs", *words, stdin=lines)
+
+
+# ---- Hashes and checks
+
+
+METHODS = ("sha512crypt", "sha256crypt", "md5crypt")
+
+
+@pytest.mark.parametrize("method", METHODS)
+def test_new_hash_is_the_one_of_libxcrypt(report: Report, method: str) -> None:
+    made = report["made"][METHODS.index(method)]
+    assert made == crypt(b"password", made.encode()).decode()
+
+
+@dataclass(frozen=True)
+class Check:
+    """A check of a hash, by its place in a line of what node.mjs reports, and its result."""
+
+    title: str
+    place: int
+    result: str
+
+
+CHECKS = [
+    Check("the page's worker accepts the right password", place=0, result="true"),
+    Check("the module accepts the right password", place=1, result="true"),
+    Check("the page's worker refuses a wrong password", place=2, result="false"),
+    Check("the module refuses a wrong password", place=3, result="false"),
+]
+
+
+@pytest.mark.parametrize("check", CHECKS, ids=[check.title for check in CHECKS])
+def test_random_passwords_are_checked(
+    report: Report, hashes: list[Stored], seed: int, check: Check
+) -> None:
+    results = [line.split(" ")[check.place] for line in report["checked"]]
+    assert len(results) == len(hashes)
+    wrong = [str(stored) for stored, got in zip(hashes, results) if got != check.result]
+    assert wrong == [], f"SEED={seed}: {check.title}, but not for these"
+
+
+def test_random_passwords_are_hashed_as_by_libxcrypt(
+    report: Report, hashes: list[Stored], seed: int
+) -> None:
+    made = [line.split(" ")[4] for line in report["checked"]]
+    assert len(made) == len(hashes)
+    wrong = [
+        f"{stored}, not {text}"
+        for stored, text in zip(hashes, made)
+        if str(text) != stored.text.decode()
+    ]
+    assert wrong == [], f"SEED={seed}"
+
+
+def test_module_works_after_the_stack_has_overflowed_in_it(report: Report) -> None:
+    assert report["after"] is True
+
+
+# ---- Refusals
+
+OTHER_REFUSALS = 4  # of node.mjs, before those of the table
+
+
+def test_half_of_a_character_is_refused(report: Report) -> None:
+    assert "half of a character" in report["refused"][0]
+
+
+@pytest.mark.parametrize(
+    ("place", "reason"),
+    [
+        pytest.param(1, "MKPASSWD_REFUSED_UNKNOWN_METHOD", id="a setting of bcrypt"),
+        pytest.param(2, "MKPASSWD_REFUSED_COST", id="a setting of 12 rounds"),
+        pytest.param(3, "MKPASSWD_OVER_BUDGET", id="a hash of the most rounds"),
+    ],
+)
+def test_refusal_has_the_name_of_the_header(report: Report, place: int, reason: str) -> None:
+    assert report["refused"][place] == reason
+
+
+@pytest.mark.parametrize("row", REFUSALS, ids=[row.title for row in REFUSALS])
+def test_check_is_refused(report: Report, row: Refusal) -> None:
+    assert report["refused"][OTHER_REFUSALS + REFUSALS.index(row)] == row.reason
+
+
+# ---- Defaults
+
+
+def test_hash_has_the_recommended_rounds(report: Report) -> None:
+    assert report["defaults"][0] == "$6$rounds=656000$"
+
+
+def test_setting_has_the_recommended_rounds(report: Report) -> None:
+    assert report["defaults"][1] == "$6$rounds=656000$"
+
+
+def test_budget_admits_a_password_of_168_bytes(report: Report) -> None:
+    assert report["defaults"][2] is True
+
+
+@pytest.mark.parametrize(
+    "place", [pytest.param(3, id="to be hashed"), pytest.param(4, id="to be checked")]
+)
+def test_budget_refuses_a_password_of_169_bytes(report: Report, place: int) -> None:
+    assert report["defaults"][place] == "MKPASSWD_OVER_BUDGET"
+
+
+def test_budget_of_the_page_is_twice_what_a_recommended_hash_costs(
+    report: Report, web_build: Path
+) -> None:
+    page = (web_build / "mkpasswd.html").read_text(encoding="utf-8")
+    budget = re.search(r'id="budget"[^>]* value="(\d+)"', page)
+    expected = 2 * cost(read_setting(b"$6$rounds=656000$saltsaltsaltsalt"), 64)
+    assert budget and budget[1] == str(expected)
+    assert report["defaults"][5] == str(expected)
+
+
+# ---- Costs and audits
+
+
+@pytest.mark.parametrize(
+    "place", [pytest.param(0, id="the page's worker"), pytest.param(1, id="the module")]
+)
+def test_cost_is_read_from_the_report(report: Report, place: int) -> None:
+    """It is scrypt's, since there each other field of the report has another value."""
+    expected = cost(read_setting(SCRYPT_SETTING.encode()), 8)
+    assert report["costs"][place] == expected
+
+
+@pytest.mark.parametrize("row", AUDITS, ids=[row.title for row in AUDITS])
+def test_audit_describes_a_field(report: Report, row: Audit) -> None:
+    assert report["audited"][AUDITS.index(row)] == row.found
+
+
+# ---- The module
+
+TAKES_ADDRESSES = "load|store|memory"
+
+
+def opcodes(module: Path) -> Counter[str]:
+    """How often each opcode is in a module."""
+    listing = run("wasm-objdump", "-d", module).required().stdout.decode()
+    return Counter(re.findall(r"^ \w+: [^|]*\| +([a-z][\w.]*)(?: |$)", listing, re.MULTILINE))
+
+
+def arguments_to_wrap(opcode: str) -> int:
+    """How many arguments of an opcode are addresses or lengths, which Binaryen wraps."""
+    if not re.search(TAKES_ADDRESSES, opcode):
+        return 0
+    if "copy" in opcode:
+        return 3
+    return 2 if "fill" in opcode else 1
+
+
+@pytest.mark.needs("wasm-objdump")
+def test_binaryen_changes_nothing_but_addresses(web_build: Path) -> None:
+    """It wraps addresses and lengths, and marks code that is never reached."""
+    before, after = opcodes(web_build / "wasm64/mkpasswd.wasm"), opcodes(
+        web_build / "mkpasswd.wasm"
+    )
+    for opcode, count in list(before.items()):
+        before["i32.wrap_i64"] += arguments_to_wrap(opcode) * count
+    assert after.pop("unreachable", 0) >= before.pop("unreachable", 0)
+    assert after == before

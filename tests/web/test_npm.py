@@ -1,0 +1,655 @@
+"""The package of npm, as its users have it: packed, installed, and used in TypeScript and node.
+
+A folder of a user has the installed package and the scripts of tests/npm, each of which reports
+what it saw. Hashes are compared with libxcrypt's.
+"""
+from __future__ import annotations
+
+import enum
+import json
+import random
+import re
+import shutil
+import subprocess
+from dataclasses import dataclass
+from pathlib import Path
+from typing import Any
+
+import pytest
+from support import ROOT
+from support.libxcrypt import crypt
+from support.process import Result, Word, assert_result, run, started
+from support.reports import LONGEST_SECONDS, Report, report_of_node
+
+# One worker of pytest-xdist packs and installs the package.
+pytestmark = [pytest.mark.needs("npm"), pytest.mark.xdist_group("npm"), pytest.mark.slow]
+
+SALT_CHARACTERS = "./0123456789ABCDEFGHIJKLMNOPQRSTUVWXYZabcdefghijklmnopqrstuvwxyz"
+
+
+@dataclass(frozen=True)
+class Site:
+    """The folder of a user of the package."""
+
+    node: str
+    folder: Path
+
+    def run(self, *command: Word) -> Result:
+        """Runs a command in the folder, which has to succeed."""
+        environment = {"HOME": str(self.folder), "NODE_OPTIONS": None, "NODE_PATH": None}
+        return run(*command, cwd=self.folder, env=environment).required()
+
+    def report_of(self, script: str, *arguments: Word, given: Any = None) -> Report:
+        """What a script reports that gets these arguments, and JSON as its input."""
+        stdin = b"" if given is None else json.dumps(given).encode()
+        return report_of_node(self.node, script, *arguments, folder=self.folder, stdin=stdin)
+
+
+@pytest.fixture(scope="module")
+def site(node: str, tmp_path_factory: pytest.TempPathFactory) -> Site:
+    """A folder with the scripts."""
+    folder = tmp_path_factory.mktemp("site")
+    for script in (ROOT / "tests/npm").iterdir():
+        shutil.copy(script, folder)
+    manifest = '{ "private": true, "type": "module" }'
+    (folder / "package.json").write_text(manifest, encoding="ascii")
+    return Site(node, folder)
+
+
+@pytest.fixture(scope="module")
+def version() -> str:
+    """The version of this tree."""
+    return run(ROOT / "tools/version").required().stdout.decode().strip()
+
+
+@pytest.fixture(scope="module")
+def archive(site: Site, web_build: Path, version: str) -> Path:
+    """The packed package."""
+    site.run("npm", "pack", "--offline", web_build / "npm")
+    return site.folder / f"mkpasswd-{version}.tgz"
+
+
+@pytest.fixture(scope="module")
+def user(site: Site, archive: Path) -> Site:
+    """The folder, once the package is installed there."""
+    site.run("npm", "install", "--offline", "--no-audit", "--no-fund", archive)
+    return site
+
+
+# ---- What is packed
+
+
+def test_archive_has_the_package_alone(archive: Path) -> None:
+    names = run("tar", "-tzf", archive).required().stdout.decode().split()
+    files = ["README.md", "mkpasswd.d.ts", "mkpasswd.mjs", "package.json"]
+    assert sorted(names) == [f"package/{name}" for name in files]
+
+
+@pytest.fixture(scope="module")
+def exports(user: Site) -> Report:
+    """The names that the installed module exports, and its version."""
+    script = """
+import * as mkpasswd from 'mkpasswd';
+console.log(JSON.stringify({ names: Object.keys(mkpasswd), version: mkpasswd.version }));
+"""
+    (user.folder / "exports.mjs").write_text(script, encoding="ascii")
+    return user.report_of("exports.mjs")
+
+
+def test_module_has_the_version_of_this_tree(exports: Report, version: str) -> None:
+    assert exports["version"] == version
+
+
+def test_module_exports_what_its_types_declare(exports: Report, web_build: Path) -> None:
+    types = (web_build / "npm/mkpasswd.d.ts").read_text(encoding="utf-8")
+    declared = re.findall(r"^export (?:class|const|function) (\w+)", types, re.MULTILINE)
+    assert sorted(exports["names"]) == sorted(declared)
+
+
+@pytest.mark.needs("tsc")
+@pytest.mark.parametrize(
+    ("resolution", "module"),
+    [
+        pytest.param("node", "es2020", id="resolved as for bundlers"),
+        pytest.param("nodenext", "nodenext", id="resolved as by node"),
+    ],
+)
+def test_typescript_accepts_uses_and_refuses_misuses(
+    user: Site, resolution: str, module: str
+) -> None:
+    options = ("--noEmit", "--strict", "--target", "es2020")
+    resolved = ("--module", module, "--moduleResolution", resolution)
+    assert_result(run("tsc", *options, *resolved, "uses.ts", "misuses.ts", cwd=user.folder))
+
+
+# ---- The programs of README
+
+
+def program_of_readme(web_build: Path, place: int) -> str:
+    """A program in the README of the package."""
+    readme = (web_build / "npm/README.md").read_text(encoding="utf-8")
+    programs = re.findall(r"^```js\n(.*?)^```$", readme, re.MULTILINE | re.DOTALL)
+    program: str = programs[place]
+    return program
+
+
+# What stands before the first program: it is for a name and a password.
+OF_A_SERVICE = """
+const [name, password] = process.argv.slice(2);
+const [users, entered] = [new Map([['old', '$1$xxxxxxxx$UYCIxa628.9qXjpQCjM4a.']]), []];
+const letIn = (user) => entered.push(user);
+"""
+REPORT_OF_A_SERVICE = """
+console.log(JSON.stringify({ entered, stored: users.get(name) }));
+"""
+
+
+def login_of_readme(user: Site, program: str, name: str, password: str) -> Report:
+    """Who is let in by the first program, and what is stored then."""
+    text = OF_A_SERVICE + program + REPORT_OF_A_SERVICE
+    (user.folder / "program.mjs").write_text(text, encoding="utf-8")
+    return user.report_of("program.mjs", name, password)
+
+
+@pytest.fixture(scope="module")
+def login_program(web_build: Path) -> str:
+    return program_of_readme(web_build, 0)
+
+
+@pytest.mark.parametrize(
+    ("name", "password", "entered"),
+    [
+        pytest.param("ann", "correct horse", ["ann"], id="lets in who knows the password"),
+        pytest.param("ann", "wrong horse", [], id="refuses a wrong password"),
+        pytest.param("nobody", "x", [], id="refuses an unknown name"),
+    ],
+)
+def test_program_of_readme(
+    user: Site, login_program: str, name: str, password: str, entered: list[str]
+) -> None:
+    report = login_of_readme(user, login_program, name, password)
+    assert report["entered"] == entered, report
+
+
+def test_program_of_readme_renews_an_outdated_hash(user: Site, login_program: str) -> None:
+    report = login_of_readme(user, login_program, "old", "password")
+    stored = report["stored"]
+    assert report["entered"] == ["old"], report
+    assert stored.startswith("$6$rounds=656000$"), report
+    assert stored == crypt(b"password", stored.encode()).decode(), report
+
+
+def test_program_of_readme_lets_nobody_in_without_its_await(user: Site, login_program: str) -> None:
+    careless = login_program.replace("await loginAsync", "loginAsync")
+    assert careless != login_program, "the program awaits no loginAsync"
+    report = login_of_readme(user, careless, "ann", "wrong horse")
+    assert report["entered"] == [], report
+
+
+# What stands behind the second program, in which calls take turns: 24 logins at once.
+REPORT_OF_TURNS = """
+import { Policy } from 'mkpasswd';
+const stored = new Policy({ rounds: 1000 }).hash('right');
+const made = loginInTurn('right', await hashInTurn('right'));
+let least = Infinity;
+const answers = await Promise.all(Array.from({ length: 24 }, async (_, number) => {
+    const begin = performance.now();
+    const { matches } = await loginInTurn(number % 3 ? 'right' : 'wrong', stored);
+    if (!matches) least = Math.min(least, performance.now() - begin);
+    return Boolean(matches);
+}));
+const { matches } = await made;
+waiting.length = 100;
+const busy = await loginInTurn('right', stored).catch(({ message }) => message);
+console.log(JSON.stringify({ answers, least, busy, matches }));
+"""
+MILLISECONDS_OF_A_FAILURE = 700
+
+
+@pytest.fixture(scope="module")
+def turns(user: Site, web_build: Path) -> Report:
+    """What the second program does, where a failure takes less than its five seconds."""
+    program = program_of_readme(web_build, 1)
+    faster = re.sub(r"\b5000\b", str(MILLISECONDS_OF_A_FAILURE), program)
+    assert faster != program, "a failure takes no 5000 milliseconds"
+    (user.folder / "turns.mjs").write_text(faster + REPORT_OF_TURNS, encoding="utf-8")
+    return user.report_of("turns.mjs")
+
+
+def test_each_login_that_waits_its_turn_is_answered(turns: Report) -> None:
+    assert turns["answers"] == [number % 3 != 0 for number in range(24)]
+
+
+def test_failure_takes_a_fixed_time(turns: Report) -> None:
+    assert turns["least"] >= MILLISECONDS_OF_A_FAILURE - 10  # of clocks
+
+
+def test_more_than_a_hundred_that_wait_are_refused(turns: Report) -> None:
+    assert turns["busy"] == "busy"
+
+
+def test_hash_that_was_made_in_turn_matches(turns: Report) -> None:
+    assert turns["matches"] is True
+
+
+# ---- Logins by a policy of 5000 rounds of sha512crypt
+
+
+class Work(enum.Enum):
+    """What a login hashes."""
+
+    OF_THE_FIELD = enum.auto()
+    OF_A_NEW_HASH = enum.auto()  # so that the time doesn't tell that the field can't be checked
+    NONE = enum.auto()
+
+
+@dataclass(frozen=True)
+class Login:
+    """A password and a field, and what the calls have to say."""
+
+    title: str
+    password: str
+    field: str
+    matches: bool = False
+    refusal: str | None = None  # by verify: the reason of its error, without MKPASSWD_
+    work: Work = Work.OF_THE_FIELD
+
+    @property
+    def is_outdated(self) -> bool:
+        """Whether a hash by the policy would replace the one in the field."""
+        return bool(re.match(r"\$[157]\$|\$6\$rounds=1000\$", self.field))
+
+    @property
+    def result(self) -> dict[str, bool] | bool:
+        """What login returns, in JSON."""
+        return {"matches": True} if self.matches else False
+
+    @property
+    def verified(self) -> str | bool:
+        """What verify returns, or the reason of its error."""
+        return self.matches if self.refusal is None else f"MKPASSWD_{self.refusal}"
+
+    @property
+    def outdated(self) -> str | bool:
+        """What needsRehash returns, or the reason of its error."""
+        if self.refusal and re.search("UNKNOWN|BAD|SETTING", self.refusal):
+            return f"MKPASSWD_{self.refusal}"
+        return self.is_outdated
+
+
+CURRENT = crypt(b"password", b"$6$rounds=5000$saltsaltsaltsalt").decode()
+OLD = crypt(b"password", b"$1$saltsalt").decode()
+FEW_ROUNDS = crypt(b"password", b"$6$rounds=1000$saltsaltsaltsalt").decode()
+HORSE = "K\u00e4se \U0001f40e"
+HASH_OF_HORSE = crypt(HORSE.encode(), b"$6$rounds=5000$saltsaltsaltsalt").decode()
+
+
+def hidden(title: str, field: str, refusal: str | None = None) -> Login:
+    """A login with a field that can't be checked."""
+    return Login(title, "password", field, refusal=refusal, work=Work.OF_A_NEW_HASH)
+
+
+def impossible(title: str, password: str, field: str, refusal: str) -> Login:
+    """A login with a password that no hash can have."""
+    return Login(title, password, field, refusal=refusal, work=Work.NONE)
+
+
+LOGINS = [
+    Login("the right password", "password", CURRENT, matches=True),
+    Login("a wrong password", "passwort", CURRENT),
+    Login("an empty password", "", CURRENT),
+    Login("the right password of a hash of md5crypt", "password", OLD, matches=True),
+    Login("a wrong password of a hash of md5crypt", "passwort", OLD),
+    Login("the right password of a hash of few rounds", "password", FEW_ROUNDS, matches=True),
+    Login("a password beyond ASCII", HORSE, HASH_OF_HORSE, matches=True),
+    Login("a part of a password beyond ASCII", "K\u00e4se", HASH_OF_HORSE),
+    Login("a hash without its last character", "password", CURRENT[:-1]),
+    Login("the begin of a hash", "password", CURRENT[:40]),
+    Login("a hash with a character more", "password", f"{CURRENT}."),
+    hidden("an empty field", ""),
+    hidden("a locked hash", f"!{CURRENT}"),
+    hidden("a locked field", "!"),
+    hidden("a field of a star", "*"),
+    hidden("a field that Solaris locked", "*LK*"),
+    hidden("yescrypt", "$y$x", "REFUSED_UNKNOWN_SCHEME"),
+    hidden("bcrypt", "$2b$05$x", "REFUSED_UNKNOWN_SCHEME"),
+    hidden("descrypt", "abJnggxhB/yWI", "REFUSED_UNKNOWN_SCHEME"),
+    hidden("the password itself", "password", "REFUSED_UNKNOWN_SCHEME"),
+    hidden("an animal in place of the salt", "$6$\U0001f40e$x", "REFUSED_BAD_CHARACTER"),
+    hidden("a letter beyond ASCII", "\u00e4", "REFUSED_BAD_CHARACTER"),
+    hidden("two lines", "x\ny", "REFUSED_BAD_CHARACTER"),
+    hidden("a hash with its line feed", f"{CURRENT}\n", "REFUSED_BAD_CHARACTER"),
+    hidden("5000 characters", "$6$" + "x" * 5000, "REFUSED_SETTING_TOO_LONG"),
+    hidden("rounds without a number", "$5$rounds=$x", "REFUSED_BAD_ROUNDS"),
+    hidden("the most rounds", "$6$rounds=999999999$s$x", "OVER_BUDGET"),
+    hidden("scrypt", "$7$46..../....s", "REFUSED_OUT_OF_MEMORY"),
+    impossible("1025 bytes", "x" * 1025, CURRENT, "REFUSED_PASSWORD_TOO_LONG"),
+    impossible("1025 bytes for an empty field", "x" * 1025, "", "REFUSED_PASSWORD_TOO_LONG"),
+    impossible("1025 bytes for a locked field", "x" * 1025, "!", "REFUSED_PASSWORD_TOO_LONG"),
+    impossible("a zero byte", "x\0y", CURRENT, "REFUSED_PASSWORD_ZERO_BYTE"),
+    impossible("a zero byte for an empty field", "x\0y", "", "REFUSED_PASSWORD_ZERO_BYTE"),
+    impossible("a zero byte for a locked field", "x\0y", "!", "REFUSED_PASSWORD_ZERO_BYTE"),
+]
+
+
+def random_logins(generator: random.Random) -> list[Login]:
+    """Logins with random passwords, right ones and wrong ones."""
+    logins = []
+    for prefix in ("$5$", "$6$", "$5$rounds=1001$", "$6$rounds=5999$") * 25:
+        length = generator.randint(0, 39)
+        password = "".join(chr(generator.randint(32, 126)) for _ in range(length))
+        salt = "".join(generator.choices(SALT_CHARACTERS, k=generator.randint(1, 16)))
+        field = crypt(password.encode(), (prefix + salt).encode()).decode()
+        logins.append(Login("right", password, field, matches=True))
+        logins.append(Login("wrong", f"{password}.", field))
+    return logins
+
+
+@dataclass(frozen=True)
+class LoginReport(Report):
+    """What logins.mjs reports of the table, and of random logins."""
+
+    random_logins: list[Login]
+
+    def of_login(self, login: Login) -> dict[str, Any]:
+        """What it reports of a login of the table."""
+        found: dict[str, Any] = self.value[LOGINS.index(login)]
+        return found
+
+    def of_random(self) -> list[tuple[Login, dict[str, Any]]]:
+        """Random logins with what it reports of them."""
+        reports = self.value[len(LOGINS) :]
+        assert len(reports) == len(self.random_logins)
+        return list(zip(self.random_logins, reports))
+
+
+@pytest.fixture(scope="module")
+def logins(user: Site, seed: int) -> LoginReport:
+    others = random_logins(random.Random(seed))
+    given = [[login.password, login.field] for login in [*LOGINS, *others]]
+    report = user.report_of("logins.mjs", given=given)
+    return LoginReport(report.how, report.value, others)
+
+
+each_login = pytest.mark.parametrize("login", LOGINS, ids=[login.title for login in LOGINS])
+
+
+@each_login
+def test_login(logins: LoginReport, login: Login) -> None:
+    assert logins.of_login(login)["result"] == login.result
+
+
+@each_login
+def test_login_in_a_worker_says_the_same(logins: LoginReport, login: Login) -> None:
+    assert logins.of_login(login)["alike"] is True
+
+
+@each_login
+def test_verify(logins: LoginReport, login: Login) -> None:
+    assert logins.of_login(login)["verified"] == login.verified
+
+
+@each_login
+def test_needs_rehash(logins: LoginReport, login: Login) -> None:
+    assert logins.of_login(login)["outdated"] == login.outdated
+
+
+@each_login
+def test_login_leaves_nothing_in_the_memory_it_hashed_in(logins: LoginReport, login: Login) -> None:
+    assert logins.of_login(login)["wiped"] is True
+
+
+def assert_renewed(login: Login, renewed: str | None) -> None:
+    """Fails the test unless a login renews what it should, by a hash of the policy."""
+    if not (login.matches and login.is_outdated):
+        assert renewed is None, login
+        return
+    assert renewed is not None, login
+    assert renewed.startswith("$6$rounds=5000$"), login
+    assert renewed == crypt(login.password.encode(), renewed.encode()).decode(), login
+
+
+@each_login
+def test_login_renews_an_outdated_hash(logins: LoginReport, login: Login) -> None:
+    assert_renewed(login, logins.of_login(login).get("renewed"))
+
+
+FIELDS_THAT_MATCH = [login.field for login in LOGINS if login.matches]
+FAILED_LOGINS = [login for login in LOGINS if not login.matches]
+
+
+@pytest.mark.parametrize("login", FAILED_LOGINS, ids=[login.title for login in FAILED_LOGINS])
+def test_describe_tells_where_only_the_password_was_wrong(
+    logins: LoginReport, login: Login
+) -> None:
+    is_hash = logins.of_login(login)["state"] in ("current", "outdated")
+    assert is_hash == (login.field in FIELDS_THAT_MATCH)
+
+
+HIDDEN_LOGINS = [login for login in LOGINS if login.work is Work.OF_A_NEW_HASH]
+IMPOSSIBLE_LOGINS = [login for login in LOGINS if login.work is Work.NONE]
+
+
+@pytest.mark.parametrize("login", HIDDEN_LOGINS, ids=[login.title for login in HIDDEN_LOGINS])
+def test_field_that_cannot_be_checked_takes_the_work_of_a_new_hash(
+    logins: LoginReport, login: Login
+) -> None:
+    of_a_hash = logins.of_login(LOGINS[0])["digests"]
+    assert logins.of_login(login)["digests"] == of_a_hash > 5000
+
+
+@pytest.mark.parametrize(
+    "login", IMPOSSIBLE_LOGINS, ids=[login.title for login in IMPOSSIBLE_LOGINS]
+)
+def test_password_that_no_hash_can_have_takes_no_work(logins: LoginReport, login: Login) -> None:
+    assert logins.of_login(login)["digests"] == 0
+
+
+@pytest.mark.parametrize(
+    ("call", "expected"),
+    [
+        pytest.param("result", lambda login: login.result, id="login"),
+        pytest.param("alike", lambda _: True, id="login in a worker"),
+        pytest.param("verified", lambda login: login.verified, id="verify"),
+        pytest.param("outdated", lambda login: login.outdated, id="needsRehash"),
+        pytest.param("wiped", lambda _: True, id="the memory"),
+    ],
+)
+def test_random_logins(logins: LoginReport, seed: int, call: str, expected: Any) -> None:
+    wrong = [
+        f"expected {expected(login)}, got {report[call]}: {login}"
+        for login, report in logins.of_random()
+        if report[call] != expected(login)
+    ]
+    assert wrong == [], f"SEED={seed}"
+
+
+def test_random_logins_renew_outdated_hashes(logins: LoginReport) -> None:
+    for login, report in logins.of_random():
+        assert_renewed(login, report.get("renewed"))
+
+
+def test_describe_knows_random_hashes(logins: LoginReport, seed: int) -> None:
+    wrong = [
+        login
+        for login, report in logins.of_random()
+        if report["state"] != ("outdated" if login.is_outdated else "current")
+    ]
+    assert wrong == [], f"SEED={seed}"
+
+
+# ---- Logins with other arguments
+
+
+@dataclass(frozen=True)
+class Mistake:
+    """Arguments of a login in JSON, and what it returns, or how its error begins."""
+
+    title: str
+    password: Any
+    field: Any
+    result: bool | str
+
+
+MISTAKES = [
+    Mistake("an unknown name", "password", None, result=False),
+    Mistake("half of a character", "\ud83d", CURRENT, result=False),
+    Mistake("a number as field", "password", 5, result="TypeError: field must be a string"),
+    Mistake("an object as field", "password", {}, result="TypeError: field must be a string"),
+    Mistake("null as password", None, CURRENT, result="TypeError: password must be a string"),
+    Mistake("a number as password", 5, "", result="TypeError: password must be a string"),
+]
+each_mistake = pytest.mark.parametrize("row", MISTAKES, ids=[row.title for row in MISTAKES])
+
+
+@pytest.fixture(scope="module")
+def mistakes(user: Site) -> Report:
+    given = [[row.password, row.field] for row in MISTAKES]
+    return user.report_of("logins.mjs", given=given)
+
+
+@each_mistake
+def test_login_with_other_arguments(mistakes: Report, row: Mistake) -> None:
+    result = mistakes.value[MISTAKES.index(row)]["result"]
+    if isinstance(row.result, str):
+        assert result.startswith(row.result)
+    else:
+        assert result is row.result
+
+
+@each_mistake
+def test_login_in_a_worker_with_other_arguments(mistakes: Report, row: Mistake) -> None:
+    assert mistakes.value[MISTAKES.index(row)]["alike"] is True
+
+
+def test_unknown_name_takes_the_work_of_a_new_hash(logins: LoginReport, mistakes: Report) -> None:
+    assert mistakes.value[0]["digests"] == logins.of_login(LOGINS[0])["digests"] > 5000
+
+
+# ---- The work of logins, as the module does it
+
+
+UNCHECKED_FIELDS = {
+    "an unknown name": None,
+    "a locked field": "!",
+    "yescrypt": "$y$x",
+    "scrypt": "$7$46..../....s",
+    "the most rounds": "$6$rounds=999999999$s$x",
+}
+
+
+@pytest.fixture(scope="module")
+def steps(user: Site, web_build: Path) -> Report:
+    """How many steps logins take in a module that counts them: a wrong password, and the others.
+
+    No clause keeps a compiler from dropping a hash that nobody reads.
+    """
+    module = user.folder / "logged.wasm"
+    options = ("--enable-bulk-memory", "--log-execution")
+    run("wasm-opt", *options, web_build / "mkpasswd.wasm", "-o", module).required()
+    (user.folder / "logged").mkdir()
+    assert_result(run(ROOT / "tools/web", module, user.folder / "logged/mkpasswd.mjs"))
+    stored = crypt(b"x", b"$6$rounds=1000$" + b"x" * 16).decode()
+    return user.report_of("steps.mjs", given=[stored, *UNCHECKED_FIELDS.values()])
+
+
+@pytest.mark.needs("wasm-opt")
+@pytest.mark.parametrize("what", UNCHECKED_FIELDS)
+def test_hash_that_hides_a_field_is_really_made(steps: Report, what: str) -> None:
+    of_a_wrong_password, *others = steps.value
+    assert others[list(UNCHECKED_FIELDS).index(what)] > 0.9 * of_a_wrong_password
+
+
+# ---- A process in which another library has set properties of all objects
+
+
+@pytest.fixture(scope="module")
+def polluted(user: Site) -> Report:
+    return user.report_of("polluted.mjs")
+
+
+def test_wrong_password_throws_where_all_objects_match(polluted: Report) -> None:
+    """false has their properties too."""
+    errors = [message.split(",")[0] for message in polluted["wrong"]]
+    assert errors == ["Object.prototype has matches or new"] * 6
+
+
+def test_forgotten_await_lets_nobody_in_where_all_objects_match(polluted: Report) -> None:
+    assert polluted["forgotten"] == [None, None]
+
+
+def test_match_is_what_it_was_where_all_objects_match(polluted: Report) -> None:
+    assert polluted["right"] == [True, True, None, None]
+
+
+def test_policy_has_no_properties_of_all_objects(polluted: Report) -> None:
+    recommended = {"method": "sha512crypt", "rounds": 656000, "budget": None}
+    assert polluted["policies"] == [recommended, recommended]
+
+
+def test_match_has_no_hash_in_logs(polluted: Report) -> None:
+    assert polluted["logged"] == '{"matches":true}'
+
+
+def test_new_hash_is_no_property_of_all_objects(polluted: Report) -> None:
+    assert polluted["renewed"].startswith("$6$rounds=1000$")
+
+
+# ---- A worker that is killed
+
+
+@pytest.fixture(scope="module")
+def killed(user: Site) -> Report:
+    return user.report_of("killed.mjs")
+
+
+def test_worker_that_is_killed_fails_its_own_call(killed: Report) -> None:
+    assert killed["failed"] == [True]
+
+
+def test_other_calls_are_answered_when_a_worker_is_killed(killed: Report) -> None:
+    assert killed["matched"] == 3 * killed["cores"] - 1
+
+
+def test_later_calls_are_answered_when_a_worker_was_killed(killed: Report) -> None:
+    assert killed["later"] == [{"matches": True}, False]
+
+
+def test_there_is_a_worker_for_each_core_and_one_after_the_killed_one(killed: Report) -> None:
+    assert killed["workers"] <= killed["cores"] + 1
+
+
+def test_refusals_are_errors_of_their_calls(killed: Report) -> None:
+    assert killed["refused"] == ["MKPASSWD_OVER_BUDGET", "TypeError", "TypeError", "TypeError"]
+
+
+# ---- A server
+
+
+@pytest.fixture(scope="module")
+def clients(user: Site) -> Report:
+    """What the clients of a server report."""
+    with started(
+        user.node,
+        "server.mjs",
+        cwd=user.folder,
+        stdout=subprocess.PIPE,
+        timeout=LONGEST_SECONDS,
+    ) as server:
+        assert server.stdout is not None
+        port = server.stdout.readline().strip()
+        assert port, "server.mjs doesn't start"
+        return user.report_of("clients.mjs", port)
+
+
+def test_two_hundred_logins_at_once_are_answered(clients: Report) -> None:
+    assert clients["right"] is True
+
+
+def test_health_checks_are_answered_during_logins(clients: Report) -> None:
+    assert clients["well"] is True
+
+
+def test_hashing_does_not_block_the_event_loop(clients: Report) -> None:
+    """A login in the server's thread would block it for as long as a hash takes."""
+    assert clients["blocked"] < 0.9

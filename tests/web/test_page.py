@@ -1,0 +1,691 @@
+"""The page that makes and checks hashes, in Chromium, Firefox and WebKit.
+
+Each browser opens the page from a server on this machine and from a file, and evaluates page.js,
+which does what a visitor does and reports what the page shows. Each test is about one part of that
+report. Each browser also opens changed copies of the page, and a page with mkpasswd.mjs.
+"""
+from __future__ import annotations
+
+import json
+import re
+from dataclasses import dataclass
+from pathlib import Path
+
+import pytest
+from support import ROOT
+from support.browsers import Browser
+from support.libxcrypt import crypt
+from support.model.settings import read_setting
+from support.model.work import cost
+from support.reports import Report, read_report
+from support.web_server import WebServer
+
+pytestmark = pytest.mark.usefixtures("web_build")  # without which no browser needs to start
+
+PAGE_SCRIPT = ROOT / "tests/web/page.js"
+PASSWORD = "K\u00e4se \U0001f40e"  # what page.js types
+ROUNDS = "1234"  # and the rounds it asks for
+
+METHODS = ("sha512crypt", "sha256crypt", "md5crypt")
+PREFIXES = {"sha512crypt": "$6$", "sha256crypt": "$5$", "md5crypt": "$1$"}
+DIGEST_LENGTHS = {"sha512crypt": 86, "sha256crypt": 43, "md5crypt": 22}
+
+OUTDATED = (
+    "The password matches, but the hash is outdated "
+    "(few rounds, or not sha512crypt): replace it with a new one."
+)
+NO_MATCH = "The password does not match."
+HOPELESS = "No password matches it: copy it again, or set a new password."
+
+each_method = pytest.mark.parametrize("method", METHODS)
+
+
+# ---- What the page says of hashes that it can't check
+
+
+@dataclass(frozen=True)
+class Unchecked:
+    """A stored hash, or the line that has it, with a password, and what the page answers."""
+
+    title: str
+    stored: str
+    password: str
+    answer: str
+
+
+SHA512_HASH = "$6$s$" + "." * 86
+DEAR_HASH = SHA512_HASH.replace("$6$", "$6$rounds=999999999$")
+COST_OF_DEAR_HASH = cost(read_setting(DEAR_HASH.encode()), len("x"))
+ELSEWHERE = "which can\u2019t be checked here. Log in on the system that stored it."
+NOT_A_HASH = "is not a hash. Paste a hash, or its whole line."
+UNCHECKED = [
+    Unchecked(
+        "a password of 1025 bytes",
+        stored=SHA512_HASH,
+        password="x" * 1025,
+        answer="The password has more than 1024 bytes. Take a shorter one.",
+    ),
+    Unchecked(
+        "a password with a zero byte",
+        stored=SHA512_HASH,
+        password="x\0y",
+        answer="The password has a zero byte, which no login takes. Type it again.",
+    ),
+    Unchecked(
+        "a hash that is too long",
+        stored="$6$" + "x" * 400,
+        password="x",
+        answer="This is longer than any hash. Copy the hash alone, or its whole line.",
+    ),
+    Unchecked(
+        "a hash with a character of another alphabet",
+        stored="$6$s\u00e4lt$x",
+        password="x",
+        answer="This has a character that is in no hash. Copy the hash again.",
+    ),
+    Unchecked(
+        "a hash without a number of rounds",
+        stored="$5$rounds=$x",
+        password="x",
+        answer="No valid number follows rounds= in this hash. Copy it again.",
+    ),
+    Unchecked(
+        "a locked hash",
+        stored="!$6$s$x",
+        password="x",
+        answer="This account is locked, so no password matches. "
+        "To check the hash behind ! or *, remove that.",
+    ),
+    Unchecked(
+        "an empty field",
+        stored="",
+        password="x",
+        answer="This account has no hash. Set a password, or lock it.",
+    ),
+    Unchecked(
+        "a line of the shadow file with an empty field",
+        stored="ann::19000:0:99999:7:::",
+        password="",
+        answer="This account has no hash. Set a password, or lock it.",
+    ),
+    Unchecked(
+        "a hash above the budget",
+        stored=DEAR_HASH,
+        password="x",
+        answer="Checking this hash can take about N, so it was refused. "
+        f"If you trust it, raise the budget to {COST_OF_DEAR_HASH}.",
+    ),
+    Unchecked(
+        "a cut hash that would be above the budget",
+        stored="$6$rounds=999999999$s$x",
+        password="x",
+        answer=f"This hash is cut: 1 of 86 characters. {HOPELESS}",
+    ),
+    Unchecked("bcrypt", stored="$2b$05$x", password="x", answer=f"$2b$ is bcrypt, {ELSEWHERE}"),
+    Unchecked(
+        "yescrypt in a line of the shadow file",
+        stored="ann:$y$j9T$x$y:19000::::::",
+        password="x",
+        answer=f"$y$ is yescrypt, {ELSEWHERE}",
+    ),
+    Unchecked(
+        "scrypt",
+        stored="$7$46..../....s",
+        password="x",
+        answer="$7$ is scrypt, which can\u2019t be checked here. "
+        "Give a line name:hash:password to pwhash check.",
+    ),
+    Unchecked(
+        "the MD5 of Apache",
+        stored="$apr1$s$x",
+        password="x",
+        answer=f"$apr1$ is Apache\u2019s MD5, {ELSEWHERE}",
+    ),
+    Unchecked(
+        "Argon2",
+        stored="$argon2id$v=19$x",
+        password="x",
+        answer=f"$argon2id$ is Argon2, {ELSEWHERE}",
+    ),
+    Unchecked(
+        "SHA-1 in a line of an htpasswd file",
+        stored="ann:{SHA}x=",
+        password="x",
+        answer=f"{{SHA}} is SHA-1 without a salt, {ELSEWHERE}",
+    ),
+    Unchecked(
+        "an unknown scheme",
+        stored="$new$x",
+        password="x",
+        answer=f"$new$ is another scheme, {ELSEWHERE}",
+    ),
+    Unchecked(
+        "descrypt",
+        stored="abJnggxhB/yWI",
+        password="x",
+        answer=f"This is descrypt, {ELSEWHERE}",
+    ),
+    Unchecked(
+        "a word",
+        stored="hello",
+        password="x",
+        answer=f"\u201chello\u201d {NOT_A_HASH}",
+    ),
+    Unchecked(
+        "several words, of which the page repeats few",
+        stored="correct horse battery staple",
+        password="x",
+        answer=f"\u201ccorrect horse batter\u2026\u201d {NOT_A_HASH}",
+    ),
+]
+
+
+# ---- The pages that a browser opens
+
+
+@dataclass(frozen=True)
+class Pages:
+    """Copies of the page in which something was changed, and pages with mkpasswd.mjs."""
+
+    without_webassembly: Path  # its policy refuses the module
+    without_script: Path  # its policy refuses the script
+    slow: Path  # it measures that a hash takes minutes
+    module: Path  # it calls mkpasswd.mjs
+    module_without_worker: Path  # the same with a policy that refuses workers
+
+
+# The module and the script that uses it, whose title becomes what it reports.
+MODULE_PAGE = """<!DOCTYPE html><meta charset="utf-8"><title>running</title>
+<meta http-equiv="Content-Security-Policy" content="default-src 'none'; \
+script-src 'unsafe-inline' 'wasm-unsafe-eval'; worker-src blob:">
+<script type="module">
+@MODULE@
+async function visit() {
+    const policy = new Policy({ rounds: 1234 });
+    const stored = await policy.hashAsync('password');
+    const old = '$1$xxxxxxxx$UYCIxa628.9qXjpQCjM4a.';
+    const logins = {
+        right: policy.loginAsync('password', stored),
+        wrong: policy.loginAsync('passwort', stored),
+        unknown: policy.loginAsync('password', null),
+        outdated: policy.loginAsync('password', old),
+    };
+    const results = {};
+    for (const [name, login] of Object.entries(logins)) results[name] = await login;
+    const refused = await policy.hashAsync('x\\0').catch(({ reason }) => reason);
+    return { stored, results, renewed: results.outdated.new, refused };
+}
+document.title = JSON.stringify(await visit().catch(String));
+</script>
+"""
+TITLE_SCRIPT = """
+return (async () => {
+    while (document.title === 'running') await new Promise((next) => setTimeout(next, 20));
+    return document.title;
+})();
+"""
+
+
+def changed(text: str, pattern: str, replacement: str) -> str:
+    """A page in which the first piece that matches is replaced."""
+    result, count = re.subn(pattern, replacement, text, count=1)
+    assert count == 1, f"the page has no {pattern}"
+    return result
+
+
+@pytest.fixture(scope="module")
+def pages(web_build: Path, tmp_path_factory: pytest.TempPathFactory) -> Pages:
+    """The changed pages, in a folder whose path is as where the page is installed."""
+    folder = tmp_path_factory.mktemp("installed") / "doc/mkpasswd"
+    folder.mkdir(parents=True)
+    text = (web_build / "mkpasswd.html").read_text(encoding="utf-8")
+    module_page = MODULE_PAGE.replace(
+        "@MODULE@", (web_build / "mkpasswd.mjs").read_text(encoding="utf-8")
+    )
+    slow = changed(text, "time: time / count", "time: 9000")
+
+    def write(name: str, content: str) -> Path:
+        path = folder / name
+        path.write_text(content, encoding="utf-8")
+        return path
+
+    return Pages(
+        without_webassembly=write("1.html", changed(text, " 'wasm-unsafe-eval'", "")),
+        without_script=write("2.html", changed(text, "script-src [^;]*", "script-src 'none'")),
+        slow=write("3.html", changed(slow, "<title>.*?</title>", "<title>slow</title>")),
+        module=write("4.html", module_page),
+        module_without_worker=write("5.html", changed(module_page, " worker-src blob:", "")),
+    )
+
+
+@pytest.fixture(scope="module")
+def page_script(server: WebServer) -> str:
+    """page.js with what it asks for."""
+    values = {
+        "SERVER": server.address,
+        "ROWS": json.dumps([[row.stored, row.password] for row in UNCHECKED]),
+        "CURRENT": crypt(b"password", b"$6$rounds=656000$saltsaltsaltsalt").decode(),
+    }
+    script = PAGE_SCRIPT.read_text(encoding="utf-8")
+    for name, value in values.items():
+        script = script.replace(f"@{name}@", value)
+    return script
+
+
+def visit(browser: Browser, address: str, script: str) -> Report:
+    """Opens an address and returns what a script reports there."""
+    name = "the page's own" if script == TITLE_SCRIPT else str(PAGE_SCRIPT.relative_to(ROOT))
+    how = f"address: {address}\nscript: {name}"
+    report = read_report(how, browser.evaluate(address, script))
+    if isinstance(report.value, str):
+        raise AssertionError(f"the script failed\n{how}\ngot: {report.value}")
+    return report
+
+
+def visit_page(browser: Browser, address: str, script: str) -> Report:
+    """The same of a page that has to run."""
+    report = visit(browser, address, script)
+    if "unable" in report.value:
+        raise AssertionError(f"the page doesn't run\n{report.how}\ngot: {report['unable']}")
+    return report
+
+
+@pytest.fixture(scope="module")
+def served(browser: Browser, server: WebServer, page_script: str) -> Report:
+    """The visit to the page on the server."""
+    return visit_page(browser, f"{server.address}/mkpasswd.html", page_script)
+
+
+@pytest.fixture(scope="module")
+def opened(browser: Browser, web_build: Path, page_script: str) -> Report:
+    """The visit to the page in a file."""
+    return visit_page(browser, (web_build / "mkpasswd.html").as_uri(), page_script)
+
+
+@pytest.fixture(params=["served", "opened"], ids=["from a server", "from a file"])
+def page(request: pytest.FixtureRequest, browser: Browser) -> Report:
+    """Each of the two."""
+    del browser  # it is in both, and makes this fixture one for each browser
+    report: Report = request.getfixturevalue(request.param)
+    return report
+
+
+# ---- Making a hash
+
+
+@dataclass(frozen=True)
+class Made:
+    """A hash that the page made, and what it said of it."""
+
+    stored: str
+    said_of_right_password: str
+    said_of_wrong_password: str
+    said_when_made: str
+
+
+def made(page: Report, method: str) -> Made:
+    """The hash that the page made with a method, and what it said."""
+    return Made(*page["made"][METHODS.index(method)])
+
+
+def without_time(answer: str) -> str:
+    """What the page says, without how long it took."""
+    return re.sub(r" Checked in .*\u00a0s\.$", "", answer)
+
+
+def of_libxcrypt(password: str, stored: str) -> str:
+    """The hash that libxcrypt makes with a setting or a hash."""
+    return crypt(password.encode(), stored.encode()).decode()
+
+
+@each_method
+def test_hash_is_the_one_of_libxcrypt(page: Report, method: str) -> None:
+    stored = made(page, method).stored
+    assert stored == of_libxcrypt(PASSWORD, stored)
+
+
+@each_method
+def test_hash_has_the_chosen_method_and_rounds_and_a_whole_salt(page: Report, method: str) -> None:
+    form = rf"\$[56]\$rounds={ROUNDS}\$[./\w]{{16}}\$\S+"
+    if method == "md5crypt":
+        form = r"\$1\$[./\w]{8}\$\S+"
+    stored = made(page, method).stored
+    assert stored.startswith(PREFIXES[method])
+    assert re.fullmatch(form, stored)
+
+
+def test_every_hash_has_another_salt(served: Report, opened: Report) -> None:
+    stored = [made(report, method).stored for report in (served, opened) for method in METHODS]
+    salts = [text.split("$")[-2] for text in stored]
+    assert len(set(salts)) == len(salts), salts
+
+
+@each_method
+def test_page_says_how_long_a_hash_took(page: Report, method: str) -> None:
+    said = made(page, method).said_when_made
+    assert re.fullmatch(r"Made in (less than 0\.1|\d+\.\d)\u00a0s\.", said)
+
+
+def test_page_says_how_long_a_hash_will_take(page: Report) -> None:
+    form = r"Takes (a moment|about (a|a quarter of a|half a|\d+) seconds?)\."
+    assert re.fullmatch(form, page["estimate"])
+
+
+def test_rounds_of_md5crypt_are_fixed_and_the_page_warns_of_it(page: Report) -> None:
+    is_disabled, rounds, said = page["fixed"]
+    assert is_disabled
+    assert rounds == "1000"
+    assert said == "md5crypt is weak. Take it only where nothing else works."
+
+
+def test_rounds_return_after_md5crypt(page: Report) -> None:
+    is_disabled, rounds = page["free"]
+    assert not is_disabled
+    assert rounds == ROUNDS
+
+
+def test_password_that_is_typed_once_makes_no_hash(page: Report) -> None:
+    said_without_repeat, _, is_hash_shown = page["mistyped"]
+    assert said_without_repeat == "Type the password again, or show it."
+    assert not is_hash_shown
+
+
+def test_password_that_is_repeated_wrongly_makes_no_hash(page: Report) -> None:
+    _, said_of_another, is_hash_shown = page["mistyped"]
+    assert said_of_another == "The two passwords differ. Type them again, or show the first."
+    assert not is_hash_shown
+
+
+def test_what_a_form_showed_goes_when_its_fields_change(page: Report) -> None:
+    assert page["left"] is False
+
+
+def test_hash_that_takes_too_long_can_be_stopped(page: Report) -> None:
+    assert page["stopped"] == "Stopped."
+
+
+# ---- A generated password
+
+
+def test_generated_password_has_20_letters_and_digits(page: Report) -> None:
+    assert re.fullmatch("[A-Za-z0-9]{20}", page["generated"][0])
+
+
+def test_generated_password_is_shown_and_can_be_copied(page: Report) -> None:
+    _, button, input_type, is_repeat_disabled, can_be_copied, _ = page["generated"]
+    assert (button, input_type) == ("Hide the password", "text")
+    assert is_repeat_disabled
+    assert can_be_copied
+
+
+def test_passwords_are_concealed_until_they_are_shown(browser: Browser, web_build: Path) -> None:
+    script = """
+    const concealed = document.querySelectorAll('input[type=password]');
+    return JSON.stringify([...concealed].map(({ id }) => id));
+    """
+    report = browser.evaluate((web_build / "mkpasswd.html").as_uri(), script)
+    assert json.loads(report) == ["password", "repeat", "guess"], script
+
+
+def test_shown_password_can_be_concealed(page: Report) -> None:
+    button, input_type, is_repeat_disabled = page["concealed"]
+    assert (button, input_type) == ("Show the password", "password")
+    assert not is_repeat_disabled
+
+
+def test_generated_password_is_the_one_that_is_hashed(page: Report) -> None:
+    assert page["generated"][-1].startswith("The password matches")
+
+
+def test_characters_of_generated_passwords_are_equally_probable(page: Report) -> None:
+    assert sorted(page["frequencies"].values()) == [10] * 62
+
+
+# ---- What to do with a hash
+
+
+@dataclass(frozen=True)
+class Place:
+    """Where a hash of ann's password goes, and what the page shows for it."""
+
+    name: str
+    text: str  # with HASH
+    has_user: bool = False
+
+
+PLACES = [
+    Place("plain", "HASH"),
+    Place("preseed-root", "d-i passwd/root-password-crypted password HASH"),
+    Place("preseed-user", "d-i passwd/user-password-crypted password HASH"),
+    Place("kickstart", "rootpw --iscrypted HASH"),
+    Place("kickstart-user", "user --name=ann --iscrypted --password=HASH", has_user=True),
+    Place(
+        "cloud-init",
+        '#cloud-config\nusers:\n  - name: "ann"\n    lock_passwd: false\n    hashed_passwd: HASH',
+        has_user=True,
+    ),
+    Place("ansible", 'password: "HASH"'),
+    Place("chpasswd", "ann:HASH", has_user=True),
+    Place("htpasswd", "ann:HASH", has_user=True),
+]
+PLACES_WITH_A_USER = [place for place in PLACES if place.has_user]
+each_place = pytest.mark.parametrize("place", PLACES, ids=[place.name for place in PLACES])
+
+
+@each_place
+def test_hash_is_shown_as_its_place_wants_it(page: Report, place: Place) -> None:
+    shown, _, _ = page["places"][place.name]
+    assert shown == place.text.replace("HASH", page["stored"])
+
+
+@each_place
+def test_what_is_copied_is_what_is_shown(page: Report, place: Place) -> None:
+    _, copied, _ = page["places"][place.name]
+    assert copied == place.text.replace("HASH", page["stored"])
+
+
+@each_place
+def test_page_asks_for_a_name_where_the_place_has_one(page: Report, place: Place) -> None:
+    _, _, refused_names = page["places"][place.name]
+    assert bool(refused_names) == place.has_user
+
+
+@pytest.mark.parametrize(
+    "place", PLACES_WITH_A_USER, ids=[place.name for place in PLACES_WITH_A_USER]
+)
+def test_nothing_is_copied_without_a_valid_name(page: Report, place: Place) -> None:
+    rule = (
+        "A name begins with a letter (A to Z) or _, "
+        "and has only letters, digits and _.@- (at most 64)."
+    )
+    _, _, (said_of_empty, said_of_blank, said_of_digit) = page["places"][place.name]
+    assert said_of_empty == "First type the user\u2019s name."
+    assert said_of_blank == rule
+    assert said_of_digit == rule
+
+
+# ---- Checking a hash
+
+
+@each_method
+def test_right_password_matches_an_outdated_hash(page: Report, method: str) -> None:
+    assert without_time(made(page, method).said_of_right_password) == OUTDATED
+
+
+@each_method
+def test_wrong_password_does_not_match(page: Report, method: str) -> None:
+    assert without_time(made(page, method).said_of_wrong_password) == NO_MATCH
+
+
+def test_hash_with_the_recommended_rounds_is_not_outdated(page: Report) -> None:
+    assert re.match(r"The password matches\. Checked in ", page["current"])
+
+
+@dataclass(frozen=True)
+class Flaw:
+    """A hash that was damaged, in the order of page.js, and how the page calls it."""
+
+    title: str
+    name: str  # with the length of the whole digest, and others that depend on it
+
+
+FLAWS = [
+    Flaw("without its digest", "cut: 0 of {length} characters"),
+    Flaw("without its end", "cut: {shorter} of {length} characters"),
+    Flaw("with more behind it", "too long: {longer} characters in place of {length}"),
+    Flaw("with other characters", "damaged"),
+]
+
+
+@each_method
+@pytest.mark.parametrize("flaw", FLAWS, ids=[flaw.title for flaw in FLAWS])
+def test_page_says_why_no_password_matches(page: Report, method: str, flaw: Flaw) -> None:
+    length = DIGEST_LENGTHS[method]
+    name = flaw.name.format(length=length, shorter=length - 9, longer=length + 2)
+    place = METHODS.index(method) * len(FLAWS) + FLAWS.index(flaw)
+    assert page["dead"][place] == f"This hash is {name}. {HOPELESS}"
+
+
+@pytest.mark.parametrize("row", UNCHECKED, ids=[row.title for row in UNCHECKED])
+def test_page_says_why_it_cannot_check(page: Report, row: Unchecked) -> None:
+    answer = page["refused"][UNCHECKED.index(row)]
+    assert re.sub(r"(?<=about )\d+ (minutes|hours)", "N", answer) == row.answer
+
+
+def test_budget_is_hidden_until_a_hash_is_above_it(page: Report) -> None:
+    assert page["hidden"] is True
+
+
+@dataclass(frozen=True)
+class Line:
+    """A line that has a hash, in the order of page.js, and what the page says of it."""
+
+    title: str
+    note: str = "From the line."
+
+
+NOTE_OF_ANN = "From the line of ann."
+LINES = [
+    Line("the shadow file", NOTE_OF_ANN),
+    Line("preseed, root"),
+    Line("preseed, user"),
+    Line("kickstart, root"),
+    Line("kickstart, user"),
+    Line("cloud-init"),
+    Line("Ansible"),
+    Line("chpasswd", NOTE_OF_ANN),
+    Line("an htpasswd file", NOTE_OF_ANN),
+    Line("LDAP"),
+]
+
+
+@pytest.mark.parametrize("line", LINES, ids=[line.title for line in LINES])
+def test_page_finds_the_hash_in_a_line(page: Report, line: Line) -> None:
+    answer, is_hash_alone_in_field, note = page["lines"][LINES.index(line)]
+    assert without_time(answer) == OUTDATED
+    assert is_hash_alone_in_field
+    assert note == line.note
+
+
+# ---- What the page is, and what it sends
+
+
+def test_script_can_send_nothing(page: Report) -> None:
+    sent_by_page, _ = page["sent"]
+    assert sent_by_page == "refused"
+
+
+def test_worker_can_send_nothing(page: Report) -> None:
+    _, sent_by_worker = page["sent"]
+    assert sent_by_worker == "refused"
+
+
+@pytest.mark.usefixtures("served", "opened")
+def test_browser_requests_the_page_alone(server: WebServer) -> None:
+    assert set(server.requests) == {"GET /mkpasswd.html"}
+
+
+def test_icon_is_in_the_page(page: Report) -> None:
+    assert page["icon"] is True
+
+
+def test_page_has_no_dead_links(page: Report) -> None:
+    assert page["links"] == 0
+
+
+@pytest.mark.parametrize("where", ["on a telephone", "on a desktop"])
+def test_nothing_is_wider_than_the_screen(page: Report, where: str) -> None:
+    beyond = {"on a telephone": page["phone"]["beyond"], "on a desktop": page["wide"]}
+    assert beyond[where] <= 0
+
+
+def test_page_is_not_too_long_on_a_telephone(page: Report) -> None:
+    assert page["phone"]["height"] <= 2000
+
+
+def test_what_can_be_pressed_is_high_enough_for_a_thumb(page: Report) -> None:
+    assert page["phone"]["least"] >= 44
+
+
+# ---- Changed pages
+
+
+@pytest.mark.parametrize("refused", ["WebAssembly", "script"])
+def test_page_names_what_a_policy_refuses(
+    browser: Browser, pages: Pages, page_script: str, refused: str
+) -> None:
+    path = pages.without_webassembly if refused == "WebAssembly" else pages.without_script
+    report = visit(browser, path.as_uri(), page_script)
+    named = re.search(r"\b(WebAssembly|script)\b", report["unable"])
+    assert named and named[1] == refused, report
+    assert report["forms"] == 0, report
+    assert report["links"] == 4, report  # to the documents, which are beside an installed page
+
+
+def test_estimate_is_corrected_by_what_the_last_hash_took(
+    browser: Browser, pages: Pages, page_script: str
+) -> None:
+    report = visit_page(browser, pages.slow.as_uri(), page_script)
+    before, after = report.value
+    assert before == "Takes about 20 minutes.", report
+    assert after == "Takes about N.", report
+
+
+# ---- mkpasswd.mjs in a page
+
+
+@pytest.fixture(scope="module")
+def module(browser: Browser, pages: Pages) -> Report:
+    """The visit to the page with the module."""
+    return visit(browser, pages.module.as_uri(), TITLE_SCRIPT)
+
+
+def test_module_logs_in_by_the_right_password(module: Report) -> None:
+    assert module["results"]["right"] == {"matches": True}
+
+
+def test_module_refuses_a_wrong_password(module: Report) -> None:
+    assert module["results"]["wrong"] is False
+
+
+def test_module_refuses_an_unknown_name(module: Report) -> None:
+    assert module["results"]["unknown"] is False
+
+
+def test_module_renews_an_outdated_hash(module: Report) -> None:
+    assert module["results"]["outdated"] == {"matches": True}
+    assert module["renewed"].startswith(f"$6$rounds={ROUNDS}$")
+    assert module["renewed"] == of_libxcrypt("password", module["renewed"])
+
+
+def test_module_makes_the_hash_of_libxcrypt(module: Report) -> None:
+    assert module["stored"] == of_libxcrypt("password", module["stored"])
+
+
+def test_module_names_the_reason_of_a_refusal(module: Report) -> None:
+    assert module["refused"] == "MKPASSWD_REFUSED_PASSWORD_ZERO_BYTE"
+
+
+def test_module_names_the_policy_that_refuses_its_worker(browser: Browser, pages: Pages) -> None:
+    told = browser.evaluate(pages.module_without_worker.as_uri(), TITLE_SCRIPT)
+    assert re.match("Error: .*Content-Security-Policy", json.loads(told))
