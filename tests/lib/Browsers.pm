@@ -1,6 +1,6 @@
 package Browsers;
 
-# Starts servers and, by their WebDriver, browsers without a window.
+# Starts Chromium without a window, and speaks to its WebDriver.
 
 use strict;
 use warnings;
@@ -11,10 +11,10 @@ use JSON::PP qw(decode_json encode_json);
 use Suite;
 use Time::HiRes qw(sleep);
 
-our @EXPORT = qw(started session chromium close_all %timeouts);
+our @EXPORT = qw(chromium);
 
 # In milliseconds.
-our %timeouts = (script => 600_000);
+my %timeouts = (script => 600_000);
 
 # What this process is left to end, latest first.
 my @closing;
