@@ -87,12 +87,11 @@ class Machine:
         (self.folder / name).write_bytes(content)
 
     def follow(self, mark: str, language: str = "sh") -> "Followed":
-        """Follows a recipe."""
+        """Follows a recipe. An audit that names no file is of the shadow file."""
         block = marked(mark, language)
-        shadow = shlex.quote(str(self.shadow))
         commands = SCHEDULE.sub("", block.code)
-        commands = re.sub(r" /etc/shadow\b", f" {shadow}", commands)
-        commands = commands.replace("pwhash audit", f"pwhash audit {shadow}")
+        commands = re.sub(r"pwhash audit(?!.* /etc/shadow)", "pwhash audit /etc/shadow", commands)
+        commands = re.sub(r" /etc/shadow\b", f" {shlex.quote(str(self.shadow))}", commands)
         result = run("sh", "-c", commands, env=self.environment, cwd=self.folder)
         return Followed(block, result)
 
