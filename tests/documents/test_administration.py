@@ -87,11 +87,10 @@ class Machine:
         (self.folder / name).write_bytes(content)
 
     def follow(self, mark: str, language: str = "sh") -> "Followed":
-        """Follows a recipe."""
+        """Follows a recipe, in which /etc/shadow is the file of this system."""
         block = marked(mark, language)
-        shadow = shlex.quote(str(self.shadow))
         commands = SCHEDULE.sub("", block.code)
-        commands = re.sub(r" /etc/shadow\b", f" {shadow}", commands)
+        commands = re.sub(r" /etc/shadow\b", f" {shlex.quote(str(self.shadow))}", commands)
         result = run("sh", "-c", commands, env=self.environment, cwd=self.folder)
         return Followed(block, result)
 
