@@ -1,6 +1,6 @@
 #!/usr/bin/env perl
 # Tries what make TARGET=aarch64 has built: the program under qemu, by the tests of the other one and a short soak, and what the
-# archive and the wheel say of themselves. calls.t makes the library's calls.
+# archive and the wheel say of themselves. tests/library makes the library's calls.
 use strict;
 use warnings;
 use FindBin qw($Bin);

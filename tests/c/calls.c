@@ -1,350 +1,554 @@
-/* Makes the calls of mkpasswd.h that standard input asks for, and prints a line for each. tests/calls.t builds it as C and
- * as C++ and knows what it must print.
+/* Makes the calls of mkpasswd.h that standard input asks for, and prints a line for each.
+ * tests/support/driver.py builds this as C and as C++, writes the rows and reads the lines.
  *
- * A row is `CALL PASSWORD TEXT ROOM NUMBERS..`. PASSWORD and TEXT are hexadecimal, `-` if empty, or `null`; ROOM is that
- * of `out`, or `null`. `threads N` (so many threads make calls), `refuse N` and `entropy HEX`, `entropy none` or
- * `entropy real` hold for the rows that follow. A line is the call's result, the ten numbers of its report, how often it
- * allocated, how many blocks it kept, how many random bytes it drew, and what it left in `out`.
+ * A row is a call and its arguments by the names that they have in the header:
  *
- * Input ends where a page begins that nobody may touch, and is read-only; `out` and the report end at such a page too. Each
- * call is made twice, with a report full of 0xff and of 0 (a _str call the second time with none), with 26 KiB of stack left
- * above such a page (not with -DSANITIZED), and has to leave the same both times.
+ *     verify_str password=70617373 stored=24312461 budget=150000000
  *
- * With -DWRAP, linked with --wrap for malloc, realloc, free and getentropy, or with -DREPLACE, in the place of the C
- * library's, it counts what a call allocates, refuses one allocation (by `refuse`, from 1) and hands out the bytes of
- * `entropy`. `new_over` is mkpasswd_new with a password that stands in `out`. */
+ * Bytes are hexadecimal, or `null`. What a row leaves out is empty, or 0. `out_len=null` stands for
+ * a null `out`. `new_over` is mkpasswd_new with a password that stands in `out`.
+ *
+ * The rows `set threads=N` (so many threads make calls), `set refused=N` (this allocation fails,
+ * from 1) and `set entropy=HEX`, `entropy=none` or `entropy=real` hold for the rows that follow.
+ *
+ * A line has the result, the numbers of the report, the counts of counted_calls.h, and what the
+ * call left in `out`: its string, `unchanged`, or `SPILT` if another byte was written.
+ *
+ * Input ends where a page begins that nobody may touch, and is read-only; `out` and the report end
+ * at such a page too. Each call is made twice, with a report full of 0xff and of 0 (a _str call the
+ * second time with none), with 26 KiB of stack left above such a page (not with -DSANITIZED), and
+ * has to leave the same both times. */
 #ifndef _GNU_SOURCE
 #define _GNU_SOURCE
 #endif
+#include "counted_calls.h"
+#include "guarded_pages.h"
 #include <inttypes.h>
 #include <pthread.h>
 #include <stdio.h>
-#include <stdlib.h>
-#include <string.h>
-#include <sys/mman.h>
-#include <sys/syscall.h>
-#include <unistd.h>
-#pragma GCC visibility push(hidden) /* the calls are in a shared library all the same */
+/* From here on all is hidden, but the header's calls are to be found in a shared library. */
+#pragma GCC visibility push(hidden)
 #include <mkpasswd.h>
-#pragma GCC visibility pop
 
-#ifdef BUDGET /* what they are in C, since C++ has a text of its own for them */
-typedef char has_the_budgets[MKPASSWD_BUDGET == BUDGET && MKPASSWD_TWICE == 0 ? 1 : -1];
-#endif
+#define PATTERN 0xa5 /* of `out` before a call */
+#define MOST_THREADS 8
+#define STACK ((size_t)64 * 1024)
+#define STACK_LEFT ((size_t)26 * 1024)
+#define LONGEST_ROW (3 * PAGE)
 
-#define PAGE 4096
-#define PATTERN 0xa5
-#define THREADS 8
-#define STACK (64 * 1024)
-#define STACK_LEFT (26 * 1024)
-
-/* So many bytes between two pages that nobody may touch. */
-static uint8_t *new_pages(size_t size)
+static void *allocated(void *block)
 {
-    uint8_t *pages = (uint8_t *)mmap(NULL, size + 2 * PAGE, PROT_NONE, MAP_PRIVATE | MAP_ANONYMOUS, -1, 0);
-
-    if (pages == (uint8_t *)MAP_FAILED || mprotect(pages + PAGE, size, PROT_READ | PROT_WRITE) != 0)
+    if (!block)
         abort();
-    return pages + PAGE;
-}
-
-/* ---- what is counted and refused */
-
-static __thread int is_in_call;
-static __thread long allocations, blocks, drawn;
-static long refused;
-static uint8_t entropy[24];
-static char entropy_kind = 'r'; /* of "real", "none", or digits */
-
-#if defined WRAP || defined REPLACE
-#ifdef WRAP
-#define NAMED(name) __wrap_##name
-#define SYSTEM(name) __real_##name
-#else
-#define NAMED(name) name
-#define SYSTEM(name) __libc_##name
-#endif
-
-#ifdef __cplusplus
-extern "C" {
-#endif
-void *SYSTEM(malloc)(size_t size);
-void *SYSTEM(realloc)(void *old, size_t size);
-void SYSTEM(free)(void *block);
-void *NAMED(realloc)(void *old, size_t size) __THROW;
-void *NAMED(malloc)(size_t size) __THROW;
-void NAMED(free)(void *block) __THROW;
-int NAMED(getentropy)(void *bytes, size_t len);
-
-static int is_refused(void)
-{
-    return is_in_call && ++allocations == refused;
-}
-
-void *__NTH(NAMED(malloc)(size_t size))
-{
-    void *block = is_refused() ? NULL : SYSTEM(malloc)(size);
-
-    blocks += is_in_call && block;
     return block;
 }
-
-void *__NTH(NAMED(realloc)(void *old, size_t size))
-{
-    void *block = is_refused() ? NULL : SYSTEM(realloc)(old, size);
-
-    blocks += is_in_call && block && !old;
-    return block;
-}
-
-void __NTH(NAMED(free)(void *block))
-{
-    blocks -= is_in_call && block != NULL;
-    SYSTEM(free)(block);
-}
-
-int NAMED(getentropy)(void *bytes, size_t len)
-{
-    size_t place = (size_t)drawn % sizeof entropy;
-
-    drawn += (long)len;
-    if (entropy_kind == 'r')
-        return syscall(SYS_getrandom, bytes, len, 0) == (long)len ? 0 : -1;
-    if (entropy_kind == 'n' || place + len > sizeof entropy)
-        return -1;
-    memcpy(bytes, entropy + place, len);
-    return 0;
-}
-#ifdef __cplusplus
-}
-#endif
-#endif
 
 /* ---- rows */
 
+/* Bytes that a call reads. */
 struct input {
-    uint8_t *page, *bytes;
+    uint8_t *page; /* at whose end they are */
+    const uint8_t *bytes;
     size_t len;
 };
 
-struct row {
-    char call[20];
-    struct input password, text;
-    int is_str, has_out;
-    size_t room;
-    uint64_t number[5];
+/* The arguments of a call. */
+struct arguments {
+    struct input password, text; /* which is called stored, field or setting */
+    const char *password_str, *text_str;
+    uint32_t method, rounds;
+    uint64_t budget, first, second, third;
+    size_t password_len, out_len;
+    int32_t reason;
+    int has_out;
 };
 
-static size_t from_hex(const char *hex, uint8_t *bytes)
+/* The value of a name in a row, up to the next space; NULL if the row doesn't have it. */
+static const char *value_of(const char *row, const char *name)
+{
+    size_t len = strlen(name);
+    const char *word = strchr(row, ' ');
+
+    for (; word; word = strchr(word, ' ')) {
+        word++;
+        if (strncmp(word, name, len) == 0 && word[len] == '=')
+            return word + len + 1;
+    }
+    return NULL;
+}
+
+static int is_value(const char *value, const char *word)
+{
+    size_t len = strlen(word);
+
+    return value && strncmp(value, word, len) == 0 && (value[len] == ' ' || value[len] == 0);
+}
+
+static uint64_t number_of(const char *row, const char *name)
+{
+    const char *value = value_of(row, name);
+
+    return value ? strtoull(value, NULL, 10) : 0;
+}
+
+static uint8_t digit_of(char hex)
+{
+    return (uint8_t)(hex <= '9' ? hex - '0' : hex - 'a' + 10);
+}
+
+/* The bytes that a value has in hexadecimal digits. */
+static size_t bytes_of(const char *value, uint8_t *bytes)
 {
     size_t len = 0;
-    unsigned byte;
 
-    for (; sscanf(hex + 2 * len, "%2x", &byte) == 1; len++)
-        bytes[len] = (uint8_t)byte;
+    if (!value)
+        return 0;
+    for (; value[0] > ' ' && value[1] > ' '; value += 2)
+        bytes[len++] = (uint8_t)(digit_of(value[0]) << 4 | digit_of(value[1]));
     return len;
 }
 
 /* A byte 0 ends the bytes for a _str call alone. */
-static void read_input(struct input *input, const char *hex, int is_str)
+static void read_input(struct input *input, const char *value, int is_str)
 {
     uint8_t bytes[PAGE];
-    size_t len = from_hex(hex, bytes), size = len + (size_t)is_str;
+    size_t len = bytes_of(value, bytes);
 
-    if (!input->page)
-        input->page = new_pages(PAGE);
-    mprotect(input->page, PAGE, PROT_READ | PROT_WRITE);
-    bytes[len] = 0;
     input->len = len;
-    input->bytes = strcmp(hex, "null") == 0 ? NULL : (uint8_t *)memcpy(input->page + PAGE - size, bytes, size);
-    mprotect(input->page, PAGE, PROT_READ);
+    if (is_str)
+        bytes[len++] = 0;
+    input->bytes = is_value(value, "null") ? NULL : at_end_of(input->page, bytes, len);
 }
 
-static void read_row(struct row *row, char *const *field, int count)
+static const char *text_of(const char *row)
 {
-    int place;
+    static const char *const names[] = {"stored", "field", "setting"};
+    const char *value = NULL;
+    size_t place;
 
-    strncpy(row->call, field[0], sizeof row->call - 1);
-    row->is_str = strstr(row->call, "_str") != NULL;
-    read_input(&row->password, field[1], row->is_str);
-    read_input(&row->text, field[2], row->is_str);
-    row->has_out = strcmp(field[3], "null") != 0;
-    row->room = row->has_out ? (size_t)atol(field[3]) : 100;
-    for (place = 4; place < count; place++)
-        row->number[place - 4] = strtoull(field[place], NULL, 0);
+    for (place = 0; place < sizeof names / sizeof *names && !value; place++)
+        value = value_of(row, names[place]);
+    return value;
+}
+
+static void read_row(struct arguments *given, const char *row)
+{
+    const char *call_end = strchr(row, ' ');
+    int is_str = call_end && call_end - row > 4 && strncmp(call_end - 4, "_str", 4) == 0;
+
+    read_input(&given->password, value_of(row, "password"), is_str);
+    read_input(&given->text, text_of(row), is_str);
+    given->password_str = (const char *)given->password.bytes;
+    given->text_str = (const char *)given->text.bytes;
+    given->method = (uint32_t)number_of(row, "method");
+    given->rounds = (uint32_t)number_of(row, "rounds");
+    given->budget = number_of(row, "budget");
+    given->first = number_of(row, "first");
+    given->second = number_of(row, "second");
+    given->third = number_of(row, "third");
+    given->password_len = (size_t)number_of(row, "password_len");
+    given->reason = (int32_t)(int64_t)number_of(row, "reason"); /* strtoull takes a minus sign */
+    given->has_out = !is_value(value_of(row, "out_len"), "null");
+    given->out_len = given->has_out ? (size_t)number_of(row, "out_len") : 100;
+}
+
+/* ---- calls */
+
+/* What a call gets, and where it writes. */
+struct call {
+    struct arguments given;
+    uint8_t *out;
+    char *out_str;
+    struct mkpasswd_report *report;
+};
+
+typedef int32_t made_call(const struct call *call);
+
+static int32_t verify(const struct call *call)
+{
+    const struct arguments *given = &call->given;
+
+    return mkpasswd_verify(given->password.bytes, given->password.len, given->text.bytes,
+        given->text.len, given->budget, call->report);
+}
+
+static int32_t verify_str(const struct call *call)
+{
+    const struct arguments *given = &call->given;
+
+    return mkpasswd_verify_str(given->password_str, given->text_str, given->budget, call->report);
+}
+
+static int32_t login(const struct call *call)
+{
+    const struct arguments *given = &call->given;
+
+    return mkpasswd_login(given->password.bytes, given->password.len, given->text.bytes,
+        given->text.len, given->method, given->rounds, given->budget, call->report);
+}
+
+static int32_t login_str(const struct call *call)
+{
+    const struct arguments *given = &call->given;
+
+    return mkpasswd_login_str(given->password_str, given->text_str, given->method, given->rounds,
+        given->budget, call->report);
+}
+
+static int32_t new_hash(const struct call *call)
+{
+    const struct arguments *given = &call->given;
+
+    return mkpasswd_new(given->password.bytes, given->password.len, given->method, given->rounds,
+        given->budget, call->out, given->out_len, call->report);
+}
+
+static int32_t new_over(const struct call *call)
+{
+    const struct arguments *given = &call->given;
+
+    memcpy(call->out, given->password.bytes, given->password.len);
+    return mkpasswd_new(call->out, given->password.len, given->method, given->rounds, given->budget,
+        call->out, given->out_len, call->report);
+}
+
+static int32_t new_str(const struct call *call)
+{
+    const struct arguments *given = &call->given;
+
+    return mkpasswd_new_str(given->password_str, given->method, given->rounds, given->budget,
+        call->out_str, given->out_len, call->report);
+}
+
+static int32_t needs_rehash(const struct call *call)
+{
+    const struct arguments *given = &call->given;
+
+    return mkpasswd_needs_rehash(
+        given->text.bytes, given->text.len, given->method, given->rounds, call->report);
+}
+
+static int32_t needs_rehash_str(const struct call *call)
+{
+    const struct arguments *given = &call->given;
+
+    return mkpasswd_needs_rehash_str(given->text_str, given->method, given->rounds, call->report);
+}
+
+static int32_t audit(const struct call *call)
+{
+    const struct arguments *given = &call->given;
+
+    return mkpasswd_audit(given->text.bytes, given->text.len, given->method, given->rounds,
+        given->budget, call->report);
+}
+
+static int32_t audit_str(const struct call *call)
+{
+    const struct arguments *given = &call->given;
+
+    return mkpasswd_audit_str(
+        given->text_str, given->method, given->rounds, given->budget, call->report);
+}
+
+static int32_t bound(const struct call *call)
+{
+    const struct arguments *given = &call->given;
+
+    return mkpasswd_bound(given->text.bytes, given->text.len, given->password_len, call->report);
+}
+
+static int32_t bound_str(const struct call *call)
+{
+    return mkpasswd_bound_str(call->given.text_str, call->given.password_len, call->report);
+}
+
+static int32_t hash(const struct call *call)
+{
+    const struct arguments *given = &call->given;
+
+    return mkpasswd_hash(given->password.bytes, given->password.len, given->text.bytes,
+        given->text.len, given->budget, call->out, given->out_len, call->report);
+}
+
+static int32_t hash_str(const struct call *call)
+{
+    const struct arguments *given = &call->given;
+
+    return mkpasswd_hash_str(given->password_str, given->text_str, given->budget, call->out_str,
+        given->out_len, call->report);
+}
+
+static int32_t setting(const struct call *call)
+{
+    const struct arguments *given = &call->given;
+
+    return mkpasswd_setting(given->method, given->rounds, given->first, given->second, given->third,
+        call->out, given->out_len, call->report);
+}
+
+static int32_t setting_str(const struct call *call)
+{
+    const struct arguments *given = &call->given;
+
+    return mkpasswd_setting_str(given->method, given->rounds, given->first, given->second,
+        given->third, call->out_str, given->out_len, call->report);
+}
+
+static int32_t words(const struct call *call)
+{
+    return mkpasswd_words(call->given.reason, call->out, call->given.out_len);
+}
+
+static int32_t words_str(const struct call *call)
+{
+    return mkpasswd_words_str(call->given.reason, call->out_str, call->given.out_len);
+}
+
+static int32_t version(const struct call *call)
+{
+    (void)call;
+    return (int32_t)mkpasswd_version();
+}
+
+struct kind {
+    const char *name;
+    made_call *make;
+    int has_report, is_str;
+};
+
+static const struct kind kinds[] = {
+    {"verify", verify, 1, 0},
+    {"verify_str", verify_str, 1, 1},
+    {"login", login, 1, 0},
+    {"login_str", login_str, 1, 1},
+    {"new", new_hash, 1, 0},
+    {"new_over", new_over, 1, 0},
+    {"new_str", new_str, 1, 1},
+    {"needs_rehash", needs_rehash, 1, 0},
+    {"needs_rehash_str", needs_rehash_str, 1, 1},
+    {"audit", audit, 1, 0},
+    {"audit_str", audit_str, 1, 1},
+    {"bound", bound, 1, 0},
+    {"bound_str", bound_str, 1, 1},
+    {"hash", hash, 1, 0},
+    {"hash_str", hash_str, 1, 1},
+    {"setting", setting, 1, 0},
+    {"setting_str", setting_str, 1, 1},
+    {"words", words, 0, 0},
+    {"words_str", words_str, 0, 1},
+    {"version", version, 0, 0},
+};
+
+/* The kind of a row's call; what isn't known ends the program. */
+static const struct kind *kind_of(const char *row)
+{
+    size_t place;
+
+    for (place = 0; place < sizeof kinds / sizeof *kinds; place++)
+        if (is_value(row, kinds[place].name))
+            return &kinds[place];
+    (void)fprintf(stderr, "no call: %s\n", row);
+    abort();
 }
 
 /* ---- one call in one thread */
 
 struct job {
-    struct row row;
+    const struct kind *kind;
+    struct call call;
     uint8_t *stack, *out_page, *report_page;
-    char line[4 * PAGE], first[4 * PAGE];
+    char line[2 * PAGE], first[2 * PAGE];
 };
 
-#define IS(name) (strcmp(row->call, name) == 0)
-
-static int32_t make(const struct row *row, uint8_t *out, struct mkpasswd_report *report)
+/* What the call left in `out`; whether it wrote nothing else. Quotes stand around a string. */
+static const char *left_in(const struct job *job, const char **quote)
 {
-    const uint8_t *password = row->password.bytes, *text = row->text.bytes;
-    const char *pass = (const char *)password, *str = (const char *)text;
-    size_t pass_len = row->password.len, len = row->text.len, room = row->room;
-    char *chars = (char *)out;
-    const uint64_t *n = row->number;
-    uint32_t method = (uint32_t)n[0], rounds = (uint32_t)n[1];
+    const uint8_t *page = job->out_page, *out = job->call.out, *byte, *end = NULL;
 
-#if defined __clang__ && defined __cplusplus && __cplusplus >= 201103L /* g++ counts no attribute */
-    static_assert(noexcept(mkpasswd_version()) && noexcept(mkpasswd_verify(password, pass_len, text, len, n[0], report))
-        && noexcept(mkpasswd_new(password, pass_len, method, rounds, n[2], out, room, report)), "no call throws");
-#endif
-    return IS("verify") ? mkpasswd_verify(password, pass_len, text, len, n[0], report)
-        : IS("verify_str") ? mkpasswd_verify_str(pass, str, n[0], report)
-        : IS("login") ? mkpasswd_login(password, pass_len, text, len, method, rounds, n[2], report)
-        : IS("login_str") ? mkpasswd_login_str(pass, str, method, rounds, n[2], report)
-        : IS("new") ? mkpasswd_new(password, pass_len, method, rounds, n[2], out, room, report)
-        : IS("new_over") ? mkpasswd_new((uint8_t *)memcpy(out, password, pass_len), pass_len, method, rounds, n[2], out, room, report)
-        : IS("new_str") ? mkpasswd_new_str(pass, method, rounds, n[2], chars, room, report)
-        : IS("needs_rehash") ? mkpasswd_needs_rehash(text, len, method, rounds, report)
-        : IS("needs_rehash_str") ? mkpasswd_needs_rehash_str(str, method, rounds, report)
-        : IS("audit") ? mkpasswd_audit(text, len, method, rounds, n[2], report)
-        : IS("audit_str") ? mkpasswd_audit_str(str, method, rounds, n[2], report)
-        : IS("bound") ? mkpasswd_bound(text, len, (size_t)n[0], report)
-        : IS("bound_str") ? mkpasswd_bound_str(str, (size_t)n[0], report)
-        : IS("hash") ? mkpasswd_hash(password, pass_len, text, len, n[0], out, room, report)
-        : IS("hash_str") ? mkpasswd_hash_str(pass, str, n[0], chars, room, report)
-        : IS("setting") ? mkpasswd_setting(method, rounds, n[2], n[3], n[4], out, room, report)
-        : IS("setting_str") ? mkpasswd_setting_str(method, rounds, n[2], n[3], n[4], chars, room, report)
-        : IS("words") ? mkpasswd_words((int32_t)(int64_t)n[0], out, room)
-        : IS("words_str") ? mkpasswd_words_str((int32_t)(int64_t)n[0], chars, room)
-        : (int32_t)mkpasswd_version();
-}
-
-/* What the call left in `out`, if it changed no other byte. */
-static const char *left_in(const uint8_t *page, size_t room)
-{
-    const uint8_t *out = page + PAGE - room, *end = room ? (const uint8_t *)memchr(out, 0, room) : NULL, *byte;
-
+    *quote = "";
+    if (job->call.given.out_len)
+        end = (const uint8_t *)memchr(out, 0, job->call.given.out_len);
     for (byte = page; byte < page + PAGE; byte++)
         if (*byte != PATTERN && !(end && byte >= out && byte <= end))
             return "SPILT";
-    return end ? (const char *)out : "unchanged";
+    if (!end)
+        return "unchanged";
+    *quote = "\"";
+    return (const char *)out;
+}
+
+static void print_answer(struct job *job, int32_t result)
+{
+    const struct mkpasswd_report *report = job->call.report;
+    const struct mkpasswd_work *work = &report->work;
+    const char *quote, *left = left_in(job, &quote);
+
+    (void)snprintf(job->line, sizeof job->line,
+        "result=%" PRId32 " reason=%" PRId32 " length=%" PRIu32 " cost=%" PRIu64 " digests=%" PRIu64
+        " bytes=%" PRIu64 " mixes=%" PRIu64 " table=%" PRIu64 " scratch=%" PRIu64
+        " reserved=%" PRIu64 " allocations=%ld kept=%ld drawn=%ld out=%s%s%s",
+        result, report->reason, report->length, report->cost, work->digests, work->bytes,
+        work->mixes, work->table, work->scratch, report->reserved, allocations, blocks_kept,
+        bytes_drawn, quote, left, quote);
+}
+
+/* Makes the call of a job. The report is full of a byte before, or isn't given. */
+static int32_t make(struct job *job, int has_report, int byte)
+{
+    struct call *call = &job->call;
+    uint8_t *out = call->out;
+    struct mkpasswd_report *report = call->report;
+    int32_t result;
+
+    memset(job->out_page, PATTERN, PAGE);
+    if (has_report)
+        memset(report, byte, sizeof *report);
+    else
+        call->report = NULL;
+    if (!call->given.has_out)
+        call->out = NULL;
+    call->out_str = (char *)call->out;
+    begin_counting();
+    result = job->kind->make(call);
+    end_counting();
+    call->report = report;
+    call->out = out;
+    return result;
 }
 
 /* Makes the call of a job twice, above the last STACK_LEFT bytes of its stack. */
 __attribute__((noinline)) static void perform(struct job *job)
 {
-    const struct row *row = &job->row;
-    struct mkpasswd_report *report = (struct mkpasswd_report *)(void *)(job->report_page + PAGE - sizeof *report);
-    const struct mkpasswd_work *work = &report->work;
-    uint8_t *out = job->out_page + PAGE - row->room;
-    int pass, passes = entropy_kind == 'r' && strncmp(row->call, "new", 3) == 0 ? 1 : 2;
-    int has_report = strncmp(row->call, "words", 5) != 0 && !IS("version");
+    const struct kind *kind = job->kind;
+    int is_drawn = entropy == ENTROPY_REAL && strncmp(kind->name, "new", 3) == 0;
+    size_t len;
 
 #ifndef SANITIZED
-    *(volatile uint8_t *)__builtin_alloca((size_t)((uint8_t *)&job - job->stack) - STACK_LEFT) = 0;
+    size_t stack_above = (size_t)((uint8_t *)&job - job->stack);
+    *(volatile uint8_t *)__builtin_alloca(stack_above - STACK_LEFT) = 0;
 #endif
-    for (pass = 0; pass < passes; pass++) {
-        int has_none = pass == 1 && row->is_str;
-        int32_t result;
-
-        memset(job->out_page, PATTERN, PAGE);
-        if (!has_none)
-            memset(report, pass == 0 && has_report ? 0xff : 0, sizeof *report);
-        allocations = blocks = drawn = 0;
-        is_in_call = 1;
-        result = make(row, row->has_out ? out : NULL, has_none ? NULL : report);
-        is_in_call = 0;
-        sprintf(job->line, "%" PRId32 " %" PRId32 " %" PRIu32 " %" PRIu64 " %" PRIu64 " %" PRIu64 " %" PRIu64 " %" PRIu64
-            " %" PRIu64 " %" PRIu64 " %ld %ld %ld %s", result, report->reason, report->length, report->cost, work->digests,
-            work->bytes, work->mixes, work->table, work->scratch, report->reserved, allocations, blocks, drawn,
-            left_in(job->out_page, row->room));
-        if (pass == 1 && strcmp(job->first, job->line) != 0)
-            strcat(strcat(job->line, " DIFFERS FROM "), job->first);
-        strcpy(job->first, job->line);
-    }
+    print_answer(job, make(job, 1, kind->has_report ? 0xff : 0));
+    if (is_drawn) /* no salt comes twice */
+        return;
+    memcpy(job->first, job->line, sizeof job->first);
+    print_answer(job, make(job, !kind->is_str, 0));
+    if (strcmp(job->first, job->line) == 0)
+        return;
+    len = strlen(job->line);
+    (void)snprintf(job->line + len, sizeof job->line - len, " DIFFERS FROM %.4000s", job->first);
 }
 
 /* ---- threads, which share the rows out among them */
 
 static pthread_mutex_t lock = PTHREAD_MUTEX_INITIALIZER;
-static char *field[10], *lines[1 << 15];
-static int fields;
-static size_t line_count;
+static char **rows, **lines; /* up to the next row that sets something */
+static size_t row_count, next_row, room_for_rows;
 
-static void next_row(void)
-{
-    static char input[3 * PAGE];
-
-    fields = 0;
-    if (fgets(input, sizeof input, stdin))
-        for (field[0] = strtok(input, " \n"); field[fields] && fields < 9; field[fields] = strtok(NULL, " \n"))
-            fields++;
-}
-
-/* Makes calls up to a row that sets something. */
+/* Makes calls until all rows are taken. */
 static void *run(void *argument)
 {
     struct job *job = (struct job *)argument;
 
     pthread_mutex_lock(&lock);
-    while (fields > 2 && line_count < sizeof lines / sizeof *lines) {
-        size_t number = line_count++;
+    while (next_row < row_count) {
+        size_t number = next_row++;
 
-        read_row(&job->row, field, fields);
-        next_row();
         pthread_mutex_unlock(&lock);
+        job->kind = kind_of(rows[number]);
+        read_row(&job->call.given, rows[number]);
+        job->call.out = job->out_page + PAGE - job->call.given.out_len;
         perform(job);
-        lines[number] = strdup(job->line);
+        lines[number] = (char *)allocated(strdup(job->line));
         pthread_mutex_lock(&lock);
     }
     pthread_mutex_unlock(&lock);
     return NULL;
 }
 
-static void run_threads(long count)
+static void prepare(struct job *job)
 {
-    static struct job jobs[THREADS];
-    pthread_t threads[THREADS];
+    size_t size = sizeof *job->call.report;
+
+    if (job->stack)
+        return;
+    job->stack = new_pages(STACK);
+    job->out_page = new_pages(PAGE);
+    job->report_page = new_pages(PAGE);
+    job->call.given.password.page = new_pages(PAGE);
+    job->call.given.text.page = new_pages(PAGE);
+    job->call.report = (struct mkpasswd_report *)(void *)(job->report_page + PAGE - size);
+}
+
+/* Makes the calls of the rows, and prints their lines. */
+static void run_rows(size_t thread_count)
+{
+    static struct job jobs[MOST_THREADS];
+    pthread_t threads[MOST_THREADS];
     pthread_attr_t attributes;
-    long place;
+    size_t place;
 
     pthread_attr_init(&attributes);
-    for (place = 0; place < count; place++) {
-        struct job *job = &jobs[place];
-
-        if (!job->stack) {
-            job->stack = new_pages(STACK);
-            job->out_page = new_pages(PAGE);
-            job->report_page = new_pages(PAGE);
-        }
+    for (place = 0; place < thread_count; place++) {
+        prepare(&jobs[place]);
 #ifndef SANITIZED
-        pthread_attr_setstack(&attributes, job->stack, STACK);
+        pthread_attr_setstack(&attributes, jobs[place].stack, STACK);
 #endif
-        if (pthread_create(&threads[place], &attributes, run, job) != 0)
+        if (pthread_create(&threads[place], &attributes, run, &jobs[place]) != 0)
             abort();
     }
-    for (place = 0; place < count; place++)
+    for (place = 0; place < thread_count; place++)
         pthread_join(threads[place], NULL);
+    for (place = 0; place < row_count; place++) {
+        puts(lines[place]);
+        free(lines[place]);
+        free(rows[place]);
+    }
+    row_count = next_row = 0;
+}
+
+static void keep_row(const char *row)
+{
+    if (row_count == room_for_rows) {
+        room_for_rows += 1024;
+        rows = (char **)allocated(realloc(rows, room_for_rows * sizeof *rows));
+        lines = (char **)allocated(realloc(lines, room_for_rows * sizeof *lines));
+    }
+    rows[row_count++] = (char *)allocated(strdup(row));
+}
+
+static void set_entropy(const char *value)
+{
+    if (!value)
+        return;
+    entropy = ENTROPY_GIVEN;
+    if (is_value(value, "none"))
+        entropy = ENTROPY_NONE;
+    else if (is_value(value, "real"))
+        entropy = ENTROPY_REAL;
+    else
+        bytes_of(value, given_entropy);
 }
 
 int main(void)
 {
-    long threads = 1;
-    size_t printed = 0;
+    static char row[LONGEST_ROW];
+    size_t threads = 1;
 
-    for (next_row(); fields > 1;) {
-        if (fields > 2) {
-            run_threads(threads);
-            for (; printed < line_count; printed++)
-                puts(lines[printed]);
+    while (fgets(row, sizeof row, stdin)) {
+        row[strcspn(row, "\n")] = 0;
+        if (!is_value(row, "set")) {
+            keep_row(row);
             continue;
         }
-        threads = field[0][0] == 't' ? atol(field[1]) : threads;
-        refused = field[0][0] == 'r' ? atol(field[1]) : refused;
-        entropy_kind = field[0][0] == 'e' ? field[1][0] : entropy_kind;
-        if (field[0][0] == 'e')
-            from_hex(field[1], entropy);
-        next_row();
+        run_rows(threads);
+        if (value_of(row, "threads"))
+            threads = (size_t)number_of(row, "threads");
+        if (value_of(row, "refused"))
+            refused_allocation = (long)number_of(row, "refused");
+        set_entropy(value_of(row, "entropy"));
     }
+    run_rows(threads);
     return 0;
 }
+#pragma GCC visibility pop

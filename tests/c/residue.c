@@ -1,38 +1,86 @@
-/* Makes a call three times, and stops after each: `CALL TEXT METHOD COST LENGTH`; a COST of 1 for mkpasswd_hash locks its memory.
- * The third time the password has another byte at each place. tests/calls.t looks at the memory of the process then. All that a
- * caller holds is in a page that is shared. */
+/* Makes a call three times and stops after each, so that a test can look at the memory of the
+ * process. The third time the password has another byte at each place.
+ *
+ * usage: residue CALL TEXT METHOD ROUNDS LENGTH LOCKED
+ *
+ * CALL is verify, login, hash or new; TEXT is what is stored, or the setting; LENGTH is that of the
+ * password; with 1 for LOCKED no memory is swapped. All that a caller holds is in a page that is
+ * shared. */
 #define _GNU_SOURCE
 #include <mkpasswd.h>
 #include <stdlib.h>
 #include <sys/mman.h>
 #include <unistd.h>
 
+#define ARGUMENTS 7
+#define CALLS 3
+
 struct held {
-    uint8_t password[1024], out[MKPASSWD_TEXT_SIZE];
+    uint8_t password[MKPASSWD_PASSWORD_LIMIT], out[MKPASSWD_TEXT_SIZE];
     struct mkpasswd_report report;
 };
 
+struct call {
+    const char *name;
+    const uint8_t *text;
+    size_t text_len, password_len;
+    uint32_t method, rounds;
+};
+
+static uint32_t number_of(const char *digits)
+{
+    return (uint32_t)strtoul(digits, NULL, 10);
+}
+
+static void write_password(struct held *held, size_t len, size_t offset)
+{
+    for (size_t place = 0; place < len; place++)
+        held->password[place] = (uint8_t)('!' + (place * place + place / 7 + offset) % 90);
+}
+
+/* Whatever the call returns, it did its work. */
+static void make(const struct call *call, struct held *held)
+{
+    const uint64_t any = UINT64_MAX;
+    int32_t result;
+
+    if (strcmp(call->name, "verify") == 0)
+        result = mkpasswd_verify(
+            held->password, call->password_len, call->text, call->text_len, any, &held->report);
+    else if (strcmp(call->name, "login") == 0)
+        result = mkpasswd_login(held->password, call->password_len, call->text, call->text_len,
+            call->method, call->rounds, any, &held->report);
+    else if (strcmp(call->name, "hash") == 0)
+        result = mkpasswd_hash(held->password, call->password_len, call->text, call->text_len, any,
+            held->out, sizeof held->out, &held->report);
+    else
+        result = mkpasswd_new(held->password, call->password_len, call->method, call->rounds, any,
+            held->out, sizeof held->out, &held->report);
+    (void)result;
+}
+
+/* Waits for a byte of standard input. */
+static int has_stopped(struct held *held)
+{
+    return write(1, ".", 1) == 1 && read(0, held->out, 1) == 1;
+}
+
 int main(int argc, char **argv)
 {
-    struct held *held = mmap(NULL, sizeof *held, PROT_READ | PROT_WRITE, MAP_SHARED | MAP_ANONYMOUS, -1, 0);
-    const uint8_t *text = (const uint8_t *)argv[2];
-    uint32_t method = argc == 6 ? (uint32_t)atol(argv[3]) : 0, cost = argc == 6 ? (uint32_t)atol(argv[4]) : 0;
-    size_t len = argc == 6 ? (size_t)atol(argv[5]) : 0, text_len = argc == 6 ? strlen(argv[2]) : 0;
+    struct held *held = mmap(
+        NULL, sizeof *held, PROT_READ | PROT_WRITE, MAP_SHARED | MAP_ANONYMOUS, -1, 0);
+    struct call call;
 
-    if (argc == 6 && argv[1][0] == 'h' && cost == 1 && mlockall(MCL_CURRENT | MCL_FUTURE) != 0)
+    if (argc != ARGUMENTS || held == MAP_FAILED)
         return 2;
-    for (int round = 0; round < 3 && held != MAP_FAILED; round++) {
-        for (size_t place = 0; place < len; place++)
-            held->password[place] = (uint8_t)('!' + (place * place + place / 7 + (round == 2 ? 31 : 0)) % 90);
-        if (argv[1][0] == 'v')
-            (void)!mkpasswd_verify(held->password, len, text, text_len, -1, &held->report);
-        else if (argv[1][0] == 'l')
-            (void)!mkpasswd_login(held->password, len, text, text_len, method, cost, -1, &held->report);
-        else if (argv[1][0] == 'h')
-            (void)!mkpasswd_hash(held->password, len, text, text_len, -1, held->out, sizeof held->out, &held->report);
-        else
-            (void)!mkpasswd_new(held->password, len, method, cost, -1, held->out, sizeof held->out, &held->report);
-        if (held->report.work.digests == 0 || write(1, ".", 1) != 1 || read(0, held->out, 1) != 1)
+    call = (struct call){argv[1], (const uint8_t *)argv[2], strlen(argv[2]), number_of(argv[5]),
+        number_of(argv[3]), number_of(argv[4])};
+    if (number_of(argv[6]) == 1 && mlockall(MCL_CURRENT | MCL_FUTURE) != 0)
+        return 2;
+    for (int number = 1; number <= CALLS; number++) {
+        write_password(held, call.password_len, number == CALLS ? 31 : 0);
+        make(&call, held);
+        if (held->report.work.digests == 0 || !has_stopped(held))
             return 1;
     }
     return 0;

@@ -1,18 +1,15 @@
 package Model;
 
 # The rules of docs/FORMATS.md and of the standards that it names, read a second time and not out of the code: settings and
-# their refusals, the work and the cost of a hash, hashes, and which lines are refused. Hashes are those of perl's crypt, which is
-# libxcrypt; where that doesn't take a password they are made here, but for scrypt, where they are not known.
+# their refusals, the cost of a hash, and which lines are refused.
 
 use strict;
 use warnings;
-use Digest::MD5 qw(md5);
-use Digest::SHA qw(sha256 sha512);
 use Exporter qw(import);
 use List::Util qw(max min sum0);
 
 our @EXPORT = qw(%limits %kinds %types %most_salt %made_salt %packed_length @characters @setting_refusals @line_refusals
-    numeral scrypt_cost setting read_setting made_setting new_setting is_replaced counts cost policy_limit hash_of job judged);
+    numeral scrypt_cost setting read_setting made_setting new_setting is_replaced counts cost policy_limit job judged);
 
 our %limits = (
     password => 1024, setting => 384, line => 2048, name => 64, least_rounds => 1000, most_rounds => 999999999, ceiling => 8388608,
@@ -32,7 +29,6 @@ our @line_refusals = ('line too long', 'no name', 'name too long', 'no password 
 my $of_alphabet = '[./0-9A-Za-z]';
 my %value;
 @value{@characters} = 0 .. 63;
-my %digest = (1 => \&md5, 5 => \&sha256, 6 => \&sha512);
 my %digest_length = (1 => 16, 5 => 32, 6 => 64);
 
 # ---- Settings
@@ -137,80 +133,6 @@ sub policy_limit {
     my $setting = new_setting($kind, $rounds);
     my $limit = max(150_000_000, 2 * cost($setting, 64));
     return $length > $limits{password} || cost($setting, $length) > $limit ? 0 : $limit;
-}
-
-# The exact counts of the hash of a password.
-sub work_of {
-    my ($setting, $password) = @_;
-    my $is_sha = $setting->{kind} == 5 || $setting->{kind} == 6;
-    return counts($setting, length $password, $is_sha && ord second_digest($setting->{kind}, $password, $setting->{salt}));
-}
-
-# ---- Hashes
-
-my %order = (
-    1 => '0 6 12,1 7 13,2 8 14,3 9 15,4 10 5,11',
-    5 => '0 10 20,21 1 11,12 22 2,3 13 23,24 4 14,15 25 5,6 16 26,27 7 17,18 28 8,9 19 29,31 30',
-    6 => '0 21 42,22 43 1,44 2 23,3 24 45,25 46 4,47 5 26,6 27 48,28 49 7,50 8 29,9 30 51,31 52 10,53 11 32,12 33 54,'
-        . '34 55 13,56 14 35,15 36 57,37 58 16,59 17 38,18 39 60,40 61 19,62 20 41,63',
-);
-
-sub packed {
-    my ($kind, $digest) = @_;
-    return join '', map {
-        my ($number, @places) = (0, split / /);
-        $number = $number << 8 | ord substr $digest, $_, 1 for @places;
-        numeral($number, @places + 1);
-    } split /,/, $order{$kind};
-}
-
-# Given bytes again and again, so many.
-sub cycle { return substr $_[0] x (1 + $_[1] / length $_[0]), 0, $_[1] }
-
-# A of md5crypt and SHA-crypt, the digest of the second message.
-sub second_digest {
-    my ($kind, $password, $salt) = @_;
-    my $digest = $digest{$kind};
-    my $first = $digest->($password . $salt . $password);
-    my $message = $password . ($kind == 1 ? '$1$' : '') . $salt . cycle($first, length $password);
-    my ($one, $zero) = $kind == 1 ? ("\0", substr $password, 0, 1) : ($first, $password);
-    for (my $rest = length $password; $rest > 0; $rest >>= 1) { $message .= $rest & 1 ? $one : $zero }
-    return $digest->($message);
-}
-
-# The hash of a password by md5crypt or SHA-crypt, made here.
-sub made_by_hand {
-    my ($setting, $password) = @_;
-    my ($kind, $salt) = @$setting{qw(kind salt)};
-    my $digest = $digest{$kind};
-    my $last = second_digest($kind, $password, $salt);
-    my ($pass, $rounds) = ($password, 1000);
-    if ($kind != 1) {
-        $pass = cycle($digest->($password x length $password), length $password);
-        $salt = cycle($digest->($salt x (16 + ord $last)), length $salt);
-        $rounds = $setting->{rounds};
-    }
-    for my $round (0 .. $rounds - 1) {
-        my $middle = ($round % 3 ? $salt : '') . ($round % 7 ? $pass : '');
-        $last = $digest->($round % 2 ? $pass . $middle . $last : $last . $middle . $pass);
-    }
-    return "$setting->{front}\$" . packed($kind, $last);
-}
-
-# The same, libxcrypt's wherever it takes the two; nothing where it takes no scrypt. Hashes are kept.
-my %kept;
-
-sub hash_of {
-    my ($setting, $password) = @_;
-    my $front = $setting->{front};
-    return $kept{"$front\0$password"} //= do {
-        my $known = length $password < 512 ? $password : undef;
-        # Of a long password HMAC takes the digest, so scrypt's hash is that of the digest, unless it has a byte 0.
-        $known = sha256($password) if !defined $known && $setting->{kind} == 7;
-        undef $known if defined $known && $known =~ /\0/;
-        my $text = defined $known ? crypt($known, $front) // '' : '';
-        index($text, "$front\$") == 0 ? $text : $setting->{kind} != 7 ? made_by_hand($setting, $password) : undef;
-    };
 }
 
 # ---- Audits

@@ -1,0 +1,33 @@
+/* Memory between two pages that nobody may touch, for tests/c/calls.c. */
+#include <stdint.h>
+#include <stdlib.h>
+#include <string.h>
+#include <sys/mman.h>
+
+#define PAGE ((size_t)4096)
+
+/* So many bytes, a multiple of a page. */
+static uint8_t *new_pages(size_t size)
+{
+    int flags = MAP_PRIVATE | MAP_ANONYMOUS;
+    uint8_t *pages = (uint8_t *)mmap(NULL, size + 2 * PAGE, PROT_NONE, flags, -1, 0);
+
+    if (pages == (uint8_t *)MAP_FAILED)
+        abort();
+    if (mprotect(pages + PAGE, size, PROT_READ | PROT_WRITE) != 0)
+        abort();
+    return pages + PAGE;
+}
+
+/* Puts bytes at the end of a page, which is read-only then. */
+static uint8_t *at_end_of(uint8_t *page, const uint8_t *bytes, size_t len)
+{
+    uint8_t *place = page + PAGE - len;
+
+    if (mprotect(page, PAGE, PROT_READ | PROT_WRITE) != 0)
+        abort();
+    memcpy(place, bytes, len);
+    if (mprotect(page, PAGE, PROT_READ) != 0)
+        abort();
+    return place;
+}

@@ -1,0 +1,167 @@
+"""mkpasswd_audit: what it says of each field, without a password."""
+from __future__ import annotations
+
+import re
+from dataclasses import dataclass
+
+import pytest
+from support.driver import Driver
+from support.model.audits import is_whole
+from support.model.calls import GREATEST, Audit, Reason, with_strings
+from support.model.methods import ALPHABET, SHA512CRYPT
+from support.model.settings import Refused, ScryptCost, read_setting, recommended_setting
+from support.model.work import LONGEST_PASSWORD, cost
+from support.policies import INVALID_POLICIES, INVALID_ROUNDS, POLICIES, InvalidPolicy, Policy
+from support.stored_fields import (
+    KNOWN_HASHES,
+    MD5CRYPT,
+    TOO_DEAR,
+    WITH_SETTING,
+    WITHOUT_SETTING,
+    Field,
+)
+
+AUDITED_BY = (*POLICIES, INVALID_POLICIES[0], INVALID_POLICIES[6])
+
+
+@dataclass(frozen=True)
+class StoredHash:
+    """A hash, whole or not."""
+
+    title: str
+    text: bytes
+
+    def __str__(self) -> str:
+        return self.title
+
+
+def made_up(text: bytes) -> bytes:
+    """A hash with this setting that nobody knows a password of."""
+    return text + b"$" + b"." * read_setting(text).method.hash_length
+
+
+# With N of 2^15 and more a login by a cheaper policy refuses each password.
+AT_THE_LIMITS = [
+    StoredHash("at the own budget", made_up(recommended_setting(SHA512CRYPT, 0).text)),
+    StoredHash("above the own budget", made_up(recommended_setting(SHA512CRYPT, 656_001).text)),
+    *(
+        StoredHash(
+            f"scrypt with an N of 2^{log_n}",
+            made_up(b"$7$" + ScryptCost(log_n, r=32, p=1).text + b"a" * 86),
+        )
+        for log_n in (15, 16, 17, 18)
+    ),
+]
+HASHES = [*(StoredHash(known.title, known.text) for known in KNOWN_HASHES), *AT_THE_LIMITS]
+
+
+def altered(text: bytes) -> list[bytes]:
+    """A hash, and what is no hash any more, or another one.
+
+    It is cut, has more behind it, another last character or one that no hash has, a salt that
+    wasn't cut, rounds that are out of range.
+    """
+    front, digest = text.rsplit(b"$", 1)
+    last = ALPHABET.index(digest[-1:])
+    fields = [text, text + b".", text + b"$", text + b"$extra", text[:-1] + b"~"]
+    fields.append(front + b"aaaaaaaaaaaaaaaaa$" + digest)
+    for cut in (1, 2, 3):
+        fields += [text[:-cut], text[: -cut - len(digest)]]
+    for bit in range(6):
+        other = last ^ 1 << bit
+        fields.append(text[:-1] + ALPHABET[other : other + 1])
+    for rounds in (b"10", b"5000", b"05000", b"999999999", b"1000000000"):
+        fields.append(re.sub(rb"\A(\$[56]\$)(rounds=\d+\$)?", rb"\g<1>rounds=%b$" % rounds, text))
+    return fields
+
+
+def audits_by_each_policy(fields: list[bytes]) -> list[Audit]:
+    """Audits with the budget that a policy has itself."""
+    return [Audit(field, policy.method, policy.rounds) for field in fields for policy in AUDITED_BY]
+
+
+def cost_of(field: bytes) -> int:
+    """What a hash can cost, or a small number where there is none."""
+    try:
+        return cost(read_setting(field), LONGEST_PASSWORD)
+    except Refused:
+        return 9
+
+
+def audits_by_budgets(fields: list[bytes]) -> list[Audit]:
+    """Audits with budgets around the cost."""
+    return [
+        Audit(field, 6, 0, budget)
+        for field in fields
+        for budget in (1, cost_of(field) - 1, cost_of(field), GREATEST)
+    ]
+
+
+@pytest.mark.parametrize("stored", HASHES, ids=str)
+def test_a_published_hash_is_whole(stored: StoredHash) -> None:
+    assert is_whole(read_setting(stored.text), stored.text)
+
+
+@pytest.mark.parametrize("stored", HASHES, ids=str)
+def test_a_hash_and_its_alterations_are_judged_by_each_policy(
+    driver: Driver, stored: StoredHash
+) -> None:
+    driver.assert_by_the_rules(audits_by_each_policy(altered(stored.text)))
+
+
+@pytest.mark.parametrize("stored", HASHES, ids=str)
+def test_a_hash_and_its_alterations_are_judged_by_budgets(
+    driver: Driver, stored: StoredHash
+) -> None:
+    driver.assert_by_the_rules(audits_by_budgets(altered(stored.text)))
+
+
+@pytest.mark.parametrize("stored", HASHES, ids=str)
+def test_strings_are_judged_alike(driver: Driver, stored: StoredHash) -> None:
+    calls = [Audit(field, 6, 5000, is_str=True) for field in altered(stored.text)]
+    driver.assert_by_the_rules(calls)
+
+
+@pytest.mark.parametrize("field", WITHOUT_SETTING, ids=str)
+def test_a_field_without_a_setting_has_its_reason(driver: Driver, field: Field) -> None:
+    for call in with_strings(Audit(field.text, 6, 5000)):
+        driver.assert_answer(call, result=0, reason=field.reason, cost=0)
+    driver.assert_by_the_rules(audits_by_each_policy([field.text]))
+    driver.assert_by_the_rules(audits_by_budgets([field.text]))
+
+
+@pytest.mark.parametrize("field", WITH_SETTING, ids=str)
+def test_a_field_that_is_no_hash_is_dead_or_over_the_budget(driver: Driver, field: Field) -> None:
+    reason = Reason.OVER_BUDGET if field in TOO_DEAR else Reason.DEAD
+    for call in with_strings(Audit(field.text, 6, 5000)):
+        driver.assert_answer(call, result=0, reason=reason)
+    driver.assert_by_the_rules(audits_by_each_policy([field.text]))
+    driver.assert_by_the_rules(audits_by_budgets([field.text]))
+
+
+@pytest.mark.parametrize("policy", [*INVALID_POLICIES, *INVALID_ROUNDS], ids=str)
+def test_an_invalid_policy_is_refused(driver: Driver, policy: InvalidPolicy) -> None:
+    call = Audit(MD5CRYPT, policy.method, policy.rounds)
+    driver.assert_answer(call, result=0, reason=policy.reason, cost=0)
+
+
+@pytest.mark.parametrize(
+    ("policy", "reason"),
+    [
+        pytest.param(Policy("", 1, 0), Reason.DONE, id="md5crypt"),
+        pytest.param(Policy("", 6, 0), Reason.REPLACED, id="sha512crypt"),
+    ],
+)
+def test_md5crypt_is_current_or_outdated(driver: Driver, policy: Policy, reason: Reason) -> None:
+    for call in with_strings(Audit(MD5CRYPT, policy.method, policy.rounds)):
+        driver.assert_answer(call, result=int(reason > 0), reason=reason)
+
+
+def test_a_null_string_is_an_empty_field(driver: Driver) -> None:
+    call = Audit(None, is_str=True)
+    driver.assert_answer(call, result=0, reason=Reason.NO_HASH)
+
+
+def test_calls_in_eight_threads_answer_as_in_one(driver: Driver) -> None:
+    fields = [field for stored in HASHES[:3] for field in altered(stored.text)]
+    driver.assert_by_the_rules(audits_by_each_policy(fields), threads=8)

@@ -1,0 +1,70 @@
+"""mkpasswd.h: its numbers, the layout of a report, and what a compiler says of its declarations."""
+from __future__ import annotations
+
+import re
+import struct
+
+import pytest
+from support.library import SOURCES, Builder, Installed
+from support.model.calls import BUDGET, Hash, Reason, System, length_of_hash
+from support.model.settings import read_setting
+from support.model.work import LONGEST_PASSWORD
+from support.process import run
+from support.stored_fields import SCRYPT_WITH_LONGEST_SALT
+
+# A reason with its comment, which begins with the message.
+REASON = re.compile(
+    r"^#define MKPASSWD_(?:REFUSED_)?(\w+) \(?(-?\d+)\)? +/\* ([^:,*]*?)(?:[:,].*)? \*/$",
+    re.MULTILINE,
+)
+# The fields of struct mkpasswd_report in their order: a number of 32 bits with a sign, one without,
+# seven of 64 bits; little-endian.
+REPORT = "<iI7Q"
+FIELDS = (
+    *("reason", "length", "cost", "digests", "bytes"),
+    *("mixes", "table", "scratch", "reserved"),
+)
+
+
+def test_the_reasons_have_their_numbers_and_messages(installed: Installed) -> None:
+    found = {
+        name: (int(number), message) for name, number, message in REASON.findall(installed.header)
+    }
+    assert found == {reason.name: (int(reason), reason.message) for reason in Reason}
+
+
+@pytest.mark.parametrize(
+    ("name", "number"),
+    [
+        pytest.param("MD5CRYPT", 1, id="the number of md5crypt"),
+        pytest.param("SHA256CRYPT", 5, id="the number of sha256crypt"),
+        pytest.param("SHA512CRYPT", 6, id="the number of sha512crypt"),
+        pytest.param("SCRYPT", 7, id="the number of scrypt"),
+        pytest.param("PASSWORD_LIMIT", LONGEST_PASSWORD, id="the longest password"),
+        pytest.param(
+            "TEXT_SIZE",
+            length_of_hash(read_setting(SCRYPT_WITH_LONGEST_SALT)) + 1,
+            id="the room for the longest hash",
+        ),
+        pytest.param("BUDGET", BUDGET, id="the budget"),
+    ],
+)
+def test_a_number_is_what_the_formats_say(installed: Installed, name: str, number: int) -> None:
+    assert installed.defined(name) == number
+
+
+def test_each_field_of_a_report_is_at_its_place(builder: Builder) -> None:
+    program = builder.build(SOURCES / "report.c")
+    result = run(program).required()
+    call = Hash(b"password", b"$7$46..../....SodiumChloride")
+    expected = call.expected(System())
+    assert len(result.stdout) == struct.calcsize(REPORT), str(result)
+    found = dict(zip(FIELDS, struct.unpack(REPORT, result.stdout)))
+    assert found == {name: getattr(expected, name) for name in FIELDS}
+
+
+def test_no_two_fields_of_that_report_are_alike() -> None:
+    """So that the test before this one sees fields that are exchanged."""
+    expected = Hash(b"password", b"$7$46..../....SodiumChloride").expected(System())
+    values = [getattr(expected, name) for name in FIELDS]
+    assert len(set(values)) == len(values)

@@ -1,0 +1,126 @@
+"""What is installed: names and versions of the libraries' symbols, processors, pkg-config."""
+from __future__ import annotations
+
+import re
+from pathlib import Path
+
+import pytest
+from support.driver import Driver
+from support.library import COMPILER, Installed
+from support.model.calls import Version
+from support.process import Changes, assert_result, run
+
+FIRST_VERSION = "MKPASSWD_2"
+LATER_VERSIONS = {"mkpasswd_login": "MKPASSWD_2.1", "mkpasswd_audit": "MKPASSWD_2.2"}
+# A line of `objdump -T`: an address, flags, a section, and the size, version and name.
+SYMBOL = re.compile(r"^[0-9a-f]{16} (.*) (MKPASSWD_[\d.]+) +(mkpasswd_\w+)$", re.MULTILINE)
+LOGIN_BY_PKG_CONFIG = """\
+cc() { command "$CC" "$@"; }
+cc -o login examples/login.c $(pkg-config --cflags --libs mkpasswd); ./login"""
+
+
+def version_of(installed: Installed) -> str:
+    """The version in mkpasswd.pc."""
+    path = installed.libraries / "pkgconfig/mkpasswd.pc"
+    found = re.search(r"^Version: (.*)$", path.read_text(encoding="ascii"), re.MULTILINE)
+    assert found is not None, f"{path} has no version"
+    return found[1]
+
+
+def number_of(version: str) -> int:
+    """A version as the header writes it."""
+    major, minor, patch = (int(part) for part in version.split("."))
+    return 10_000 * major + 100 * minor + patch
+
+
+def pkg_config_environment(installed: Installed) -> Changes:
+    """What has pkg-config find the library here, and programs the shared one."""
+    return {
+        "PKG_CONFIG_SYSROOT_DIR": str(installed.root),
+        "PKG_CONFIG_LIBDIR": str(installed.libraries / "pkgconfig"),
+        "PKG_CONFIG_ALLOW_SYSTEM_CFLAGS": "1",
+        "PKG_CONFIG_ALLOW_SYSTEM_LIBS": "1",
+        "CC": COMPILER,
+        "LD_LIBRARY_PATH": str(installed.libraries),
+    }
+
+
+# ---- Symbols
+
+
+@pytest.mark.needs("objdump")
+def test_the_shared_library_has_each_declared_call_in_its_version(installed: Installed) -> None:
+    result = run("objdump", "-T", installed.libraries / "libmkpasswd.so").required()
+    symbols = SYMBOL.findall(result.stdout.decode())
+    found = {name: version for flags, version, name in symbols if "*UND*" not in flags}
+    expected = {name: LATER_VERSIONS.get(name, FIRST_VERSION) for name in installed.declared()}
+    assert found == expected, str(result)
+
+
+@pytest.mark.needs("objdump")
+def test_the_static_library_has_the_declared_calls_alone(installed: Installed) -> None:
+    result = run("nm", "-g", "--defined-only", installed.libraries / "libmkpasswd.a").required()
+    found = re.findall(r"^\S+ \w (\S+)$", result.stdout.decode(), re.MULTILINE)
+    assert sorted(found) == installed.declared(), str(result)
+
+
+@pytest.mark.needs("objdump")
+def test_the_shared_library_has_its_name_and_needs_the_c_library_alone(
+    installed: Installed,
+) -> None:
+    result = run("objdump", "-p", installed.libraries / "libmkpasswd.so").required()
+    found = re.findall(r"(SONAME|NEEDED) +(\S+)", result.stdout.decode())
+    assert sorted(found) == [("NEEDED", "libc.so.6"), ("SONAME", "libmkpasswd.so.2")]
+
+
+# ---- Processors
+
+
+@pytest.mark.needs("readelf")
+@pytest.mark.parametrize("name", ["libmkpasswd.so.2", "libmkpasswd.a"])
+def test_a_library_says_what_processor_it_needs(installed: Installed, name: str) -> None:
+    result = run("readelf", "-n", installed.libraries / name).required()
+    assert re.search(r"x86 ISA needed: .*x86-64-v2", result.stdout.decode()), str(result)
+
+
+@pytest.mark.needs("qemu-x86_64-static")
+def test_a_lesser_processor_is_refused(installed: Installed) -> None:
+    program = installed.root / "usr/bin/mkpasswd"
+    result = run("qemu-x86_64-static", "-cpu", "core2duo", program, "-V")
+    assert result.status == 127, str(result)
+    assert result.stderr.endswith(b": CPU ISA level is lower than required\n"), str(result)
+
+
+# ---- Versions
+
+
+def test_the_header_has_the_version_of_pkg_config(installed: Installed) -> None:
+    assert installed.defined("VERSION") == number_of(version_of(installed))
+
+
+def test_the_library_has_the_version_of_pkg_config(installed: Installed, driver: Driver) -> None:
+    assert driver.answers([Version()])[0].result == number_of(version_of(installed))
+
+
+def test_the_program_has_the_version_of_pkg_config(installed: Installed) -> None:
+    expected = f"mkpasswd {version_of(installed)}\n".encode()
+    assert_result(run(installed.root / "usr/bin/mkpasswd", "-V"), stdout=expected)
+
+
+# ---- pkg-config
+
+
+@pytest.mark.needs("pkg-config")
+def test_pkg_config_prints_the_words_for_a_compiler(installed: Installed) -> None:
+    environment = pkg_config_environment(installed)
+    result = run("pkg-config", "--cflags", "--libs", "mkpasswd", env=environment).required()
+    expected = f"-I{installed.include} -L{installed.libraries} -lmkpasswd"
+    assert result.stdout.decode().strip() == expected, str(result)
+
+
+@pytest.mark.needs("pkg-config")
+def test_the_installed_example_builds_by_pkg_config(installed: Installed, tmp_path: Path) -> None:
+    (tmp_path / "examples").symlink_to(installed.root / "usr/share/doc/mkpasswd/examples")
+    environment = pkg_config_environment(installed)
+    result = run("bash", "-euc", LOGIN_BY_PKG_CONFIG, env=environment, cwd=tmp_path)
+    assert_result(result, stdout=b"$6$rounds=656000\n")

@@ -1,0 +1,145 @@
+"""The limit of a policy, which a budget of 0 stands for, and the rounds that rounds of 0 stand for.
+
+docs/FORMATS.md has a table of limits and of the longest passwords that they allow.
+"""
+from __future__ import annotations
+
+import re
+
+import pytest
+from support import ROOT
+from support.driver import Driver
+from support.library import Installed
+from support.model.calls import METHODS, Call, Login, MakeSetting, New, Reason, System
+from support.model.work import cost, login_limit
+from support.model.settings import recommended_setting
+from support.model.methods import SHA512CRYPT
+from support.stored_fields import LONGEST_PASSWORD, MD5CRYPT, SCRYPT_OF_PASSWORD
+
+RANDOM_BYTES = System(random_bytes=bytes(range(1, 25)))
+FIELDS = {
+    "no hash": b"",
+    "a locked field": b"!",
+    "md5crypt": MD5CRYPT,
+    "a dead hash": MD5CRYPT + b".",
+    "scrypt": SCRYPT_OF_PASSWORD.text,
+    "another scheme": b"$y$x",
+    "a hash above the limit": b"$6$rounds=999999999$ab$x",
+    "a hash by the policy": b"$6$rounds=656000$ab$" + b"." * 86,
+}
+
+
+def documented_limits() -> dict[str, tuple[int, int]]:
+    """The limit and the longest password of each method in docs/FORMATS.md."""
+    text = (ROOT / "docs/FORMATS.md").read_text(encoding="utf-8")
+    rows = re.findall(r"^\| (\w+) \| (\d+) \| ([\d,]+) bytes \|$", text, re.MULTILINE)
+    return {name: (int(limit), int(longest.replace(",", ""))) for name, limit, longest in rows}
+
+
+LONGEST = {
+    number: documented_limits().get(method.name, (0, 0))[1] for number, method in METHODS.items()
+}
+TOO_LONG = [
+    (number, length) for number in METHODS for length in (169, 1024) if length > LONGEST[number]
+]
+METHOD_NUMBERS = pytest.mark.parametrize(
+    "number", [pytest.param(number, id=method.name) for number, method in METHODS.items()]
+)
+
+
+def test_each_method_and_no_other_is_documented() -> None:
+    assert sorted(documented_limits()) == sorted(method.name for method in METHODS.values())
+
+
+@METHOD_NUMBERS
+def test_the_documented_limit_allows_the_documented_password(number: int) -> None:
+    method = METHODS[number]
+    limit, longest = documented_limits()[method.name]
+    assert login_limit(method, 0, 8) == limit
+    assert login_limit(method, 0, longest) == limit
+    assert login_limit(method, 0, longest + 1) == 0
+
+
+@METHOD_NUMBERS
+@pytest.mark.parametrize(
+    "length",
+    [
+        pytest.param(8, id="8 bytes"),
+        pytest.param(64, id="64 bytes"),
+        pytest.param(None, id="the longest that is documented"),
+    ],
+)
+def test_a_password_up_to_the_limit_is_set_and_gets_in(
+    driver: Driver, number: int, length: int | None
+) -> None:
+    password = b"a" * (length or LONGEST[number])
+    new = New(password, number)
+    made = new.expected(RANDOM_BYTES).out.strip('"').encode()
+    calls: list[Call] = [new, Login(password, made, number, budget=0)]
+    answers = driver.assert_by_the_rules(calls, RANDOM_BYTES, threads=2)
+    assert [answer.reason for answer in answers] == [Reason.DONE, Reason.FITS]
+
+
+@METHOD_NUMBERS
+def test_an_unknown_name_takes_the_work_of_a_new_hash(driver: Driver, number: int) -> None:
+    driver.assert_by_the_rules([Login(b"a" * 64, b"", number, budget=0)])
+
+
+@pytest.mark.parametrize(
+    ("number", "length"),
+    TOO_LONG,
+    ids=[f"{length} bytes for {METHODS[number].name}" for number, length in TOO_LONG],
+)
+def test_a_longer_password_is_refused_without_work_whatever_is_stored(
+    driver: Driver, number: int, length: int
+) -> None:
+    password = b"a" * length
+    calls: list[Call] = [New(password, number)]
+    calls += [Login(password, field, number, budget=0) for field in FIELDS.values()]
+    for answer in driver.assert_by_the_rules(calls, RANDOM_BYTES):
+        assert answer.result == 0
+        assert (answer.digests, answer.mixes, answer.table, answer.allocations) == (0, 0, 0, 0)
+
+
+@pytest.mark.parametrize(
+    "field", [pytest.param(b"", id="no hash"), pytest.param(MD5CRYPT, id="md5crypt")]
+)
+@pytest.mark.parametrize(
+    "fewer", [pytest.param(0, id="the cost"), pytest.param(1, id="one less than the cost")]
+)
+def test_a_budget_of_its_own_allows_all_1024_bytes(
+    driver: Driver, field: bytes, fewer: int
+) -> None:
+    budget = 1_297_572_512 - fewer
+    driver.assert_by_the_rules([Login(LONGEST_PASSWORD, field, 6, 0, budget)], threads=2)
+
+
+def test_1297572512_is_what_the_longest_password_can_cost() -> None:
+    assert cost(recommended_setting(SHA512CRYPT, 0, b"a" * 16), 1024) == 1_297_572_512
+
+
+@pytest.mark.parametrize(
+    ("path", "pattern"),
+    [
+        pytest.param("c/mkpasswd.h", r"^#define MKPASSWD_ROUNDS (\d+)$", id="C"),
+        pytest.param(
+            "python/src/mkpasswd/*.py",
+            r"\b(?:RECOMMENDED_ROUNDS|rounds: Optional\[int\]) = (\d[\d_]*)",
+            id="Python",
+        ),
+        pytest.param("web/calls.js", r"\[ROUNDS, \w+\] = \[(\d+)", id="JavaScript"),
+    ],
+)
+def test_the_recommended_rounds_are_those_of_the_library(
+    driver: Driver, path: str, pattern: str
+) -> None:
+    made = driver.answers([MakeSetting(6, 0, 1, 2, 3)])[0].out
+    files = [file.read_text(encoding="utf-8") for file in ROOT.glob(path)]
+    found = [rounds for text in files for rounds in re.findall(pattern, text, re.MULTILINE)]
+    assert found, f"{path} says no rounds"
+    expected = [f'"$6$rounds={rounds.replace("_", "")}$' for rounds in found]
+    assert [made[: len(start)] for start in expected] == expected
+
+
+def test_the_installed_header_has_these_rounds(installed: Installed) -> None:
+    assert installed.defined("ROUNDS") == SHA512CRYPT.recommended

@@ -1,0 +1,195 @@
+"""mkpasswd_login: who gets in, whose hash is outdated, and that each login does the same work."""
+from __future__ import annotations
+
+import pytest
+from support.driver import Driver
+from support.model.calls import GREATEST, Login, Reason, System, with_strings
+from support.model.hashes import hash_of
+from support.model.methods import MD5CRYPT, SCRYPT, SHA256CRYPT, SHA512CRYPT, Method
+from support.model.settings import read_setting, recommended_setting
+from support.model.work import cost
+from support.policies import INVALID_POLICIES, INVALID_ROUNDS, InvalidPolicy, Policy
+from support.stored_fields import (
+    EMPTY,
+    KNOWN_FOR_LOGINS,
+    LONGEST_PASSWORD,
+    NEVER_OPEN,
+    OF_PASSWORD,
+    SCRYPT_OF_PASSWORD,
+    Field,
+    KnownHash,
+)
+
+CHEAP_POLICIES = (
+    Policy("sha256crypt of 1000 rounds", 5, 1000),
+    Policy("sha512crypt of 5000 rounds", 6, 5000),
+    Policy("sha512crypt of 10000 rounds", 6, 10_000),
+)
+POLICIES = (Policy("md5crypt", 1, 0), *CHEAP_POLICIES, Policy("scrypt of the least cost", 7, 6))
+INVALID = (*INVALID_ROUNDS, *INVALID_POLICIES)
+INVALID_PASSWORDS = pytest.mark.parametrize(
+    ("password", "field", "reason"),
+    [
+        pytest.param(
+            LONGEST_PASSWORD + b"a", OF_PASSWORD.text, Reason.PASSWORD_TOO_LONG, id="1025 bytes"
+        ),
+        pytest.param(b"a\0", b"", Reason.PASSWORD_ZERO_BYTE, id="a zero byte for no hash"),
+        pytest.param(b"\0", b"!", Reason.PASSWORD_ZERO_BYTE, id="a zero byte for a locked field"),
+    ],
+)
+# The hashes that are not outdated by these policies; all others are.
+CURRENT = {
+    (OF_PASSWORD.title, "md5crypt"),
+    ("Drepper's sha256crypt", "sha256crypt of 1000 rounds"),
+    ("Drepper's sha512crypt with 10000 rounds", "sha512crypt of 5000 rounds"),
+    ("Drepper's sha512crypt with 10000 rounds", "sha512crypt of 10000 rounds"),
+}
+COST_OF_MD5CRYPT = cost(read_setting(OF_PASSWORD.text), 8)
+COST_OF_SHA512CRYPT = cost(recommended_setting(SHA512CRYPT, 5000), 8)
+
+
+@pytest.mark.parametrize("policy", POLICIES[:-1], ids=str)
+@pytest.mark.parametrize("known", KNOWN_FOR_LOGINS, ids=str)
+def test_the_right_password_gets_in(driver: Driver, known: KnownHash, policy: Policy) -> None:
+    reason = Reason.FITS if (known.title, policy.title) in CURRENT else Reason.OUTDATED
+    for call in with_strings(Login(known.password, known.text, policy.method, policy.rounds)):
+        driver.assert_answer(call, result=1, reason=reason)
+
+
+@pytest.mark.parametrize("known", KNOWN_FOR_LOGINS, ids=str)
+def test_the_right_password_gets_in_where_new_hashes_are_of_scrypt(
+    driver: Driver, known: KnownHash
+) -> None:
+    driver.assert_by_the_rules(with_strings(Login(known.password, known.text, 7, 6)))
+
+
+@pytest.mark.parametrize("policy", CHEAP_POLICIES, ids=str)
+@pytest.mark.parametrize("field", NEVER_OPEN, ids=str)
+def test_a_field_that_is_no_hash_of_the_password_is_refused(
+    driver: Driver, field: Field, policy: Policy
+) -> None:
+    reason = Reason.DEAD if field.reason is Reason.DIFFERS else field.reason
+    calls = with_strings(Login(b"password", field.text, policy.method, policy.rounds))
+    for call in calls:
+        driver.assert_answer(call, result=0, reason=reason)
+
+
+@pytest.mark.parametrize("policy", POLICIES, ids=str)
+def test_a_wrong_password_is_refused(driver: Driver, policy: Policy) -> None:
+    calls = [
+        Login(password, known.text, policy.method, policy.rounds)
+        for known in KNOWN_FOR_LOGINS
+        for password in (b"", b"Password")
+        if password != known.password
+    ]
+    for answer in driver.assert_by_the_rules(with_strings(*calls)):
+        assert (answer.result, answer.reason) == (0, Reason.DIFFERS)
+
+
+@INVALID_PASSWORDS
+@pytest.mark.parametrize("policy", POLICIES, ids=str)
+def test_an_invalid_password_is_refused_without_work(
+    driver: Driver, password: bytes, field: bytes, reason: Reason, policy: Policy
+) -> None:
+    for call in with_strings(Login(password, field, policy.method, policy.rounds)):
+        driver.assert_answer(call, result=0, reason=reason, cost=0, digests=0)
+
+
+@pytest.mark.parametrize("policy", INVALID, ids=str)
+def test_an_invalid_policy_is_refused_without_work(driver: Driver, policy: InvalidPolicy) -> None:
+    for known in KNOWN_FOR_LOGINS:
+        for call in with_strings(Login(known.password, known.text, policy.method, policy.rounds)):
+            driver.assert_answer(call, result=0, reason=policy.reason, cost=0, digests=0)
+
+
+@INVALID_PASSWORDS
+@pytest.mark.parametrize("policy", INVALID, ids=str)
+def test_an_invalid_password_is_reported_before_an_invalid_policy(
+    driver: Driver, password: bytes, field: bytes, reason: Reason, policy: InvalidPolicy
+) -> None:
+    for call in with_strings(Login(password, field, policy.method, policy.rounds)):
+        driver.assert_answer(call, result=0, reason=reason)
+
+
+@pytest.mark.parametrize(
+    "field",
+    [
+        pytest.param(OF_PASSWORD.text, id="md5crypt of the password"),
+        pytest.param(b"", id="no hash"),
+        pytest.param(b"!", id="a locked field"),
+        pytest.param(SCRYPT_OF_PASSWORD.text, id="scrypt of the password"),
+    ],
+)
+@pytest.mark.parametrize(
+    "budget",
+    [
+        pytest.param(0, id="0, which stands for the limit of the policy"),
+        pytest.param(COST_OF_MD5CRYPT - 1, id="one less than md5crypt costs"),
+        pytest.param(COST_OF_MD5CRYPT, id="what md5crypt costs"),
+        pytest.param(COST_OF_SHA512CRYPT - 1, id="one less than a new hash costs"),
+        pytest.param(COST_OF_SHA512CRYPT, id="what a new hash costs"),
+        pytest.param(GREATEST, id="the greatest number"),
+    ],
+)
+def test_a_budget_limits_what_is_hashed(driver: Driver, field: bytes, budget: int) -> None:
+    """Also the hash that is dropped where there is none to compare with."""
+    driver.assert_by_the_rules(with_strings(Login(b"password", field, 6, 5000, budget)))
+
+
+def test_a_null_field_is_an_empty_one(driver: Driver) -> None:
+    call = Login(b"password", None, 6, 0, is_str=True)
+    driver.assert_answer(call, result=0, reason=Reason.NO_HASH, digests=656_004)
+
+
+def test_calls_in_eight_threads_answer_as_in_one(driver: Driver) -> None:
+    calls = [
+        Login(b"password", field.text, policy.method, policy.rounds)
+        for field in NEVER_OPEN
+        for policy in CHEAP_POLICIES[:2]
+    ]
+    driver.assert_by_the_rules(with_strings(*calls), threads=8)
+
+
+@pytest.mark.parametrize("allocation", [1, 2, 3, 4])
+def test_an_allocation_that_fails_lets_nobody_in(driver: Driver, allocation: int) -> None:
+    fields = (OF_PASSWORD.text, b"", b"!", SCRYPT_OF_PASSWORD.text)
+    calls = with_strings(*(Login(b"password", field, 7, 6) for field in fields))
+    driver.assert_by_the_rules(calls, System(refused_allocation=allocation))
+
+
+@pytest.mark.parametrize(
+    ("method", "number", "rounds"),
+    [
+        pytest.param(MD5CRYPT, 1, 0, id="md5crypt"),
+        pytest.param(SHA256CRYPT, 5, 2000, id="sha256crypt of 2000 rounds"),
+        pytest.param(SHA512CRYPT, 6, 0, id="sha512crypt as recommended"),
+        pytest.param(SCRYPT, 7, 6, id="scrypt of the least cost"),
+    ],
+)
+def test_each_kind_of_field_takes_the_same_work(
+    driver: Driver, method: Method, number: int, rounds: int
+) -> None:
+    """The stored hashes have a salt like the one of the hash that is dropped."""
+    setting = recommended_setting(method, rounds)
+    right, wrong = hash_of(setting, b"password"), hash_of(setting, b"Password")
+    assert right is not None and wrong is not None
+    fields = {
+        "the right hash": right,
+        "a wrong hash": wrong,
+        "a dead hash": right + b".",
+        "a null pointer": None,
+        EMPTY.title: EMPTY.text,
+        "a locked field": b"!" + OF_PASSWORD.text,
+        "another scheme": b"$y$j9T$salt$hash",
+        "a hash above the budget": b"$6$rounds=999999999$ab$x",
+    }
+    calls = [
+        Login(b"password", field, number, rounds, budget=0, is_str=True)
+        for field in fields.values()
+    ]
+    works = [
+        (answer.digests, answer.bytes, answer.mixes, answer.table, answer.scratch)
+        for answer in driver.answers(calls, threads=8)
+    ]
+    assert works[0][0] > 0
+    assert dict(zip(fields, works)) == dict.fromkeys(fields, works[0])

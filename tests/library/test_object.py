@@ -1,0 +1,92 @@
+"""The object of the library: what no clause can say of it.
+
+Each function that hashes has to call the proved function of its name, and nothing between, and a
+comparison of hashes may not depend on where they differ.
+"""
+from __future__ import annotations
+
+import re
+from pathlib import Path
+
+import pytest
+from support import ROOT
+from support.needs import not_applicable
+from support.process import run
+
+USUAL_LEVEL = "x86-64-v2"
+LEVELS = ("x86-64", USUAL_LEVEL, "x86-64-v3")
+CALLED = {
+    "hash_anew": ["getentropy", "mkpasswd_proved_new_from", "mkpasswd_proved_new_from"],
+    "mkpasswd_new": ["hash_anew", "wiped"],
+    "mkpasswd_verify": ["mkpasswd_proved_verify", "wiped"],
+    "mkpasswd_login": ["mkpasswd_proved_login", "wiped"],
+    "mkpasswd_hash": ["mkpasswd_proved_hash", "wiped"],
+}
+# A call of another object, or of a static function of this one.
+CALL = re.compile(r"PLT32\s+(\w+)|\t(?:call|jmp) .*<(wiped|hash_anew)>$", re.MULTILINE)
+FUNCTION = re.compile(r"^\w+ <(\S+)>:\n(.*?)\n(?=\n|\Z)", re.MULTILINE | re.DOTALL)
+COMPARISON = re.compile(r"call_core::verify::compare\b")
+JUMP_ON_A_TEST = re.compile(r"\t((?:test|cmp)\w* [^\n]*)\n[^\n]*\tj")
+# A test of a whole register, or by a number above 0, is one of a length.
+OF_A_LENGTH = re.compile(r"[ ,]%r(?:[a-d]x|[sd]i|[sb]p|\d+)\b| \$0x[1-9a-f]\w*,")
+COMPARES_WORDS = re.compile(r"memcmp|bcmp|repz|pmovmsk|ptest")
+
+pytestmark = pytest.mark.needs("objdump")
+
+
+@pytest.fixture(scope="module", params=LEVELS, name="folder")
+def fixture_folder(request: pytest.FixtureRequest) -> Path:
+    """The folder of what is built for a level of x86-64."""
+    folder = ROOT / "build" / str(request.param)
+    if not (folder / "mkpasswd.o").exists():
+        not_applicable(f"build/{request.param} has no library")
+    return folder
+
+
+@pytest.fixture(scope="module", name="functions")
+def fixture_functions(folder: Path) -> dict[str, str]:
+    """The instructions of each function."""
+    result = run("objdump", "-dr", "--no-show-raw-insn", folder / "mkpasswd.o").required()
+    return dict(FUNCTION.findall(result.stdout.decode()))
+
+
+@pytest.fixture(scope="module", name="comparison")
+def fixture_comparison(functions: dict[str, str]) -> str:
+    """The instructions of the function that compares hashes."""
+    found = [body for name, body in functions.items() if COMPARISON.match(name)]
+    assert len(found) == 1, "one function compares hashes"
+    return found[0]
+
+
+def sections_of(file: Path) -> str:
+    """The bytes of an object's sections, without the name of its file."""
+    text = run("objdump", "-s", file).required().stdout.decode()
+    return re.sub(r"^.*file format.*\n", "", text, flags=re.MULTILINE)
+
+
+def test_the_usual_library_is_built() -> None:
+    level = (ROOT / "build/cpu").read_text(encoding="ascii").strip() or USUAL_LEVEL
+    assert (ROOT / "build" / level / "mkpasswd.o").exists()
+
+
+def test_only_names_were_changed_in_the_proved_object(folder: Path, tmp_path: Path) -> None:
+    run("ar", "x", folder / "libcrypt_c.a", "crypt_c.o", cwd=tmp_path).required()
+    proved = sections_of(tmp_path / "crypt_c.o")
+    assert proved != ""
+    assert sections_of(folder / "crypt_c.o") == proved
+
+
+@pytest.mark.parametrize("name", CALLED)
+def test_a_function_calls_its_proved_one_and_wipes(functions: dict[str, str], name: str) -> None:
+    calls = [first or second for first, second in CALL.findall(functions[name])]
+    assert sorted(calls) == CALLED[name], f"the instructions of {name}:\n{functions[name]}"
+
+
+def test_a_comparison_jumps_by_lengths_and_by_its_result_alone(comparison: str) -> None:
+    """By whether there is a hash, and at the end by whether a byte differs."""
+    tests = [test for test in JUMP_ON_A_TEST.findall(comparison) if not OF_A_LENGTH.search(test)]
+    assert len(tests) == 2, "\n".join([*tests, comparison])
+
+
+def test_a_comparison_compares_no_words(comparison: str) -> None:
+    assert COMPARES_WORDS.findall(comparison) == []

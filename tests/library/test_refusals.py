@@ -1,0 +1,168 @@
+"""Refusals: which is reported where several apply, and what `out` has then.
+
+The calls here are mkpasswd_hash, mkpasswd_bound and mkpasswd_needs_rehash. mkpasswd_new is in
+test_new.py.
+"""
+from __future__ import annotations
+
+from dataclasses import dataclass
+
+import pytest
+from support.driver import Driver
+from support.model.calls import (
+    GREATEST,
+    TEXT_SIZE,
+    Bound,
+    Hash,
+    NeedsRehash,
+    Reason,
+    length_of_hash,
+    with_strings,
+)
+from support.model.settings import Refused, read_setting
+from support.model.work import cost
+from support.policies import INVALID_POLICIES, POLICIES, InvalidPolicy, Policy
+from support.stored_fields import (
+    MD5CRYPT,
+    SCRYPT_OF_PASSWORD,
+    SCRYPT_WITH_LONGEST_SALT,
+    WITHOUT_SETTING,
+)
+
+PASSWORDS = (b"password", b"a" * 1025, b"pass\0word", b"\0" + b"a" * 1024)
+
+
+@dataclass(frozen=True)
+class Text:
+    """A setting, or what is none."""
+
+    title: str
+    text: bytes
+
+    def __str__(self) -> str:
+        return self.title
+
+    @property
+    def length_of_hash(self) -> int:
+        """The characters of its hash, or of what stands for one."""
+        try:
+            return length_of_hash(read_setting(self.text))
+        except Refused:
+            return 3
+
+    @property
+    def cost(self) -> int:
+        """What a hash of "password" can cost, or a small number."""
+        try:
+            return cost(read_setting(self.text), 8)
+        except Refused:
+            return 9
+
+
+TEXTS = (
+    Text("md5crypt", MD5CRYPT),
+    Text("scrypt", SCRYPT_OF_PASSWORD.text),
+    Text("scrypt with the longest salt", SCRYPT_WITH_LONGEST_SALT),
+    *(Text(field.title, field.text) for field in WITHOUT_SETTING),
+)
+
+
+@pytest.mark.parametrize("text", TEXTS, ids=str)
+def test_the_first_of_several_refusals_of_a_hash_is_reported(driver: Driver, text: Text) -> None:
+    """Each password with each room for `out` and each budget."""
+    rooms = (0, 1, 2, 3, text.length_of_hash, text.length_of_hash + 1, TEXT_SIZE)
+    budgets = (0, text.cost - 1, text.cost, GREATEST)
+    calls = [
+        Hash(password, text.text, budget, room)
+        for password in PASSWORDS
+        for room in rooms
+        for budget in budgets
+    ]
+    driver.assert_by_the_rules(calls)
+
+
+@pytest.mark.parametrize("text", TEXTS, ids=str)
+def test_the_first_of_several_refusals_of_strings_is_reported(driver: Driver, text: Text) -> None:
+    rooms = (0, 1, 2, 3, text.length_of_hash, text.length_of_hash + 1, TEXT_SIZE)
+    calls = [
+        call
+        for password in PASSWORDS
+        for room in rooms
+        for call in with_strings(Hash(password, text.text, text.cost, room))
+    ]
+    driver.assert_by_the_rules(calls)
+
+
+@pytest.mark.parametrize(
+    ("call", "reason", "out"),
+    [
+        pytest.param(
+            Hash(b"a", b"$1$a", budget=0), Reason.OVER_BUDGET, '"*0"', id="a hash of $1$a"
+        ),
+        pytest.param(Hash(b"a", b"*0"), Reason.BAD_CHARACTER, '"*1"', id="a hash of *0"),
+        pytest.param(Hash(b"a", b"*1"), Reason.BAD_CHARACTER, '"*0"', id="a hash of *1"),
+        pytest.param(Hash(b"a", b"*0", out_len=2), Reason.BAD_CHARACTER, '"*"', id="two bytes"),
+        pytest.param(Hash(b"a", b"*0", out_len=1), Reason.BAD_CHARACTER, '""', id="one byte"),
+        pytest.param(Hash(b"a", b"*0", out_len=0), Reason.BAD_CHARACTER, "unchanged", id="none"),
+    ],
+)
+def test_after_a_refusal_out_has_what_no_password_matches(
+    driver: Driver, call: Hash, reason: Reason, out: str
+) -> None:
+    driver.assert_answer(call, result=0, reason=reason, length=0, out=out)
+
+
+@pytest.mark.parametrize(
+    ("call", "reason"),
+    [
+        pytest.param(Hash(None, MD5CRYPT), Reason.PASSWORD_ZERO_BYTE, id="password"),
+        pytest.param(Hash(b"a", None), Reason.UNKNOWN_SCHEME, id="setting"),
+        pytest.param(Hash(None, None), Reason.PASSWORD_ZERO_BYTE, id="password and setting"),
+        pytest.param(Hash(b"a", b"$1$a", out_len=None), Reason.TOO_FEW_BYTES, id="out"),
+        pytest.param(Hash(b"a", b"*0", out_len=None), Reason.BAD_CHARACTER, id="out, for *0"),
+        pytest.param(Bound(None), Reason.UNKNOWN_SCHEME, id="stored hash, for its bound"),
+        pytest.param(NeedsRehash(None), Reason.UNKNOWN_SCHEME, id="stored hash, for its age"),
+    ],
+)
+def test_a_null_pointer_for_a_string_is_refused(
+    driver: Driver, call: Hash | Bound | NeedsRehash, reason: Reason
+) -> None:
+    as_string = with_strings(call)[1]
+    driver.assert_answer(as_string, result=0, reason=reason)
+
+
+@pytest.mark.parametrize("text", TEXTS, ids=str)
+def test_a_bound_has_its_first_refusal(driver: Driver, text: Text) -> None:
+    calls = [Bound(text.text, length) for length in (0, 1024, 1025, GREATEST)]
+    driver.assert_by_the_rules([*calls, *with_strings(Bound(text.text, 8))])
+
+
+@pytest.mark.parametrize("text", TEXTS, ids=str)
+def test_the_age_of_a_hash_has_its_first_refusal(driver: Driver, text: Text) -> None:
+    policies: list[Policy] = [*POLICIES, *INVALID_POLICIES]
+    calls = [NeedsRehash(text.text, policy.method, policy.rounds) for policy in policies]
+    driver.assert_by_the_rules([*calls, *with_strings(NeedsRehash(text.text, 6, 0))])
+
+
+@pytest.mark.parametrize("policy", INVALID_POLICIES, ids=str)
+def test_the_age_of_a_hash_is_not_told_by_an_invalid_policy(
+    driver: Driver, policy: InvalidPolicy
+) -> None:
+    call = NeedsRehash(MD5CRYPT, policy.method, policy.rounds)
+    driver.assert_answer(call, result=0, reason=policy.reason)
+
+
+@pytest.mark.parametrize(
+    "setting",
+    [
+        pytest.param(b"$5$ab", id="sha256crypt without rounds"),
+        pytest.param(b"$5$rounds=5000$ab", id="sha256crypt of 5000 rounds"),
+        pytest.param(b"$6$rounds=5000$ab", id="sha512crypt of 5000 rounds"),
+        pytest.param(b"$7$86....U....ab", id="scrypt with a large p"),
+    ],
+)
+@pytest.mark.parametrize("policy", POLICIES, ids=str)
+def test_a_setting_is_outdated_by_a_stronger_policy(
+    driver: Driver, setting: bytes, policy: Policy
+) -> None:
+    driver.assert_by_the_rules([NeedsRehash(setting, policy.method, policy.rounds)])

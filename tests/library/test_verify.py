@@ -1,0 +1,83 @@
+"""mkpasswd_verify: who gets in, also where a caller looks at nothing but the result."""
+from __future__ import annotations
+
+import pytest
+from support.careless_logins import COST, WRONG_PASSWORDS, WrongPassword, careless_logins
+from support.driver import Driver
+from support.model.calls import BUDGET, GREATEST, Reason, System, Verify, with_strings
+from support.model.hashes import hash_of
+from support.model.settings import read_setting
+from support.stored_fields import (
+    KNOWN_HASHES,
+    NEVER_OPEN,
+    OF_PASSWORD,
+    Field,
+    KnownHash,
+)
+
+
+@pytest.mark.parametrize("known", KNOWN_HASHES, ids=str)
+def test_the_model_makes_published_hashes(known: KnownHash) -> None:
+    assert hash_of(read_setting(known.text), known.password) == known.text
+
+
+@pytest.mark.parametrize("known", KNOWN_HASHES, ids=str)
+def test_the_right_password_fits(driver: Driver, known: KnownHash) -> None:
+    for call in with_strings(Verify(known.password, known.text)):
+        driver.assert_answer(call, result=1, reason=Reason.FITS)
+
+
+@pytest.mark.parametrize("wrong", WRONG_PASSWORDS, ids=str)
+def test_a_wrong_password_is_refused(driver: Driver, wrong: WrongPassword) -> None:
+    for call in with_strings(Verify(wrong.password, OF_PASSWORD.text)):
+        driver.assert_answer(call, result=0, reason=wrong.reason)
+
+
+@pytest.mark.parametrize("field", NEVER_OPEN, ids=str)
+def test_a_field_that_is_no_hash_of_the_password_is_refused(driver: Driver, field: Field) -> None:
+    for call in with_strings(Verify(b"password", field.text)):
+        driver.assert_answer(call, result=0, reason=field.reason)
+
+
+@pytest.mark.parametrize(
+    ("budget", "result", "reason"),
+    [
+        pytest.param(0, 0, Reason.OVER_BUDGET, id="0"),
+        pytest.param(COST - 1, 0, Reason.OVER_BUDGET, id="one less than the cost"),
+        pytest.param(COST, 1, Reason.FITS, id="the cost"),
+        pytest.param(BUDGET, 1, Reason.FITS, id="the header's budget"),
+        pytest.param(GREATEST, 1, Reason.FITS, id="the greatest number"),
+    ],
+)
+def test_the_right_password_fits_within_the_budget(
+    driver: Driver, budget: int, result: int, reason: Reason
+) -> None:
+    for call in with_strings(Verify(b"password", OF_PASSWORD.text, budget)):
+        driver.assert_answer(call, result=result, reason=reason)
+
+
+@pytest.mark.parametrize(
+    ("call", "reason"),
+    [
+        pytest.param(
+            Verify(None, OF_PASSWORD.text, is_str=True), Reason.PASSWORD_ZERO_BYTE, id="password"
+        ),
+        pytest.param(Verify(b"a", None, is_str=True), Reason.NO_HASH, id="stored hash"),
+        pytest.param(
+            Verify(None, None, GREATEST, is_str=True),
+            Reason.PASSWORD_ZERO_BYTE,
+            id="password and stored hash",
+        ),
+    ],
+)
+def test_a_null_string_is_refused(driver: Driver, call: Verify, reason: Reason) -> None:
+    driver.assert_answer(call, result=0, reason=reason)
+
+
+def test_calls_in_eight_threads_answer_as_in_one(driver: Driver) -> None:
+    driver.assert_by_the_rules(careless_logins(), threads=8)
+
+
+@pytest.mark.parametrize("allocation", [1, 2, 3, 4])
+def test_an_allocation_that_fails_lets_nobody_in(driver: Driver, allocation: int) -> None:
+    driver.assert_by_the_rules(careless_logins(), System(refused_allocation=allocation))

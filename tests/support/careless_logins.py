@@ -1,0 +1,85 @@
+"""Calls as a service makes them that looks at nothing but the result."""
+from __future__ import annotations
+
+from dataclasses import dataclass
+
+from .model.calls import (
+    GREATEST,
+    Audit,
+    Bound,
+    Call,
+    Hash,
+    Login,
+    MakeSetting,
+    New,
+    Reason,
+    Verify,
+    with_strings,
+)
+from .model.settings import read_setting
+from .model.work import cost
+from .stored_fields import (
+    LONGEST_PASSWORD,
+    MD5CRYPT,
+    NEVER_OPEN,
+    SCRYPT_OF_NOTHING,
+    SCRYPT_OF_PASSWORD,
+)
+
+COST = cost(read_setting(MD5CRYPT), len(b"password"))
+CHEAP_SCRYPT = b"$7$2/..../....ab"
+
+
+@dataclass(frozen=True)
+class WrongPassword:
+    """What is not "password", and the reason with which it is refused."""
+
+    title: str
+    password: bytes
+    reason: Reason = Reason.DIFFERS
+
+    def __str__(self) -> str:
+        return self.title
+
+
+WRONG_PASSWORDS = (
+    WrongPassword("the empty password", b""),
+    WrongPassword("another first letter", b"Password"),
+    WrongPassword("a space behind it", b"password "),
+    WrongPassword("1024 bytes", LONGEST_PASSWORD),
+    WrongPassword("a zero byte behind it", b"password\0", Reason.PASSWORD_ZERO_BYTE),
+    WrongPassword("1025 bytes", LONGEST_PASSWORD + b"a", Reason.PASSWORD_TOO_LONG),
+)
+
+
+def careless_logins() -> list[Verify]:
+    """Every field with the password, then every password and budget with one hash."""
+    fields = [*(field.text for field in NEVER_OPEN), MD5CRYPT, SCRYPT_OF_PASSWORD.text]
+    calls = [Verify(b"password", field) for field in fields]
+    calls += [Verify(b"password", MD5CRYPT, budget) for budget in (0, COST - 1, COST, GREATEST)]
+    calls += [Verify(wrong.password, MD5CRYPT) for wrong in WRONG_PASSWORDS]
+    return with_strings(*calls)
+
+
+def calls_of_each_kind() -> list[Call]:
+    """Some of the calls above, and each other one: what a build of a caller has to do."""
+    calls: list[Call] = [
+        call for call in careless_logins() if call.is_str or call.stored == MD5CRYPT
+    ]
+    calls += [
+        Bound(MD5CRYPT, is_str=True),
+        Audit(MD5CRYPT, 1, is_str=True),
+        MakeSetting(6, 0, 1, 2, 3, is_str=True),
+        Hash(b"password", b"!", is_str=True),
+        Verify(b"", SCRYPT_OF_NOTHING.text),
+        Verify(b"x", SCRYPT_OF_NOTHING.text, is_str=True),
+        Hash(b"password", CHEAP_SCRYPT),
+        Hash(b"password", CHEAP_SCRYPT, GREATEST, is_str=True),
+        New(b"password", 1, is_str=True),
+        New(b"password", 7, 6, budget=0),
+        New(b"password", 7, 6),
+    ]
+    fields = (b"", b"!", b"*", b"!" + b"a" * 399, b"$y$x", b"$6$rounds=999999999$ab$x", MD5CRYPT)
+    calls += with_strings(*(Login(b"password", field, 6, 1000) for field in fields))
+    calls.append(Login(b"password", None, 6, 1000, is_str=True))
+    return calls

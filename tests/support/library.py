@@ -1,0 +1,88 @@
+"""The library as it is installed, and programs in C that call it."""
+from __future__ import annotations
+
+import os
+import re
+from dataclasses import dataclass
+from pathlib import Path
+
+from . import ROOT
+from .process import Word, assert_result, run
+
+COMPILER = os.environ.get("CC", "cc")
+WARNINGS = ("-Wall", "-Wextra", "-Werror", "-pedantic", "-pthread")
+SOURCES = ROOT / "tests/c"
+
+
+@dataclass(frozen=True)
+class Installed:
+    """The library's files below the folder where they were installed."""
+
+    root: Path
+
+    @property
+    def include(self) -> Path:
+        """The folder of the header."""
+        return self.root / "usr/include"
+
+    @property
+    def libraries(self) -> Path:
+        """The folder of the libraries."""
+        return self.root / "usr/lib/x86_64-linux-gnu"
+
+    @property
+    def header(self) -> str:
+        """The text of the header."""
+        return (self.include / "mkpasswd.h").read_text(encoding="ascii")
+
+    @property
+    def static(self) -> list[Word]:
+        """A compiler's words for the static library."""
+        return [f"-I{self.include}", self.libraries / "libmkpasswd.a"]
+
+    @property
+    def shared(self) -> list[Word]:
+        """A compiler's words for the shared library, which the program finds here."""
+        folder = self.libraries
+        return [f"-I{self.include}", f"-L{folder}", f"-Wl,-rpath,{folder}", "-lmkpasswd"]
+
+    def defined(self, name: str) -> int:
+        """The number that the header defines a name as."""
+        pattern = rf"^#define MKPASSWD_{name} \(*(?:uint64_t\))?(-?\d+)"
+        found = re.search(pattern, self.header, re.MULTILINE)
+        assert found is not None, f"the header doesn't define MKPASSWD_{name}"
+        return int(found[1])
+
+    def declared(self) -> list[str]:
+        """The names of the calls that the library has."""
+        pattern = r"^MKPASSWD_EXPORT[^;]*?int32_t (mkpasswd_\w+)\("
+        return sorted(re.findall(pattern, self.header, re.MULTILINE))
+
+    def inline(self) -> list[str]:
+        """The names of the calls for strings, which the header has itself."""
+        pattern = r"^(?:MKPASSWD_\w+(?:\(\d, \d\))? )*static inline bool (mkpasswd_\w+_str)\("
+        return sorted(re.findall(pattern, self.header, re.MULTILINE))
+
+
+def install(folder: Path) -> Installed:
+    """Installs what is built below a folder, as tools/install does."""
+    installed = Installed(folder)
+    libraries = "/" + str(installed.libraries.relative_to(folder))
+    environment = {"DESTDIR": str(folder), "PREFIX": "/usr", "LIBDIR": libraries}
+    run(ROOT / "tools/install", env=environment, cwd=ROOT).required()
+    return installed
+
+
+@dataclass(frozen=True)
+class Builder:
+    """Builds programs as C99 with the installed static library, in a folder."""
+
+    installed: Installed
+    folder: Path
+
+    def build(self, source: Path, *words: Word) -> Path:
+        """A program, of which the compiler says nothing."""
+        program = self.folder / source.stem
+        command = (COMPILER, "-std=c99", *WARNINGS, *words, source, *self.installed.static)
+        assert_result(run(*command, "-o", program))
+        return program

@@ -1,0 +1,572 @@
+"""The calls for C: what each returns, reports and leaves in `out`, by the rules in mkpasswd.h.
+
+A call has the arguments of the header by their names. None stands for a null pointer, which only
+the calls for strings take: they count a null password as one with a zero byte, a null string as
+an empty one, and a null `out` as one without room.
+"""
+from __future__ import annotations
+
+import dataclasses
+import enum
+from abc import ABC, abstractmethod
+from dataclasses import dataclass
+from typing import ClassVar, TypeVar
+
+from .audits import audit_policy, is_locked, is_whole, state_of
+from .hashes import hash_of
+from .methods import (
+    ALPHABET,
+    BITS_OF_DIGIT,
+    MD5CRYPT,
+    SCRYPT,
+    SHA256CRYPT,
+    SHA512CRYPT,
+    Method,
+)
+from .settings import LEAST_ROUNDS, MOST_ROUNDS, Refused, Setting, read_setting, recommended_setting
+from .work import HIGHEST_BYTE, LONGEST_PASSWORD, Work, cost, login_limit, work_of, work_of_length
+
+TEXT_SIZE = 145  # bytes, for any hash, setting or message
+BUDGET = 150_000_000  # MKPASSWD_BUDGET
+GREATEST = 2**64 - 1  # number of 64 bits
+DRAWN = 24  # bytes that mkpasswd_new asks the system for
+WORD = 8  # bytes
+DIGITS_OF_WORD = 10  # of a salt, that a word makes
+
+
+class Reason(enum.IntEnum):
+    """Why a call returned what it did: its name and number in the header, and its message."""
+
+    def __new__(cls, number: int, _message: str) -> Reason:
+        member = int.__new__(cls, number)
+        member._value_ = number
+        return member
+
+    def __init__(self, _number: int, message: str) -> None:
+        self.message = message
+
+    DONE = 3, "done"
+    OUTDATED = 2, "outdated"
+    FITS = 1, "fits"
+    PASSWORD_TOO_LONG = -1, "password too long"
+    PASSWORD_ZERO_BYTE = -2, "password has a zero byte"
+    SETTING_TOO_LONG = -3, "setting too long"
+    BAD_CHARACTER = -4, "bad character"
+    UNKNOWN_SCHEME = -5, "unknown scheme"
+    BAD_ROUNDS = -6, "bad rounds"
+    BAD_COST = -7, "bad cost"
+    SCRYPT_RANGE = -8, "scrypt range"
+    ABOVE_CEILING = -9, "above ceiling"
+    BAD_SALT = -10, "bad salt"
+    OUT_OF_MEMORY = -11, "out of memory"
+    TOO_FEW_BYTES = -12, "too few bytes"
+    UNKNOWN_METHOD = -13, "unknown method"
+    COST = -14, "cost"
+    OVER_BUDGET = -16, "over budget"
+    DIFFERS = -17, "differs"
+    CURRENT = -18, "current"
+    NO_RANDOM_WORDS = -19, "no random words"
+    LOCKED = -20, "locked"
+    NO_HASH = -21, "no hash"
+    DEAD = -22, "dead"
+    REPLACED = -23, "outdated"
+
+
+OF_A_SETTING = {reason.message: reason for reason in Reason if -10 <= reason <= -3}
+# A login whose field has one of these reasons hashes the password all the same.
+WITHOUT_A_HASH = {*OF_A_SETTING.values(), Reason.OVER_BUDGET, Reason.LOCKED, Reason.NO_HASH}
+REASONS_OF_AUDITS = {
+    "over budget": Reason.OVER_BUDGET,
+    "dead": Reason.DEAD,
+    "outdated": Reason.REPLACED,
+    "current": Reason.DONE,
+}
+AnyCall = TypeVar("AnyCall", bound="Call")
+METHODS = {1: MD5CRYPT, 5: SHA256CRYPT, 6: SHA512CRYPT, 7: SCRYPT}
+
+
+class CallRefused(Exception):
+    """A call returns 0 with this reason."""
+
+    def __init__(self, reason: Reason) -> None:
+        super().__init__(reason.message)
+        self.reason = reason
+
+
+@dataclass(frozen=True)
+class System:
+    """What the system gives while calls are made."""
+
+    refused_allocation: int = 0  # of a call, from 1; 0 for none
+    random_bytes: bytes | None = None  # None where it gives none
+    is_real: bool = False  # so that random bytes are not known
+
+    @property
+    def words(self) -> tuple[int, int, int]:
+        """The random bytes as numbers."""
+        text = self.random_bytes
+        if text is None:
+            raise CallRefused(Reason.NO_RANDOM_WORDS)
+        first, second, third = (
+            int.from_bytes(text[place : place + WORD], "little") for place in (0, WORD, 2 * WORD)
+        )
+        return first, second, third
+
+
+@dataclass(frozen=True)
+class Answer:
+    """What a call returned, reported and left in `out`, and what it asked the system for."""
+
+    result: int
+    reason: int = 0
+    length: int = 0
+    cost: int = 0
+    digests: int = 0
+    bytes: int = 0
+    mixes: int = 0
+    table: int = 0
+    scratch: int = 0
+    reserved: int = 0
+    allocations: int = 0
+    kept: int = 0  # allocations that were not freed
+    drawn: int = 0  # bytes
+    out: str = "unchanged"  # otherwise a string in quotes
+
+
+@dataclass
+class Report:
+    """What a call has reported and done so far."""
+
+    system: System
+    cost: int = 0
+    work: Work = Work()
+    scratch: int = 0
+    allocations: int = 0
+    drawn: int = 0
+    result_text: bytes = b""  # for `out`
+
+    def limit_cost(self, setting: Setting, length: int, budget: int) -> None:
+        """Reports the cost of a hash of a password of so many bytes, and compares."""
+        self.cost = cost(setting, length)
+        if self.cost > budget:
+            raise CallRefused(Reason.OVER_BUDGET)
+
+    def hashed(self, setting: Setting, password: bytes) -> bytes:
+        """The hash of a password, with its work."""
+        self.allocate(setting)
+        self.work = work_of(setting, password)
+        text = hash_of(setting, password)
+        assert text is not None, "no test has a password whose hash is not known"
+        return text
+
+    def allocate(self, setting: Setting) -> None:
+        """Scrypt alone allocates: its table, its blocks, and two blocks to mix them in."""
+        if setting.scrypt is None:
+            return
+        self.next_allocation()
+        self.work = Work(memory=work_of_length(setting, 0, 0).memory)
+        self.next_allocation()
+        self.scratch = 128 * setting.scrypt.r * setting.scrypt.p
+        self.next_allocation()
+        self.scratch = scratch_of(setting)
+
+    def next_allocation(self) -> None:
+        """Counts an allocation, which the system may refuse."""
+        self.allocations += 1
+        if self.allocations == self.system.refused_allocation:
+            raise CallRefused(Reason.OUT_OF_MEMORY)
+
+    def answer(self, reason: Reason, out: str) -> Answer:
+        """The answer with this reason."""
+        return Answer(
+            result=int(reason > 0),
+            reason=reason,
+            length=len(self.result_text) if reason > 0 else 0,
+            cost=self.cost,
+            digests=self.work.digests,
+            bytes=self.work.hashed,
+            mixes=self.work.mixings,
+            table=self.work.memory,
+            scratch=self.scratch,
+            allocations=self.allocations,
+            drawn=self.drawn,
+            out=out,
+        )
+
+
+def scratch_of(setting: Setting) -> int:
+    """The bytes of scrypt's memory besides its table."""
+    if setting.scrypt is None:
+        return 0
+    return 128 * setting.scrypt.r * setting.scrypt.p + 256 * setting.scrypt.r
+
+
+def checked_password(password: bytes | None) -> bytes:
+    """A password that calls take."""
+    if password is None:
+        raise CallRefused(Reason.PASSWORD_ZERO_BYTE)
+    if len(password) > LONGEST_PASSWORD:
+        raise CallRefused(Reason.PASSWORD_TOO_LONG)
+    if b"\0" in password:
+        raise CallRefused(Reason.PASSWORD_ZERO_BYTE)
+    return password
+
+
+def setting_of(text: bytes | None) -> Setting:
+    """The setting that a text begins with."""
+    try:
+        return read_setting(text or b"")
+    except Refused as refusal:
+        raise CallRefused(OF_A_SETTING[str(refusal)]) from None
+
+
+def setting_of_field(field: bytes | None) -> Setting:
+    """The setting of a stored field, which can be empty or locked."""
+    if not field:
+        raise CallRefused(Reason.NO_HASH)
+    if is_locked(field):
+        raise CallRefused(Reason.LOCKED)
+    return setting_of(field)
+
+
+def method_of(number: int, rounds: int, *, are_clamped: bool) -> Method:
+    """The method of new hashes, if its rounds are valid, or need not be since they are clamped."""
+    method = METHODS.get(number)
+    if method is None:
+        raise CallRefused(Reason.UNKNOWN_METHOD)
+    if rounds == 0 or method is MD5CRYPT:
+        return method
+    if method is SCRYPT:
+        is_valid = 6 <= rounds <= 11
+    else:
+        is_valid = are_clamped or LEAST_ROUNDS <= rounds <= MOST_ROUNDS
+    if not is_valid:
+        raise CallRefused(Reason.COST)
+    return method
+
+
+def salt_of(words: tuple[int, int, int], length: int) -> bytes:
+    """The salt that words make: each has its digits in its lowest bits, the lowest first."""
+    digits = [
+        words[place // DIGITS_OF_WORD] >> BITS_OF_DIGIT * (place % DIGITS_OF_WORD) & 63
+        for place in range(length)
+    ]
+    return bytes(ALPHABET[digit] for digit in digits)
+
+
+def limit_of(method: Method, rounds: int, budget: int, password: bytes) -> int:
+    """What a budget stands for, in a login and for a new hash."""
+    return budget or login_limit(method, rounds, len(password))
+
+
+class Call(ABC):
+    """A call with its arguments."""
+
+    name: ClassVar[str]
+    is_str: bool
+
+    @property
+    def row(self) -> str:
+        """The call as tests/c/calls.c reads it."""
+        words = [self.name + ("_str" if self.is_str else "")]
+        for field in dataclasses.fields(self):
+            value = getattr(self, field.name)
+            if field.name == "is_str":
+                continue
+            if value is None:
+                value = "null"
+            elif isinstance(value, bytes):
+                value = value.hex()
+            words.append(f"{field.name}={value}")
+        return " ".join(words)
+
+    def expected(self, system: System) -> Answer:
+        """The answer by the rules."""
+        report = Report(system)
+        try:
+            reason = self.judged(report)
+        except CallRefused as refusal:
+            reason = refusal.reason
+        return report.answer(reason, self.left_in_out(reason, report.result_text))
+
+    def left_in_out(self, reason: Reason, text: bytes) -> str:
+        """What the call leaves in `out`, which some calls don't have."""
+        del reason, text
+        return "unchanged"
+
+    @abstractmethod
+    def judged(self, report: Report) -> Reason:
+        """The reason; the report gets what is to be reported."""
+
+
+def with_strings(*calls: AnyCall) -> list[AnyCall]:
+    """Calls, and behind each one the same for strings where no bytes have a zero byte."""
+    both = []
+    for call in calls:
+        both.append(call)
+        values = [getattr(call, field.name) for field in dataclasses.fields(call)]
+        if not any(isinstance(value, bytes) and b"\0" in value for value in values):
+            both.append(dataclasses.replace(call, is_str=True))
+    return both
+
+
+class CallWithOut(Call):
+    """A call that writes a string."""
+
+    out_len: int | None
+    token: ClassVar[bytes] = b"*0"
+
+    def left_in_out(self, reason: Reason, text: bytes) -> str:
+        if not self.out_len:
+            return "unchanged"
+        return quoted(text if reason > 0 else self.token_for_refusal[: self.out_len - 1])
+
+    @property
+    def token_for_refusal(self) -> bytes:
+        """What no password matches."""
+        return self.token
+
+    def require_room(self, length: int) -> None:
+        """Refuses a text of so many bytes that `out` has no room for."""
+        if (self.out_len or 0) <= length:
+            raise CallRefused(Reason.TOO_FEW_BYTES)
+
+
+def quoted(text: bytes) -> str:
+    """A string as tests/c/calls.c prints it."""
+    return f'"{text.decode("latin-1")}"'
+
+
+def length_of_hash(setting: Setting) -> int:
+    """The characters of a hash with this setting."""
+    return len(setting.text) + 1 + setting.method.hash_length
+
+
+@dataclass(frozen=True)
+class Verify(Call):
+    """mkpasswd_verify."""
+
+    name = "verify"
+    password: bytes | None
+    stored: bytes | None
+    budget: int = BUDGET
+    is_str: bool = False
+
+    def judged(self, report: Report) -> Reason:
+        password = checked_password(self.password)
+        setting = setting_of_field(self.stored)
+        report.limit_cost(setting, len(password), self.budget)
+        if report.hashed(setting, password) != self.stored:
+            raise CallRefused(Reason.DIFFERS)
+        return Reason.FITS
+
+
+@dataclass(frozen=True)
+class Login(Call):
+    """mkpasswd_login."""
+
+    name = "login"
+    password: bytes | None
+    field: bytes | None
+    method: int = 6
+    rounds: int = 0
+    budget: int = BUDGET
+    is_str: bool = False
+
+    def judged(self, report: Report) -> Reason:
+        password = checked_password(self.password)
+        method = method_of(self.method, self.rounds, are_clamped=False)
+        policy = recommended_setting(method, self.rounds)
+        limit = limit_of(method, self.rounds, self.budget, password)
+        try:
+            return self.judged_field(report, password, policy, limit)
+        except CallRefused as refusal:
+            if refusal.reason in WITHOUT_A_HASH and cost(policy, len(password)) <= limit:
+                hash_and_drop(report, policy, password)
+            raise
+
+    def judged_field(self, report: Report, password: bytes, policy: Setting, limit: int) -> Reason:
+        """The reason of mkpasswd_verify, but for dead and for outdated hashes."""
+        setting = setting_of_field(self.field)
+        report.limit_cost(setting, len(password), limit)
+        if report.hashed(setting, password) == self.field:
+            return Reason.OUTDATED if setting.is_replaced_by(policy) else Reason.FITS
+        is_dead = not is_whole(setting, self.field or b"")
+        raise CallRefused(Reason.DEAD if is_dead else Reason.DIFFERS)
+
+
+def hash_and_drop(report: Report, policy: Setting, password: bytes) -> None:
+    """Does the work of a new hash, as far as there is memory."""
+    try:
+        report.allocate(policy)
+    except CallRefused:
+        return
+    report.work = work_of(policy, password)
+
+
+@dataclass(frozen=True)
+class New(CallWithOut):
+    """mkpasswd_new."""
+
+    name = "new"
+    password: bytes | None
+    method: int = 6
+    rounds: int = 0
+    budget: int = 0
+    out_len: int | None = TEXT_SIZE
+    is_str: bool = False
+
+    def judged(self, report: Report) -> Reason:
+        password = checked_password(self.password)
+        method = method_of(self.method, self.rounds, are_clamped=False)
+        setting = recommended_setting(method, self.rounds)
+        limit = limit_of(method, self.rounds, self.budget, password)
+        report.limit_cost(setting, len(password), limit)
+        self.require_room(length_of_hash(setting))
+        report.drawn = DRAWN
+        salt = salt_of(report.system.words, method.drawn_salt)
+        setting = recommended_setting(method, self.rounds, salt)
+        report.result_text = report.hashed(setting, password)
+        return Reason.DONE
+
+
+@dataclass(frozen=True)
+class NewOver(New):
+    """mkpasswd_new with a password that stands in `out`."""
+
+    name = "new_over"
+
+
+@dataclass(frozen=True)
+class NeedsRehash(Call):
+    """mkpasswd_needs_rehash."""
+
+    name = "needs_rehash"
+    stored: bytes | None
+    method: int = 6
+    rounds: int = 0
+    is_str: bool = False
+
+    def judged(self, report: Report) -> Reason:
+        setting = setting_of(self.stored)
+        method = method_of(self.method, self.rounds, are_clamped=True)
+        if not setting.is_replaced_by(recommended_setting(method, self.rounds)):
+            raise CallRefused(Reason.CURRENT)
+        return Reason.OUTDATED
+
+
+@dataclass(frozen=True)
+class Audit(Call):
+    """mkpasswd_audit."""
+
+    name = "audit"
+    stored: bytes | None
+    method: int = 6
+    rounds: int = 0
+    budget: int = 0
+    is_str: bool = False
+
+    def judged(self, report: Report) -> Reason:
+        method = method_of(self.method, self.rounds, are_clamped=False)
+        policy = audit_policy(method, self.rounds, self.budget)
+        setting = setting_of_field(self.stored)
+        report.cost = cost(setting, LONGEST_PASSWORD)
+        return REASONS_OF_AUDITS[state_of(policy, setting, self.stored or b"")]
+
+
+@dataclass(frozen=True)
+class Bound(Call):
+    """mkpasswd_bound."""
+
+    name = "bound"
+    stored: bytes | None
+    password_len: int = 8
+    is_str: bool = False
+
+    def judged(self, report: Report) -> Reason:
+        if self.password_len > LONGEST_PASSWORD:
+            raise CallRefused(Reason.PASSWORD_TOO_LONG)
+        setting = setting_of(self.stored)
+        report.cost = cost(setting, self.password_len)
+        report.work = work_of_length(setting, self.password_len, HIGHEST_BYTE)
+        report.scratch = scratch_of(setting)
+        return Reason.DONE
+
+
+@dataclass(frozen=True)
+class Hash(CallWithOut):
+    """mkpasswd_hash."""
+
+    name = "hash"
+    password: bytes | None
+    setting: bytes | None
+    budget: int = BUDGET
+    out_len: int | None = TEXT_SIZE
+    is_str: bool = False
+
+    def judged(self, report: Report) -> Reason:
+        password = checked_password(self.password)
+        setting = setting_of(self.setting)
+        report.limit_cost(setting, len(password), self.budget)
+        self.require_room(length_of_hash(setting))
+        report.result_text = report.hashed(setting, password)
+        return Reason.DONE
+
+    @property
+    def token_for_refusal(self) -> bytes:
+        return b"*1" if (self.setting or b"").startswith(b"*0") else b"*0"
+
+
+@dataclass(frozen=True)
+class MakeSetting(CallWithOut):
+    """mkpasswd_setting."""
+
+    name = "setting"
+    method: int
+    rounds: int
+    first: int
+    second: int
+    third: int
+    out_len: int | None = TEXT_SIZE
+    is_str: bool = False
+
+    def judged(self, report: Report) -> Reason:
+        method = method_of(self.method, self.rounds, are_clamped=True)
+        salt = salt_of((self.first, self.second, self.third), method.drawn_salt)
+        text = recommended_setting(method, self.rounds, salt).text
+        self.require_room(len(text))
+        report.result_text = text
+        return Reason.DONE
+
+
+@dataclass(frozen=True)
+class Message(Call):
+    """mkpasswd_words, which has no report."""
+
+    name = "words"
+    reason: int
+    out_len: int | None = TEXT_SIZE
+    is_str: bool = False
+
+    def judged(self, report: Report) -> Reason:
+        raise NotImplementedError
+
+    def expected(self, system: System) -> Answer:
+        known = {int(reason): reason.message for reason in Reason}
+        text = known.get(self.reason, "unknown reason").encode()
+        if not self.out_len:
+            return Answer(0)
+        has_room = self.out_len > len(text)
+        is_known = self.reason in known
+        return Answer(int(is_known and has_room), out=quoted(text[: self.out_len - 1]))
+
+
+@dataclass(frozen=True)
+class Version(Call):
+    """mkpasswd_version."""
+
+    name = "version"
+    is_str: bool = False
+
+    def judged(self, report: Report) -> Reason:
+        raise NotImplementedError

@@ -1,0 +1,64 @@
+"""Methods and rounds of new hashes, as the calls take them: 0 stands for the recommended rounds."""
+from __future__ import annotations
+
+from dataclasses import dataclass
+
+from .model.calls import Reason
+
+GREATEST_32 = 2**32 - 1
+
+
+@dataclass(frozen=True)
+class Policy:
+    """The method and the rounds of new hashes."""
+
+    title: str
+    method: int
+    rounds: int
+
+    def __str__(self) -> str:
+        return self.title
+
+
+@dataclass(frozen=True)
+class InvalidPolicy(Policy):
+    """A method or rounds that calls refuse, and the reason."""
+
+    reason: Reason
+
+
+RECOMMENDED = Policy("sha512crypt as recommended", 6, 0)
+# The formats clamp rounds of SHA-crypt, and so do the calls that make no hash.
+CLAMPED = (
+    Policy("sha512crypt of 10 rounds", 6, 10),
+    Policy("sha512crypt of the most rounds there could be", 6, GREATEST_32),
+)
+POLICIES = (
+    Policy("md5crypt", 1, 0),
+    Policy("md5crypt with rounds, which it ignores", 1, 5),
+    Policy("sha256crypt as recommended", 5, 0),
+    Policy("sha256crypt of 5000 rounds", 5, 5000),
+    RECOMMENDED,
+    *CLAMPED,
+    Policy("scrypt as recommended", 7, 0),
+    Policy("scrypt of the least cost", 7, 6),
+    Policy("scrypt of the highest cost", 7, 11),
+)
+INVALID_POLICIES = (
+    InvalidPolicy("method 0", 0, 0, Reason.UNKNOWN_METHOD),
+    InvalidPolicy("method 2", 2, 0, Reason.UNKNOWN_METHOD),
+    InvalidPolicy("method 3", 3, 5, Reason.UNKNOWN_METHOD),
+    InvalidPolicy("method 4", 4, 0, Reason.UNKNOWN_METHOD),
+    InvalidPolicy("method 8", 8, 0, Reason.UNKNOWN_METHOD),
+    InvalidPolicy("the greatest number as the method", GREATEST_32, 7, Reason.UNKNOWN_METHOD),
+    InvalidPolicy("scrypt of cost 1", 7, 1, Reason.COST),
+    InvalidPolicy("scrypt of cost 5", 7, 5, Reason.COST),
+    InvalidPolicy("scrypt of cost 12", 7, 12, Reason.COST),
+    InvalidPolicy("scrypt of the greatest number as the cost", 7, GREATEST_32, Reason.COST),
+)
+# What mkpasswd_new, mkpasswd_login and mkpasswd_audit refuse, since they clamp nothing.
+INVALID_ROUNDS = (
+    InvalidPolicy("sha512crypt of 999 rounds", 6, 999, Reason.COST),
+    InvalidPolicy("sha256crypt of one round", 5, 1, Reason.COST),
+    InvalidPolicy("sha512crypt of 1000000000 rounds", 6, 1_000_000_000, Reason.COST),
+)
