@@ -1,5 +1,5 @@
 //! The comparison of a hash with a stored one. If they have the same length, it looks at each byte, and nothing that it
-//! does depends on where they differ. No clause says so; tests/calls.t looks at what the compiler makes of it.
+//! does depends on where they differ. No clause says so; tests/library looks at what the compiler makes of it.
 ghost use Rattle.std.specs.Prelude.{◌≡◌, bytes_eq};
 
 /// Returns whether the bytes are the same, as `==` does.
