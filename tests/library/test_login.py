@@ -27,28 +27,31 @@ CHEAP_POLICIES = (
 )
 POLICIES = (Policy("md5crypt", 1, 0), *CHEAP_POLICIES, Policy("scrypt of the least cost", 7, 6))
 INVALID = (*INVALID_ROUNDS, *INVALID_POLICIES)
+INVALID_PASSWORDS = pytest.mark.parametrize(
+    ("password", "field", "reason"),
+    [
+        pytest.param(
+            LONGEST_PASSWORD + b"a", OF_PASSWORD.text, Reason.PASSWORD_TOO_LONG, id="1025 bytes"
+        ),
+        pytest.param(b"a\0", b"", Reason.PASSWORD_ZERO_BYTE, id="a zero byte for no hash"),
+        pytest.param(b"\0", b"!", Reason.PASSWORD_ZERO_BYTE, id="a zero byte for a locked field"),
+    ],
+)
+# The hashes that are not outdated by these policies; all others are.
+CURRENT = {
+    (OF_PASSWORD.title, "md5crypt"),
+    ("Drepper's sha256crypt", "sha256crypt of 1000 rounds"),
+    ("Drepper's sha512crypt with 10000 rounds", "sha512crypt of 5000 rounds"),
+    ("Drepper's sha512crypt with 10000 rounds", "sha512crypt of 10000 rounds"),
+}
 COST_OF_MD5CRYPT = cost(read_setting(OF_PASSWORD.text), 8)
 COST_OF_SHA512CRYPT = cost(recommended_setting(SHA512CRYPT, 5000), 8)
-
-
-def outdated_by(policy: Policy) -> list[KnownHash]:
-    """The known hashes that are weaker than new ones, by another count than the model's."""
-    rounds = {b"$5$saltstring": (5, 5000), b"$6$rounds=10000": (6, 10_000)}
-    found = []
-    for known in KNOWN_FOR_LOGINS:
-        method, strength = next(
-            (value for start, value in rounds.items() if known.text.startswith(start)),
-            (int(known.text[1:2]), 0),
-        )
-        if method != policy.method or (method in (5, 6) and strength < policy.rounds):
-            found.append(known)
-    return found
 
 
 @pytest.mark.parametrize("policy", POLICIES[:-1], ids=str)
 @pytest.mark.parametrize("known", KNOWN_FOR_LOGINS, ids=str)
 def test_the_right_password_gets_in(driver: Driver, known: KnownHash, policy: Policy) -> None:
-    reason = Reason.OUTDATED if known in outdated_by(policy) else Reason.FITS
+    reason = Reason.FITS if (known.title, policy.title) in CURRENT else Reason.OUTDATED
     for call in with_strings(Login(known.password, known.text, policy.method, policy.rounds)):
         driver.assert_answer(call, result=1, reason=reason)
 
@@ -83,16 +86,7 @@ def test_a_wrong_password_is_refused(driver: Driver, policy: Policy) -> None:
         assert (answer.result, answer.reason) == (0, Reason.DIFFERS)
 
 
-@pytest.mark.parametrize(
-    ("password", "field", "reason"),
-    [
-        pytest.param(
-            LONGEST_PASSWORD + b"a", OF_PASSWORD.text, Reason.PASSWORD_TOO_LONG, id="1025 bytes"
-        ),
-        pytest.param(b"a\0", b"", Reason.PASSWORD_ZERO_BYTE, id="a zero byte for no hash"),
-        pytest.param(b"\0", b"!", Reason.PASSWORD_ZERO_BYTE, id="a zero byte for a locked field"),
-    ],
-)
+@INVALID_PASSWORDS
 @pytest.mark.parametrize("policy", POLICIES, ids=str)
 def test_an_invalid_password_is_refused_without_work(
     driver: Driver, password: bytes, field: bytes, reason: Reason, policy: Policy
@@ -108,12 +102,13 @@ def test_an_invalid_policy_is_refused_without_work(driver: Driver, policy: Inval
             driver.assert_answer(call, result=0, reason=policy.reason, cost=0, digests=0)
 
 
+@INVALID_PASSWORDS
 @pytest.mark.parametrize("policy", INVALID, ids=str)
 def test_an_invalid_password_is_reported_before_an_invalid_policy(
-    driver: Driver, policy: InvalidPolicy
+    driver: Driver, password: bytes, field: bytes, reason: Reason, policy: InvalidPolicy
 ) -> None:
-    call = Login(b"a\0", b"", policy.method, policy.rounds)
-    driver.assert_answer(call, result=0, reason=Reason.PASSWORD_ZERO_BYTE)
+    for call in with_strings(Login(password, field, policy.method, policy.rounds)):
+        driver.assert_answer(call, result=0, reason=reason)
 
 
 @pytest.mark.parametrize(
