@@ -1,0 +1,173 @@
+"""Published examples, of which a call is refused an allocation, and the largest hashes of scrypt.
+
+A test of the proved code can't have an allocation fail, and no clause can tell a lack of memory
+that a call invents. Expected numbers are literals here, beside what the model says.
+"""
+from __future__ import annotations
+
+import re
+from pathlib import Path
+
+import pytest
+from support.driver import Driver
+from support.model.calls import GREATEST, Hash, Login, Reason, System, Verify
+from support.needs import not_applicable
+
+SCRYPT = 7
+
+# The hash of openssl-passwd(1), and the third vector of RFC 7914.
+MD5 = b"$1$xxxxxxxx$UYCIxa628.9qXjpQCjM4a."
+THIRD_VECTOR = b"$7$C6..../....SodiumChloride$kBGj9fHznVYFQMEn/qDCfrDevf9YDtcDdKvEqHJLV8D"
+OF_THE_THIRD_VECTOR = Hash(b"pleaseletmein", b"$7$C6..../....SodiumChloride", GREATEST)
+
+
+@pytest.mark.parametrize(
+    ("refused", "table", "scratch"),
+    [
+        pytest.param(1, 0, 0, id="the table"),
+        pytest.param(2, 16777216, 0, id="the byte scratch"),
+        pytest.param(3, 16777216, 1024, id="the word scratch"),
+    ],
+)
+def test_scrypt_counts_only_what_it_got_before_the_refused(
+    driver: Driver, refused: int, table: int, scratch: int
+) -> None:
+    driver.assert_answer(
+        OF_THE_THIRD_VECTOR,
+        System(refused_allocation=refused),
+        result=0,
+        reason=Reason.OUT_OF_MEMORY,
+        digests=0,
+        bytes=0,
+        mixes=0,
+        table=table,
+        scratch=scratch,
+    )
+
+
+def test_scrypt_asks_for_no_fourth_allocation(driver: Driver) -> None:
+    driver.assert_answer(
+        OF_THE_THIRD_VECTOR,
+        System(refused_allocation=4),
+        result=1,
+        digests=66,
+        bytes=6884,
+        mixes=32768,
+        table=16777216,
+        scratch=3072,
+        allocations=3,
+        out=f'"{THIRD_VECTOR.decode()}"',
+    )
+
+
+# With N = 2, r = 1 and p = 1 the table has 2 rows of 32 words, and the scratches have 128 bytes
+# and 64 words.
+@pytest.mark.parametrize(
+    ("refused", "table", "scratch"),
+    [
+        pytest.param(1, 0, 0, id="the table of 256 bytes"),
+        pytest.param(2, 256, 0, id="the byte scratch of 128"),
+        pytest.param(3, 256, 128, id="the word scratch of 256"),
+    ],
+)
+def test_memory_that_is_refused_is_not_counted(
+    driver: Driver, refused: int, table: int, scratch: int
+) -> None:
+    driver.assert_answer(
+        Hash(b"", b"$7$//..../....", GREATEST),
+        System(refused_allocation=refused),
+        result=0,
+        reason=Reason.OUT_OF_MEMORY,
+        digests=0,
+        table=table,
+        scratch=scratch,
+        allocations=refused,
+    )
+
+
+def test_the_least_memory_of_scrypt_is_counted(driver: Driver) -> None:
+    """The hash is that of Python's hashlib, since libxcrypt refuses N = 2."""
+    driver.assert_answer(
+        Hash(b"", b"$7$//..../....", GREATEST),
+        System(refused_allocation=4),
+        result=1,
+        digests=10,
+        bytes=948,
+        mixes=4,
+        table=256,
+        scratch=384,
+        allocations=3,
+        out='"$7$//..../....$uP5sUIRHSecc.BWlumSr47yi46bBcbU8HeiFeKgGsY3"',
+    )
+
+
+@pytest.mark.parametrize("refused", [1, 2, 3, 4])
+def test_md5crypt_needs_no_memory(driver: Driver, refused: int) -> None:
+    driver.assert_answer(
+        Hash(b"password", b"$1$xxxxxxxx", GREATEST),
+        System(refused_allocation=refused),
+        result=1,
+        digests=1002,
+        bytes=36239,
+        allocations=0,
+        out=f'"{MD5.decode()}"',
+    )
+
+
+# ---- The largest hashes of scrypt
+
+# With 11 rounds N is 2^18 and r is 32, so the table has 1 GiB. The hash is that of libxcrypt and of
+# Python's hashlib.
+LARGEST_ROUNDS = 11
+LARGEST = b"$7$GU..../....ab$usU8J1uEK/M/.nHi2It6aoypY36zRdBmdiCRjefMUs."
+NEEDED_KILOBYTES = 3 * 2**19
+TWICE_A_NEW_HASH = 0  # as a budget
+
+
+@pytest.fixture(name="driver_with_memory")
+def fixture_driver_with_memory(driver: Driver) -> Driver:
+    """The program that makes calls, where it can have 1 GiB."""
+    available = re.search(r"MemAvailable: +(\d+) kB", Path("/proc/meminfo").read_text("ascii"))
+    if available and int(available[1]) < NEEDED_KILOBYTES:
+        not_applicable("a hash needs 1 GiB of memory")
+    return driver
+
+
+@pytest.mark.slow
+def test_a_hash_with_a_table_of_1_gib_is_verified(driver_with_memory: Driver) -> None:
+    driver_with_memory.assert_answer(
+        Verify(b"password", LARGEST, GREATEST),
+        result=1,
+        reason=Reason.FITS,
+        digests=258,
+        bytes=25508,
+        mixes=524288,
+        table=1073741824,
+        scratch=12288,
+    )
+
+
+@pytest.mark.slow
+def test_a_login_with_a_table_of_1_gib_gets_in(driver_with_memory: Driver) -> None:
+    driver_with_memory.assert_answer(
+        Login(b"password", LARGEST, SCRYPT, LARGEST_ROUNDS, TWICE_A_NEW_HASH),
+        result=1,
+        reason=Reason.FITS,
+        digests=258,
+        table=1073741824,
+    )
+
+
+@pytest.mark.slow
+def test_a_dummy_hash_with_a_table_of_1_gib_is_made(driver_with_memory: Driver) -> None:
+    """A new hash has a salt of 22 bytes, so more is digested than of a hash with 2."""
+    driver_with_memory.assert_answer(
+        Login(b"password", b"!", SCRYPT, LARGEST_ROUNDS, TWICE_A_NEW_HASH),
+        result=0,
+        reason=Reason.LOCKED,
+        digests=258,
+        bytes=28068,
+        mixes=524288,
+        table=1073741824,
+        scratch=12288,
+    )

@@ -1,0 +1,86 @@
+"""Published examples, of which the program is refused an allocation.
+
+A test of the proved code can't have an allocation fail, so the program runs with tests/c/faults.c.
+tests/library/test_published_examples.py has the same of the library's calls.
+"""
+from __future__ import annotations
+
+from dataclasses import dataclass
+from pathlib import Path
+
+import pytest
+from support.preload import preload_library
+from support.process import Result, assert_result, run
+
+# The hash of openssl-passwd(1), and the third vector of RFC 7914.
+MD5 = "$1$xxxxxxxx$UYCIxa628.9qXjpQCjM4a."
+THIRD_VECTOR = "$7$C6..../....SodiumChloride$kBGj9fHznVYFQMEn/qDCfrDevf9YDtcDdKvEqHJLV8D"
+MOST_ALLOCATIONS = 1000
+
+
+@dataclass(frozen=True)
+class Refusal:
+    """How a run ended of which one allocation was to be refused."""
+
+    result: Result
+    allocations: int
+    was_refused: bool  # otherwise there were fewer allocations
+
+
+@dataclass(frozen=True)
+class Refuser:
+    """Runs the program with tests/c/faults.c, which logs allocations and refuses one."""
+
+    program: Path
+    library: Path
+    log: Path
+
+    def run(self, words: list[str], given: str, refused: int) -> Refusal:
+        """Runs the program; the allocation of this number is refused, from 1 on."""
+        self.log.write_bytes(b"")
+        environment = {
+            "LD_PRELOAD": str(self.library),
+            "FAULT": f"memory {refused}",
+            "FAULT_LOG": str(self.log),
+        }
+        result = run(self.program, *words, stdin=given.encode(), env=environment)
+        calls = self.log.read_text(encoding="ascii").splitlines()
+        allocations = [call for call in calls if call.startswith("memory ")]
+        return Refusal(result, len(allocations), any("failed" in call for call in allocations))
+
+
+@pytest.fixture(name="refuser")
+def fixture_refuser(program: Path, tmp_path: Path) -> Refuser:
+    return Refuser(program, preload_library("faults", tmp_path), tmp_path / "log")
+
+
+def test_each_allocation_of_a_plan_is_refused_until_none_is(refuser: Refuser) -> None:
+    words = ["-m", "md5crypt", "-S", "xxxxxxxx", "password"]
+    ignored = 0
+    for number in range(1, MOST_ALLOCATIONS):
+        refusal = refuser.run(words, "", number)
+        if not refusal.was_refused:
+            break
+        if refusal.result.status == 0:
+            ignored += 1
+            continue
+        assert_result(refusal.result, status=3, stderr=b"mkpasswd: out of memory\n")
+    assert number > 10, "there were allocations"
+    assert_result(refusal.result, stdout=f"{MD5}\n".encode())
+    # Before the plan is made, std shrinks the list of the arguments. If that fails, it stays.
+    assert ignored <= 1
+
+
+def test_lines_before_a_refused_allocation_are_answered(refuser: Refuser) -> None:
+    first = f"ann:{MD5}:password\n"
+    lines = f"{first}bob:{THIRD_VECTOR}:pleaseletmein\n"
+    before = refuser.run(["--check"], first, 0).allocations
+    for number in (1, 2, 3):
+        refusal = refuser.run(["--check"], lines, before + number)
+        assert refusal.was_refused
+        assert_result(
+            refusal.result, status=3, stdout=b"ann:ok\n", stderr=b"mkpasswd: out of memory\n"
+        )
+    refusal = refuser.run(["--check"], lines, before + 4)
+    assert not refusal.was_refused
+    assert_result(refusal.result, stdout=b"ann:ok\nbob:ok\n")
