@@ -251,6 +251,21 @@ static int32_t audit_str(const struct call *call)
         given->text_str, given->method, given->rounds, given->budget, call->report);
 }
 
+static int32_t limit(const struct call *call)
+{
+    const struct arguments *given = &call->given;
+
+    return mkpasswd_limit(given->method, given->rounds, given->budget, call->report);
+}
+
+static int32_t rounds(const struct call *call)
+{
+    const struct arguments *given = &call->given;
+
+    return mkpasswd_rounds(
+        given->password_len, given->method, given->rounds, given->budget, call->report);
+}
+
 static int32_t bound(const struct call *call)
 {
     const struct arguments *given = &call->given;
@@ -329,6 +344,8 @@ static const struct kind kinds[] = {
     {"needs_rehash_str", needs_rehash_str, 1, 1},
     {"audit", audit, 1, 0},
     {"audit_str", audit_str, 1, 1},
+    {"limit", limit, 1, 0},
+    {"rounds", rounds, 1, 0},
     {"bound", bound, 1, 0},
     {"bound_str", bound_str, 1, 1},
     {"hash", hash, 1, 0},
@@ -386,11 +403,11 @@ static void print_answer(struct job *job, int32_t result)
 
     (void)snprintf(job->line, sizeof job->line,
         "result=%" PRId32 " reason=%" PRId32 " length=%" PRIu32 " cost=%" PRIu64 " digests=%" PRIu64
-        " bytes=%" PRIu64 " mixes=%" PRIu64 " table=%" PRIu64 " scratch=%" PRIu64
-        " reserved=%" PRIu64 " allocations=%ld kept=%ld drawn=%ld out=%s%s%s",
+        " bytes=%" PRIu64 " mixes=%" PRIu64 " table=%" PRIu64 " scratch=%" PRIu64 " rounds=%" PRIu32
+        " reserved=%" PRIu32 " allocations=%ld kept=%ld drawn=%ld out=%s%s%s",
         result, report->reason, report->length, report->cost, work->digests, work->bytes,
-        work->mixes, work->table, work->scratch, report->reserved, allocations, blocks_kept,
-        bytes_drawn, quote, left, quote);
+        work->mixes, work->table, work->scratch, report->rounds, report->reserved, allocations,
+        blocks_kept, bytes_drawn, quote, left, quote);
 }
 
 /* Makes the call of a job. The report is full of a byte before, or isn't given. */

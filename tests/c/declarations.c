@@ -19,6 +19,8 @@ static_assert(noexcept(mkpasswd_new(bytes, 1, 6, 0, 1, out, 1, report)), "new th
 static_assert(
     noexcept(mkpasswd_needs_rehash(bytes, 1, 6, 0, report)), "needs_rehash throws nothing");
 static_assert(noexcept(mkpasswd_audit(bytes, 1, 6, 0, 0, report)), "audit throws nothing");
+static_assert(noexcept(mkpasswd_limit(6, 0, 0, report)), "limit throws nothing");
+static_assert(noexcept(mkpasswd_rounds(1, 6, 0, 0, report)), "rounds throws nothing");
 static_assert(noexcept(mkpasswd_bound(bytes, 1, 1, report)), "bound throws nothing");
 static_assert(
     noexcept(mkpasswd_hash(bytes, 1, bytes, 1, 1, out, 1, report)), "hash throws nothing");

@@ -21,6 +21,8 @@ int main(void)
     results += mkpasswd_needs_rehash(bytes, 1, 6, 0, NULL);              /* NOLINT: warns */
     results += mkpasswd_audit(NULL, 1, 6, 0, 0, &report);                /* NOLINT: warns */
     results += mkpasswd_audit(bytes, 1, 6, 0, 0, NULL);                  /* NOLINT: warns */
+    results += mkpasswd_limit(6, 0, 0, NULL);                            /* NOLINT: warns */
+    results += mkpasswd_rounds(1, 6, 0, 0, NULL);                        /* NOLINT: warns */
     results += mkpasswd_bound(NULL, 1, 1, &report);                      /* NOLINT: warns */
     results += mkpasswd_bound(bytes, 1, 1, NULL);                        /* NOLINT: warns */
     results += mkpasswd_hash(NULL, 1, bytes, 1, 1, out, 145, &report);   /* NOLINT: warns */

@@ -11,6 +11,8 @@ int main(void)
     mkpasswd_new(bytes, 1, 6, 0, 1, out, 145, &report);      /* NOLINT: warns */
     mkpasswd_needs_rehash(bytes, 1, 6, 0, &report);          /* NOLINT: warns */
     mkpasswd_audit(bytes, 1, 6, 0, 0, &report);              /* NOLINT: warns */
+    mkpasswd_limit(6, 0, 0, &report);                        /* NOLINT: warns */
+    mkpasswd_rounds(1, 6, 0, 0, &report);                    /* NOLINT: warns */
     mkpasswd_bound(bytes, 1, 1, &report);                    /* NOLINT: warns */
     mkpasswd_hash(bytes, 1, bytes, 1, 1, out, 145, &report); /* NOLINT: warns */
     mkpasswd_setting(6, 0, 1, 2, 3, out, 145, &report);      /* NOLINT: warns */

@@ -6,7 +6,7 @@ import struct
 
 import pytest
 from support.library import SOURCES, Builder, Installed
-from support.model.calls import BUDGET, Hash, Reason, System, length_of_hash
+from support.model.calls import BUDGET, Call, Hash, Limit, Reason, System, length_of_hash
 from support.model.settings import read_setting
 from support.model.work import LONGEST_PASSWORD
 from support.process import run
@@ -18,11 +18,16 @@ REASON = re.compile(
     re.MULTILINE,
 )
 # The fields of struct mkpasswd_report in their order: a number of 32 bits with a sign, one without,
-# seven of 64 bits; little-endian.
-REPORT = "<iI7Q"
+# six of 64 bits, two of 32 bits; little-endian.
+REPORT = struct.Struct("<iI6QII")
 FIELDS = (
     *("reason", "length", "cost", "digests", "bytes"),
-    *("mixes", "table", "scratch", "reserved"),
+    *("mixes", "table", "scratch", "rounds", "reserved"),
+)
+# The calls of tests/c/report.c.
+REPORTED: tuple[Call, ...] = (
+    Hash(b"password", b"$7$46..../....SodiumChloride"),
+    Limit(6, 0),
 )
 
 
@@ -56,15 +61,15 @@ def test_a_number_is_what_the_formats_say(installed: Installed, name: str, numbe
 def test_each_field_of_a_report_is_at_its_place(builder: Builder) -> None:
     program = builder.build(SOURCES / "report.c")
     result = run(program).required()
-    call = Hash(b"password", b"$7$46..../....SodiumChloride")
-    expected = call.expected(System())
-    assert len(result.stdout) == struct.calcsize(REPORT), str(result)
-    found = dict(zip(FIELDS, struct.unpack(REPORT, result.stdout)))
-    assert found == {name: getattr(expected, name) for name in FIELDS}
+    assert len(result.stdout) == len(REPORTED) * REPORT.size, str(result)
+    for call, values in zip(REPORTED, REPORT.iter_unpack(result.stdout)):
+        expected = call.expected(System())
+        found = dict(zip(FIELDS, values))
+        assert found == {name: getattr(expected, name) for name in FIELDS}
 
 
-def test_no_two_fields_of_that_report_are_alike() -> None:
+def test_no_two_fields_are_alike_in_both_reports() -> None:
     """So that the test before this one sees fields that are exchanged."""
-    expected = Hash(b"password", b"$7$46..../....SodiumChloride").expected(System())
-    values = [getattr(expected, name) for name in FIELDS]
+    reports = [call.expected(System()) for call in REPORTED]
+    values = [tuple(getattr(report, name) for report in reports) for name in FIELDS]
     assert len(set(values)) == len(values)

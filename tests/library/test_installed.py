@@ -11,7 +11,12 @@ from support.model.calls import Version
 from support.process import Changes, assert_result, run
 
 FIRST_VERSION = "MKPASSWD_2"
-LATER_VERSIONS = {"mkpasswd_login": "MKPASSWD_2.1", "mkpasswd_audit": "MKPASSWD_2.2"}
+LATER_VERSIONS = {
+    "mkpasswd_login": "MKPASSWD_2.1",
+    "mkpasswd_audit": "MKPASSWD_2.2",
+    "mkpasswd_limit": "MKPASSWD_2.3",
+    "mkpasswd_rounds": "MKPASSWD_2.3",
+}
 # A line of `objdump -T`: an address, flags, a section, and the size, version and name.
 SYMBOL = re.compile(r"^[0-9a-f]{16} (.*) (MKPASSWD_[\d.]+) +(mkpasswd_\w+)$", re.MULTILINE)
 LOGIN_BY_PKG_CONFIG = """\

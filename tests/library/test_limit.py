@@ -10,7 +10,7 @@ import pytest
 from support import ROOT
 from support.driver import Driver
 from support.library import Installed
-from support.model.calls import METHODS, Call, Login, MakeSetting, New, Reason, System
+from support.model.calls import METHODS, Call, Limit, Login, MakeSetting, New, Reason, System
 from support.model.work import cost, login_limit
 from support.model.settings import recommended_setting
 from support.model.methods import SHA512CRYPT
@@ -112,6 +112,15 @@ def test_a_budget_of_its_own_allows_all_1024_bytes(
 ) -> None:
     budget = 1_297_572_512 - fewer
     driver.assert_by_the_rules([Login(LONGEST_PASSWORD, field, 6, 0, budget)], threads=2)
+
+
+@METHOD_NUMBERS
+def test_a_budget_of_1297572512_admits_every_password(driver: Driver, number: int) -> None:
+    driver.assert_answer(Limit(number, 0, 1_297_572_512), result=1, length=1024)
+
+
+def test_no_smaller_budget_admits_every_password(driver: Driver) -> None:
+    driver.assert_answer(Limit(6, 0, 1_297_572_511), result=1, length=1023)
 
 
 def test_1297572512_is_what_the_longest_password_can_cost() -> None:

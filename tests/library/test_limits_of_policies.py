@@ -1,20 +1,19 @@
-"""mkpasswd_limit and mkpasswd_rounds of the built library, for 100,000 policies.
+"""mkpasswd_limit and mkpasswd_rounds of the shared library, for 100,000 policies.
 
-What they must report is computed here, from the formulas of docs/FORMATS.md.
+What they must report is computed here, from the formulas of docs/FORMATS.md, and neither the model
+nor the header takes part: test_admitted.py has those.
 """
 from __future__ import annotations
 
 import ctypes
-import os
 import random
 import struct
 from dataclasses import dataclass, replace
-from pathlib import Path
 from typing import Iterator
 
 import pytest
+from support.needs import built
 
-LIBRARY = Path(os.environ.get("LIBRARY", Path(__file__).parents[2] / "libmkpasswd.so.2"))
 POLICIES = 100_000
 LONGEST_PASSWORD = 1024
 LIMIT_FLOOR = 150_000_000
@@ -35,7 +34,6 @@ METHODS = (MD5CRYPT, SHA256CRYPT, SHA512CRYPT, SCRYPT)
 RECOMMENDED_ROUNDS = {MD5CRYPT: 0, SHA256CRYPT: 656_000, SHA512CRYPT: 656_000, SCRYPT: 7}
 DIGEST_LENGTH = {MD5CRYPT: 16, SHA256CRYPT: 32, SHA512CRYPT: 64}
 SALT_LENGTH = {MD5CRYPT: 8, SHA256CRYPT: 16, SHA512CRYPT: 16, SCRYPT: 22}
-
 
 # struct mkpasswd_report: reason, length, cost, five counts, rounds, reserved
 REPORT = struct.Struct("<iIQ5QII")
@@ -184,9 +182,7 @@ def random_policies(seed: int, count: int) -> Iterator[Policy]:
 @pytest.fixture(scope="module", name="library")
 def fixture_library() -> ctypes.CDLL:
     """The built library."""
-    if not LIBRARY.exists():
-        pytest.fail(f"{LIBRARY} is not built: run make lib", pytrace=False)
-    library = ctypes.CDLL(str(LIBRARY))
+    library = ctypes.CDLL(str(built("libmkpasswd.so.2", "lib")))
     number, wide, report = ctypes.c_uint32, ctypes.c_uint64, ctypes.c_char_p
     library.mkpasswd_limit.argtypes = (number, number, wide, report)
     library.mkpasswd_limit.restype = ctypes.c_int32
@@ -198,7 +194,8 @@ def fixture_library() -> ctypes.CDLL:
 def answer_of(returned: int, report: bytes) -> Answer:
     """The answer of a call, which neither hashed nor set what is reserved."""
     reason, length, cost, *work, rounds, reserved = REPORT.unpack(report)
-    assert not any(work) and reserved == 0
+    assert work == [0, 0, 0, 0, 0]
+    assert reserved == 0
     return Answer(returned, reason, length, cost, rounds)
 
 
@@ -216,38 +213,48 @@ def rounds_of(library: ctypes.CDLL, length: int, policy: Policy) -> Answer:
     return answer_of(returned, report.raw)
 
 
-def check_limit(library: ctypes.CDLL, policy: Policy) -> None:
-    """The limit, and that exactly the passwords up to the longest are within it."""
+def is_longest(policy: Policy, length: int) -> bool:
+    """Whether a password of this length is within the limit, and none is that is a byte longer."""
+    if length > LONGEST_PASSWORD:
+        return False
+    if new_cost(policy.method, policy.chosen_rounds, length) > policy.limit:
+        return False
+    if length == LONGEST_PASSWORD:
+        return True
+    return new_cost(policy.method, policy.chosen_rounds, length + 1) > policy.limit
+
+
+def assert_limit(library: ctypes.CDLL, policy: Policy) -> None:
+    """Fails the test unless the limit and the longest password within it are reported."""
     answer = limit_of(library, policy)
     if policy.refusal:
-        assert answer == Answer(0, policy.refusal, 0, 0, 0)
+        assert answer == Answer(0, policy.refusal, 0, 0, 0), policy
+        return
+    if new_cost(policy.method, policy.chosen_rounds, 0) > policy.limit:
+        assert answer == Answer(0, OVER_BUDGET, 0, policy.limit, 0), policy
         return
     rounds = 0 if policy.method == MD5CRYPT else policy.chosen_rounds
-    if new_cost(policy.method, rounds, 0) > policy.limit:
-        assert answer == Answer(0, OVER_BUDGET, 0, policy.limit, 0)
-        return
-    assert answer == Answer(1, DONE, answer.length, policy.limit, rounds)
-    assert new_cost(policy.method, rounds, answer.length) <= policy.limit
-    if answer.length < LONGEST_PASSWORD:
-        assert new_cost(policy.method, rounds, answer.length + 1) > policy.limit
+    assert answer == Answer(1, DONE, answer.length, policy.limit, rounds), policy
+    assert is_longest(policy, answer.length), (policy, answer)
 
 
-def check_rounds(library: ctypes.CDLL, policy: Policy, length: int) -> None:
-    """The rounds for a length, their cost, and that it is within the limit."""
+def assert_rounds(library: ctypes.CDLL, policy: Policy, length: int) -> None:
+    """Fails the test unless rounds within the limit, and their cost, are reported for a length."""
     answer = rounds_of(library, length, policy)
     if length > LONGEST_PASSWORD:
-        assert answer == Answer(0, PASSWORD_TOO_LONG, 0, 0, 0)
+        assert answer == Answer(0, PASSWORD_TOO_LONG, 0, 0, 0), (policy, length)
         return
     if policy.refusal:
-        assert answer == Answer(0, policy.refusal, 0, 0, 0)
+        assert answer == Answer(0, policy.refusal, 0, 0, 0), (policy, length)
         return
     rounds = fitted_rounds(policy, length)
     if rounds is None:
         own = new_cost(policy.method, policy.chosen_rounds, length)
-        assert answer == Answer(0, OVER_BUDGET, 0, own, 0)
+        assert answer == Answer(0, OVER_BUDGET, 0, own, 0), (policy, length)
         return
-    assert answer == Answer(1, DONE, 0, new_cost(policy.method, rounds, length), rounds)
-    assert answer.cost <= policy.limit
+    expected = Answer(1, DONE, 0, new_cost(policy.method, rounds, length), rounds)
+    assert answer == expected, (policy, length)
+    assert answer.cost <= policy.limit, (policy, length)
 
 
 @pytest.mark.parametrize(
@@ -259,7 +266,7 @@ def check_rounds(library: ctypes.CDLL, policy: Policy, length: int) -> None:
         pytest.param(SCRYPT, 268_491_592, 1024, id="scrypt"),
     ],
 )
-def test_recommended_policy_has_the_limit_in_the_documents(
+def test_a_policy_with_recommended_rounds_has_the_documented_limit(
     library: ctypes.CDLL, method: int, limit: int, longest: int
 ) -> None:
     """The table in docs/FORMATS.md."""
@@ -271,24 +278,30 @@ def test_recommended_policy_has_the_limit_in_the_documents(
     )
 
 
-def test_limit_admits_exactly_the_passwords_up_to_the_longest(library: ctypes.CDLL) -> None:
+@pytest.mark.slow
+def test_a_limit_admits_exactly_the_passwords_up_to_the_longest(library: ctypes.CDLL) -> None:
     """For 100,000 policies."""
     for policy in random_policies(seed=111, count=POLICIES):
-        check_limit(library, policy)
+        assert_limit(library, policy)
 
 
+@pytest.mark.slow
 def test_rounds_for_any_length_keep_a_new_hash_within_the_limit(library: ctypes.CDLL) -> None:
     """For 100,000 policies, each with a length."""
     source = random.Random(112)
     for policy in random_policies(seed=113, count=POLICIES):
-        check_rounds(library, policy, source.choice((0, 64, 1024, 1025, source.randrange(1026))))
+        assert_rounds(library, policy, source.choice((0, 64, 1024, 1025, source.randrange(1026))))
 
 
-@pytest.mark.parametrize("length", range(0, LONGEST_PASSWORD + 1, 64))
-def test_policy_without_a_budget_has_rounds_for_every_length(
+@pytest.mark.parametrize(
+    "length",
+    [pytest.param(length, id=f"{length} bytes") for length in range(0, LONGEST_PASSWORD + 1, 64)],
+)
+def test_a_policy_without_a_budget_has_rounds_for_every_length(
     library: ctypes.CDLL, length: int
 ) -> None:
     """Its limit is never below what the fewest rounds cost."""
     for method in METHODS:
         for rounds in (0, *((6, 11) if method == SCRYPT else (1000, 75_357, MOST_ROUNDS))):
-            assert rounds_of(library, length, Policy(method, rounds, 0)).returned == 1
+            policy = Policy(method, rounds, 0)
+            assert rounds_of(library, length, policy).returned == 1, policy

@@ -9,10 +9,12 @@ from .model.calls import (
     Bound,
     Call,
     Hash,
+    Limit,
     Login,
     MakeSetting,
     New,
     Reason,
+    Rounds,
     Verify,
     with_strings,
 )
@@ -69,6 +71,8 @@ def calls_of_each_kind() -> list[Call]:
     calls += [
         Bound(MD5CRYPT, is_str=True),
         Audit(MD5CRYPT, 1, is_str=True),
+        Limit(6, 0),
+        Rounds(200, 6, 0),
         MakeSetting(6, 0, 1, 2, 3, is_str=True),
         Hash(b"password", b"!", is_str=True),
         Verify(b"", SCRYPT_OF_NOTHING.text),

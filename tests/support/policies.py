@@ -28,7 +28,7 @@ class InvalidPolicy(Policy):
 
 
 RECOMMENDED = Policy("sha512crypt as recommended", 6, 0)
-# The formats clamp rounds of SHA-crypt, and so do the calls that make no hash.
+# The formats clamp rounds of SHA-crypt, and so do mkpasswd_setting and mkpasswd_needs_rehash.
 CLAMPED = (
     Policy("sha512crypt of 10 rounds", 6, 10),
     Policy("sha512crypt of the most rounds there could be", 6, GREATEST_32),
@@ -56,7 +56,7 @@ INVALID_POLICIES = (
     InvalidPolicy("scrypt of cost 12", 7, 12, Reason.COST),
     InvalidPolicy("scrypt of the greatest number as the cost", 7, GREATEST_32, Reason.COST),
 )
-# What mkpasswd_new, mkpasswd_login and mkpasswd_audit refuse, since they clamp nothing.
+# What the other calls with a method refuse, since they clamp nothing.
 INVALID_ROUNDS = (
     InvalidPolicy("sha512crypt of 999 rounds", 6, 999, Reason.COST),
     InvalidPolicy("sha256crypt of one round", 5, 1, Reason.COST),

@@ -8,6 +8,7 @@ from __future__ import annotations
 
 import dataclasses
 import enum
+import functools
 from abc import ABC, abstractmethod
 from dataclasses import dataclass
 from typing import ClassVar, TypeVar
@@ -24,7 +25,16 @@ from .methods import (
     Method,
 )
 from .settings import LEAST_ROUNDS, MOST_ROUNDS, Refused, Setting, read_setting, recommended_setting
-from .work import HIGHEST_BYTE, LONGEST_PASSWORD, Work, cost, login_limit, work_of, work_of_length
+from .work import (
+    HIGHEST_BYTE,
+    LONGEST_PASSWORD,
+    Work,
+    cost,
+    fitted_setting,
+    login_limit,
+    work_of,
+    work_of_length,
+)
 
 TEXT_SIZE = 145  # bytes, for any hash, setting or message
 BUDGET = 150_000_000  # MKPASSWD_BUDGET
@@ -126,6 +136,7 @@ class Answer:
     mixes: int = 0
     table: int = 0
     scratch: int = 0
+    rounds: int = 0
     reserved: int = 0
     allocations: int = 0
     kept: int = 0  # allocations that were not freed
@@ -143,7 +154,14 @@ class Report:
     scratch: int = 0
     allocations: int = 0
     drawn: int = 0
+    length: int = 0
+    rounds: int = 0
     result_text: bytes = b""  # for `out`
+
+    def give(self, text: bytes) -> None:
+        """Reports what `out` gets."""
+        self.result_text = text
+        self.length = len(text)
 
     def limit_cost(self, setting: Setting, length: int, budget: int) -> None:
         """Reports the cost of a hash of a password of so many bytes, and compares."""
@@ -181,13 +199,14 @@ class Report:
         return Answer(
             result=int(reason > 0),
             reason=reason,
-            length=len(self.result_text) if reason > 0 else 0,
+            length=self.length,
             cost=self.cost,
             digests=self.work.digests,
             bytes=self.work.hashed,
             mixes=self.work.mixings,
             table=self.work.memory,
             scratch=self.scratch,
+            rounds=self.rounds,
             allocations=self.allocations,
             drawn=self.drawn,
             out=out,
@@ -426,7 +445,7 @@ class New(CallWithOut):
         report.drawn = DRAWN
         salt = salt_of(report.system.words, method.drawn_salt)
         setting = recommended_setting(method, self.rounds, salt)
-        report.result_text = report.hashed(setting, password)
+        report.give(report.hashed(setting, password))
         return Reason.DONE
 
 
@@ -474,6 +493,67 @@ class Audit(Call):
         return REASONS_OF_AUDITS[state_of(policy, setting, self.stored or b"")]
 
 
+@functools.cache
+def costs_by_length(setting: Setting) -> list[int]:
+    """The cost of a hash of a password of each length."""
+    return [cost(setting, length) for length in range(LONGEST_PASSWORD + 1)]
+
+
+def rounds_of(setting: Setting) -> int:
+    """The rounds of which a setting of new hashes is made."""
+    if setting.scrypt is not None:
+        return setting.scrypt.log_n - 7
+    return 0 if setting.method is MD5CRYPT else setting.rounds
+
+
+@dataclass(frozen=True)
+class Limit(Call):
+    """mkpasswd_limit, which has no call for strings."""
+
+    name = "limit"
+    method: int = 6
+    rounds: int = 0
+    budget: int = 0
+    is_str: bool = False
+
+    def judged(self, report: Report) -> Reason:
+        method = method_of(self.method, self.rounds, are_clamped=False)
+        setting = recommended_setting(method, self.rounds)
+        report.cost = limit_of(method, self.rounds, self.budget, b"")
+        costs = enumerate(costs_by_length(setting))
+        within = [length for length, price in costs if price <= report.cost]
+        if not within:
+            raise CallRefused(Reason.OVER_BUDGET)
+        report.length = max(within)
+        report.rounds = rounds_of(setting)
+        return Reason.DONE
+
+
+@dataclass(frozen=True)
+class Rounds(Call):
+    """mkpasswd_rounds, which has no call for strings."""
+
+    name = "rounds"
+    password_len: int
+    method: int = 6
+    rounds: int = 0
+    budget: int = 0
+    is_str: bool = False
+
+    def judged(self, report: Report) -> Reason:
+        if self.password_len > LONGEST_PASSWORD:
+            raise CallRefused(Reason.PASSWORD_TOO_LONG)
+        method = method_of(self.method, self.rounds, are_clamped=False)
+        setting = recommended_setting(method, self.rounds)
+        limit = limit_of(method, self.rounds, self.budget, b"")
+        fitted = fitted_setting(setting, limit, self.password_len)
+        report.cost = cost(fitted or setting, self.password_len)
+        if fitted is None:
+            raise CallRefused(Reason.OVER_BUDGET)
+        report.rounds = rounds_of(fitted)
+        return Reason.DONE
+
+
 @dataclass(frozen=True)
 class Bound(Call):
     """mkpasswd_bound."""
@@ -509,7 +589,7 @@ class Hash(CallWithOut):
         setting = setting_of(self.setting)
         report.limit_cost(setting, len(password), self.budget)
         self.require_room(length_of_hash(setting))
-        report.result_text = report.hashed(setting, password)
+        report.give(report.hashed(setting, password))
         return Reason.DONE
 
     @property
@@ -535,7 +615,7 @@ class MakeSetting(CallWithOut):
         salt = salt_of((self.first, self.second, self.third), method.drawn_salt)
         text = recommended_setting(method, self.rounds, salt).text
         self.require_room(len(text))
-        report.result_text = text
+        report.give(text)
         return Reason.DONE
 
 

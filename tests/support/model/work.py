@@ -1,11 +1,11 @@
 """What a hash costs: the four numbers of --work, and the bound that a budget is compared with."""
 from __future__ import annotations
 
-from dataclasses import dataclass
+from dataclasses import dataclass, replace
 
 from .hashes import second_digest
 from .methods import MD5CRYPT, Method
-from .settings import SHA_CRYPT, Setting, recommended_setting
+from .settings import SHA_CRYPT, Setting, clamped_rounds, recommended_setting
 
 LONGEST_PASSWORD = 1024
 LEAST_LOGIN_LIMIT = 150_000_000
@@ -100,6 +100,22 @@ def cost(setting: Setting, password: int) -> int:
     work = work_of_length(setting, password, HIGHEST_BYTE)
     mixed = 0 if setting.scrypt is None else 128 * setting.scrypt.r * work.mixings
     return work.hashed + mixed
+
+
+def fitted_setting(setting: Setting, limit: int, password: int) -> Setting | None:
+    """The setting of a new hash within a limit, of a password of so many bytes.
+
+    It is the given one, or the same of SHA-crypt with fewer rounds; None where even the fewest cost
+    more.
+    """
+    if cost(setting, password) <= limit:
+        return setting
+    if setting.method not in SHA_CRYPT:
+        return None
+    left = max(0, limit - cost(replace(setting, written_rounds=0), password))
+    longest_round = setting.method.digest_size + 2 * password + len(setting.salt)
+    fewer = replace(setting, written_rounds=clamped_rounds(left // longest_round))
+    return fewer if cost(fewer, password) <= limit else None
 
 
 def login_limit(method: Method, rounds: int | None, password: int) -> int:

@@ -1,0 +1,169 @@
+"""mkpasswd_limit and mkpasswd_rounds: which passwords a policy admits, and rounds for longer ones.
+
+test_limits_of_policies.py asks them about many more policies, without the model.
+"""
+from __future__ import annotations
+
+import pytest
+from support.driver import Driver
+from support.model.calls import (
+    GREATEST,
+    METHODS,
+    Call,
+    Limit,
+    Login,
+    New,
+    Reason,
+    Rounds,
+    System,
+    method_of,
+)
+from support.model.settings import recommended_setting
+from support.model.work import LONGEST_PASSWORD, cost
+from support.policies import (
+    CLAMPED,
+    GREATEST_32,
+    INVALID_POLICIES,
+    INVALID_ROUNDS,
+    POLICIES,
+    RECOMMENDED,
+    InvalidPolicy,
+    Policy,
+)
+
+VALID = (
+    *(policy for policy in POLICIES if policy not in CLAMPED),
+    Policy("sha512crypt of the most rounds that admit every password", 6, 75_356),
+    Policy("sha512crypt of one round more", 6, 75_357),
+    Policy("sha256crypt of the most rounds that admit every password", 5, 76_596),
+    Policy("sha256crypt of one round more", 5, 76_597),
+    Policy("sha512crypt of the most rounds", 6, 999_999_999),
+    Policy("md5crypt with the greatest number as rounds", 1, GREATEST_32),
+)
+INVALID = (
+    *INVALID_POLICIES,
+    *INVALID_ROUNDS,
+    *(InvalidPolicy(policy.title, policy.method, policy.rounds, Reason.COST) for policy in CLAMPED),
+)
+# The cost of a new hash of these lengths is a budget, and so are the numbers beside it.
+LENGTHS_OF_BUDGETS = (0, 8, 64, 65, 169, 1023, 1024)
+TOO_LONG = (LONGEST_PASSWORD + 1, GREATEST_32 + 1, GREATEST_32 + 9, GREATEST)
+LENGTHS = (0, 64, 169, LONGEST_PASSWORD, *TOO_LONG)
+RANDOM_BYTES = System(random_bytes=bytes(range(1, 25)))
+
+
+def budgets_of(policy: Policy) -> list[int]:
+    """None of its own, the least and the greatest, and budgets on each side of some costs."""
+    setting = recommended_setting(METHODS[policy.method], policy.rounds)
+    costs = [cost(setting, length) for length in LENGTHS_OF_BUDGETS]
+    beside = [price + step for price in costs for step in (-1, 0, 1)]
+    return [0, 1, GREATEST, *beside]
+
+
+def calls_by(policy: Policy, budgets: list[int]) -> list[Call]:
+    """Both calls with each budget and each length."""
+    calls: list[Call] = []
+    for budget in budgets:
+        calls.append(Limit(policy.method, policy.rounds, budget))
+        calls += [Rounds(length, policy.method, policy.rounds, budget) for length in LENGTHS]
+    return calls
+
+
+@pytest.mark.parametrize("policy", VALID, ids=str)
+def test_each_side_of_a_limit_is_reported(driver: Driver, policy: Policy) -> None:
+    driver.assert_by_the_rules(calls_by(policy, budgets_of(policy)))
+
+
+def test_calls_in_eight_threads_report_as_in_one(driver: Driver) -> None:
+    calls = [call for policy in VALID for call in calls_by(policy, budgets_of(policy))]
+    calls += [call for policy in INVALID for call in calls_by(policy, [0, GREATEST])]
+    driver.assert_by_the_rules(calls, threads=8)
+
+
+@pytest.mark.parametrize("policy", VALID, ids=str)
+def test_a_budget_has_room_for_the_longest_password_whose_hash_costs_no_more(
+    driver: Driver, policy: Policy
+) -> None:
+    """Where the costs of a length and of the next one differ."""
+    setting = recommended_setting(METHODS[policy.method], policy.rounds)
+    for length in (0, 8, 64, 168):
+        budget = cost(setting, length + 1) - 1
+        if cost(setting, length) <= budget:
+            call = Limit(policy.method, policy.rounds, budget)
+            driver.assert_answer(call, result=1, reason=Reason.DONE, length=length, cost=budget)
+
+
+@pytest.mark.parametrize("policy", VALID, ids=str)
+def test_a_budget_without_room_for_the_empty_password_is_reported(
+    driver: Driver, policy: Policy
+) -> None:
+    setting = recommended_setting(METHODS[policy.method], policy.rounds)
+    budget = cost(setting, 0) - 1
+    call = Limit(policy.method, policy.rounds, budget)
+    driver.assert_answer(call, result=0, reason=Reason.OVER_BUDGET, length=0, cost=budget, rounds=0)
+
+
+@pytest.mark.parametrize("policy", INVALID, ids=str)
+def test_an_invalid_policy_has_no_limit_and_no_rounds(
+    driver: Driver, policy: InvalidPolicy
+) -> None:
+    for budget in (0, 1, 8, 9, 10, GREATEST):
+        calls: list[Call] = [Limit(policy.method, policy.rounds, budget)]
+        calls += [
+            Rounds(length, policy.method, policy.rounds, budget) for length in (0, LONGEST_PASSWORD)
+        ]
+        for answer in driver.assert_by_the_rules(calls):
+            assert (answer.result, answer.reason) == (0, policy.reason)
+            assert (answer.length, answer.cost, answer.rounds) == (0, 0, 0)
+
+
+@pytest.mark.parametrize("policy", [RECOMMENDED, *INVALID], ids=str)
+@pytest.mark.parametrize("length", [pytest.param(length, id=f"{length}") for length in TOO_LONG])
+def test_no_policy_has_rounds_for_a_password_longer_than_any(
+    driver: Driver, length: int, policy: Policy
+) -> None:
+    call = Rounds(length, policy.method, policy.rounds)
+    driver.assert_answer(call, result=0, reason=Reason.PASSWORD_TOO_LONG, cost=0, rounds=0)
+
+
+@pytest.mark.parametrize("number", [5, 6], ids=["sha256crypt", "sha512crypt"])
+@pytest.mark.parametrize("length", [0, 169, 1024], ids=["no byte", "169 bytes", "1024 bytes"])
+def test_the_fewest_rounds_need_a_budget_of_their_cost(
+    driver: Driver, length: int, number: int
+) -> None:
+    method = method_of(number, 1000, are_clamped=False)
+    least = cost(recommended_setting(method, 1000), length)
+    of_policy = cost(recommended_setting(method, 0), length)
+    driver.assert_answer(
+        Rounds(length, number, 0, least), result=1, reason=Reason.DONE, cost=least, rounds=1000
+    )
+    driver.assert_answer(
+        Rounds(length, number, 0, least - 1),
+        result=0,
+        reason=Reason.OVER_BUDGET,
+        cost=of_policy,
+        rounds=0,
+    )
+
+
+@pytest.mark.parametrize(
+    ("length", "rounds"),
+    [
+        pytest.param(168, 656_000, id="168 bytes with the recommended rounds"),
+        pytest.param(200, 528_906, id="200 bytes with fewer"),
+        pytest.param(1024, 118_822, id="1024 bytes with fewer"),
+    ],
+)
+def test_a_hash_with_the_reported_rounds_is_made_and_gets_in_within_the_limit(
+    driver: Driver, length: int, rounds: int
+) -> None:
+    """As docs/FORMATS.md says; whoever needs fewer rounds gives the limit as a budget."""
+    password = b"a" * length
+    driver.assert_answer(Rounds(length, 6), result=1, rounds=rounds)
+    limit = driver.answers([Limit(6)])[0].cost
+    new = New(password, 6, rounds, limit)
+    made = new.expected(RANDOM_BYTES).out.strip('"').encode()
+    calls: list[Call] = [new, Login(password, made, 6, 0, limit)]
+    answers = driver.assert_by_the_rules(calls, RANDOM_BYTES, threads=2)
+    login_reason = Reason.FITS if rounds == 656_000 else Reason.OUTDATED
+    assert [answer.reason for answer in answers] == [Reason.DONE, login_reason]
