@@ -73,7 +73,7 @@ sub line {
         made => sub {
             return 'unknown method' if $n[0] !~ /^[1567]$/;
             return 'cost' if $n[0] == 7 && $n[1] !~ /^([06-9]|1[01])$/;
-            return 'cost' if $name =~ /new|audit|limit|rounds/ && $n[0] =~ /[56]/ && $n[1] && ($n[1] < 1000 || $n[1] > 999_999_999);
+            return 'cost' if $name ne 'needs_rehash' && $n[0] =~ /[56]/ && $n[1] && ($n[1] < 1000 || $n[1] > 999_999_999);
             $made = new_setting(@n[0, 1], salt_of($made_salt{ $n[0] }, $name eq 'setting' ? @n[2 .. 4] : @words ? @words : (0) x 3));
             $setting //= $made;
             return '';
