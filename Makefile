@@ -110,13 +110,9 @@ libmkpasswd.a libmkpasswd.so.2 pam_mkpasswd.so: %: $(OWN)/% build/cpu
 	cp $< $@
 
 # One object of the proved calls, and the few lines of C that draw a salt, allocate and wipe. It
-# offers what the version script does. The calls in c/calls.c have the names that these proved ones
-# had.
-PROVED = $(foreach call,verify login hash new_from, \
-	--redefine-sym mkpasswd_$(call)=mkpasswd_proved_$(call))
-
+# offers what the version script does.
 build/%/mkpasswd.o: build/%/libcrypt_c.a c/calls.c c/heap.c c/mkpasswd.h c/libmkpasswd.map
-	cd $(@D) && $(TOOLS)ar x libcrypt_c.a crypt_c.o && $(TOOLS)objcopy $(PROVED) crypt_c.o
+	cd $(@D) && $(TOOLS)ar x libcrypt_c.a crypt_c.o
 	$(COMPILE) -DKEEPS=0 -fPIC -Ic -r -nostdlib $(LEVEL) -o $@ $(@D)/crypt_c.o c/calls.c c/heap.c
 	sed -n 's/^ *\(mkpasswd_[a-z_]*\);$$/\1/p' c/libmkpasswd.map > $(@D)/calls
 	$(TOOLS)objcopy --keep-global-symbols=$(@D)/calls $@

@@ -1,6 +1,6 @@
-/* The calls of mkpasswd.h that hash. Each calls the proved function of its name, which the Makefile renames to
- * mkpasswd_proved_*, and wipes the stack that it used: there lay the password, and what was computed from it. heap.c wipes
- * memory. What the proved function returned and wrote is what the call returns and leaves.
+/* The calls of mkpasswd.h that hash. Each calls the proved function mkpasswd_proved_* of its name, and wipes the stack that it
+ * used: there lay the password, and what was computed from it. heap.c wipes memory. What the proved function returned and wrote
+ * is what the call returns and leaves.
  *
  * mkpasswd_new also draws three words of the system, since a proved call of the library has no device to draw from. Without
  * words mkpasswd_proved_new_from reports the first refusal that comes before them, or that there are none. A trial without

@@ -203,9 +203,8 @@ MKPASSWD_EXPORT MKPASSWD_CHECKED MKPASSWD_NONNULL(8) int32_t mkpasswd_login(cons
  * bytes are enough. `rounds` are 0, as recommended, or for SHA-crypt 1000 to 999999999, and for scrypt 6 to 11, for
  * N = 2^(rounds+7), r = 32 and p = 1. md5crypt ignores them.
  *
- * Other rounds are refused, here, by mkpasswd_login() and by mkpasswd_audit(). The formats clamp those of SHA-crypt, and so do
- * the command and all other calls; but a service whose rounds are 12, as bcrypt's may be, should notice before it stores a
- * hash that is cheap to guess. */
+ * Every call refuses other rounds but mkpasswd_needs_rehash(), which like the formats and the command clamps those of SHA-crypt:
+ * a service whose rounds are 12, as bcrypt's may be, should notice before it stores a hash that is cheap to guess. */
 MKPASSWD_EXPORT MKPASSWD_CHECKED MKPASSWD_NONNULL(6) MKPASSWD_NONNULL(8) MKPASSWD_WRITES(6, 7)
 int32_t mkpasswd_new(const uint8_t *password, size_t password_len, uint32_t method, uint32_t rounds, uint64_t budget,
     uint8_t *out, size_t out_len, struct mkpasswd_report *report) MKPASSWD_READS(password, 1, 2);
@@ -262,7 +261,7 @@ int32_t mkpasswd_hash(const uint8_t *password, size_t password_len, const uint8_
     MKPASSWD_READS(password, 1, 2) MKPASSWD_READS(setting, 3, 4);
 
 /* Puts a setting into `out` whose salt is made from three random words of the caller; method and rounds are those of
- * mkpasswd_new(), but those of SHA-crypt are clamped. It is for tests and for systems with a random source of their own. */
+ * mkpasswd_new(). It is for tests and for systems with a random source of their own. */
 MKPASSWD_EXPORT MKPASSWD_CHECKED MKPASSWD_NONNULL(6) MKPASSWD_NONNULL(8) MKPASSWD_WRITES(6, 7)
 int32_t mkpasswd_setting(uint32_t method, uint32_t rounds, uint64_t first, uint64_t second, uint64_t third, uint8_t *out,
     size_t out_len, struct mkpasswd_report *report);

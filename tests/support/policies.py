@@ -28,7 +28,7 @@ class InvalidPolicy(Policy):
 
 
 RECOMMENDED = Policy("sha512crypt as recommended", 6, 0)
-# The formats clamp rounds of SHA-crypt, and so do mkpasswd_setting and mkpasswd_needs_rehash.
+# The formats clamp rounds of SHA-crypt, and so does mkpasswd_needs_rehash, alone of the calls.
 CLAMPED = (
     Policy("sha512crypt of 10 rounds", 6, 10),
     Policy("sha512crypt of the most rounds there could be", 6, GREATEST_32),

@@ -1,11 +1,11 @@
 -- The rounds of a scheme make it again, those of a fitted scheme too.
-use Rattle.std.proofs.Common.{◌≡◌, ◌==◌, ◌<◌, ◌≤◌, ◌∙◌, ℕ, Bool, Option, Some, None, true, false, nat_le, if◌then◌else◌, inl, inr, refl, ap, sym, arith}
+use Rattle.std.proofs.Common.{◌≡◌, ◌==◌, ◌<◌, ◌≤◌, ◌∙◌, ℕ, Bool, Some, None, true, false, nat_le, if◌then◌else◌, inl, inr, refl, ap, sym, arith}
 use Rattle.crypt_core.specs.MadeSettings.{made_params, made_rounds, made_scheme, rounds_of}
-use Rattle.crypt_core.specs.Policies.{chosen_rounds, fewer_rounds, fitted, fitting_rounds, new_cost}
+use Rattle.crypt_core.specs.Policies.{chosen_rounds, fewer_rounds, fitted, new_cost}
 use Rattle.crypt_core.specs.Rounds.{clamped}
 use Rattle.crypt_core.specs.declared.method.Method.TheVariants as methods
 use Rattle.crypt_core.specs.declared.scheme.Scheme.{Scheme}
-use Rattle.crypt_core.specs.declared.scheme.Scheme.TheVariants.{Md5crypt, Shacrypt, Scrypt}
+use Rattle.crypt_core.specs.declared.scheme.Scheme.TheVariants.{Shacrypt, Scrypt}
 use Rattle.crypt_core.specs.declared.scheme.Sha.{Sha}
 use Rattle.crypt_core.specs.declared.scheme.Sha.TheVariants.{Sha256, Sha512}
 use Rattle.call_core.specs.Arguments.{IsSchemeMade, TakesNewRounds}

@@ -1,9 +1,10 @@
--- What a login promises follows from what `limit_of` and `log_in` ensure.
+-- What a login promises follows from what `log_in` ensures.
 use Rattle.std.proofs.Common.{◌≡◌, ◌<ℤ◌, ℕ, ℤ, pos, List, length, inl, inr, rules}
 use Rattle.crypt_core.specs.declared.scheme.Scheme.{Scheme}
 use Rattle.call_core.specs.Arguments.{IsSchemeMade, TakesNewRounds}
 use Rattle.call_core.specs.Checks.{IsDead, Opens}
 use Rattle.call_core.specs.Limits.{limit_by, limit_of, twice}
+use Rattle.call_core.specs.declared.limit.Limit.TheVariants.{Policy}
 use Rattle.call_core.specs.Logins.{JudgesStoredHash, LogsIn, TellsDead, TreatsFieldsAlike}
 use Rattle.call_core.specs.Reasons.{reason_row}
 use Rattle.call_core.specs.Rehashes.{IsOutdated}
@@ -11,7 +12,7 @@ use Rattle.call_core.specs.Reports.{Answers}
 use Rattle.call_core.specs.declared.reason.Reason.TheVariants.{Outdated}
 use Rattle.call_core.specs.declared.report.Report.{Report}
 use Rattle.call_core.proofs.LoginReports as reports
-use Rattle.call_core.proofs.PolicyLimits.{admitting, decoy_made, none_admitted, none_logs_in, none_opens}
+use Rattle.call_core.proofs.PolicyLimits.{admitting, decoy_made, limit_made, none_admitted, none_logs_in, none_opens}
 
 -- a call whose reason isn't above 0 returns 0
 refuses : (result : ℤ) (report : Report) → Answers result report → ¬ (pos 0 <ℤ report.reason) → result ≡ pos 0
@@ -19,6 +20,11 @@ refuses result report answers never = elim answers.0 [
   | inl one ↦ absurd (never (answers.1.0 one))
   | inr zero ↦ zero
 ]
+
+-- for a budget of 0 the limit is the policy's
+pub by_policy : (number rounds budget len : ℕ) (scheme : Scheme) → IsSchemeMade TakesNewRounds number rounds scheme → budget ≡ twice
+    → limit_of number rounds budget len ≡ limit_by scheme len
+by_policy number rounds budget len scheme makes policy = rw policy (limit_made number rounds scheme Policy len makes)
 
 -- a login judges the stored hash; the budget is its limit
 pub judges : (password field : List ℕ) (number rounds budget : ℕ) (result : ℤ) (report : Report) → Answers result report
@@ -37,28 +43,26 @@ judges password field number rounds budget result report answers logged shut dea
 }
 
 -- and by the limit of its budget it treats all fields alike
-pub treats_alike : (password field : List ℕ) (number rounds budget limit : ℕ) (result : ℤ) (report : Report) → Answers result report
-    → limit ≡ limit_of number rounds budget (length password)
-    → ((scheme : Scheme) → IsSchemeMade TakesNewRounds number rounds scheme → budget ≡ twice → limit ≡ limit_by scheme (length password))
-    → LogsIn password field number rounds limit report
-    → (pos 0 <ℤ report.reason → Opens password field limit)
+pub treats_alike : (password field : List ℕ) (number rounds budget : ℕ) (result : ℤ) (report : Report) → Answers result report
+    → LogsIn password field number rounds (limit_of number rounds budget (length password)) report
+    → (pos 0 <ℤ report.reason → Opens password field (limit_of number rounds budget (length password)))
     → TreatsFieldsAlike password field number rounds budget result report
-treats_alike password field number rounds budget limit result report answers is by_scheme logged lets_in =
+treats_alike password field number rounds budget result report answers logged lets_in =
     let len = length password in
+    let limit = limit_of number rounds budget len in
     let one_hash = reports.one_hash password field number rounds limit report logged in
     record {
-      one_hash = rw is at one_hash;
+      one_hash = one_hash;
       decoy_made = λ scheme made policy valid within never.
-          let admits = admitting scheme len limit (by_scheme scheme made policy) valid.0 within in
+          let admits = admitting scheme len limit (by_policy number rounds budget len scheme made policy) valid.0 within in
           decoy_made password scheme limit report.work admits within
           (reports.pretends password field number rounds limit scheme report made valid (rw (← admits) at never) logged);
-      decoy = λ scheme made valid.
-          rw (← is) (λ never. reports.pretends password field number rounds limit scheme report made valid never logged);
+      decoy = λ scheme made valid never. reports.pretends password field number rounds limit scheme report made valid never logged;
       alike = λ fault broken. reports.alike password field number rounds limit fault report broken logged;
       alike_rounds = λ refusal valid reading.
           reports.alike_rounds password field number rounds limit refusal report valid reading logged;
       alike_long = λ scheme made policy above.
-          let none = none_admitted scheme len limit (by_scheme scheme made policy) above in (
+          let none = none_admitted scheme len limit (by_policy number rounds budget len scheme made policy) above in (
             refuses result report answers (λ positive. none_opens password field (rw none at (lets_in positive))),
             none_logs_in password field number rounds scheme report.work made above (rw none at one_hash),
           );

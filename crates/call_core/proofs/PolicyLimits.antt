@@ -1,18 +1,23 @@
 -- The limit of a policy: it admits a new hash of each password that has up to 64 bytes, and a login by it makes its hash, or
 -- none for a password whose new hash is above it.
-use Rattle.std.proofs.Common.{◌≡◌, ◌≤◌, ◌<◌, ◌+◌, ◌*◌, ◌⊎◌, ℕ, Bool, List, [], ◌∷◌, length, nat_lt, false, true, inl, inr, ap, ◌∙◌, arith}
+use Rattle.std.proofs.Common.{◌≡◌, ◌≤◌, ◌<◌, ◌+◌, ◌*◌, ◌⊎◌, ℕ, Bool, List, [], ◌∷◌, length, nat_lt, false, true, inl, inr, refl, ap, sym, ◌∙◌, arith}
 use Rattle.std.specs.Prelude.{MatchBool, ◌||◌, if◌then◌else◌}
+use Rattle.std.specs.Option.{option_map_or}
+use Rattle.std.proofs.lemmas.Bool.Decides.{nat_tests}
 use Rattle.std.proofs.Math.Nat.{mul-le-mul_right}
 use Rattle.prims_core.specs.Work.{no_work}
 use Rattle.prims_core.specs.declared.meter.Work.{Work}
 use Rattle.crypt_core.specs.Crypt.{IsAfterRefusedGrowth}
-use Rattle.crypt_core.specs.MadeSettings.{salted}
+use Rattle.crypt_core.specs.MadeSettings.{made_scheme, salted}
 use Rattle.crypt_core.specs.Methods.{method_row}
 use Rattle.crypt_core.specs.Passwords.{password_limit}
+use Rattle.crypt_core.specs.Policies.{chosen_rounds}
 use Rattle.crypt_core.specs.Rounds.{Rounds}
 use Rattle.crypt_core.specs.Schemes.{method_of}
 use Rattle.crypt_core.specs.Settings.{SettingValue, Spells, SpellsCost, SpellsRounds}
 use Rattle.crypt_core.specs.Work.{cost, cost_by, work}
+use Rattle.crypt_core.specs.declared.method.Method.{Method}
+use Rattle.crypt_core.specs.declared.method.Method.TheVariants as methods
 use Rattle.crypt_core.specs.declared.scheme.Scheme.{Scheme}
 use Rattle.crypt_core.specs.declared.scheme.Scheme.TheVariants.{Md5crypt, Shacrypt, Scrypt}
 use Rattle.crypt_core.specs.declared.scheme.Sha.TheVariants.{Sha256, Sha512}
@@ -20,19 +25,50 @@ use Rattle.crypt_core.proofs.MadeSaltLemmas.{length-made_salt}
 use Rattle.crypt_core.proofs.WorkBounds.{longest_of_64}
 use Rattle.call_core.specs.Arguments.{IsSchemeMade, TakesNewRounds}
 use Rattle.call_core.specs.Checks.{Opens}
-use Rattle.call_core.specs.Limits.{limit_by, new_cost, policy_limit}
+use Rattle.call_core.specs.Limits.{allowance, limit_by, limit_bytes, limit_in, method_limit, new_cost, policy_limit, takes_new_rounds}
+use Rattle.call_core.specs.declared.limit.Limit.{Limit}
+use Rattle.call_core.specs.declared.limit.Limit.TheVariants.{Policy, Bytes}
 use Rattle.call_core.specs.Logins.{IsHashWork, IsLoginWork, decoy}
 use Rattle.call_core.proofs.MadeSchemes.{made_once}
+
+-- ---- The limit of a call
+
+taken : (method : Method) (rounds : ℕ) → TakesNewRounds method rounds → takes_new_rounds method rounds ≡ true
+taken methods.Md5crypt rounds takes = refl
+taken methods.Sha256crypt rounds takes = grind (arith, nat_tests, takes)
+taken methods.Sha512crypt rounds takes = grind (arith, nat_tests, takes)
+taken methods.Scrypt rounds takes = grind (arith, nat_tests, takes)
+
+-- by a method's number and rounds it is that by the scheme that they make
+pub limit_made : (number rounds : ℕ) (scheme : Scheme) (limit : Limit) (len : ℕ) → IsSchemeMade TakesNewRounds number rounds scheme
+    → limit_in number rounds limit len ≡ allowance limit scheme len
+limit_made number rounds scheme (Bytes budget) len makes = refl
+limit_made number rounds scheme Policy len (method, named, takes, is) =
+    let found : limit_in number rounds Policy len ≡ method_limit method rounds len =
+    ap (λ made. option_map_or (λ (m : Method). method_limit m rounds len) made 0) named in
+    let own : method_limit method rounds len ≡ limit_by (made_scheme method (chosen_rounds method rounds)) len =
+    ap (λ (takes : Bool). if takes then limit_by (made_scheme method (chosen_rounds method rounds)) len else 0) (taken method rounds takes) in
+    found ∙ own ∙ ap (λ (s : Scheme). limit_by s len) (sym is)
+
+-- for a password whose new hash is within the policy's limit, that is the limit
+pub admitting : (scheme : Scheme) (len limit : ℕ) → limit ≡ limit_by scheme len → len ≤ password_limit → new_cost scheme len ≤ policy_limit scheme
+    → limit ≡ policy_limit scheme
+admitting scheme len limit is short within =
+    let few : nat_lt password_limit len ≡ false = grind (arith, short) in
+    let below : nat_lt (policy_limit scheme) (new_cost scheme len) ≡ false = grind (arith, within) in
+    rw (few, below) at is
+
+-- for a password that is within the limit it is the limit
+pub limit_used : (number rounds : ℕ) (scheme : Scheme) (limit : Limit) (len : ℕ) → IsSchemeMade TakesNewRounds number rounds scheme
+    → len ≤ password_limit → new_cost scheme len ≤ limit_bytes limit scheme → limit_in number rounds limit len ≡ limit_bytes limit scheme
+limit_used number rounds scheme (Bytes budget) len makes short within = refl
+limit_used number rounds scheme Policy len makes short within =
+    admitting scheme len (limit_in number rounds Policy len) (limit_made number rounds scheme Policy len makes) short within
 
 -- ---- It admits new hashes
 
 less_than_of_64 : (scheme : Scheme) (len : ℕ) → len ≤ 64 → new_cost scheme len ≤ new_cost scheme 64
 less_than_of_64 scheme len short = longest_of_64 scheme len (method_row (method_of scheme)).made_salt_length short
-
-pub short_admitted : (scheme : Scheme) (len : ℕ) → len ≤ 64 → new_cost scheme len ≤ limit_by scheme len
-short_admitted scheme len short =
-    let less = less_than_of_64 scheme len short in
-    grind (arith, less)
 
 pub empty_admitted : (scheme : Scheme) → new_cost scheme 0 ≤ policy_limit scheme
 empty_admitted scheme =
@@ -43,15 +79,7 @@ empty_admitted scheme =
 pub salted-cost : (scheme : Scheme) (numbers : List ℕ) (len : ℕ) → cost (salted scheme numbers) len ≡ new_cost scheme len
 salted-cost scheme numbers len = ap (cost_by scheme len) (length-made_salt numbers (method_row (method_of scheme)).made_salt_length)
 
--- for a password whose new hash is within the policy's limit, that is the limit
-pub admitting : (scheme : Scheme) (len limit : ℕ) → limit ≡ limit_by scheme len → len ≤ password_limit → new_cost scheme len ≤ policy_limit scheme
-    → limit ≡ policy_limit scheme
-admitting scheme len limit is short within =
-    let few : nat_lt password_limit len ≡ false = grind (arith, short) in
-    let below : nat_lt (policy_limit scheme) (new_cost scheme len) ≡ false = grind (arith, within) in
-    rw (few, below) at is
-
--- and the decoy is made
+-- by a limit that admits it the decoy is made
 pub decoy_made : (password : List ℕ) (scheme : Scheme) (limit : ℕ) (done : Work) → limit ≡ policy_limit scheme
     → new_cost scheme (length password) ≤ policy_limit scheme → IsHashWork password (decoy scheme) limit done
     → (done ≡ work password (decoy scheme)) ⊎ IsAfterRefusedGrowth no_work scheme done

@@ -31,6 +31,12 @@ pub without_numbers : (password : List ℕ) (number rounds : ℕ) (numbers : Lis
 without_numbers password number rounds numbers budget room scheme admitted made is makes missing e fails =
     inl (is, inl (scheme, makes, rw missing (rw e at fails)))
 
+pub with_numbers : (password : List ℕ) (number rounds : ℕ) (numbers : List ℕ) (budget room : ℕ) (scheme : Scheme)
+    (made : Result (List ℕ × Report) Report) → IsPassword password → IsSchemeMade TakesNewRounds number rounds scheme
+    → (length numbers == 3) ≡ true → MakesHash password (salted scheme numbers) budget room made
+    → MakesHashAnew password number rounds numbers budget room made
+with_numbers password number rounds numbers budget room scheme made is makes drawn hashed = inl (is, inl (scheme, makes, rw drawn hashed))
+
 -- ---- What is put
 
 fails_at : (old : List ℕ) (made : Result (List ℕ × Report) Report) (report : Report) (new : List ℕ) (admitted : Result ℕ Report)

@@ -44,14 +44,24 @@ takes_new_rounds methods.Scrypt rounds = (rounds == 0) || (nat_le 6 rounds && na
 abbrev pub method_limit : Method → ℕ → ℕ → ℕ
 method_limit method rounds len = if takes_new_rounds method rounds then limit_by (made_scheme method (chosen_rounds method rounds)) len else 0
 
--- limit_of number rounds budget len: the budget; for `twice` the limit of the policy, or 0 if no method has the number.
-abbrev pub limit_of : ℕ → ℕ → ℕ → ℕ → ℕ
-limit_of number rounds budget len =
-    if budget == twice then option_map_or (λ (method : Method). method_limit method rounds len) (method_numbered number) 0 else budget
+-- limit_in number rounds limit len: the most that a login or a new hash may cost, of a password of this length: the budget, or
+-- the limit of the policy, or 0 if no method has the number.
+abbrev pub limit_in : ℕ → ℕ → Limit → ℕ → ℕ
+limit_in number rounds Policy len = option_map_or (λ (method : Method). method_limit method rounds len) (method_numbered number) 0
+limit_in number rounds (Bytes budget) len = budget
 
 -- meant budget: the limit that a budget stands for.
 abbrev pub meant : ℕ → Limit
 meant budget = if budget == twice then Policy else Bytes budget
+
+-- limit_of number rounds budget len: the same by a budget; for `twice` it is the limit of the policy.
+abbrev pub limit_of : ℕ → ℕ → ℕ → ℕ → ℕ
+limit_of number rounds budget len = limit_in number rounds (meant budget) len
+
+-- allowance limit scheme len: the same by a policy whose new hashes have this scheme.
+abbrev pub allowance : Limit → Scheme → ℕ → ℕ
+allowance Policy scheme len = limit_by scheme len
+allowance (Bytes budget) scheme len = budget
 
 -- limit_bytes limit scheme: the limit in bytes digested and mixed, by a policy whose new hashes have this scheme.
 abbrev pub limit_bytes : Limit → Scheme → ℕ

@@ -1,10 +1,10 @@
 -- The bound on the work of a hash, and a new setting, for C and for a web page alike.
 use Rattle.std.specs.Prelude.{◌≡◌, ℕ, nat_lt, MatchBool, List, [], length}
 use Rattle.prims_core.specs.Work.{no_work}
-use Rattle.crypt_core.specs.MadeSettings.{TakesRounds, salted}
+use Rattle.crypt_core.specs.MadeSettings.{salted}
 use Rattle.crypt_core.specs.Settings.{canonical_text}
 use Rattle.crypt_core.specs.Work.{cost, work_bound}
-use Rattle.call_core.specs.Arguments.{OnLength, OnScheme, OnSetting, Refuses}
+use Rattle.call_core.specs.Arguments.{OnLength, OnScheme, OnSetting, Refuses, TakesNewRounds}
 use Rattle.call_core.specs.Reports.{Leaves, refused, reported, token}
 use Rattle.call_core.specs.declared.reason.Reason.TheVariants.{Done}
 use Rattle.call_core.specs.declared.reason.Refusal.TheVariants.{TooFewBytes}
@@ -20,7 +20,7 @@ Bounds len stored report =
 -- the rounds are refused, or the capacity is too small.
 abbrev pub PutsSetting : ℕ → ℕ → List ℕ → List ℕ → Report → List ℕ → Type 0
 PutsSetting number rounds numbers old report new =
-    OnScheme TakesRounds number rounds (λ refusal. Leaves (refused refusal 0) (token []) old report new) (λ scheme.
+    OnScheme TakesNewRounds number rounds (λ refusal. Leaves (refused refusal 0) (token []) old report new) (λ scheme.
     let text = canonical_text (salted scheme numbers) in
     MatchBool (nat_lt (length text) (length old))
     (Leaves (reported Done (length text) 0 no_work) text old report new)

@@ -1,11 +1,11 @@
 //! The limit on the cost of a login and of a new hash: the budget of the call, or one that its method and rounds give. Nothing
 //! here hashes or allocates.
-ghost use Rattle.std.specs.Prelude.{◌≡◌, ◌≢◌, ◌≤◌, ◌<ℤ◌, pos};
+ghost use Rattle.std.specs.Prelude.{◌≡◌, ℕ, ◌≤◌, ◌<ℤ◌, pos};
 ghost use Rattle.crypt_core.specs.Passwords.{password_limit};
 ghost use Rattle.crypt_core.specs.Policies.{NeverFits};
 ghost use Rattle.crypt_core.specs.declared.scheme.Scheme.{Scheme as Made};
 ghost use Rattle.call_core.specs.Arguments.{IsSchemeMade, TakesNewRounds};
-ghost use Rattle.call_core.specs.Limits.{AreFitted, Fits, Limits, limit_by, limit_bytes, limit_of, meant, new_cost, twice};
+ghost use Rattle.call_core.specs.Limits.{AreFitted, Fits, Limits, allowance, limit_by, limit_bytes, limit_in, meant};
 
 use crate::reading::new_scheme_of;
 use crate::reason::Refusal;
@@ -46,12 +46,27 @@ impl Limit {
             Limit::Bytes(budget) => budget,
         }
     }
+
+    /// Returns the most that a hash of a password of `password_len` bytes may cost, by a policy whose new hashes have the scheme. If
+    /// the limit is the policy's, and such a new hash would be above it, it is 0, which admits no hash.
+    ///
+    /// Precondition: `password_len` is at most [`PASSWORD_LIMIT`].
+    pub(crate) fn allowance(self, scheme: &Scheme, password_len: usize) -> u64
+        requires { password_len ≤ password_limit }
+        ensures { result ≡ allowance self scheme.now password_len }
+    {
+        match self {
+            Limit::Policy => policy_allowance(scheme, password_len),
+            Limit::Bytes(budget) => budget,
+        }
+    }
 }
 
 /// Reports the limit, the length of the longest password whose new hash with the method and the rounds is within it, and the
 /// rounds, which for 0 are the recommended ones. If no new hash is within the limit, it is `OverBudget`, with the limit.
 pub fn report_limit(method: u32, rounds: u32, limit: Limit) -> Report
     ensures limits { Limits method rounds limit result }
+    ensures used { (len : ℕ) → pos 0 <ℤ result.reason → len ≤ result.length → limit_in method rounds limit len ≡ result.cost }
     ensures reserved { result.reserved ≡ 0 }
 {
     let scheme = match new_scheme_of(method, rounds) {
@@ -91,34 +106,13 @@ pub fn report_rounds(password_len: usize, method: u32, rounds: u32, limit: Limit
     }
 }
 
-/// Returns the limit on the cost of a hash, for a password of `password_len` bytes.
-///
-/// It is the budget. A budget of 0 stands for twice what a new hash with the method and the rounds costs for a password of
-/// 64 bytes, and at least 150000000. For a password whose new hash would be above that, and for a method and rounds that new
-/// hashes can't have, it is 0, which admits no hash.
-pub fn limit_of(method: u32, rounds: u32, budget: u64, password_len: usize) -> u64
-    ensures limit { result ≡ limit_of method rounds budget password_len }
-    ensures given { budget ≢ twice → result ≡ budget }
-    ensures by_scheme { (scheme : Made) → IsSchemeMade TakesNewRounds method rounds scheme → budget ≡ twice
-        → result ≡ limit_by scheme password_len }
-    ensures admits { (scheme : Made) → IsSchemeMade TakesNewRounds method rounds scheme → budget ≡ twice
-        → password_len ≤ 64 → new_cost scheme password_len ≤ result }
-{
-    if budget != TWICE {
-        return budget;
-    }
-    let Ok(scheme) = new_scheme_of(method, rounds) else {
-        return 0;
-    };
-    limit_by(&scheme, password_len)
-}
-
-// Returns the limit of the policy, or 0 for a password that is too long or whose new hash would be above it.
-fn limit_by(scheme: &Scheme, password_len: usize) -> u64
+// Returns the limit of the policy, or 0 if a new hash of a password of this length would be above it.
+fn policy_allowance(scheme: &Scheme, password_len: usize) -> u64
+    requires { password_len ≤ password_limit }
     ensures { result ≡ limit_by scheme.now password_len }
 {
     let limit = scheme.policy_limit();
-    if password_len > PASSWORD_LIMIT || scheme.new_cost(password_len) > limit {
+    if scheme.new_cost(password_len) > limit {
         return 0;
     }
     limit

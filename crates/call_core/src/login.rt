@@ -8,11 +8,13 @@ ghost use Rattle.crypt_core.specs.Work.{cost};
 ghost use Rattle.crypt_core.specs.declared.scheme.Scheme.{Scheme as Made};
 ghost use Rattle.call_core.specs.Arguments.{IsSchemeMade, TakesNewRounds};
 ghost use Rattle.call_core.specs.Checks.{IsDead, NeedsNoMemory, Opens};
+ghost use Rattle.call_core.specs.Limits.{limit_in};
 ghost use Rattle.call_core.specs.Logins.{IsHashWork, IsMiss, IsUncheckable, LogsIn, TellsDead};
 ghost use Rattle.call_core.specs.Reasons.{reason_row};
 ghost use Rattle.call_core.specs.Rehashes.{IsOutdated};
 
 use crate::budget::cost_within;
+use crate::limit::Limit;
 use crate::reading::read_request;
 use crate::reason::{Reason, Refusal};
 use crate::report::Report;
@@ -24,7 +26,7 @@ use crypt_core::setting::Setting;
 use crypt_core::stored::StoredHash;
 use prims_core::meter::Meter;
 
-/// Compares the password's hash with the stored one, if the budget allows it, or else makes and drops a hash like a new
+/// Compares the password's hash with the stored one, if the limit allows it, or else makes and drops a hash like a new
 /// one. The reason tells whether a new hash with the method and the rounds would replace the stored one.
 pub fn log_in<M: Memory>(
     memory: &M,
@@ -32,42 +34,42 @@ pub fn log_in<M: Memory>(
     field: &[u8],
     method: u32,
     rounds: u32,
-    budget: u64,
+    limit: Limit,
     meter: &mut Meter,
 ) -> Report
     requires new { meter.old ≡ no_work }
-    ensures logs_in { LogsIn password.now field.now method rounds budget result }
-    ensures lets_in { pos 0 <ℤ result.reason → Opens password.now field.now budget }
-    ensures opens { (scheme : Made) → IsSchemeMade TakesNewRounds method rounds scheme → Opens password.now field.now budget
+    ensures logs_in { LogsIn password.now field.now method rounds (limit_in method rounds limit (length password.now)) result }
+    ensures lets_in { pos 0 <ℤ result.reason → Opens password.now field.now (limit_in method rounds limit (length password.now)) }
+    ensures opens { (scheme : Made) → IsSchemeMade TakesNewRounds method rounds scheme → Opens password.now field.now (limit_in method rounds limit (length password.now))
         → (pos 0 <ℤ result.reason)
         ⊎ ((result.reason ≡ (reason_row (Reason.Refused Refusal.OutOfMemory)).0) × ¬ NeedsNoMemory field.now) }
     ensures shut { IsDead field.now → ¬ (pos 0 <ℤ result.reason) }
-    ensures dead { TellsDead password.now field.now method rounds budget result }
+    ensures dead { TellsDead password.now field.now method rounds (limit_in method rounds limit (length password.now)) result }
     ensures outdated { result.reason ≡ (reason_row Reason.Outdated).0 → IsOutdated field.now method rounds }
     ensures replaced { pos 0 <ℤ result.reason → IsOutdated field.now method rounds
         → result.reason ≡ (reason_row Reason.Outdated).0 }
-    ensures granted { (kept : SettingValue) → Spells field.now kept → cost kept (length password.now) ≤ budget
+    ensures granted { (kept : SettingValue) → Spells field.now kept → cost kept (length password.now) ≤ limit_in method rounds limit (length password.now)
         → allocates kept.scheme ≡ true → M.HasSome ⊎ ((¬ (pos 0 <ℤ result.reason)) × (result.work ≡ no_work)) }
     ensures granted_decoy { (scheme : Made) → IsSchemeMade TakesNewRounds method rounds scheme
-        → IsUncheckable password.now field.now budget → allocates scheme ≡ true → M.HasSome ⊎ (result.work ≡ no_work) }
-    ensures bytes { result.work.bytes ≤ budget }
+        → IsUncheckable password.now field.now (limit_in method rounds limit (length password.now)) → allocates scheme ≡ true → M.HasSome ⊎ (result.work ≡ no_work) }
+    ensures bytes { result.work.bytes ≤ limit_in method rounds limit (length password.now) }
     ensures counted { meter.new ≡ result.work }
     ensures reserved { result.reserved ≡ 0 }
 {
-    let (password, scheme) = match read_request(password, method, rounds) {
+    let request = match read_request(password, method, rounds, limit) {
         Ok(request) => request,
         Err(refused) => return refused,
     };
-    match checkable(&password, field, budget) {
+    match checkable(&request.password, field, request.limit) {
         Ok((stored, most)) => {
-            let fits = if stored.setting().scheme().is_replaced_by(&scheme) {
+            let fits = if stored.setting().scheme().is_replaced_by(&request.scheme) {
                 Reason::Outdated
             } else {
                 Reason::Fits
             };
             compare(
                 memory,
-                &password,
+                &request.password,
                 &stored,
                 most,
                 fits,
@@ -76,8 +78,15 @@ pub fn log_in<M: Memory>(
             )
         }
         Err(refused) => {
-            let decoy = Setting::salted(scheme, [0; 3]);
-            decline(memory, &password, &decoy, budget, refused, meter)
+            let decoy = Setting::salted(request.scheme, [0; 3]);
+            decline(
+                memory,
+                &request.password,
+                &decoy,
+                request.limit,
+                refused,
+                meter,
+            )
         }
     }
 }

@@ -1,14 +1,16 @@
 //! The hash of a password with a new setting.
-ghost use Rattle.std.specs.Prelude.{◌≡◌, ◌<ℤ◌, pos, [], take, IfOk};
+ghost use Rattle.std.specs.Prelude.{◌≡◌, ◌<ℤ◌, pos, [], length, take, IfOk};
 ghost use Rattle.prims_core.specs.Work.{no_work};
 ghost use Rattle.call_core.specs.Checks.{Opens};
 ghost use Rattle.call_core.specs.Hashes.{HashesAnew};
+ghost use Rattle.call_core.specs.Limits.{limit_in};
 ghost use Rattle.call_core.specs.Private.Hashes.{IsTold, MakesHashAnew};
 ghost use Rattle.call_core.specs.Rehashes.{Rehashes};
 ghost use Rattle.call_core.specs.Reports.{put, refused, token};
 
 use crate::budget::admit;
 use crate::hash::{hash_within, put_hashed};
+use crate::limit::Limit;
 use crate::reading::read_request;
 use crate::reason::Refusal;
 use crate::report::{Report, token};
@@ -26,14 +28,14 @@ pub fn put_new_hash<M: Memory>(
     method: u32,
     rounds: u32,
     numbers: &[u64],
-    budget: u64,
+    limit: Limit,
     out: &mut [u8],
     meter: &mut Meter,
 ) -> Report
     requires new { meter.old ≡ no_work }
-    ensures hashes { HashesAnew password.now method rounds budget numbers.now out.old result out.new }
+    ensures hashes { HashesAnew password.now method rounds (limit_in method rounds limit (length password.now)) numbers.now out.old result out.new }
     ensures locked { ¬ (pos 0 <ℤ result.reason) → out.new ≡ put (token []) out.old }
-    ensures opens { pos 0 <ℤ result.reason → Opens password.now (take result.length out.new) budget }
+    ensures opens { pos 0 <ℤ result.reason → Opens password.now (take result.length out.new) (limit_in method rounds limit (length password.now)) }
     ensures current { pos 0 <ℤ result.reason
         → Rehashes (take result.length out.new) method rounds (refused Refusal.Current 0) }
     ensures counted { meter.new ≡ result.work }
@@ -41,7 +43,7 @@ pub fn put_new_hash<M: Memory>(
 {
     let room = out.len();
     let hashed = new_hash_of(
-        memory, password, method, rounds, numbers, budget, room, meter,
+        memory, password, method, rounds, numbers, limit, room, meter,
     );
     put_hashed(hashed, token(b""), out)
 }
@@ -53,22 +55,30 @@ fn new_hash_of<M: Memory>(
     method: u32,
     rounds: u32,
     numbers: &[u64],
-    budget: u64,
+    limit: Limit,
     room: usize,
     meter: &mut Meter,
 ) -> Result<(Hashed, Report), Report>
     requires new { meter.old ≡ no_work }
-    ensures makes { MakesHashAnew password.now method rounds numbers.now budget room result }
-    ensures told { IsTold budget room meter.new result }
-    ensures opens { IfOk result (λ made. Opens password.now made.0 budget) }
+    ensures makes { MakesHashAnew password.now method rounds numbers.now (limit_in method rounds limit (length password.now)) room result }
+    ensures told { IsTold (limit_in method rounds limit (length password.now)) room meter.new result }
+    ensures opens { IfOk result (λ made. Opens password.now made.0 (limit_in method rounds limit (length password.now))) }
     ensures current { IfOk result (λ made. Rehashes made.0 method rounds (refused Refusal.Current 0)) }
 {
-    let (password, scheme) = read_request(password, method, rounds)?;
+    let request = read_request(password, method, rounds, limit)?;
     if numbers.len() == 3 {
-        let setting = Setting::salted(scheme, [numbers[0], numbers[1], numbers[2]]);
-        return hash_within(memory, &password, &setting, budget, room, meter);
+        let setting = Setting::salted(request.scheme, [numbers[0], numbers[1], numbers[2]]);
+        return hash_within(
+            memory,
+            &request.password,
+            &setting,
+            request.limit,
+            room,
+            meter,
+        );
     }
     // Neither the cost nor the length of a hash depends on the random numbers.
-    let most = admit(&password, &Setting::salted(scheme, [0; 3]), budget, room)?;
+    let setting = Setting::salted(request.scheme, [0; 3]);
+    let most = admit(&request.password, &setting, request.limit, room)?;
     Err(Report::refused(Refusal::NoRandomNumbers, most))
 }

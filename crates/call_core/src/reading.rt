@@ -1,5 +1,5 @@
 //! The scheme that a method's number and the rounds make, and the hash in a stored field, or the first refusal.
-ghost use Rattle.std.specs.Prelude.{◌≡◌, ◌<ℤ◌, pos, IfOk, IfErr, IsOk, IsOkAnd};
+ghost use Rattle.std.specs.Prelude.{◌≡◌, ◌<ℤ◌, pos, length, IfOk, IfErr, IsOk, IsOkAnd};
 ghost use Rattle.prims_core.specs.Work.{no_work};
 ghost use Rattle.crypt_core.specs.MadeSettings.{TakesRounds};
 ghost use Rattle.crypt_core.specs.Passwords.{IsPassword};
@@ -7,8 +7,10 @@ ghost use Rattle.crypt_core.specs.Settings.{SettingValue, Spells};
 ghost use Rattle.crypt_core.specs.StoredFields.{IsHashOf};
 ghost use Rattle.crypt_core.specs.declared.scheme.Scheme.{Scheme as Made};
 ghost use Rattle.call_core.specs.Arguments.{IsFieldRefusal, IsSchemeMade, IsSchemeReading, TakesNewRounds};
+ghost use Rattle.call_core.specs.Limits.{limit_in};
 ghost use Rattle.call_core.specs.Private.Hashes.{IsRequestRefused};
 
+use crate::limit::Limit;
 use crate::reason::Refusal;
 use crate::report::Report;
 use crypt_core::method::Method;
@@ -50,7 +52,18 @@ pub(crate) fn new_scheme_of(number: u32, rounds: u32) -> Result<Scheme, Refusal>
     }
 }
 
-/// Reads what a new hash is made of: a password, and a scheme by its method's number and the rounds.
+/// What a login and a new hash are asked for.
+#[derive(Drop)]
+pub(crate) struct Request {
+    pub(crate) password: Password,
+    /// The scheme of new hashes.
+    pub(crate) scheme: Scheme,
+    /// The most that a hash of the password may cost.
+    pub(crate) limit: u64,
+}
+
+/// Reads what a login or a new hash is asked for: a password, the scheme of new hashes by its method's number and the rounds,
+/// and a limit.
 ///
 /// # Errors
 ///
@@ -59,16 +72,23 @@ pub(crate) fn read_request(
     password: &[u8],
     number: u32,
     rounds: u32,
-) -> Result<(Password, Scheme), Report>
-    ensures password { IfOk result (λ request. (request.0 ≡ password.now) × IsPassword password.now) }
-    ensures scheme { IfOk result (λ request. IsSchemeMade TakesNewRounds number rounds request.1) }
+    limit: Limit,
+) -> Result<Request, Report>
+    ensures password { IfOk result (λ request. (request.password ≡ password.now) × IsPassword password.now) }
+    ensures scheme { IfOk result (λ request. IsSchemeMade TakesNewRounds number rounds request.scheme) }
+    ensures limit { IfOk result (λ request. request.limit ≡ limit_in number rounds limit (length password.now)) }
     ensures refused { IfErr result (IsRequestRefused password.now number rounds) }
     ensures idle { IfErr result (λ report. (¬ (pos 0 <ℤ report.reason)) × (report.work ≡ no_work) × (report.reserved ≡ 0)) }
     ensures admits { (scheme : Made) → IsPassword password.now → IsSchemeMade TakesNewRounds number rounds scheme → IsOk result }
 {
     let password = Password::new(password)?;
     let scheme = new_scheme_of(number, rounds)?;
-    Ok((password, scheme))
+    let limit = limit.allowance(&scheme, password.bytes().len());
+    Ok(Request {
+        password,
+        scheme,
+        limit,
+    })
 }
 
 /// Returns the stored hash in a field, read as [`StoredField::read`] does.

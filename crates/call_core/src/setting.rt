@@ -3,7 +3,7 @@ ghost use Rattle.std.specs.Prelude.{◌≡◌, ◌<ℤ◌, pos, []};
 ghost use Rattle.call_core.specs.Reports.{put, token};
 ghost use Rattle.call_core.specs.Settings.{PutsSetting};
 
-use crate::reading::scheme_of;
+use crate::reading::new_scheme_of;
 use crate::reason::{Reason, Refusal};
 use crate::report::{NO_WORK, Report, leave, token};
 use crypt_core::setting::Setting;
@@ -14,7 +14,7 @@ pub fn put_setting(method: u32, rounds: u32, numbers: [u64; 3], out: &mut [u8]) 
     ensures locked { ¬ (pos 0 <ℤ result.reason) → out.new ≡ put (token []) out.old }
     ensures reserved { result.reserved ≡ 0 }
 {
-    let scheme = match scheme_of(method, rounds) {
+    let scheme = match new_scheme_of(method, rounds) {
         Ok(scheme) => scheme,
         Err(refusal) => return leave(Report::from(refusal), out, token(b"")),
     };

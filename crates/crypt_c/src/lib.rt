@@ -6,8 +6,8 @@
 //! to the capacity of `out`.
 //!
 //! The report has the first refusal that applies, in this order: password, setting, method, rounds, budget, capacity,
-//! random numbers, memory. For a login and an audit method and rounds come before the field. [`mkpasswd_verify`],
-//! [`mkpasswd_login`] and [`mkpasswd_audit`] read a stored field: a locked one is `Locked` and an empty one `NoHash`, where the
+//! random numbers, memory. For a login and an audit method and rounds come before the field. [`mkpasswd_proved_verify`],
+//! [`mkpasswd_proved_login`] and [`mkpasswd_audit`] read a stored field: a locked one is `Locked` and an empty one `NoHash`, where the
 //! other calls report what is wrong with it as a setting. The calls share no state and start no threads, so many threads may
 //! call at once.
 #![tactic(auto)]
@@ -37,7 +37,7 @@ ghost use Rattle.call_core.specs.declared.reason.Refusal.TheVariants.{Current, O
 use call_core::audit::report_audit;
 use call_core::bound::report_bound;
 use call_core::hash::put_hash;
-use call_core::limit::{Limit, limit_of, report_limit, report_rounds};
+use call_core::limit::{Limit, report_limit, report_rounds};
 use call_core::login::log_in;
 use call_core::new_hash::put_new_hash;
 use call_core::reason::Reason;
@@ -66,7 +66,7 @@ use std::alloc::Global;
 /// - `Differs`: the password does not match.
 /// - `OutOfMemory`: scrypt could not allocate.
 #[unsafe(no_mangle)]
-pub extern "C" fn mkpasswd_verify(
+pub extern "C" fn mkpasswd_proved_verify(
     alloc: Global,
     password: &[u8],
     stored: &[u8],
@@ -86,7 +86,7 @@ pub extern "C" fn mkpasswd_verify(
     )
 }
 
-/// Returns 1 exactly if a new hash can have the method and the rounds, and [`mkpasswd_verify`] returns 1 within the same
+/// Returns 1 exactly if a new hash can have the method and the rounds, and [`mkpasswd_proved_verify`] returns 1 within the same
 /// limit, unless scrypt could not allocate. The reason then tells whether [`mkpasswd_needs_rehash`] would return 1.
 ///
 /// If the field has no setting, or one above the budget, the call hashes the password with the method, the rounds and a
@@ -110,7 +110,7 @@ pub extern "C" fn mkpasswd_verify(
 /// - `Dead`: no password matches the stored hash, because it is not whole. The work is that of `Differs`.
 /// - `OutOfMemory`: scrypt could not allocate for the stored hash.
 #[unsafe(no_mangle)]
-pub extern "C" fn mkpasswd_login(
+pub extern "C" fn mkpasswd_proved_login(
     alloc: Global,
     password: &[u8],
     field: &[u8],
@@ -128,7 +128,6 @@ pub extern "C" fn mkpasswd_login(
         result report.new }
     ensures treats_alike { TreatsFieldsAlike password.now field.now method rounds budget result report.new }
 {
-    let limit = limit_of(method, rounds, budget, password.len());
     tell(
         report,
         log_in(
@@ -137,7 +136,7 @@ pub extern "C" fn mkpasswd_login(
             field,
             method,
             rounds,
-            limit,
+            Limit::of(budget),
             &mut Meter::new(),
         ),
     )
@@ -151,7 +150,7 @@ pub extern "C" fn mkpasswd_login(
 ///
 /// The method is 1 for md5crypt, 5 for sha256crypt, 6 for sha512crypt or 7 for scrypt, as in their hashes. The rounds
 /// are those of `mkpasswd -R`, but 0 is the recommended ones. A budget of 0 is the limit of the policy, as for
-/// [`mkpasswd_login`], which accepts the hash for its password by the same method, rounds and budget, unless scrypt lacks
+/// [`mkpasswd_proved_login`], which accepts the hash for its password by the same method, rounds and budget, unless scrypt lacks
 /// memory. For the same method and rounds [`mkpasswd_needs_rehash`] does not report it as outdated.
 ///
 /// # Errors
@@ -163,7 +162,7 @@ pub extern "C" fn mkpasswd_login(
 /// - `NoRandomNumbers`: `numbers` does not have three.
 /// - `OutOfMemory`: scrypt could not allocate.
 #[unsafe(no_mangle)]
-pub extern "C" fn mkpasswd_new_from(
+pub extern "C" fn mkpasswd_proved_new_from(
     alloc: Global,
     password: &[u8],
     method: u32,
@@ -191,7 +190,7 @@ pub extern "C" fn mkpasswd_new_from(
             method,
             rounds,
             numbers,
-            limit_of(method, rounds, budget, password.len()),
+            Limit::of(budget),
             out,
             &mut Meter::new(),
         ),
@@ -277,8 +276,8 @@ pub extern "C" fn mkpasswd_limit(method: u32, rounds: u32, budget: u64, report: 
 /// the cost of that hash.
 ///
 /// They are the policy's own, if a hash with them is within the limit, or else fewer rounds of SHA-crypt, but as few as 1000 are
-/// enough. A caller gives them to [`mkpasswd_new_from`], with the limit that [`mkpasswd_limit`] reports as the budget, since fewer
-/// rounds have a lower limit of their own; and the same budget to [`mkpasswd_login`].
+/// enough. A caller gives them to [`mkpasswd_proved_new_from`], with the limit that [`mkpasswd_limit`] reports as the budget, since fewer
+/// rounds have a lower limit of their own; and the same budget to [`mkpasswd_proved_login`].
 ///
 /// # Errors
 ///
@@ -323,7 +322,7 @@ pub extern "C" fn mkpasswd_bound(stored: &[u8], password_len: usize, report: &mu
     tell(report, report_bound(password_len, stored))
 }
 
-/// Hashes a password with a setting, and writes the hash and a byte 0 to `out`. [`mkpasswd_verify`] accepts it for the
+/// Hashes a password with a setting, and writes the hash and a byte 0 to `out`. [`mkpasswd_proved_verify`] accepts it for the
 /// password within the budget, unless scrypt lacks memory.
 ///
 /// The token after a 0 is `*0`, or `*1` if the setting begins with `*0`.
@@ -335,7 +334,7 @@ pub extern "C" fn mkpasswd_bound(stored: &[u8], password_len: usize, report: &mu
 /// - `TooFewBytes`: the hash and the byte 0 do not fit into `out`.
 /// - `OutOfMemory`: scrypt could not allocate.
 #[unsafe(no_mangle)]
-pub extern "C" fn mkpasswd_hash(
+pub extern "C" fn mkpasswd_proved_hash(
     alloc: Global,
     password: &[u8],
     setting: &[u8],
@@ -360,7 +359,7 @@ pub extern "C" fn mkpasswd_hash(
 ///
 /// # Errors
 ///
-/// - `UnknownMethod`, `Cost`: no method has the number, or the method does not accept the rounds.
+/// - `UnknownMethod`, `Cost`: no method has the number, or the method does not accept the rounds, or would clamp them.
 /// - `TooFewBytes`: the setting and the byte 0 do not fit into `out`.
 #[unsafe(no_mangle)]
 pub extern "C" fn mkpasswd_setting(

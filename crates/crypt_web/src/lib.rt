@@ -32,7 +32,7 @@ ghost use Rattle.call_core.specs.Settings.{Bounds, PutsSetting};
 use call_core::audit::report_audit;
 use call_core::bound::report_bound;
 use call_core::hash::put_hash;
-use call_core::limit::{Limit, limit_of, report_limit, report_rounds};
+use call_core::limit::{Limit, report_limit, report_rounds};
 use call_core::login::log_in;
 use call_core::rehash::report_rehash;
 use call_core::report::{Report, tell};
@@ -126,7 +126,6 @@ pub extern "C" fn web_login(
         → allocates scheme ≡ true → report.new.work ≡ no_work }
     ensures bytes { report.new.work.bytes ≤ limit_of method rounds budget (length password.now) }
 {
-    let limit = limit_of(method, rounds, budget, password.len());
     tell(
         report,
         log_in(
@@ -135,7 +134,7 @@ pub extern "C" fn web_login(
             field,
             method,
             rounds,
-            limit,
+            Limit::of(budget),
             &mut Meter::new(),
         ),
     )
@@ -207,7 +206,7 @@ pub extern "C" fn web_hash(
 ///
 /// # Errors
 ///
-/// - `UnknownMethod`, `Cost`: no method has the number, or the method does not accept the rounds.
+/// - `UnknownMethod`, `Cost`: no method has the number, or the method does not accept the rounds, or would clamp them.
 /// - `TooFewBytes`: the setting and the byte 0 do not fit into `out`.
 #[unsafe(no_mangle)]
 pub extern "C" fn web_setting(

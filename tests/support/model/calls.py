@@ -611,7 +611,7 @@ class MakeSetting(CallWithOut):
     is_str: bool = False
 
     def judged(self, report: Report) -> Reason:
-        method = method_of(self.method, self.rounds, are_clamped=True)
+        method = method_of(self.method, self.rounds, are_clamped=False)
         salt = salt_of((self.first, self.second, self.third), method.drawn_salt)
         text = recommended_setting(method, self.rounds, salt).text
         self.require_room(len(text))

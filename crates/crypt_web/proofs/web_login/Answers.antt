@@ -1,6 +1,7 @@
-use Rattle.std.proofs.Common.{◌≡◌, Bool, false, true, refl, inl, inr, rules}
+use Rattle.std.proofs.Common.{◌≡◌, Bool, false, true, refl, inl, inr, rules, length}
 use Rattle.std.specs.Prelude.{◌<ℤ◌, pos}
 use Rattle.crypt_core.specs.Crypt.{allocates}
+use Rattle.call_core.specs.Limits.{limit_of}
 use Rattle.call_core.proofs.LoginPromises.{judges, treats_alike}
 use Rattle.crypt_web.proofs.web_login.Goals as goal
 
@@ -12,8 +13,8 @@ free true never = absurd (never refl)
 pub returns-clause-lets_in : goal.returns-clause-lets_in
 returns-clause-lets_in c = λ one.
     let positive : pos 0 <ℤ (c.log_in.result).reason = c.tell.ensures.positive.0 (search (rules, one)) in
-    let opened = (rw c.limit_of-limit.ensures.limit at c.log_in.ensures.lets_in) positive in
-    let granted = rw c.limit_of-limit.ensures.limit at c.log_in.ensures.granted in
+    let opened = (rw c.of.ensures at c.log_in.ensures.lets_in) positive in
+    let granted = rw c.of.ensures at c.log_in.ensures.granted in
     let kept = opened.1.0 in (
       opened,
       (
@@ -28,7 +29,7 @@ returns-clause-lets_in c = λ one.
 
 pub returns-clause-opens : goal.returns-clause-opens
 returns-clause-opens c = λ scheme made opens none.
-    let opened = rw c.limit_of-limit.ensures.limit at c.log_in.ensures.opens in
+    let opened = rw c.of.ensures at c.log_in.ensures.opens in
     elim (opened scheme made opens) [
       | inl positive ↦ search (rules, c.tell.ensures.positive.1 positive)
       | inr lacks ↦ absurd (lacks.1 none)
@@ -36,7 +37,7 @@ returns-clause-opens c = λ scheme made opens none.
 
 pub returns-clause-scrypt : goal.returns-clause-scrypt
 returns-clause-scrypt c = λ kept spells low needs.
-    let granted = rw c.limit_of-limit.ensures.limit at c.log_in.ensures.granted in
+    let granted = rw c.of.ensures at c.log_in.ensures.granted in
     elim (granted kept spells low needs) [
       | inl never ↦ absurd never
       | inr idle ↦
@@ -49,23 +50,23 @@ returns-clause-scrypt c = λ kept spells low needs.
 
 pub returns-clause-scrypt_decoy : goal.returns-clause-scrypt_decoy
 returns-clause-scrypt_decoy c = λ scheme made never needs.
-    let granted = rw c.limit_of-limit.ensures.limit at c.log_in.ensures.granted_decoy in
+    let granted = rw c.of.ensures at c.log_in.ensures.granted_decoy in
     elim (granted scheme made never needs) [
       | inl none ↦ absurd none
       | inr idle ↦ rw c.tell.ensures.told idle
     ]
 
 pub returns-clause-logs_in : goal.returns-clause-logs_in
-returns-clause-logs_in c = rw c.tell.ensures.told (rw c.limit_of-limit.ensures.limit at c.log_in.ensures.logs_in)
+returns-clause-logs_in c = rw c.tell.ensures.told (rw c.of.ensures at c.log_in.ensures.logs_in)
 
 pub returns-clause-judges : goal.returns-clause-judges
 returns-clause-judges c =
     let logged = c.log_in.ensures in
-    rw (c.tell.ensures.told, ← c.limit_of-limit.ensures.limit) (judges c.args.password.now c.args.field.now c.args.method c.args.rounds
-    c.limit_of-limit.result _ c.log_in.result (search rules) logged.logs_in logged.shut logged.dead logged.outdated logged.replaced)
+    let limit = limit_of c.args.method c.args.rounds c.args.budget (length c.args.password.now) in
+    rw c.tell.ensures.told (judges c.args.password.now c.args.field.now c.args.method c.args.rounds limit _ c.log_in.result (search rules)
+    (rw c.of.ensures at logged.logs_in) logged.shut (rw c.of.ensures at logged.dead) logged.outdated logged.replaced)
 
 pub returns-clause-treats_alike : goal.returns-clause-treats_alike
 returns-clause-treats_alike c =
-    rw c.tell.ensures.told (treats_alike c.args.password.now c.args.field.now c.args.method c.args.rounds c.args.budget c.limit_of-limit.result _
-    c.log_in.result (search rules) c.limit_of-limit.ensures.limit c.limit_of-limit.ensures.by_scheme c.log_in.ensures.logs_in
-    c.log_in.ensures.lets_in)
+    rw c.tell.ensures.told (treats_alike c.args.password.now c.args.field.now c.args.method c.args.rounds c.args.budget _
+    c.log_in.result (search rules) (rw c.of.ensures at c.log_in.ensures.logs_in) (rw c.of.ensures at c.log_in.ensures.lets_in))

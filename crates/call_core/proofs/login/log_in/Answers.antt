@@ -18,13 +18,13 @@ use Rattle.call_core.proofs.login.log_in.Goals.{then-is_replaced_by, else-is_rep
 pub returns-in-Err-checkable-clause-logs_in : goal.returns-in-Err-checkable-clause-logs_in
 returns-in-Err-checkable-clause-logs_in g c =
     let password = c.in-Ok.ensures.password in
-    declined c.args.password.now c.args.field.now c.args.method c.args.rounds c.args.budget c.in-Ok.request.1 _ _ password.1 c.in-Ok.ensures.scheme
-    (rw password.0 at c.in-Err-checkable.ensures.refused) (rw (password.0, c.salted-decoy.ensures) at c.decline.ensures.declines)
+    rw (← c.in-Ok.ensures.limit) (declined c.args.password.now c.args.field.now c.args.method c.args.rounds (c.in-Ok.request).limit (c.in-Ok.request).scheme _ _ password.1 c.in-Ok.ensures.scheme
+    (rw password.0 at c.in-Err-checkable.ensures.refused) (rw (password.0, c.salted-decoy.ensures) at c.decline.ensures.declines))
 
 pub returns-after-is_replaced_by-clause-logs_in : goal.returns-after-is_replaced_by-clause-logs_in
 returns-after-is_replaced_by-clause-logs_in g c =
     let kept = (c.in-Ok-checkable.stored).setting in
-    let scheme = c.in-Ok.request.1 in
+    let scheme = (c.in-Ok.request).scheme in
     let password = c.in-Ok.ensures.password in
     let found = c.in-Ok-checkable.ensures.found in
     let within = rw password.0 at c.in-Ok-checkable.ensures.within in
@@ -33,13 +33,13 @@ returns-after-is_replaced_by-clause-logs_in g c =
       | then-is_replaced_by w ↦ let e : is_replaced_by kept.scheme scheme ≡ true = cc in rw e w.fits-is
       | else-is_replaced_by w ↦ let e : is_replaced_by kept.scheme scheme ≡ false = cc in rw e w.fits-is
     ] in
-    compared c.args.password.now c.args.field.now c.args.method c.args.rounds c.args.budget scheme kept c.miss_of.result _ password.1 c.in-Ok.ensures.scheme
-    found.spells (omega (arith, within)) (rw found.is_text at c.miss_of.ensures.miss) (rw (password.0, found.is_text, fits) at c.compare.ensures.compares)
+    rw (← c.in-Ok.ensures.limit) (compared c.args.password.now c.args.field.now c.args.method c.args.rounds (c.in-Ok.request).limit scheme kept c.miss_of.result _ password.1 c.in-Ok.ensures.scheme
+    found.spells (omega (arith, within)) (rw found.is_text at c.miss_of.ensures.miss) (rw (password.0, found.is_text, fits) at c.compare.ensures.compares))
 
 pub returns-after-is_replaced_by-clause-replaced : goal.returns-after-is_replaced_by-clause-replaced
 returns-after-is_replaced_by-clause-replaced g c = λ positive is.
     let kept = (c.in-Ok-checkable.stored).setting in
-    let scheme = c.in-Ok.request.1 in
+    let scheme = (c.in-Ok.request).scheme in
     let same : kept ≡ is.0 = c.in-Ok-checkable.ensures.only is.0 is.2 in
     let made : scheme ≡ is.1 = made_once TakesNewRounds TakesRounds c.args.method c.args.rounds scheme is.1 c.in-Ok.ensures.scheme is.3 in
     let fits : c.if-is_replaced_by.fits ≡ (if is_replaced_by kept.scheme scheme then Outdated else Fits) =
@@ -53,7 +53,7 @@ returns-after-is_replaced_by-clause-replaced g c = λ positive is.
 pub returns-after-is_replaced_by-clause-shut : goal.returns-after-is_replaced_by-clause-shut
 returns-after-is_replaced_by-clause-shut g c = λ dead positive.
     let found = c.in-Ok-checkable.ensures.found in
-    dead_fits c.in-Ok.request.0 c.args.field.now (c.in-Ok-checkable.stored).setting found.spells
+    dead_fits (c.in-Ok.request).password c.args.field.now (c.in-Ok-checkable.stored).setting found.spells
     (rw found.is_text at (c.compare.ensures.same positive).0) dead
 
 pub returns-in-Err-clause-dead : goal.returns-in-Err-clause-dead
@@ -61,7 +61,7 @@ returns-in-Err-clause-dead g c = λ scheme kept made is spells dead low. absurd 
 
 pub returns-in-Err-checkable-clause-dead : goal.returns-in-Err-checkable-clause-dead
 returns-in-Err-checkable-clause-dead g c = λ scheme kept made is spells dead low.
-    absurd (cc (c.in-Err-checkable.ensures.admits kept spells (rw c.in-Ok.ensures.password.0 low)))
+    absurd (cc (c.in-Err-checkable.ensures.admits kept spells (rw (c.in-Ok.ensures.password.0, c.in-Ok.ensures.limit) low)))
 
 pub returns-after-is_replaced_by-clause-dead : goal.returns-after-is_replaced_by-clause-dead
 returns-after-is_replaced_by-clause-dead g c = λ scheme kept made is spells dead low.
@@ -73,7 +73,7 @@ returns-after-is_replaced_by-clause-dead g c = λ scheme kept made is spells dea
       | inl differs ↦ absurd (dead (rw differs at miss))
       | inr told ↦ told
     ] in
-    let missed = c.compare.ensures.missed (λ fits. dead_fits c.in-Ok.request.0 c.args.field.now own found.spells (rw found.is_text at fits) (kept, spells, dead)) in
+    let missed = c.compare.ensures.missed (λ fits. dead_fits (c.in-Ok.request).password c.args.field.now own found.spells (rw found.is_text at fits) (kept, spells, dead)) in
     elim missed [
       | inl told ↦ inl (rw (is_dead, c.in-Ok-checkable.ensures.within.0, c.in-Ok.ensures.password.0, same) at told)
       | inr lacks ↦ inr (rw same at lacks)
@@ -84,7 +84,7 @@ returns-in-Err-clause-granted g c = λ kept spells low costly. let idle = c.in-E
 
 pub returns-in-Err-checkable-clause-granted : goal.returns-in-Err-checkable-clause-granted
 returns-in-Err-checkable-clause-granted g c = λ kept spells low costly.
-    absurd (cc (c.in-Err-checkable.ensures.admits kept spells (rw c.in-Ok.ensures.password.0 low)))
+    absurd (cc (c.in-Err-checkable.ensures.admits kept spells (rw (c.in-Ok.ensures.password.0, c.in-Ok.ensures.limit) low)))
 
 pub returns-after-is_replaced_by-clause-granted : goal.returns-after-is_replaced_by-clause-granted
 returns-after-is_replaced_by-clause-granted g c = λ kept spells low costly.
@@ -99,7 +99,7 @@ returns-in-Err-clause-opens g c = λ scheme made opens. absurd (cc (c.in-Err.ens
 
 pub returns-in-Err-checkable-clause-opens : goal.returns-in-Err-checkable-clause-opens
 returns-in-Err-checkable-clause-opens g c = λ scheme made opens.
-    absurd (cc (c.in-Err-checkable.ensures.admits opens.1.0 opens.1.1 (rw c.in-Ok.ensures.password.0 opens.1.3)))
+    absurd (cc (c.in-Err-checkable.ensures.admits opens.1.0 opens.1.1 (rw (c.in-Ok.ensures.password.0, c.in-Ok.ensures.limit) opens.1.3)))
 
 pub returns-after-is_replaced_by-clause-opens : goal.returns-after-is_replaced_by-clause-opens
 returns-after-is_replaced_by-clause-opens g c = λ scheme made opens.

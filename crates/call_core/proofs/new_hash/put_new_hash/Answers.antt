@@ -1,5 +1,6 @@
-use Rattle.std.proofs.Common.{ℕ, List}
+use Rattle.std.proofs.Common.{ℕ, List, length}
 use Rattle.call_core.specs.Checks.{Opens}
+use Rattle.call_core.specs.Limits.{limit_in}
 use Rattle.call_core.specs.Reports.{refused}
 use Rattle.call_core.specs.declared.reason.Refusal.TheVariants.{Current}
 use Rattle.call_core.proofs.PutHashes.{put_whole}
@@ -9,17 +10,17 @@ use Rattle.call_core.proofs.new_hash.put_new_hash.Goals as goal
 
 pub returns-clause-hashes : goal.returns-clause-hashes
 returns-clause-hashes g c =
-    puts_new_hash c.args.password.now c.args.method c.args.rounds c.args.budget c.args.numbers.now c.args.out.now c.new_hash_of-hashed.result _
+    puts_new_hash c.args.password.now c.args.method c.args.rounds (limit_in c.args.method c.args.rounds c.args.limit (length c.args.password.now)) c.args.numbers.now c.args.out.now c.new_hash_of-hashed.result _
     c.put_hashed.new.out c.new_hash_of-hashed.ensures.makes (rw c.token.ensures at c.put_hashed.ensures.puts)
 
 pub returns-clause-opens : goal.returns-clause-opens
 returns-clause-opens g c =
-    put_whole (λ (text : List ℕ). Opens c.args.password.now text c.args.budget) c.args.budget c.token.result.now c.args.out.now _
+    put_whole (λ (text : List ℕ). Opens c.args.password.now text (limit_in c.args.method c.args.rounds c.args.limit (length c.args.password.now))) (limit_in c.args.method c.args.rounds c.args.limit (length c.args.password.now)) c.token.result.now c.args.out.now _
     c.new_hash_of-hashed.result _ c.put_hashed.new.out c.new_hash_of-hashed.ensures.told c.put_hashed.ensures.puts
     c.new_hash_of-hashed.ensures.opens
 
 pub returns-clause-current : goal.returns-clause-current
 returns-clause-current g c =
-    put_whole (λ (text : List ℕ). Rehashes text c.args.method c.args.rounds (refused Current 0)) c.args.budget c.token.result.now c.args.out.now _
+    put_whole (λ (text : List ℕ). Rehashes text c.args.method c.args.rounds (refused Current 0)) (limit_in c.args.method c.args.rounds c.args.limit (length c.args.password.now)) c.token.result.now c.args.out.now _
     c.new_hash_of-hashed.result _ c.put_hashed.new.out c.new_hash_of-hashed.ensures.told c.put_hashed.ensures.puts
     c.new_hash_of-hashed.ensures.current

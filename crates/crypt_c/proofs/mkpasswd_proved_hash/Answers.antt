@@ -1,5 +1,5 @@
 use Rattle.std.proofs.Common.{◌<ℤ◌, pos, rules}
-use Rattle.crypt_c.proofs.mkpasswd_hash.Goals as goal
+use Rattle.crypt_c.proofs.mkpasswd_proved_hash.Goals as goal
 
 pub returns-clause-hashes : goal.returns-clause-hashes
 returns-clause-hashes c = rw c.tell.ensures.told c.put_hash.ensures.hashes

@@ -2,13 +2,14 @@ use Rattle.std.proofs.Common.{◌≡◌, ◌==◌, ◌<ℤ◌, ◌∙◌, ap, ar
 use Rattle.crypt_core.specs.Crypt.{crypt}
 use Rattle.crypt_core.specs.MadeSettings.{salted}
 use Rattle.crypt_core.specs.Work.{cost}
-use Rattle.call_core.specs.Limits.{new_cost}
+use Rattle.call_core.specs.Limits.{limit_of, new_cost}
+use Rattle.call_core.proofs.LoginPromises.{by_policy}
 use Rattle.call_core.proofs.PolicyLimits.{admitting, salted-cost}
 use Rattle.call_core.proofs.PutNewHashes.{written}
-use Rattle.crypt_c.proofs.mkpasswd_new_from.Goals as goal
+use Rattle.crypt_c.proofs.mkpasswd_proved_new_from.Goals as goal
 
 pub returns-clause-hashes : goal.returns-clause-hashes
-returns-clause-hashes c = rw c.tell.ensures.told (rw c.limit_of.ensures.limit at c.put_new_hash.ensures.hashes)
+returns-clause-hashes c = rw c.tell.ensures.told (rw c.of.ensures at c.put_new_hash.ensures.hashes)
 
 pub returns-clause-then_current : goal.returns-clause-then_current
 returns-clause-then_current c = λ one.
@@ -23,15 +24,15 @@ returns-clause-locked c = λ zero. c.put_new_hash.ensures.locked (λ positive.
 pub returns-clause-writes : goal.returns-clause-writes
 returns-clause-writes c = λ scheme made twice is within three room.
     let len = length c.args.password.now in
-    let limit = c.limit_of.result in
-    let admits = admitting scheme len limit (c.limit_of.ensures.by_scheme scheme made twice) is.0 within in
+    let limit = limit_of c.args.method c.args.rounds c.args.budget len in
+    let admits = admitting scheme len limit (by_policy c.args.method c.args.rounds c.args.budget len scheme made twice) is.0 within in
     let below : nat_lt limit (new_cost scheme len) ≡ false = grind (arith, admits, within) in
     let low : nat_lt limit (cost (salted scheme c.args.numbers.now) len) ≡ false =
     ap (nat_lt limit) (salted-cost scheme c.args.numbers.now len) ∙ below in
     let fits : nat_lt (length (crypt c.args.password.now (salted scheme c.args.numbers.now))) (length c.args.out.now) ≡ true = grind (arith, room) in
     let drawn : (length c.args.numbers.now == 3) ≡ true = grind (arith, three) in
     elim (written c.args.password.now c.args.method c.args.rounds limit c.args.numbers.now c.args.out.now scheme _ _ made is drawn low fits
-    c.put_new_hash.ensures.hashes) [
+    (rw c.of.ensures at c.put_new_hash.ensures.hashes)) [
       | inl positive ↦ inl (search (rules, c.tell.ensures.positive.1 positive))
       | inr lacks ↦ inr (rw c.tell.ensures.told lacks)
     ]
