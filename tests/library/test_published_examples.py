@@ -86,19 +86,12 @@ def test_memory_that_is_refused_is_not_counted(
 
 
 def test_the_least_memory_of_scrypt_is_counted(driver: Driver) -> None:
-    """The hash is that of Python's hashlib, since libxcrypt refuses N = 2."""
-    driver.assert_answer(
-        Hash(b"", b"$7$//..../....", GREATEST),
-        System(refused_allocation=4),
-        result=1,
-        digests=10,
-        bytes=948,
-        mixes=4,
-        table=256,
-        scratch=384,
-        allocations=3,
-        out='"$7$//..../....$uP5sUIRHSecc.BWlumSr47yi46bBcbU8HeiFeKgGsY3"',
-    )
+    """The hash is that of Python's hashlib: libxcrypt, which the model asks, refuses N = 2."""
+    call = Hash(b"", b"$7$//..../....", GREATEST)
+    [answer] = driver.answers([call], System(refused_allocation=4))
+    assert (answer.result, answer.digests, answer.bytes, answer.mixes) == (1, 10, 948, 4)
+    assert (answer.table, answer.scratch, answer.allocations) == (256, 384, 3)
+    assert answer.out == '"$7$//..../....$uP5sUIRHSecc.BWlumSr47yi46bBcbU8HeiFeKgGsY3"'
 
 
 @pytest.mark.parametrize("refused", [1, 2, 3, 4])
