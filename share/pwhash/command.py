@@ -1,6 +1,6 @@
 """The command line of pwhash: its options, and how a run ends."""
-import argparse, errno, gc, os, re, resource, signal, sys
-import engine
+import argparse, errno, gc, os, re, signal, sys
+import engine, memory
 from lines import Stop, clear, named, on_terminal, quoted, readable, say, write
 from prompt import SIGNALS
 from tasks import PLACES, SERVICES, audit, check, file, one
@@ -128,8 +128,7 @@ def typed_again(options):
     return " ".join(map(quoted, words)) + redirected
 
 def end_by(number):
-    """Ends as others do by this signal, but writes no memory to a file, in which a password could be."""
-    resource.setrlimit(resource.RLIMIT_CORE, (0, resource.getrlimit(resource.RLIMIT_CORE)[1]))
+    """Ends as others do by this signal."""
     signal.signal(number, signal.SIG_DFL)
     os.kill(os.getpid(), number)
     return 128 + number      # of the first process of a container, which no signal ends
@@ -143,6 +142,7 @@ def unforeseen(error):
     return f"{type(error).__name__}{where}"
 
 def main(options=None):
+    memory.never_dump()
     while os.open("/", os.O_PATH) < 3:      # nothing else gets a descriptor that was closed
         pass
     gc.set_threshold(1 << 20)      # it would visit all the lines again and again
