@@ -64,7 +64,10 @@ def arguments(words):
         parser.add_argument("file", nargs="?", default=default, metavar="FILE", help=help_text)
     for flags, how, text in map(OPTIONS.get, (names + " method rounds budget quiet").split()):
         parser.add_argument(*flags.split(), help=text, **how)
-    options = parser.parse_args(words[bool(command):])
+    options, more = parser.parse_known_args(words[bool(command):])
+    if more:      # a password, maybe
+        unknown = [each for each in more if re.fullmatch("--[a-z-]+", each)]
+        error(f"no option {' '.join(unknown)}" if unknown else "there is a word too many, or an option that doesn't exist")
     for option, needed in ("resume", "out"), ("columns", "csv"), ("csv", "shadow" if command == "check" else "file"):
         if getattr(options, option) and not getattr(options, needed):
             error(f"--{option} needs --{needed}")
@@ -72,13 +75,15 @@ def arguments(words):
     for option in "out", "shadow", "columns":      # as of a variable of a script that isn't set
         if getattr(options, option) == "":
             error(f"--{option} is empty")
+    if options.out == "-":
+        error("-o - would write a file: leave it out for standard output, or name ./-")
     if options.file is None:
         error("name a file: pwhash audit /etc/shadow, or for standard input pwhash audit -")
     if options.out and os.path.lexists(options.out):
         way_out = ", or remove it" if os.path.isfile(options.out) else ""
         error(f"{named(options.out)} already exists: name another file after -o{way_out}")
     least, usual, most = ROUNDS[options.method]
-    rounds = options.rounds or usual
+    rounds = usual if options.rounds is None else options.rounds
     if not least <= rounds <= most:
         error(f"-R {rounds} with -m {options.method} isn't from {least} to {most}, by default {usual}")
     options.memory = 1 << rounds + 19 if options.method == "scrypt" else 0      # bytes of the table of a new hash
