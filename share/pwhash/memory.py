@@ -1,4 +1,4 @@
-"""What a process does with the passwords in its memory when something ends it: it takes them along."""
+"""What a signal may do to passwords in memory: never write them to a file, nor hash on."""
 import os
 import resource
 import signal

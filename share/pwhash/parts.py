@@ -8,6 +8,7 @@ import contextlib
 import errno
 import fcntl
 import os
+import re
 import signal
 import stat
 from collections.abc import Iterator
@@ -20,6 +21,7 @@ from prompt import SIGNALS
 FLAGS = os.O_RDWR | os.O_NOFOLLOW | os.O_NONBLOCK
 # What a file system without links, or a machine without /proc, answers.
 NO_LINKS = (errno.EPERM, errno.EOPNOTSUPP, errno.ENOSYS, errno.EMLINK, errno.EXDEV, errno.ENOENT)
+KEPT_OPTIONS = re.compile(rb"(?s)--windows|--csv --columns=.*")
 AT_FDCWD, RENAME_NOREPLACE = -100, 1
 
 
@@ -27,6 +29,8 @@ AT_FDCWD, RENAME_NOREPLACE = -100, 1
 def output(options: argparse.Namespace, source: Source) -> Iterator[int]:
     """Opens OUT.part, for this run alone, which becomes OUT at the end."""
     part = options.out + ".part"
+    if options.can_resume:
+        read_options(f"{part}.options")  # before a part is made, in case another file has the name
     fd = open_part(part, options, source)
     options.part = part
     try:
@@ -42,7 +46,7 @@ def output(options: argparse.Namespace, source: Source) -> Iterator[int]:
             os.utime(fd, (0, 0))  # so FILE is newer, and --resume refuses
         elif is_wrong_use and os.fstat(fd).st_size == 0:  # as of an option that mkpasswd refuses
             remove(fd, part)
-            remove_options(part)
+            remove_options(options)
         raise
 
 
@@ -128,7 +132,8 @@ def keep_options(fd: int, options: argparse.Namespace) -> None:
     given = options_of_lines(options)
     path = f"{options.part}.options"
     if os.fstat(fd).st_size == 0:
-        remove_options(options.part)
+        if read_options(path):
+            os.unlink(path)  # of a run whose part was removed
         if given:
             write_options(path, given)
     elif read_options(path) != given:
@@ -146,20 +151,25 @@ def write_options(path: str, given: bytes) -> None:
 
 
 def read_options(path: str) -> bytes:
-    try:
-        fd = os.open(path, FLAGS)
-    except FileNotFoundError:
+    """What a run of this user has kept, or nothing. Whatever else has the name stays as it is."""
+    if not os.path.lexists(path):
         return b""
-    with open(fd, "rb") as file:
-        fault = unfit(os.fstat(fd))
-        if fault:
-            raise Stop(f"--resume doesn't take {named(path)}: {fault}.", 2)
-        return file.read(1 << 12)
+    fault = unfit(os.lstat(path))
+    if not fault:
+        with open(os.open(path, FLAGS), "rb") as file:
+            kept = file.read(1 << 12)
+            fault = unfit(os.fstat(file.fileno()))
+        if KEPT_OPTIONS.fullmatch(kept):
+            return kept
+        fault = fault or "it is of no run"
+    way_out = "Remove it, or name another file after -o"
+    raise Stop(f"{named(path)} is in the way: {fault}. {way_out}.", 2)
 
 
-def remove_options(part: str) -> None:
-    with contextlib.suppress(FileNotFoundError):
-        os.unlink(f"{part}.options")
+def remove_options(options: argparse.Namespace) -> None:
+    if options.can_resume and options_of_lines(options):
+        with contextlib.suppress(FileNotFoundError):
+            os.unlink(f"{options.part}.options")
 
 
 def touch(part: str, source: Source) -> str:
@@ -173,7 +183,8 @@ def changed(options: argparse.Namespace, source: Source) -> Optional[str]:
     if not what:
         return None
     if not options.part:
-        return f"{source.name} was changed during the run ({what}): discard the hashes, and start again."
+        way_out = "discard the hashes, and start again"
+        return f"{source.name} was changed during the run ({what}): {way_out}."
     way_out = f"remove {named(options.part)}, and start again"
     if what == "its time" and options.can_resume:
         way_out += f"; or if no line changed: {touch(options.part, source)}"
@@ -195,7 +206,7 @@ def become(fd: int, options: argparse.Namespace) -> None:
     try:
         link(fd, options)
         remove(fd, options.part)
-        remove_options(options.part)
+        remove_options(options)
     except FileExistsError:
         if not options.can_resume:
             options.advice = f"Rename {named(options.part)}."
@@ -221,12 +232,12 @@ def link(fd: int, options: argparse.Namespace) -> None:
 
 
 def refuse_another(fd: int, options: argparse.Namespace) -> None:
-    """Only a name can be renamed, and who writes in the folder can give it to another file before."""
+    """A name is renamed, and whoever writes in the folder may give it to another file before."""
     if not has_name(fd, options.out):
         out = named(options.out)
         raise Stop(
-            f"{out} isn't what was written: another file took the place of {named(options.part)}. "
-            f"Remove {out}, and start again in a folder in which only you can write."
+            f"{out} isn't what was written: another file took the place of {named(options.part)}."
+            f" Remove {out}, and start again in a folder in which only you can write."
         )
 
 

@@ -12,9 +12,8 @@ import shlex
 import shutil
 import signal
 import subprocess
-import termios
 import time
-from collections.abc import Callable, Iterator
+from collections.abc import Callable
 
 import pexpect
 import pytest
@@ -23,11 +22,9 @@ from pwhash_runs import (
     MD5CRYPT,
     PWHASH,
     SLOW,
-    Ended,
     ended,
     has_begun,
     hashed,
-    in_namespace,
     lines_named_in,
     pwhash,
     read,
@@ -42,9 +39,6 @@ from pwhash_runs import (
     wait_for,
 )
 from support import MD5, missing
-
-MARK = b"\xef\xbb\xbf"
-MEBIBYTE = 1 << 20
 
 
 @pytest.fixture(autouse=True)
@@ -537,8 +531,11 @@ def test_options_of_another_are_not_gone_on_with() -> None:
     save_part("hashes.part", ANN)
     os.utime("list", (1e9, 1e9))
     words = ("file", *MD5CRYPT, "list", "-o", "hashes", "--csv", "--columns", "1,2", "--resume")
-    for make in (lambda path: save(path, b"--csv --columns=1,2"), os.mkfifo):
-        make("hashes.part.options")
+    for is_pipe in False, True:
+        if is_pipe:
+            os.mkfifo("hashes.part.options")
+        else:
+            save("hashes.part.options", b"--csv --columns=1,2")
         os.chmod("hashes.part.options", 0o644)
         done = pwhash(*words)
         assert done.status == 2 and b"hashes.part.options" in done.err, done
@@ -572,3 +569,26 @@ def test_no_file_is_written_by_the_name_of_standard_output() -> None:
 def test_no_rounds_are_not_the_usual_ones() -> None:
     done = pwhash("-R", "0", stdin=b"x\n")
     assert (done.status, done.out) == (2, b"") and b"1000" in done.err, done
+
+
+def link_options() -> None:
+    os.symlink("list", "hashes.part.options")
+
+
+@pytest.mark.parametrize(
+    "put",
+    [
+        pytest.param(lambda: save("hashes.part.options", b"name,password\n"), id="a list"),
+        pytest.param(lambda: save_part("hashes.part.options", b"ann:pw1\n"), id="a private list"),
+        pytest.param(link_options, id="a symbolic link"),
+        pytest.param(lambda: os.mkdir("hashes.part.options"), id="a folder"),
+    ],
+)
+def test_a_file_with_the_name_of_the_kept_options_stays(put: Callable[[], object]) -> None:
+    save("list", b"name,password\nann,pw1\n")
+    put()
+    before = os.lstat("hashes.part.options")
+    done = pwhash("file", *MD5CRYPT, "list", "-o", "hashes", "--csv")
+    assert done.status == 2 and b"hashes.part.options" in done.err, done
+    assert os.path.samestat(os.lstat("hashes.part.options"), before), done
+    assert sorted(os.listdir()) == ["hashes.part.options", "list"], done
