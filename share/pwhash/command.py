@@ -1,6 +1,6 @@
 """The command line of pwhash: its options, and how a run ends."""
-import argparse, errno, gc, os, re, resource, signal, sys
-import engine
+import argparse, errno, gc, os, re, signal, sys
+import engine, memory
 from lines import Stop, clear, named, on_terminal, quoted, readable, say, write
 from prompt import SIGNALS
 from tasks import PLACES, SERVICES, audit, check, file, one
@@ -64,7 +64,10 @@ def arguments(words):
         parser.add_argument("file", nargs="?", default=default, metavar="FILE", help=help_text)
     for flags, how, text in map(OPTIONS.get, (names + " method rounds budget quiet").split()):
         parser.add_argument(*flags.split(), help=text, **how)
-    options = parser.parse_args(words[bool(command):])
+    options, more = parser.parse_known_args(words[bool(command):])
+    if more:      # a password, maybe
+        unknown = [each for each in more if re.fullmatch("--[a-z-]+", each)]
+        error(f"no option {' '.join(unknown)}" if unknown else "there is a word too many, or an option that doesn't exist")
     for option, needed in ("resume", "out"), ("columns", "csv"), ("csv", "shadow" if command == "check" else "file"):
         if getattr(options, option) and not getattr(options, needed):
             error(f"--{option} needs --{needed}")
@@ -72,13 +75,15 @@ def arguments(words):
     for option in "out", "shadow", "columns":      # as of a variable of a script that isn't set
         if getattr(options, option) == "":
             error(f"--{option} is empty")
+    if options.out == "-":
+        error("-o - would write a file: leave it out for standard output, or name ./-")
     if options.file is None:
         error("name a file: pwhash audit /etc/shadow, or for standard input pwhash audit -")
     if options.out and os.path.lexists(options.out):
         way_out = ", or remove it" if os.path.isfile(options.out) else ""
         error(f"{named(options.out)} already exists: name another file after -o{way_out}")
     least, usual, most = ROUNDS[options.method]
-    rounds = options.rounds or usual
+    rounds = usual if options.rounds is None else options.rounds
     if not least <= rounds <= most:
         error(f"-R {rounds} with -m {options.method} isn't from {least} to {most}, by default {usual}")
     options.memory = 1 << rounds + 19 if options.method == "scrypt" else 0      # bytes of the table of a new hash
@@ -128,8 +133,7 @@ def typed_again(options):
     return " ".join(map(quoted, words)) + redirected
 
 def end_by(number):
-    """Ends as others do by this signal, but writes no memory to a file, in which a password could be."""
-    resource.setrlimit(resource.RLIMIT_CORE, (0, resource.getrlimit(resource.RLIMIT_CORE)[1]))
+    """Ends as others do by this signal."""
     signal.signal(number, signal.SIG_DFL)
     os.kill(os.getpid(), number)
     return 128 + number      # of the first process of a container, which no signal ends
@@ -143,6 +147,7 @@ def unforeseen(error):
     return f"{type(error).__name__}{where}"
 
 def main(options=None):
+    memory.never_dump()
     while os.open("/", os.O_PATH) < 3:      # nothing else gets a descriptor that was closed
         pass
     gc.set_threshold(1 << 20)      # it would visit all the lines again and again

@@ -1,7 +1,9 @@
 """Runs mkpasswd over blocks of lines in memory, and takes for each line only an answer with its name or its number."""
-import collections, fcntl, functools, itertools, os, re, subprocess, types
+import collections, fcntl, functools, itertools, os, re, signal, subprocess, types
 from limits import free_memory, processors
 from lines import Refused, Stop, readable
+from memory import end_with
+from prompt import SIGNALS
 
 SECONDS, MOST = 0.5, 1 << 15      # of a processor for a block (in less, scrypt's memory would be a tenth); its lines
 NUMERALS = b"./0123456789ABCDEFGHIJKLMNOPQRSTUVWXYZabcdefghijklmnopqrstuvwxyz"
@@ -38,6 +40,22 @@ def tables_of(data):
         r = sum(NUMERALS.index(digit) << 6 * place for place, digit in enumerate(digits))
         yield 128 * r << NUMERALS.index(log2_n)
 
+def begin(command, file, said):
+    """Begins a mkpasswd. No signal comes before it is known to be running, and it ends with this process, however that ends."""
+    before, parent = signal.pthread_sigmask(signal.SIG_BLOCK, SIGNALS), os.getpid()
+    def prepare():
+        end_with(parent)
+        for each in (each for each in SIGNALS if callable(signal.getsignal(each))):      # one that came to both of us ends both
+            signal.signal(each, signal.SIG_DFL)
+        signal.pthread_sigmask(signal.SIG_SETMASK, before)
+    try:
+        process = subprocess.Popen(command, stdin=file, stdout=said, stderr=subprocess.STDOUT, env={},
+                                   start_new_session=True, preexec_fn=prepare)
+        processes.add(process)
+    finally:
+        signal.pthread_sigmask(signal.SIG_SETMASK, before)
+    return process
+
 class Engine:
     """`memory` is what scrypt takes for a new hash, and `budget` what a line may cost."""
     def __init__(self, mode, words, memory=0, budget=0):
@@ -54,9 +72,7 @@ class Engine:
         memory = self.memory_for(data)
         self.wait_for_room(memory)
         with in_memory(len(data), data) as file:
-            process = subprocess.Popen([*self.command, f"--first-line={numbers[0]}"], stdin=file, stdout=said,
-                                       stderr=subprocess.STDOUT, env={}, start_new_session=True)
-        processes.add(process)
+            process = begin([*self.command, f"--first-line={numbers[0]}"], file, said)
         block = types.SimpleNamespace(numbers=numbers, lines=lines, process=process, said=said, memory=memory, used=None)
         self.running[process.pid] = block
         return block

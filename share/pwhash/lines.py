@@ -3,6 +3,11 @@ import contextlib, csv, errno, itertools, os, re, select, shlex, stat, time
 
 MARK = b"\xef\xbb\xbf"
 LONGEST_ROW = 1 << 17      # bytes of a line of a table, and of a field; csv takes no longer ones
+NAME_WORDS = frozenset("name user username login account benutzer benutzername usuario utilisateur nom".split())
+PASSWORD_WORDS = frozenset("password passwd passwort kennwort contraseña clave senha".split())
+# Python takes these for printable, but they show nothing: fillers, selectors of a variant, an empty pattern of Braille.
+SHOWS_NOTHING = re.compile("[\u034f\u115f\u1160\u17b4\u17b5\u180b-\u180f\u2800\u3164\ufe00-\ufe0f\uffa0\U000e0100-\U000e01ef]")
+SEPARATORS = {",": "a comma", ";": "a semicolon", "\t": "a tab"}
 shown = False      # whether the terminal shows the progress
 
 class Refused(bytes):
@@ -17,6 +22,7 @@ def refused(reason):
 class Source:
     def __init__(self, options):
         self.options, self.absent, self.marked, self.odd, self.total = options, [], [], 0, 0
+        self.has_lines, self.row_begin, self.row_size = False, 1, 0
         is_stdin = options.file == "-"
         self.name, self.fd = "standard input", 0
         if not is_stdin:
@@ -52,8 +58,18 @@ class Source:
 
     def lines(self):
         """Pairs of a number and a line, from the beginning, and None where they come slowly."""
-        pairs = self.rows() if self.options.csv else self.whole_lines(self.options.windows)
+        pairs = self.noticed(self.rows() if self.options.csv else self.whole_lines(self.options.windows))
         return self.paired(pairs) if self.options.shadow else pairs
+
+    def noticed(self, pairs):
+        for pair in pairs:
+            self.has_lines = self.has_lines or pair is not None
+            yield pair
+
+    def refuse_nothing(self):
+        """An empty file is a mistake, such as `pwhash file list > list`."""
+        if not self.has_lines:
+            raise Stop(f"{self.name} has no lines.", 2)
 
     def whole_lines(self, windows):
         """Lines as they come, of a long one only what makes it too long."""
@@ -81,57 +97,101 @@ class Source:
                 raise Stop(f"{self.name}, line {number}: longer than 128 KiB, which no row may be.")
 
     def rows(self):
-        """Rows of a table as lines `name:password`. Between columns is what comes first: a comma, semicolon or tab."""
+        """Rows of a table as lines `name:password`."""
         texts = (pair[1].decode("latin-1") + "\n" for pair in self.whole_lines(True) if pair)
-        first = next(texts, "").partition("\0")[0]      # of UTF-16 a piece, in which no column is found
-        between = re.search("[,;\t]|$", re.sub('"[^"]*"', "", first))[0] or ","
-        rows = csv.reader(itertools.chain([first], texts), delimiter=between, strict=True)
-        headings = self.next_row(rows)
-        wanted, has_names = self.wanted_columns(headings or [])
-        row = self.next_row(rows) if has_names else headings
+        begin = [next(texts, "")]
+        while begin[-1] == "\n":
+            begin.append(next(texts, ""))
+        columns, has_names = self.columns()
+        if has_names and "\0" in begin[-1]:      # as in UTF-16
+            raise self.no_columns()
+        between = self.separator(begin[-1], columns, has_names)
+        rows = csv.reader(self.limited(itertools.chain(begin, texts)), delimiter=between, strict=True)
+        first = self.next_row(rows)
+        headings = folded(first or []) if has_names else [str(number) for number in range(1, 99)]
+        if any(headings.count(each) != 1 for each in columns):
+            raise self.no_columns()
+        wanted = [headings.index(each) for each in columns]
+        row = self.next_row(rows) if has_names else first
         while row is not None:
-            line = self.line_of(row, wanted, len(headings))
-            if has_names and row == headings:      # of another table that was joined to the first
+            line = self.line_of(row, wanted, len(first))
+            if self.is_heading(row, wanted, headings if has_names else []):
                 line = refused("the heading again")
             yield rows.line_num, line
             row = self.next_row(rows)
+
+    def columns(self):
+        """The names of the columns of name and password, or their numbers, and whether they are names."""
+        columns = folded((self.options.columns or "name,password").split(","), os.fsencode)
+        if len(columns) != 2:
+            raise self.no_columns()
+        return columns, not columns[0].isdecimal()
+
+    def no_columns(self):
+        return Stop("--columns, by default name,password, needs two names, each once in the first row of "
+                    f"{self.name}, or if that has no names, numbers, as 1,2. Save UTF-16 as UTF-8.", 2)
+
+    def separator(self, first, columns, has_names):
+        """What is between columns: a comma, semicolon or tab. That of the names, or else the only one in the first row."""
+        bare = re.sub('"[^"]*"', "", first)
+        found = sorted((each for each in ",;\t" if each in bare), key=bare.index)
+        if has_names:
+            rows = {each: folded(next(csv.reader([first], delimiter=each), [])) for each in found}
+            found.sort(key=lambda each: not set(columns) <= set(rows[each]))
+        elif len(found) > 1:
+            raise Stop(f"{self.name}: {' or '.join(map(SEPARATORS.get, found))} may be between columns. In the first row, quote "
+                       "fields that have one in them, or give the columns names.", 2)
+        return found[0] if found else ","
+
+    def limited(self, texts):
+        """The lines, of a row not more than 128 KiB."""
+        for text in texts:
+            self.row_size += len(text)
+            if self.row_size > LONGEST_ROW + 1:
+                raise Stop(f"{self.name}, line {self.row_begin}: a row is longer than 128 KiB, or a quote in it has no end.")
+            yield text
 
     def next_row(self, rows):
         """The next row that isn't blank, or None after the last."""
         row = []
         try:
             while row == []:
-                begun = rows.line_num + 1
+                self.row_begin, self.row_size = rows.line_num + 1, 0
                 row = next(rows, None)
         except csv.Error as error:
             what = f"this is not CSV: {error}"
             if "field limit" in str(error):
                 what = "a field is longer than 128 KiB, or the quote that begins it has no end"
-            raise Stop(f"{self.name}, line {begun}: {what}.") from None
+            raise Stop(f"{self.name}, line {self.row_begin}: {what}.") from None
         return row
 
-    def wanted_columns(self, first_row):
-        """The places of name and password in a row, and whether the first row has names of columns."""
-        columns = [column_name(os.fsencode(each)) for each in (self.options.columns or "name,password").split(",")]
-        has_names = not columns[0].isdecimal()
-        names = [str(number) for number in range(1, 99)]
-        if has_names:
-            names = [column_name(each.encode("latin-1")) for each in first_row]
-        if len(columns) != 2 or any(names.count(each) != 1 for each in columns):
-            raise Stop("--columns, by default name,password, needs two names, each once in the first row of "
-                       f"{self.name}, or if that has no names, numbers, as 1,2. Save UTF-16 as UTF-8.", 2)
-        return [names.index(each) for each in columns], has_names
+    def is_heading(self, row, wanted, headings):
+        """Whether a row begins another table that was joined to this one. If its columns may have other places, the run ends."""
+        fields = folded(row)
+        if headings and fields == headings:
+            return True
+        name, password = (fields[place] if place < len(fields) else "" for place in wanted)
+        if headings and [name, password] == [headings[place] for place in wanted]:
+            return True
+        is_swapped = name in PASSWORD_WORDS and password in NAME_WORDS
+        if is_swapped or {name, password} <= set(headings) - {""}:
+            raise Stop(f"{self.name}, line {self.row_begin}: another table begins, with other columns. Hash each by itself.", 2)
+        return False
 
     def line_of(self, row, wanted, width):
-        """A row as a line `name:password`; of one that is too short only the name, which mkpasswd refuses."""
+        """A row as a line `name:password`."""
         if len(row) > width:
             return refused(f"{len(row)} fields, where the first row has {width}: a separator in a field needs quotes")
-        fields = [row[place] for place in wanted if place < len(row)]
-        if ":" in "".join(fields[:1]):
+        if wanted[1] >= len(row):
+            return refused("no password field")
+        if wanted[0] >= len(row) or not row[wanted[0]]:
+            return refused("no name")
+        name, password = (row[place] for place in wanted)
+        if ":" in name:
             return refused("a colon in the name")
-        if "\n" in "".join(fields):
+        if "\n" in name + password:
             return refused("a line feed in a field")
-        return ":".join(fields).encode("latin-1")
+        return f"{name}:{password}".encode("latin-1")
 
     def paired(self, pairs):
         """Lines `name:password` as `name:field:password`, with the first field of a name; without a name, with each."""
@@ -149,9 +209,12 @@ class Source:
             return [(number, b"%b:%b:%b" % (each, fields[each], password)) for each in names if each in fields]
         return itertools.chain.from_iterable(tried(*pair) if pair else [pair] for pair in pairs)
 
-def column_name(data):
-    """A name of a column, as names are compared: however spelled in capitals, and not by bytes."""
-    return data.decode("utf-8", "surrogateescape").strip().casefold()
+def folded(fields, encode=lambda field: field.encode("latin-1")):
+    """Names of columns, as they are compared: however spelled in capitals, and not by bytes."""
+    return [encode(each).decode("utf-8", "surrogateescape").strip().casefold() for each in fields]
+
+def is_visible(text):
+    return text.isprintable() and not SHOWS_NOTHING.search(text)
 
 class Stop(Exception):
     """Ends the run: a whole sentence, and the status if it isn't 3, or a signal as a negative number."""

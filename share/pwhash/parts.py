@@ -8,6 +8,7 @@ import contextlib
 import errno
 import fcntl
 import os
+import re
 import signal
 import stat
 from collections.abc import Iterator
@@ -20,6 +21,7 @@ from prompt import SIGNALS
 FLAGS = os.O_RDWR | os.O_NOFOLLOW | os.O_NONBLOCK
 # What a file system without links, or a machine without /proc, answers.
 NO_LINKS = (errno.EPERM, errno.EOPNOTSUPP, errno.ENOSYS, errno.EMLINK, errno.EXDEV, errno.ENOENT)
+KEPT_OPTIONS = re.compile(rb"(?s)--windows|--csv --columns=.*")
 AT_FDCWD, RENAME_NOREPLACE = -100, 1
 
 
@@ -27,9 +29,12 @@ AT_FDCWD, RENAME_NOREPLACE = -100, 1
 def output(options: argparse.Namespace, source: Source) -> Iterator[int]:
     """Opens OUT.part, for this run alone, which becomes OUT at the end."""
     part = options.out + ".part"
+    if options.can_resume:
+        read_options(f"{part}.options")  # before a part is made, in case another file has the name
     fd = open_part(part, options, source)
     options.part = part
     try:
+        keep_options(fd, options)
         yield fd
         os.fsync(fd)
         refuse_changed(options, source)
@@ -41,6 +46,7 @@ def output(options: argparse.Namespace, source: Source) -> Iterator[int]:
             os.utime(fd, (0, 0))  # so FILE is newer, and --resume refuses
         elif is_wrong_use and os.fstat(fd).st_size == 0:  # as of an option that mkpasswd refuses
             remove(fd, part)
+            remove_options(options)
         raise
 
 
@@ -49,6 +55,8 @@ def open_part(part: str, options: argparse.Namespace, source: Source) -> int:
         found = os.lstat(part)
     except FileNotFoundError:
         return new_part(part)
+    if os.path.samestat(found, source.begun):
+        raise Stop(f"{named(part)} is the file to read: name another file after -o.", 2)
     fault = unfit(found)
     if fault and options.resume:
         way_out = "Remove it, or name another file after -o."
@@ -109,6 +117,61 @@ def refuse_to_go_on(
         raise Stop(f"{exists}: add --resume, else remove it.", 2)
 
 
+def options_of_lines(options: argparse.Namespace) -> bytes:
+    """The options that change a line before it is hashed."""
+    if options.csv:
+        columns = options.columns or "name,password"
+        return os.fsencode(f"--csv --columns={columns}")
+    return b"--windows" if options.windows else b""
+
+
+def keep_options(fd: int, options: argparse.Namespace) -> None:
+    """Keeps them beside the part, for --resume, or finds them there as they are now."""
+    if not options.can_resume:
+        return
+    given = options_of_lines(options)
+    path = f"{options.part}.options"
+    if os.fstat(fd).st_size == 0:
+        if read_options(path):
+            os.unlink(path)  # of a run whose part was removed
+        if given:
+            write_options(path, given)
+    elif read_options(path) != given:
+        raise Stop(
+            f"{named(options.part)} was begun with other --windows, --csv or --columns. "
+            "Give those, or remove it.",
+            2,
+        )
+
+
+def write_options(path: str, given: bytes) -> None:
+    with open(os.open(path, FLAGS | os.O_CREAT | os.O_EXCL, 0o600), "wb") as file:
+        os.fchmod(file.fileno(), 0o600)
+        file.write(given)
+
+
+def read_options(path: str) -> bytes:
+    """What a run of this user has kept, or nothing. Whatever else has the name stays as it is."""
+    if not os.path.lexists(path):
+        return b""
+    fault = unfit(os.lstat(path))
+    if not fault:
+        with open(os.open(path, FLAGS), "rb") as file:
+            kept = file.read(1 << 12)
+            fault = unfit(os.fstat(file.fileno()))
+        if KEPT_OPTIONS.fullmatch(kept):
+            return kept
+        fault = fault or "it is of no run"
+    way_out = "Remove it, or name another file after -o"
+    raise Stop(f"{named(path)} is in the way: {fault}. {way_out}.", 2)
+
+
+def remove_options(options: argparse.Namespace) -> None:
+    if options.can_resume and options_of_lines(options):
+        with contextlib.suppress(FileNotFoundError):
+            os.unlink(f"{options.part}.options")
+
+
 def touch(part: str, source: Source) -> str:
     """What makes --resume go on, though FILE is newer than a part."""
     return f"touch -r {source.path()} {quoted(part)} and add --resume"
@@ -119,6 +182,9 @@ def changed(options: argparse.Namespace, source: Source) -> Optional[str]:
     what = source.change()
     if not what:
         return None
+    if not options.part:
+        way_out = "discard the hashes, and start again"
+        return f"{source.name} was changed during the run ({what}): {way_out}."
     way_out = f"remove {named(options.part)}, and start again"
     if what == "its time" and options.can_resume:
         way_out += f"; or if no line changed: {touch(options.part, source)}"
@@ -140,6 +206,7 @@ def become(fd: int, options: argparse.Namespace) -> None:
     try:
         link(fd, options)
         remove(fd, options.part)
+        remove_options(options)
     except FileExistsError:
         if not options.can_resume:
             options.advice = f"Rename {named(options.part)}."
@@ -161,6 +228,17 @@ def link(fd: int, options: argparse.Namespace) -> None:
             error.filename = options.out
             raise
         rename_to_new(options)
+        refuse_another(fd, options)
+
+
+def refuse_another(fd: int, options: argparse.Namespace) -> None:
+    """A name is renamed, and whoever writes in the folder may give it to another file before."""
+    if not has_name(fd, options.out):
+        out = named(options.out)
+        raise Stop(
+            f"{out} isn't what was written: another file took the place of {named(options.part)}."
+            f" Remove {out}, and start again in a folder in which only you can write."
+        )
 
 
 def rename_to_new(options: argparse.Namespace) -> None:

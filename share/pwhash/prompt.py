@@ -7,11 +7,27 @@ from typing import Any
 
 from lines import Stop, open_terminal
 
-# Those that end a run.
+# Those that end a run with a sentence.
 SIGNALS = (signal.SIGINT, signal.SIGTERM, signal.SIGHUP, signal.SIGQUIT)
+# All that end a process, or would if it caught none, but SIGKILL.
+ENDING = signal.valid_signals() - {
+    signal.SIGKILL,
+    signal.SIGSTOP,
+    signal.SIGTSTP,
+    signal.SIGTTIN,
+    signal.SIGTTOU,
+    signal.SIGCONT,
+    signal.SIGCHLD,
+    signal.SIGURG,
+    signal.SIGWINCH,
+}
 # Places in what termios.tcgetattr returns.
 INPUT_FLAGS, LOCAL_FLAGS = 0, 3
 ECHO = termios.ECHO | termios.ECHOE | termios.ECHOK | termios.ECHONL
+# A terminal with XCASE shows and reads capitals as small letters behind a backslash.
+CHANGES_LINES = ECHO | termios.XCASE
+# What makes another byte of a key, or two.
+CHANGES_KEYS = termios.ISTRIP | termios.IUCLC | termios.PARMRK | termios.IGNCR | termios.INLCR
 
 
 def ask_password() -> bytes:
@@ -33,14 +49,14 @@ def ask_hidden(fd: int) -> bytes:
         before = termios.tcgetattr(fd)
     except termios.error:
         raise cant_hide() from None
-    waiting = [number for number in SIGNALS if callable(signal.getsignal(number))]
+    waiting = {number for number in ENDING if signal.getsignal(number) != signal.SIG_IGN}
     signal.pthread_sigmask(signal.SIG_BLOCK, waiting)  # until the terminal is as it was
     try:
         hide(fd, before)
         # A shell shows keys while the program is stopped.
         signal.signal(signal.SIGCONT, lambda *_: hide(fd, before))
-        password = ask(fd, b"Password: ")
-        if ask(fd, b"Again: ") != password:
+        password = ask(fd, b"Password: ", waiting)
+        if ask(fd, b"Again: ", waiting) != password:
             raise Stop("the two passwords differ. Start again.", 2)
         return password
     finally:
@@ -52,8 +68,8 @@ def ask_hidden(fd: int) -> bytes:
 def hide(fd: int, before: list[Any]) -> None:
     """From here on the terminal shows no key, gives whole lines, and Ctrl-C works."""
     changed = [*before]
-    changed[INPUT_FLAGS] |= termios.ICRNL
-    changed[LOCAL_FLAGS] = changed[LOCAL_FLAGS] & ~ECHO | termios.ICANON | termios.ISIG
+    changed[INPUT_FLAGS] = changed[INPUT_FLAGS] & ~CHANGES_KEYS | termios.ICRNL
+    changed[LOCAL_FLAGS] = changed[LOCAL_FLAGS] & ~CHANGES_LINES | termios.ICANON | termios.ISIG
     try:
         termios.tcsetattr(fd, termios.TCSAFLUSH, changed)
         is_hidden = not termios.tcgetattr(fd)[LOCAL_FLAGS] & ECHO
@@ -78,10 +94,10 @@ def restore(fd: int, before: list[Any]) -> None:
         pass
 
 
-def ask(fd: int, prompt: bytes) -> bytes:
+def ask(fd: int, prompt: bytes, waiting: set[int]) -> bytes:
     show(fd, prompt)
     try:
-        return read_line(fd)
+        return read_line(fd, waiting)
     finally:
         show(fd, b"\n")  # Return isn't shown
 
@@ -94,12 +110,12 @@ def show(fd: int, text: bytes) -> None:
         os.write(2, text)
 
 
-def read_line(fd: int) -> bytes:
-    """What is typed before Return."""
+def read_line(fd: int, waiting: set[int]) -> bytes:
+    """What is typed before Return, unless one of the signals comes that wait."""
     line = b""
     while not line.endswith(b"\n"):
         while not select.select([fd], [], [], 0.05)[0]:
-            if signal.sigpending().intersection(SIGNALS):
+            if signal.sigpending().intersection(waiting):
                 raise Stop("a signal ended the run.")
         piece = os.read(fd, 4096)
         if not piece:

@@ -1,7 +1,7 @@
 """What pwhash does: it hashes a password or a file of them, checks passwords, and audits stored hashes."""
 import collections, contextlib, itertools, json, os, re, string, time
 from engine import HASH, Engine
-from lines import MARK, Source, Stop, named, on_terminal, progress, readable, say, write
+from lines import MARK, NAME_WORDS, PASSWORD_WORDS, Source, Stop, is_visible, named, on_terminal, progress, readable, say, write
 from parts import output, refuse_changed
 from prompt import ask_password
 
@@ -10,13 +10,16 @@ PLACES = {      # what --for prints for one hash; those with a name need --name
     "preseed-user": "d-i passwd/user-password-crypted password {hash}", "kickstart": "rootpw --iscrypted {hash}",
     "cloud-init": "#cloud-config\nusers:\n  - name: \"{name}\"\n    lock_passwd: false\n    hashed_passwd: {hash}",
     "ansible": 'password: "{hash}"', "htpasswd": "{name}:{hash}", "shadow": "{name}:{hash}:{day}:0:99999:7:::"}
-HEADINGS = b"name user username login account benutzer benutzername usuario utilisateur nom".split()
+HEADINGS = {each.encode() for each in NAME_WORDS | PASSWORD_WORDS}
 SERVICES = {    # the names that each service reads as they are
     None: rb"(?s).*", **dict.fromkeys(("apache", "nginx"), rb"[^#\s\0-\x1f\x7f][^\0-\x1f\x7f]*"),
     "dovecot": rb"[a-z0-9_.@-]+", "ldap": rb"[a-z0-9_-]+"}
 
 KEPT_HASH = re.compile(rb"(\$1\$|\$[56]\$(?:rounds=[0-9]+\$)?|\$7\$[./0-9A-Za-z]{11})([./0-9A-Za-z]+)\$([./0-9A-Za-z]+)")
 OF_PASSWORDS = ("line too long", "password too long", "password has a zero byte")      # refusals, whatever the account
+STORED = re.compile(      # what stands behind a name in /etc/shadow, /etc/passwd and htpasswd
+    rb"(?s)\$(?:[0-9][a-z]?|g?y|apr1|sha1|md5|argon2[a-z]*|scrypt|pbkdf2[a-z0-9-]*)[$,].{8,}|"
+    rb"[!*]+(?:\$.*)?(?::[0-9]*)*|[^:]*(?::[0-9]*){7}|[^:]*:[0-9]+:[0-9]+:[^:]*:[^:]*:[^:]*|\{[A-Z0-9.-]+\}.{8,}")
 LONGEST_SURE = 64      # bytes of a password that no hash by -m and -R is too costly for
 
 def free(options):
@@ -34,7 +37,7 @@ def new_password(options):
         return next((pair[1] for pair in Source(options).lines() if pair), b"")
     return ask_password()
 
-def refuse_password(password):
+def refuse_password(password, is_typed):
     """What nobody can mean to type at a login."""
     if not password:
         raise Stop("the password is empty. Give another.", 2)
@@ -42,6 +45,16 @@ def refuse_password(password):
         raise Stop("the password has a carriage return in it, with which lines of Windows end. Leave it out: tr -d '\\r'", 2)
     if MARK in password:
         raise Stop("the password has a byte order mark in it, as files of Windows begin with one. Save it without.", 2)
+    text = password.decode(errors="replace")
+    if not is_visible(text.replace("\0", "")):      # mkpasswd refuses zero bytes
+        raise Stop("the password has a control character or an invisible one in it: a tab, an arrow key, something pasted? "
+                   "Give it without, or name:password to pwhash file --accept-doubtful.", 2)
+    if text.encode() == password:
+        return
+    if not is_typed:
+        raise Stop("the password isn't UTF-8, as logins send it. If it is Windows-1252: iconv -f WINDOWS-1252 -t UTF-8. "
+                   "To hash its bytes as they are, give name:password to pwhash file --accept-doubtful.", 2)
+    say("the password isn't UTF-8: the terminal has another encoding, or half a character was erased. Its bytes are hashed.")
 
 def one(options):
     """Hashes one password: asks for it, or reads the first line of standard input."""
@@ -51,7 +64,7 @@ def one(options):
         raise Stop("a --name begins with a letter or _; then up to 63 letters, digits and _.@- follow.", 2)
     next(free(options).answers([(1, b"x:")]))      # first, whether mkpasswd takes the options
     engine, password = Engine("--batch", options.words), new_password(options)
-    refuse_password(password)
+    refuse_password(password, os.isatty(0))
     [block] = engine.answers([(1, b"x:" + password)])
     if block.refusals == {0: "over budget"}:
         raise Stop("over budget (by default 168 bytes; sha256crypt: 150). Give --budget 1300000000 (high -R: more).", 2)
@@ -71,8 +84,9 @@ def doubts(number, line, names, service):
         "a byte order mark begins the line; --windows leaves it out": line.startswith(MARK),
         "a byte order mark inside": MARK in line[1:],
         "a blank at an end of name or password": any(each != each.strip() for each in text.split(":", 1)),
-        "an invisible character": not text.isprintable(),
-        "a heading, and no user": number == 1 and name.lower() in HEADINGS,
+        "an invisible character": not is_visible(text),
+        "a heading, and no user": name.lower() in HEADINGS,
+        "a stored hash or field, and no password": STORED.fullmatch(password),
         f"the name again, after line {first}": first != number,
         "the service takes the name for another, or skips it": not re.fullmatch(SERVICES[service], name),
         "not UTF-8; if FILE is all Windows-1252: umask 077; iconv -f WINDOWS-1252 -t UTF-8 FILE > NEW": "\ufffd" in text,
@@ -149,6 +163,8 @@ def file(options):
         raise Stop("-o and --look need a file, which can be read twice. Give its name, or leave them out.", 2)
     names, doubted = {}, not source.regular and not options.accept_doubtful      # a pipe can't be looked at first
     left_out = look(source, options, engine, names) if source.regular else ()
+    if source.regular:
+        source.refuse_nothing()
     if options.look:
         return engine.bad
     with output(options, source) if options.out else contextlib.nullcontext(1) as fd:
@@ -160,9 +176,10 @@ def file(options):
                 if place not in block.refusals and (found := doubts(number, line, names, options.service)):
                     engine.bad, block.refusals[place] = True, found[0]
                     block.answers[place] = f"pwhash: line {number}: {found[0]}".encode()
-            if options.out:
-                refuse_changed(options, source)      # what was hashed may be old by now
+            refuse_changed(options, source)      # what was hashed may be old by now
             show(fd, block)
+        source.refuse_nothing()
+        refuse_changed(options, source)
     return engine.bad
 
 def show(fd, block, new=False):
@@ -197,6 +214,7 @@ def check(options):
             if options.out:
                 refuse_changed(options, source)
             show(fd, block, options.out and options.rehash)
+        source.refuse_nothing()
     if source.absent:
         say(f"lines without an account in {named(options.shadow)} (the first 20): {source.absent}.")
     if source.marked:
