@@ -4,6 +4,8 @@ ghost use Rattle.std.specs.Prelude.{◌^◌, ◌≤◌};
 
 use super::{padded, want};
 use mkpasswd::command::run_command;
+use mkpasswd::options::plan;
+use mkpasswd::plan::{PasswordFrom, Plan};
 use prims_core::meter::Meter;
 use rand::SeedableRng;
 use rand::rngs::StdRng;
@@ -136,6 +138,36 @@ fn one_password(rt: HostRuntime) -> Result<(), Fail> {
         let left = left_by(rt.alloc(), words, input.as_bytes())?;
         left.want(&rt, out, 0, out, "");
     }
+    Ok(())
+}
+
+// The plan of the first command above.
+#[test]
+fn a_plan(rt: HostRuntime) -> Result<(), Fail> {
+    let mut words = Vec::new(rt.alloc());
+    for word in ["-m", "md5crypt", "-S", "xxxxxxxx", "password"] {
+        words.push(String::from_str(rt.alloc(), word)?)?;
+    }
+    let planned = plan(rt.alloc(), words.as_slice())?;
+    let Plan::One(job, PasswordFrom::Word(password)) = &planned else {
+        panic!(rt; "another plan");
+    };
+    let setting = job.maker.setting([129, 0, 0]).text();
+    want(&rt, job.maker.draws(), false, "a given salt");
+    want(
+        &rt,
+        setting.as_slice(),
+        b"$1$xxxxxxxx".as_slice(),
+        "a setting",
+    );
+    want(
+        &rt,
+        password.as_slice(),
+        b"password".as_slice(),
+        "a password",
+    );
+    let options = (job.rehash, job.work, job.budget, job.first_line);
+    want(&rt, options, (false, false, None, 1), "the other options");
     Ok(())
 }
 

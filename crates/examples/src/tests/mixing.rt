@@ -238,7 +238,13 @@ fn a_block_by_its_diagonals(rt: HostRuntime) {
 fn a_table(rt: HostRuntime) -> Result<(), Fail> {
     let mut meter = Meter::new();
     let mut table = Table::new(rt.alloc(), 3, 32, &mut meter)?;
-    let (zeros, row) = ([0; 32], on_diagonals(&BLOCKS));
+    let (zeros, row) = (
+        [0; 32],
+        [
+            1, 2, 3, 4, 5, 6, 7, 8, 9, 10, 11, 12, 13, 14, 15, 16, 17, 18, 19, 20, 21, 22, 23, 24,
+            25, 26, 27, 28, 29, 30, 31, 32,
+        ],
+    );
     table.set_row(1, &row);
     want(&rt, table.row(0), zeros.as_slice(), "the first row");
     want(&rt, table.row(1), row.as_slice(), "the second row");
