@@ -94,7 +94,7 @@ def restore(fd: int, before: list[Any]) -> None:
         pass
 
 
-def ask(fd: int, prompt: bytes, waiting: set[int]) -> bytes:
+def ask(fd: int, prompt: bytes, waiting: set[signal.Signals]) -> bytes:
     show(fd, prompt)
     try:
         return read_line(fd, waiting)
@@ -110,7 +110,7 @@ def show(fd: int, text: bytes) -> None:
         os.write(2, text)
 
 
-def read_line(fd: int, waiting: set[int]) -> bytes:
+def read_line(fd: int, waiting: set[signal.Signals]) -> bytes:
     """What is typed before Return, unless one of the signals comes that wait."""
     line = b""
     while not line.endswith(b"\n"):
