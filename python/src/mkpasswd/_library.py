@@ -63,13 +63,15 @@ class Report(ctypes.Structure):
     length: int
     cost: int
     work: CWork
+    rounds: int
 
     _fields_ = [
         ("reason", ctypes.c_int32),
         ("length", ctypes.c_uint32),
         ("cost", ctypes.c_uint64),
         ("work", CWork),
-        ("reserved", ctypes.c_uint64),
+        ("rounds", ctypes.c_uint32),
+        ("reserved", ctypes.c_uint32),
     ]
 
 
