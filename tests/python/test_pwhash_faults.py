@@ -307,8 +307,9 @@ def test_the_middle_of_a_long_row_is_never_lost_in_a_pipe(kept: int) -> None:
     begin = b"ann," + b"x" * (kept - len(b"ann,,real")) + b",real"
     process = started("file", "--csv", *MD5CRYPT)
     assert process.stdin
-    process.stdin.write(b"name,third,password,fourth\n" + begin + b"password," + b"y" * 70000)
-    process.stdin.flush()
+    with contextlib.suppress(BrokenPipeError):  # the run may end before it has read the whole row
+        process.stdin.write(b"name,third,password,fourth\n" + begin + b"password," + b"y" * 70000)
+        process.stdin.flush()
     time.sleep(1)
     done = ended(process, b"zz\n")
     assert done.status == 3 and done.out == b"" and lines_named_in(done.err) == [2], done
