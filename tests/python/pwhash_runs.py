@@ -187,13 +187,14 @@ class Load:
 def tree(first: int) -> list[int]:
     """A process and all that it has begun."""
     children: dict[int, list[int]] = {}
-    for path in pathlib.Path("/proc").glob("[0-9]*/stat"):
-        with contextlib.suppress(OSError):
-            fields = path.read_text(encoding="latin-1").rpartition(")")[2].split()
-            children.setdefault(int(fields[1]), []).append(int(path.parent.name))
+    for process in filter(str.isdecimal, os.listdir("/proc")):
+        with contextlib.suppress(OSError):  # it has ended
+            text = pathlib.Path(f"/proc/{process}/stat").read_text(encoding="latin-1")
+            parent = int(text.rpartition(")")[2].split()[1])
+            children.setdefault(parent, []).append(int(process))
     found = [first]
-    for process in found:
-        found += children.get(process, [])
+    for number in found:
+        found += children.get(number, [])
     return found
 
 
