@@ -123,7 +123,7 @@ class Source:
     def columns(self):
         """The names of the columns of name and password, or their numbers, and whether they are names."""
         columns = folded((self.options.columns or "name,password").split(","), os.fsencode)
-        if len(columns) != 2:
+        if len(columns) != 2 or columns[0] == columns[1]:
             raise self.no_columns()
         return columns, not columns[0].isdecimal()
 
@@ -136,7 +136,10 @@ class Source:
         bare = re.sub('"[^"]*"', "", first)
         found = sorted((each for each in ",;\t" if each in bare), key=bare.index)
         if has_names:
-            rows = {each: folded(next(csv.reader([first], delimiter=each), [])) for each in found}
+            try:
+                rows = {each: folded(next(csv.reader([first], delimiter=each), [])) for each in found}
+            except csv.Error as error:
+                raise Stop(f"{self.name}, line 1: this is not CSV: {error}.") from None
             found.sort(key=lambda each: not set(columns) <= set(rows[each]))
         elif len(found) > 1:
             raise Stop(f"{self.name}: {' or '.join(map(SEPARATORS.get, found))} may be between columns. In the first row, quote "
@@ -182,6 +185,8 @@ class Source:
         """A row as a line `name:password`."""
         if len(row) > width:
             return refused(f"{len(row)} fields, where the first row has {width}: a separator in a field needs quotes")
+        if any("\n" in field for field in row):      # in any other field too, since a stray quote hides the lines up to the next
+            return refused("a line feed in a field")
         if wanted[1] >= len(row):
             return refused("no password field")
         if wanted[0] >= len(row) or not row[wanted[0]]:
@@ -189,8 +194,6 @@ class Source:
         name, password = (row[place] for place in wanted)
         if ":" in name:
             return refused("a colon in the name")
-        if "\n" in name + password:
-            return refused("a line feed in a field")
         return f"{name}:{password}".encode("latin-1")
 
     def paired(self, pairs):

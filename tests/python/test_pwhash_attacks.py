@@ -341,6 +341,28 @@ def test_a_heading_on_any_line_is_doubtful(heading: bytes) -> None:
     assert (done.status, done.out, lines_named_in(done.err)) == (1, ANN + BOB, [2]), done
 
 
+def test_a_stray_quote_in_another_column_loses_no_user() -> None:
+    """It hides the lines up to the next quote, so that row is refused, and no user is left out."""
+    table = b'name,password,note\nann,password,"\nbob,password,"\ncid,password,\n'
+    done = pwhash("file", "--csv", *MD5CRYPT, stdin=table)
+    assert done.status == 1 and lines_named_in(done.err) == [3], done
+    assert done.out == b"cid:" + MD5.encode() + b"\n", done
+    from_file = pwhash("file", "--csv", *MD5CRYPT, save("table", table), "-o", "hashes")
+    assert from_file.status == 1 and not os.path.exists("hashes"), from_file
+
+
+@pytest.mark.parametrize("columns", ["name,name", "name,NAME", "1,1"])
+def test_one_column_is_not_both_name_and_password(columns: str) -> None:
+    table = b"name,password\nann,password\n"
+    done = pwhash("file", "--csv", *MD5CRYPT, "--columns", columns, stdin=table)
+    assert (done.status, done.out) == (2, b"") and b"--columns" in done.err, done
+
+
+def test_lines_that_end_in_carriage_returns_alone_are_no_table() -> None:
+    done = pwhash("file", "--csv", *MD5CRYPT, stdin=b"name,password\rann,x\r")
+    assert done.status == 3 and b"not CSV" in done.err and b"Error at" not in done.err, done
+
+
 @pytest.mark.parametrize("row", [b"ann", b",password", b"password,"], ids=os.fsdecode)
 def test_a_row_without_a_name_or_password_is_tried_for_nobody(row: bytes) -> None:
     save("shadow", b"ann:%b:1:::\nbob:%b:1:::\n" % (MD5.encode(), hashed(b"ann")))
