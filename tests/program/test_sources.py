@@ -188,6 +188,13 @@ def test_2_to_the_40_reads_and_writes_are_allowed() -> None:
     assert "\nconst TURNS: u64 = 1 << 40;\n" in read(CRATES / "program/src/main.rt")
 
 
+def test_runs_ask_inspect_about_each_line_that_they_hold_whole(code: list[Line]) -> None:
+    """The clauses of a run are met as well by another function with the same rules."""
+    asks = r"if let Some\(fault\) = inspect\(kind, bytes\) \{"
+    found = [line.path for line in code if re.search(asks, line.code)]
+    assert found == ["run_core/src/answer.rt"]
+
+
 # ---- Mixings and meters
 
 # These are steps of a mixing that another function counts.
