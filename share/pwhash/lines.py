@@ -45,7 +45,8 @@ class Source:
             now = os.fstat(self.fd) if self.options.file == "-" else os.stat(self.options.file)
         except OSError:
             return "it is gone"
-        if now.st_nlink == 0 or not os.path.samestat(now, self.begun):
+        lost_its_name = now.st_nlink == 0 and self.begun.st_nlink != 0      # a here-document never has one
+        if lost_its_name or not os.path.samestat(now, self.begun):
             return "another file took its place"
         if now.st_size != self.begun.st_size:
             return "its size"

@@ -12,6 +12,7 @@ import shlex
 import shutil
 import signal
 import subprocess
+import tempfile
 import time
 from collections.abc import Callable
 
@@ -356,6 +357,16 @@ def test_one_column_is_not_both_name_and_password(columns: str) -> None:
     table = b"name,password\nann,password\n"
     done = pwhash("file", "--csv", *MD5CRYPT, "--columns", columns, stdin=table)
     assert (done.status, done.out) == (2, b"") and b"--columns" in done.err, done
+
+
+def test_a_here_document_is_a_file_that_was_never_named() -> None:
+    with tempfile.TemporaryFile() as document:
+        document.write(b"ann:password\n")
+        document.seek(0)
+        done = subprocess.run(
+            [PWHASH, "file", *MD5CRYPT], stdin=document, capture_output=True, check=False
+        )
+    assert (done.returncode, done.stdout) == (0, b"ann:" + MD5.encode() + b"\n"), done
 
 
 def test_lines_that_end_in_carriage_returns_alone_are_no_table() -> None:
