@@ -3,8 +3,11 @@ import contextlib, csv, errno, itertools, os, re, select, shlex, stat, time
 
 MARK = b"\xef\xbb\xbf"
 LONGEST_ROW = 1 << 17      # bytes of a line of a table, and of a field; csv takes no longer ones
-NAME_WORDS = frozenset("name user username login account benutzer benutzername usuario utilisateur nom".split())
-PASSWORD_WORDS = frozenset("password passwd passwort kennwort contraseña clave senha".split())
+NAME_WORDS = frozenset("""name user username login account benutzer benutzername usuario utilisateur nom vorname nachname nutzer
+    nutzername anmeldename kennung nombre prénom identifiant nome utente gebruiker gebruikersnaam имя логин""".split())
+NAME_WORDS |= {"user name", "login name", "first name", "last name", "nom d'utilisateur", "nombre de usuario", "nome utente"}
+PASSWORD_WORDS = frozenset("password passwd passwort kennwort contraseña clave senha motdepasse wachtwoord hasło пароль".split())
+PASSWORD_WORDS |= {"mot de passe", "mot_de_passe"}
 # Python takes these for printable, but they show nothing: fillers, selectors of a variant, an empty pattern of Braille.
 SHOWS_NOTHING = re.compile("[\u034f\u115f\u1160\u17b4\u17b5\u180b-\u180f\u2800\u3164\ufe00-\ufe0f\uffa0\U000e0100-\U000e01ef]")
 SEPARATORS = {",": "a comma", ";": "a semicolon", "\t": "a tab"}
@@ -113,6 +116,10 @@ class Source:
         if any(headings.count(each) != 1 for each in columns):
             raise self.no_columns()
         wanted = [headings.index(each) for each in columns]
+        name, password = columns if has_names else (cell(folded(first), wanted[0]), "")
+        if name in PASSWORD_WORDS or password in NAME_WORDS:
+            raise Stop("--columns names the column of names, then that of passwords. Here the first is headed as passwords are, "
+                       "or the second as names are. Correct the order.", 2)
         row = self.next_row(rows) if has_names else first
         while row is not None:
             line = self.line_of(row, wanted, len(first))
@@ -174,7 +181,7 @@ class Source:
         fields = folded(row)
         if headings and fields == headings:
             return True
-        name, password = (fields[place] if place < len(fields) else "" for place in wanted)
+        name, password = (cell(fields, place) for place in wanted)
         if headings and [name, password] == [headings[place] for place in wanted]:
             return True
         is_swapped = name in PASSWORD_WORDS and password in NAME_WORDS
@@ -216,6 +223,9 @@ class Source:
 def folded(fields, encode=lambda field: field.encode("latin-1")):
     """Names of columns, as they are compared: however spelled in capitals, and not by bytes."""
     return [encode(each).decode("utf-8", "surrogateescape").strip().casefold() for each in fields]
+
+def cell(row, place):
+    return row[place] if place < len(row) else ""
 
 def is_visible(text):
     return text.isprintable() and not SHOWS_NOTHING.search(text)
