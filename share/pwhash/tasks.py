@@ -1,5 +1,5 @@
 """What pwhash does: it hashes a password or a file of them, checks passwords, and audits stored hashes."""
-import collections, contextlib, itertools, json, os, re, string, time
+import collections, contextlib, itertools, json, os, re, string, time, unicodedata
 from engine import HASH, Engine
 from lines import MARK, NAME_WORDS, PASSWORD_WORDS, Source, Stop, is_visible, named, on_terminal, progress, readable, say, write
 from parts import output, refuse_changed
@@ -10,7 +10,7 @@ PLACES = {      # what --for prints for one hash; those with a name need --name
     "preseed-user": "d-i passwd/user-password-crypted password {hash}", "kickstart": "rootpw --iscrypted {hash}",
     "cloud-init": "#cloud-config\nusers:\n  - name: \"{name}\"\n    lock_passwd: false\n    hashed_passwd: {hash}",
     "ansible": 'password: "{hash}"', "htpasswd": "{name}:{hash}", "shadow": "{name}:{hash}:{day}:0:99999:7:::"}
-HEADINGS = {each.encode() for each in NAME_WORDS | PASSWORD_WORDS}
+HEADINGS = NAME_WORDS | PASSWORD_WORDS
 SERVICES = {    # the names that each service reads as they are
     None: rb"(?s).*", **dict.fromkeys(("apache", "nginx"), rb"[^#\s\0-\x1f\x7f][^\0-\x1f\x7f]*"),
     "dovecot": rb"[a-z0-9_.@-]+", "ldap": rb"[a-z0-9_-]+"}
@@ -20,6 +20,11 @@ OF_PASSWORDS = ("line too long", "password too long", "password has a zero byte"
 STORED = re.compile(      # what stands behind a name in /etc/shadow, /etc/passwd and htpasswd
     rb"(?s)\$(?:[0-9][a-z]?|g?y|apr1|sha1|md5|argon2[a-z]*|scrypt|pbkdf2[a-z0-9-]*)[$,].{8,}|"
     rb"[!*]+(?:\$.*)?(?::[0-9]*)*|[^:]*(?::[0-9]*){7}|[^:]*:[0-9]+:[0-9]+:[^:]*:[^:]*:[^:]*|\{[A-Z0-9.-]+\}.{8,}")
+ERRORS = re.compile(      # what spreadsheets show in place of a value, in some languages
+    rb"#(?:\xc2[\xa1\xbf])?(?:N/A|N/D|NV|(?:NAME|NOM|NOME|NOMBRE)\?|(?:CALC|DIV/0|NULL|NUM|REF|SPILL|VALUE|BEZUG|KALK|WERT|"
+    rb"ZAHL|NOMBRE|NUL|VALEUR|NULO|VALOR|NULLO|RIF|VALORE)!)|(?:Err|Fehler):[0-9]{3}")
+CHANGED = re.compile(rb"#{3,}|[+-]?[0-9](?:[.,][0-9]+)?E[+-]?[0-9]+|TRUE|FALSE|WAHR|FALSCH")      # and what they save in a table
+APART = "letters and accents apart (not Unicode NFC), as few keyboards send them"
 LONGEST_SURE = 64      # bytes of a password that no hash by -m and -R is too costly for
 
 def free(options):
@@ -49,6 +54,10 @@ def refuse_password(password, is_typed):
     if not is_visible(text.replace("\0", "")):      # mkpasswd refuses zero bytes
         raise Stop("the password has a control character or an invisible one in it: a tab, an arrow key, something pasted? "
                    "Give it without, or name:password to pwhash file --accept-doubtful.", 2)
+    if not unicodedata.is_normalized("NFC", text):
+        if not is_typed:
+            raise Stop(f"the password has {APART}. Give it in NFC, or name:password to pwhash file --accept-doubtful.", 2)
+        say(f"the password has {APART}. Its bytes are hashed.")
     if text.encode() == password:
         return
     if not is_typed:
@@ -73,11 +82,11 @@ def one(options):
     values = {"name": options.name, "hash": block.answers[0][2:].decode(), "day": int(time.time() // 86400)}
     write(1, [PLACES[options.place].format(**values).encode()])
 
-def doubts(number, line, names, service):
-    """What mkpasswd hashes as it is, and hardly anybody wants. `names` has the first line of each name."""
+def doubts(number, line, names, options):
+    """What mkpasswd hashes as it is, and hardly anybody wants. `names` has the first line of each name, and if it is doubtful."""
     name, _, password = line.partition(b":")
-    first, text = names.setdefault(name, number), line.decode(errors="replace").replace("\r", "").replace("\ufeff", "")
-    return [reason for reason, is_so in {
+    text = line.decode(errors="replace").replace("\r", "").replace("\ufeff", "")
+    found = [reason for reason, is_so in {
         "an empty password: Return alone logs in": password in (b"", b"\r"),
         "a carriage return ends the password; --windows leaves it out": password.endswith(b"\r"),
         "a carriage return inside": b"\r" in line[:-1],
@@ -85,12 +94,20 @@ def doubts(number, line, names, service):
         "a byte order mark inside": MARK in line[1:],
         "a blank at an end of name or password": any(each != each.strip() for each in text.split(":", 1)),
         "an invisible character": not is_visible(text),
-        "a heading, and no user": name.lower() in HEADINGS,
+        APART: not unicodedata.is_normalized("NFC", text),
+        "a heading, and no user": name.decode(errors="replace").strip().casefold() in HEADINGS,
+        "an error or a rounded value of a spreadsheet": is_damaged(name, options.csv) or is_damaged(password, options.csv),
         "a stored hash or field, and no password": STORED.fullmatch(password),
-        f"the name again, after line {first}": first != number,
-        "the service takes the name for another, or skips it": not re.fullmatch(SERVICES[service], name),
+        "the service takes the name for another, or skips it": not re.fullmatch(SERVICES[options.service], name),
         "not UTF-8; if FILE is all Windows-1252: umask 077; iconv -f WINDOWS-1252 -t UTF-8 FILE > NEW": "\ufffd" in text,
     }.items() if is_so]
+    first, is_doubtful = names.setdefault(name, (number, bool(found)))
+    if first != number:
+        found.append(f"the name again, after line {first}{' (doubtful too, so neither is sure)' if is_doubtful else ''}")
+    return found
+
+def is_damaged(field, is_of_table):
+    return bool(ERRORS.fullmatch(field) or is_of_table and CHANGED.fullmatch(field))
 
 def problems(source, options, engine, names):
     """Gives number, line and reason of refused and doubtful lines, and if it's a doubt."""
@@ -101,7 +118,7 @@ def problems(source, options, engine, names):
             if reason != "over budget":
                 yield number, line, reason, False
             else:
-                yield from ((number, line, doubt, True) for doubt in doubts(number, line, names, options.service))
+                yield from ((number, line, doubt, True) for doubt in doubts(number, line, names, options))
                 by_length.setdefault(len(line) - line.index(b":"), []).append((number, line))
     for _, same in sorted(by_length.items(), reverse=True):      # the longest first, down to one that is hashed
         [block] = engine.answers([(1, same[0][1])])
@@ -173,7 +190,7 @@ def file(options):
             skip(fd, pairs, options, source.name)
         for block in progress(engine.answers(pairs, source.total), "hashing", source.total):
             for place, (number, line) in enumerate(zip(block.numbers, block.lines) if doubted else ()):
-                if place not in block.refusals and (found := doubts(number, line, names, options.service)):
+                if place not in block.refusals and (found := doubts(number, line, names, options)):
                     engine.bad, block.refusals[place] = True, found[0]
                     block.answers[place] = f"pwhash: line {number}: {found[0]}".encode()
             refuse_changed(options, source)      # what was hashed may be old by now

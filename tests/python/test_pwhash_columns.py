@@ -10,10 +10,11 @@ import pathlib
 
 import pytest
 
-from pwhash_runs import MD5CRYPT, hashed, pwhash, save
+from pwhash_runs import MD5CRYPT, hashed, lines_named_in, pwhash, read, save
 from support import MD5
 
 ANN = b"ann:" + hashed(b"pw1") + b"\n"
+BOB = b"bob:" + hashed(b"pw2") + b"\n"
 
 
 @pytest.fixture(autouse=True)
@@ -73,3 +74,93 @@ def test_known_passwords_are_not_taken_for_names() -> None:
 def test_columns_that_fit_their_headings_are_hashed(columns: str, table: bytes) -> None:
     done = pwhash("file", "--csv", *MD5CRYPT, "--columns", columns, stdin=table)
     assert (done.status, done.out) == (0, ANN), done
+
+
+# Headings of tables and lists that were joined.
+
+
+@pytest.mark.parametrize(
+    "heading",
+    [
+        b"vorname:passwort",
+        "Prénom:mot de passe".encode(),
+        "PRÉNOM:x".encode(),
+        b"User Name:x",
+        b"mot de passe:x",
+    ],
+    ids=os.fsdecode,
+)
+@pytest.mark.parametrize("is_table", [False, True], ids=["list", "table"])
+def test_a_heading_of_other_words_is_no_user(heading: bytes, is_table: bool) -> None:
+    lines = b"ann:pw1\n" + heading + b"\nbob:pw2\n"
+    words: tuple[str, ...] = ()
+    if is_table:
+        lines = b"name,password\n" + lines.replace(b":", b",")
+        words = ("--csv",)
+    done = pwhash("file", *MD5CRYPT, *words, stdin=lines)
+    assert (done.status, done.out, lines_named_in(done.err)) == (1, ANN + BOB, [2 + is_table]), done
+
+
+@pytest.mark.parametrize("words", [(), ("--csv", "--columns", "1,2")], ids=["list", "table"])
+def test_the_first_line_again_is_no_user(words: tuple[str, ...]) -> None:
+    """Whatever words it has."""
+    lines = b"konto:geheim\nann:pw1\nkonto:geheim\nbob:pw2\n"
+    save("list", lines.replace(b":", b",") if words else lines)
+    done = pwhash("file", *MD5CRYPT, *words, "list")
+    assert (done.status, done.out) == (1, b"") and lines_named_in(done.err) == [3, 1], done
+
+
+# What spreadsheets make of passwords.
+
+DAMAGED = [
+    *("#NAME?", "#REF!", "#VALUE!", "#DIV/0!", "#N/A", "#NULL!", "#NUM!"),
+    *("#BEZUG!", "#WERT!", "#ZAHL!", "#NV", "#NOM?", "#VALEUR!", "#¡REF!", "#¿NOMBRE?", "Err:502"),
+    *("####", "##########", "1.23E+15", "1,23E+15", "1E+20", "-1.5E-07", "2,5E10"),
+    *("TRUE", "FALSE", "WAHR", "FALSCH"),
+]
+SOUND = ["#name", "#1 fan!", "true", "wahr", "TRUELOVE", "1.23E+15x", "E+15", "123456", "##", "#A!"]
+
+
+def table_of(password: str) -> bytes:
+    return f'name,password\nann,pw1\neve,"{password}"\nbob,pw2\n'.encode()
+
+
+@pytest.mark.parametrize("password", DAMAGED)
+def test_a_password_that_a_spreadsheet_damaged_is_doubtful(password: str) -> None:
+    save("table", table_of(password))
+    done = pwhash("file", "--csv", *MD5CRYPT, stdin=table_of(password))
+    assert (done.status, done.out, lines_named_in(done.err)) == (1, ANN + BOB, [3]), done
+    left_out = pwhash("file", "--csv", *MD5CRYPT, "table", "--skip-doubtful", "-o", "hashes")
+    assert left_out.status == 1 and read("hashes") == ANN + BOB, left_out
+    assert b"spreadsheet" in left_out.err and password.encode() not in left_out.err, left_out
+
+
+def test_a_password_that_a_spreadsheet_damaged_can_be_accepted() -> None:
+    words = ("file", "--csv", *MD5CRYPT, "--accept-doubtful")
+    done = pwhash(*words, stdin=table_of("#NAME?"))
+    eve = b"eve:" + hashed(b"#NAME?") + b"\n"
+    assert (done.status, done.out) == (0, ANN + eve + BOB), done
+
+
+def test_a_name_that_a_spreadsheet_damaged_is_doubtful() -> None:
+    done = pwhash("file", "--csv", *MD5CRYPT, stdin=b"name,password\n1.23E+11,x\nbob,pw2\n")
+    assert (done.status, done.out, lines_named_in(done.err)) == (1, BOB, [2]), done
+
+
+@pytest.mark.parametrize("password", SOUND)
+def test_a_password_that_only_looks_damaged_is_hashed(password: str) -> None:
+    done = pwhash("file", "--csv", *MD5CRYPT, stdin=table_of(password))
+    eve = b"eve:" + hashed(password.encode()) + b"\n"
+    assert (done.status, done.out) == (0, ANN + eve + BOB), done
+
+
+@pytest.mark.parametrize("password", ["####", "1.23E+15", "TRUE", "FALSCH"])
+def test_of_a_list_that_is_no_table_it_is_hashed(password: str) -> None:
+    done = pwhash("file", *MD5CRYPT, stdin=f"eve:{password}\n".encode())
+    assert (done.status, done.out) == (0, b"eve:" + hashed(password.encode()) + b"\n"), done
+
+
+@pytest.mark.parametrize("password", ["#NAME?", "#BEZUG!"])
+def test_an_error_of_a_spreadsheet_is_doubtful_in_a_list_too(password: str) -> None:
+    done = pwhash("file", *MD5CRYPT, stdin=f"eve:{password}\nbob:pw2\n".encode())
+    assert (done.status, done.out, lines_named_in(done.err)) == (1, BOB, [1]), done

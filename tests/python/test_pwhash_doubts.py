@@ -1,0 +1,93 @@
+"""pwhash and lines that hardly anybody wants: accents apart, and names that come again.
+
+Each test sees only what a user sees: the command, its outputs, files and status.
+"""
+
+from __future__ import annotations
+
+import pathlib
+import re
+import unicodedata
+
+import pytest
+
+from pwhash_runs import MD5CRYPT, Ended, at_terminal, hashed, lines_named_in, pwhash, read, save
+
+BOB = b"bob:" + hashed(b"pw2") + b"\n"
+
+
+@pytest.fixture(autouse=True)
+def folder(tmp_path: pathlib.Path, monkeypatch: pytest.MonkeyPatch) -> pathlib.Path:
+    """A scratch folder, which is the current one."""
+    monkeypatch.chdir(tmp_path)
+    monkeypatch.setenv("LC_ALL", "C.UTF-8")
+    return tmp_path
+
+
+# Letters and accents apart.
+
+APART = unicodedata.normalize("NFD", "Grüße").encode()
+
+
+@pytest.mark.parametrize(
+    "line",
+    [
+        pytest.param(b"ann:" + APART, id="a password"),
+        pytest.param(unicodedata.normalize("NFD", "zoë").encode() + b":x", id="a name"),
+        pytest.param("ann:5 k\u2126".encode(), id="a sign that has another one"),
+        pytest.param(unicodedata.normalize("NFD", "ann:한국").encode(), id="Korean"),
+    ],
+)
+def test_a_line_with_accents_apart_is_doubtful(line: bytes) -> None:
+    by_pipe = pwhash("file", *MD5CRYPT, stdin=line + b"\nbob:pw2\n")
+    assert (by_pipe.status, by_pipe.out, lines_named_in(by_pipe.err)) == (1, BOB, [1]), by_pipe
+    from_file = pwhash("file", *MD5CRYPT, save("list", line + b"\nbob:pw2\n"))
+    assert (from_file.status, from_file.out) == (1, b"") and b"NFC" in from_file.err, from_file
+
+
+def test_a_line_with_accents_apart_can_be_accepted() -> None:
+    done = pwhash("file", *MD5CRYPT, "--accept-doubtful", stdin=b"ann:" + APART + b"\n")
+    assert (done.status, done.out) == (0, b"ann:" + hashed(APART) + b"\n"), done
+
+
+@pytest.mark.parametrize("password", ["Grüße", "한국", "日本語", "\u0e01\u0e33"])
+def test_a_line_as_keyboards_send_it_is_hashed(password: str) -> None:
+    data = unicodedata.normalize("NFC", password).encode()
+    done = pwhash("file", *MD5CRYPT, stdin=b"ann:" + data + b"\n")
+    assert (done.status, done.out) == (0, b"ann:" + hashed(data) + b"\n"), done
+
+
+def test_one_password_of_a_pipe_with_accents_apart_is_refused() -> None:
+    done = pwhash(*MD5CRYPT, stdin=APART + b"\n")
+    assert (done.status, done.out) == (2, b"") and b"NFC" in done.err, done
+    assert b"Gru" not in done.err, done
+
+
+def test_a_typed_password_with_accents_apart_is_named_and_hashed() -> None:
+    """Some keyboards send it so, as at every later login."""
+    terminal = at_terminal(MD5CRYPT, [APART + b"\r"] * 2)
+    assert terminal.status == 0 and b"NFC" in terminal.shown, terminal
+    assert terminal.shown.split()[-1] == hashed(APART) and b"Gru" not in terminal.shown, terminal
+
+
+# A name that comes again.
+
+
+def skipped(lines: bytes) -> Ended:
+    return pwhash("file", *MD5CRYPT, save("list", lines), "-o", "hashes", "--skip-doubtful")
+
+
+def test_the_first_line_of_a_repeated_name_stays() -> None:
+    done = skipped(b"ann:pw1\nbob:pw2\nann:other\n")
+    assert done.status == 1 and read("hashes") == b"ann:" + hashed(b"pw1") + b"\n" + BOB, done
+    assert re.findall(rb"line (\d+) .*after line (\d+)", done.err) == [(b"3", b"1")], done
+
+
+@pytest.mark.parametrize("first", [b"", b"pw1 ", b"pw\t1"], ids=["empty", "a blank", "a tab"])
+def test_no_line_of_a_name_stays_whose_first_is_doubtful(first: bytes) -> None:
+    """Nobody can tell which is right, so the messages name both lines, and say so."""
+    done = skipped(b"ann:" + first + b"\nbob:pw2\nann:other\n")
+    assert done.status == 1 and read("hashes") == BOB, done
+    assert re.search(rb"line 1 \(ann\)", done.err), done
+    again = re.search(rb"line 3 \(ann\): .*after line 1(.*)", done.err)
+    assert again and b"neither" in again[1], done
