@@ -128,7 +128,8 @@ def way_on(options):
 
 def typed_again(options):
     """The command of this run, with --resume."""
-    words = sys.argv + ([] if options.resume else ["--resume"])
+    program, command, *rest = sys.argv
+    words = [program, command, *([] if options.resume else ["--resume"]), *rest]      # a -- may stand in the rest
     redirected = f" < {quoted(os.readlink('/proc/self/fd/0'))}" if options.file == "-" else ""
     return " ".join(map(quoted, words)) + redirected
 

@@ -1,5 +1,7 @@
 """OUT.part, in which a run writes, and which becomes OUT once it is whole.
 
+Beside it OUT.part.options keeps what its hashes are of, for --resume.
+
 Somebody loads its hashes as root. So it is a new file, or with --resume one of the user's own,
 and OUT is that very file, whoever else can write in its folder.
 """
@@ -12,7 +14,7 @@ import re
 import signal
 import stat
 from collections.abc import Iterator
-from typing import Optional
+from typing import NamedTuple, Optional
 
 from lines import Source, Stop, named, quoted, say
 from prompt import SIGNALS
@@ -21,8 +23,23 @@ from prompt import SIGNALS
 FLAGS = os.O_RDWR | os.O_NOFOLLOW | os.O_NONBLOCK
 # What a file system without links, or a machine without /proc, answers.
 NO_LINKS = (errno.EPERM, errno.EOPNOTSUPP, errno.ENOSYS, errno.EMLINK, errno.EXDEV, errno.ENOENT)
-KEPT_OPTIONS = re.compile(rb"(?s)--windows|--csv --columns=.*")
+KEPT_BEGIN = b"pwhash file --resume needs this.\n"
+KEPT = re.compile(
+    re.escape(KEPT_BEGIN)
+    + rb"FILE has ([0-9]+ bytes, time -?[0-9]+, inode [0-9]+)\n"
+    + rb"(?s:options (|--windows|--csv --columns=.*)\n)"
+)
 AT_FDCWD, RENAME_NOREPLACE = -100, 1
+
+
+class Kept(NamedTuple):
+    """What OUT.part.options tells of OUT.part."""
+
+    file: bytes  # its size, time and inode, and never a digest, since that is one of passwords
+    options: bytes  # those that change a line before it is hashed
+
+
+CUT = Kept(b"", b"")  # of a run that ended while it wrote this
 
 
 @contextlib.contextmanager
@@ -30,11 +47,10 @@ def output(options: argparse.Namespace, source: Source) -> Iterator[int]:
     """Opens OUT.part, for this run alone, which becomes OUT at the end."""
     part = options.out + ".part"
     if options.can_resume:
-        read_options(f"{part}.options")  # before a part is made, in case another file has the name
+        read_kept(f"{part}.options")  # before a part is made, in case another file has the name
     fd = open_part(part, options, source)
     options.part = part
     try:
-        keep_options(fd, options)
         yield fd
         os.fsync(fd)
         refuse_changed(options, source)
@@ -45,8 +61,8 @@ def output(options: argparse.Namespace, source: Source) -> Iterator[int]:
         if source.change():
             os.utime(fd, (0, 0))  # so FILE is newer, and --resume refuses
         elif is_wrong_use and os.fstat(fd).st_size == 0:  # as of an option that mkpasswd refuses
-            remove(fd, part)
             remove_options(options)
+            remove(fd, part)
         raise
 
 
@@ -110,11 +126,43 @@ def refuse_to_go_on(
     exists = f"{named(part)} already exists"
     if not options.can_resume:
         raise Stop(f"{exists}: remove it, or name another file after -o.", 2)
-    if status.st_size and source.begun.st_mtime_ns > status.st_mtime_ns:
-        way_out = f"if no line changed: {touch(part, source)}; else remove {named(part)}"
-        raise Stop(f"{exists}, and {source.name} is newer; {way_out}.", 2)
+    if status.st_size:
+        refuse_another_file(part, status, options, source)
     if not options.resume:
         raise Stop(f"{exists}: add --resume, else remove it.", 2)
+
+
+def refuse_another_file(
+    part: str, status: os.stat_result, options: argparse.Namespace, source: Source
+) -> None:
+    """Refuses lines of a part that may be hashes of other passwords than FILE's."""
+    path = f"{part}.options"
+    both = f"{named(part)} and {named(path)}"
+    kept, now = read_kept(path), kept_of(options, source)
+    if kept is None:  # of GNU parallel, say: nothing but the times tells anything
+        refuse_newer(part, status, source)
+        kept = Kept(now.file, b"")
+    if kept == CUT:
+        raise Stop(f"{named(path)} was cut. Remove {both}, and start again.", 2)
+    if kept.file != now.file:
+        raise Stop(
+            f"{named(part)} isn't of {source.name} as it is now: that is another file, or was "
+            f"changed or touched since. Remove {both}, and start again.",
+            2,
+        )
+    if options.resume and kept.options != now.options:
+        raise Stop(
+            f"{named(part)} was begun with other --windows, --csv or --columns. "
+            f"Give those, or remove {both}, and start again.",
+            2,
+        )
+
+
+def refuse_newer(part: str, status: os.stat_result, source: Source) -> None:
+    if source.begun.st_mtime_ns > status.st_mtime_ns:
+        touch = f"touch -r {source.path()} {quoted(part)} and add --resume"
+        way_out = f"if no line changed: {touch}; else remove {named(part)}"
+        raise Stop(f"{named(part)} already exists, and {source.name} is newer; {way_out}.", 2)
 
 
 def options_of_lines(options: argparse.Namespace) -> bytes:
@@ -125,56 +173,66 @@ def options_of_lines(options: argparse.Namespace) -> bytes:
     return b"--windows" if options.windows else b""
 
 
-def keep_options(fd: int, options: argparse.Namespace) -> None:
-    """Keeps them beside the part, for --resume, or finds them there as they are now."""
+def kept_of(options: argparse.Namespace, source: Source) -> Kept:
+    """What this run keeps. Reading and chmod change the ctime, so it isn't kept."""
+    begun = source.begun
+    file = f"{begun.st_size} bytes, time {begun.st_mtime_ns}, inode {begun.st_ino}"
+    return Kept(file.encode(), options_of_lines(options))
+
+
+def keep(fd: int, options: argparse.Namespace, source: Source) -> None:
+    """Keeps what --resume needs, once the lines of a part are known to be right."""
     if not options.can_resume:
         return
-    given = options_of_lines(options)
     path = f"{options.part}.options"
-    if os.fstat(fd).st_size == 0:
-        if read_options(path):
-            os.unlink(path)  # of a run whose part was removed
-        if given:
-            write_options(path, given)
-    elif read_options(path) != given:
-        raise Stop(
-            f"{named(options.part)} was begun with other --windows, --csv or --columns. "
-            "Give those, or remove it.",
-            2,
-        )
+    kept = read_kept(path)
+    if kept and os.fstat(fd).st_size:
+        return
+    if kept:
+        os.unlink(path)  # of a run whose part was removed
+    now = kept_of(options, source)
+    write_kept(path, KEPT_BEGIN + b"FILE has %b\noptions %b\n" % now)
 
 
-def write_options(path: str, given: bytes) -> None:
-    with open(os.open(path, FLAGS | os.O_CREAT | os.O_EXCL, 0o600), "wb") as file:
-        os.fchmod(file.fileno(), 0o600)
-        file.write(given)
+def write_kept(path: str, data: bytes) -> None:
+    """Writes all of it, or nothing remains."""
+    fd = os.open(path, FLAGS | os.O_CREAT | os.O_EXCL, 0o600)
+    try:
+        with open(fd, "wb") as file:
+            os.fchmod(fd, 0o600)
+            file.write(data)
+            file.flush()
+            os.fsync(fd)
+    except OSError as error:
+        os.unlink(path)
+        error.filename = path
+        raise
 
 
-def read_options(path: str) -> bytes:
+def read_kept(path: str) -> Optional[Kept]:
     """What a run of this user has kept, or nothing. Whatever else has the name stays as it is."""
     if not os.path.lexists(path):
-        return b""
+        return None
     fault = unfit(os.lstat(path))
     if not fault:
         with open(os.open(path, FLAGS), "rb") as file:
-            kept = file.read(1 << 12)
+            data = file.read(1 << 18)
             fault = unfit(os.fstat(file.fileno()))
-        if KEPT_OPTIONS.fullmatch(kept):
-            return kept
-        fault = fault or "it is of no run"
+    if not fault:
+        found = KEPT.fullmatch(data)
+        if found:
+            return Kept(found[1], found[2])
+        if not data or data.startswith(KEPT_BEGIN):
+            return CUT
+        fault = "it is of no run"
     way_out = "Remove it, or name another file after -o"
     raise Stop(f"{named(path)} is in the way: {fault}. {way_out}.", 2)
 
 
 def remove_options(options: argparse.Namespace) -> None:
-    if options.can_resume and options_of_lines(options):
+    if options.can_resume:
         with contextlib.suppress(FileNotFoundError):
             os.unlink(f"{options.part}.options")
-
-
-def touch(part: str, source: Source) -> str:
-    """What makes --resume go on, though FILE is newer than a part."""
-    return f"touch -r {source.path()} {quoted(part)} and add --resume"
 
 
 def changed(options: argparse.Namespace, source: Source) -> Optional[str]:
@@ -186,8 +244,6 @@ def changed(options: argparse.Namespace, source: Source) -> Optional[str]:
         way_out = "discard the hashes, and start again"
         return f"{source.name} was changed during the run ({what}): {way_out}."
     way_out = f"remove {named(options.part)}, and start again"
-    if what == "its time" and options.can_resume:
-        way_out += f"; or if no line changed: {touch(options.part, source)}"
     return f"{source.name} was changed during the run ({what}): {way_out}."
 
 
@@ -205,8 +261,8 @@ def become(fd: int, options: argparse.Namespace) -> None:
     before = signal.pthread_sigmask(signal.SIG_BLOCK, SIGNALS)  # none comes between the two
     try:
         link(fd, options)
+        remove_options(options)  # while the part keeps other runs out
         remove(fd, options.part)
-        remove_options(options)
     except FileExistsError:
         if not options.can_resume:
             options.advice = f"Rename {named(options.part)}."

@@ -2,7 +2,7 @@
 import collections, contextlib, itertools, json, os, re, string, time, unicodedata
 from engine import HASH, Engine
 from lines import MARK, NAME_WORDS, PASSWORD_WORDS, Source, Stop, is_visible, named, on_terminal, progress, readable, say, write
-from parts import output, refuse_changed
+from parts import keep, output, refuse_changed
 from prompt import ask_password
 
 PLACES = {      # what --for prints for one hash; those with a name need --name
@@ -188,6 +188,8 @@ def file(options):
         pairs = (pair for pair in source.lines() if not pair or pair[0] not in left_out)
         if options.resume:
             skip(fd, pairs, options, source.name)
+        if options.out:
+            keep(fd, options, source)
         for block in progress(engine.answers(pairs, source.total), "hashing", source.total):
             for place, (number, line) in enumerate(zip(block.numbers, block.lines) if doubted else ()):
                 if place not in block.refusals and (found := doubts(number, line, names, options)):

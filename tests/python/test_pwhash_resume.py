@@ -1,0 +1,268 @@
+"""pwhash file --resume: it goes on only over the very file that a part was begun with.
+
+Each test sees only what a user sees: the command, its outputs, files and status.
+"""
+
+from __future__ import annotations
+
+import contextlib
+import os
+import pathlib
+import shutil
+import signal
+import subprocess
+from collections.abc import Callable
+
+import pytest
+
+from pwhash_runs import (
+    SLOW,
+    Ended,
+    ended,
+    hashed,
+    in_namespace,
+    pwhash,
+    read,
+    save,
+    save_part,
+    shell,
+    started,
+    started_program,
+    users,
+    wait_for,
+)
+
+COUNT = 400
+SETTING = "$6$rounds=20000$saltsalt"
+WORDS = ("file", *SLOW, "passwords", "-o", "hashes")
+OLD = (1e9, 1e9)
+OLDER = (9e8, 9e8)
+
+
+@pytest.fixture(autouse=True)
+def folder(tmp_path: pathlib.Path, monkeypatch: pytest.MonkeyPatch) -> pathlib.Path:
+    """A scratch folder, which is the current one, with an old list of passwords."""
+    monkeypatch.chdir(tmp_path)
+    monkeypatch.setenv("LC_ALL", "C.UTF-8")
+    save("passwords", users(COUNT))
+    os.utime("passwords", OLD)
+    return tmp_path
+
+
+def interrupted(
+    *words: str, part: str = "hashes.part", source: str = os.devnull, begun: bytes = b""
+) -> Ended:
+    """A run that a signal ends in its midst, begun by others or not. One that was quicker is
+    repeated."""
+    for _ in range(20):
+        if begun:
+            save_part(part, begun)
+        with open(source, "rb") as stdin:
+            done = terminated(started(*words, stdin=stdin), part, len(begun))
+        if os.path.exists(part):
+            break
+        assert done.status == 0, done
+        os.remove(part.removesuffix(".part"))
+    assert done.status == -signal.SIGTERM and 0 < lines_in(part) < COUNT, done
+    return done
+
+
+def terminated(process: subprocess.Popen[bytes], part: str, size: int) -> Ended:
+    """Ends a run by a signal once its part is larger, unless it has ended by then."""
+    wait_for(lambda: process.poll() is not None or size_of(part) > size)
+    process.send_signal(signal.SIGTERM)
+    return ended(process)
+
+
+def size_of(name: str) -> int:
+    with contextlib.suppress(FileNotFoundError):
+        return os.path.getsize(name)
+    return 0
+
+
+def lines_in(name: str) -> int:
+    return read(name).count(b"\n")
+
+
+def printed_command(done: Ended) -> str:
+    """What the run says to type."""
+    return done.err.decode().split("To go on:\n")[1].strip()
+
+
+def by_shell(command: str) -> Ended:
+    return ended(started_program("/bin/sh", "-c", command))
+
+
+# Another FILE.
+
+
+def other_passwords() -> bytes:
+    """Of the same size; what differs is behind the first line, which is hashed again."""
+    return users(COUNT).replace(b":password1\n", b":PASSWORD1\n")
+
+
+def copy_over() -> None:
+    """As `cp -p` of an older list does."""
+    save("backup", other_passwords())
+    os.utime("backup", OLDER)
+    with open("backup", "rb") as backup, open("passwords", "r+b") as passwords:
+        shutil.copyfileobj(backup, passwords)
+    shutil.copystat("backup", "passwords")
+
+
+def rename_over() -> None:
+    """As a backup of the same size and time that takes FILE's place."""
+    save("backup", other_passwords())
+    os.utime("backup", OLD)
+    os.rename("backup", "passwords")
+
+
+def lengthen() -> None:
+    with open("passwords", "ab") as passwords:
+        passwords.write(b"eve:password\n")
+    os.utime("passwords", OLD)
+
+
+CHANGES = [
+    pytest.param(copy_over, id="copied over by cp -p"),
+    pytest.param(rename_over, id="replaced by a backup"),
+    pytest.param(lengthen, id="longer"),
+    pytest.param(lambda: os.utime("passwords", OLDER), id="with an older time alone"),
+    pytest.param(lambda: os.utime("passwords"), id="touched"),
+]
+
+
+@pytest.mark.parametrize("change", CHANGES)
+@pytest.mark.parametrize("source", ["/dev/null", "passwords"], ids=["named", "standard input"])
+def test_a_part_of_another_file_is_not_gone_on_with(
+    change: Callable[[], object], source: str
+) -> None:
+    words = [word for word in WORDS if word != source]
+    interrupted(*words, source=source)
+    part = read("hashes.part")
+    change()
+    done = shell(f'exec "$@" < {source}', *words, "--resume")
+    assert done.status == 2 and not os.path.exists("hashes"), done
+    assert b"another file" in done.err and b"emove hashes.part" in done.err, done
+    assert b"--resume" not in done.err and read("hashes.part") == part, done
+
+
+def test_what_the_refusal_says_makes_new_hashes() -> None:
+    interrupted(*WORDS)
+    copy_over()
+    assert pwhash(*WORDS, "--resume").status == 2
+    os.remove("hashes.part")
+    done = pwhash(*WORDS)
+    assert done.status == 0 and sorted(os.listdir()) == ["backup", "hashes", "passwords"], done
+    assert read("hashes").splitlines()[1] == b"user1:" + hashed(b"PASSWORD1", SETTING)
+
+
+def test_the_same_file_on_standard_input_is_gone_on_with() -> None:
+    first = interrupted("file", *SLOW, "-o", "hashes", source="passwords")
+    second = by_shell(printed_command(first))
+    assert second.status == 0 and lines_in("hashes") == COUNT, second
+    assert sorted(os.listdir()) == ["hashes", "passwords"], second
+
+
+def test_a_part_is_gone_on_with_more_than_once() -> None:
+    """Each time for some lines more, and over the same file only."""
+    interrupted(*WORDS)
+    first = read("hashes.part").splitlines(keepends=True)[0]
+    interrupted(*WORDS, "--resume", begun=first)
+    copy_over()
+    done = pwhash(*WORDS, "--resume")
+    assert done.status == 2 and not os.path.exists("hashes"), done
+
+
+def test_a_part_that_others_made_is_bound_to_the_file_once_it_was_gone_on_with() -> None:
+    """As GNU parallel makes one, beside which nothing tells what it is of."""
+    made = b"".join(b"user%d:%b\n" % (n, hashed(b"password%d" % n, SETTING)) for n in range(3))
+    interrupted(*WORDS, "--resume", begun=made)
+    copy_over()
+    done = pwhash(*WORDS, "--resume")
+    assert done.status == 2 and b"another file" in done.err, done
+
+
+# What is kept beside the part.
+
+KEPT = "hashes.part.options"
+
+
+def cut_by(count: int) -> None:
+    with open(KEPT, "r+b") as file:
+        file.truncate(max(0, os.path.getsize(KEPT) - count))
+
+
+CUTS = [
+    pytest.param(lambda: cut_by(1 << 20), id="empty"),
+    pytest.param(lambda: cut_by(os.path.getsize(KEPT) // 2), id="half of it"),
+    pytest.param(lambda: cut_by(1), id="all but the last byte"),
+]
+
+
+@pytest.mark.parametrize("words", [(), ("--windows",)], ids=["alone", "with --windows"])
+@pytest.mark.parametrize("cut", CUTS)
+def test_a_part_is_not_gone_on_with_by_what_was_cut(
+    cut: Callable[[], None], words: tuple[str, ...]
+) -> None:
+    interrupted(*WORDS, *words)
+    cut()
+    done = pwhash(*WORDS, *words, "--resume")
+    assert done.status == 2 and not os.path.exists("hashes"), done
+    assert KEPT.encode() in done.err and b"emove" in done.err, done
+
+
+@pytest.mark.parametrize("cut", CUTS)
+def test_nothing_is_lost_where_the_part_is_empty(cut: Callable[[], None]) -> None:
+    """As after a power cut at the very beginning."""
+    interrupted(*WORDS)
+    cut()
+    save("hashes.part", b"")
+    done = pwhash(*WORDS, "--resume")
+    assert done.status == 0 and lines_in("hashes") == COUNT, done
+    assert sorted(os.listdir()) == ["hashes", "passwords"], done
+
+
+@pytest.mark.parametrize("words", [(), ("--windows",)], ids=["alone", "with --windows"])
+@pytest.mark.parametrize("blocks", [0, 1], ids=["nothing fits", "a block fits"])
+def test_the_printed_command_goes_on_after_a_full_disk(words: tuple[str, ...], blocks: int) -> None:
+    script = f"""
+        mkdir full
+        mount -t tmpfs -o size=64k none full
+        head -c {65536 - 4096 * blocks} /dev/zero > full/filler
+        "$@" 2> said || echo status $?
+        cat said >&2
+        rm full/filler
+        sh -c "$(sed -n 's/^  //p' said)" || echo status $?
+        wc -l < full/hashes
+        ls full
+    """
+    save("passwords", users(200))
+    done = in_namespace(script, "file", *SLOW, "passwords", "-o", "full/hashes", *words)
+    assert done.out == b"status 3\n200\nhashes\n" and b"To go on" in done.err, done
+
+
+# The command that a run prints.
+
+
+@pytest.mark.parametrize(
+    ("name", "words"),
+    [
+        pytest.param("passwords", ("-o", "hashes", "--", "passwords"), id="behind --"),
+        pytest.param("-my list", ("-o", "hashes", "--", "-my list"), id="a dash and a blank"),
+        pytest.param("--resume", ("-o", "hashes", "--", "--resume"), id="the option's own name"),
+        pytest.param("it's", ("it's", "--out=hashes"), id="a quote"),
+        pytest.param("$HOME;#", ("-ohashes", "$HOME;#"), id="signs of the shell"),
+    ],
+)
+def test_the_printed_command_goes_on_whatever_its_words(name: str, words: tuple[str, ...]) -> None:
+    os.rename("passwords", name)
+    first = interrupted("file", *SLOW, *words)
+    second = by_shell(printed_command(first))
+    assert second.status == 0 and lines_in("hashes") == COUNT, second
+
+
+def test_the_printed_command_goes_on_where_out_begins_with_a_dash() -> None:
+    first = interrupted("file", *SLOW, "--out=-h", "--", "passwords", part="-h.part")
+    second = by_shell(printed_command(first))
+    assert second.status == 0 and lines_in("-h") == COUNT, second
