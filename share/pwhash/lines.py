@@ -34,6 +34,7 @@ class Source:
         self.regular = stat.S_ISREG(self.begun.st_mode)
         if stat.S_ISDIR(self.begun.st_mode):
             raise Stop(f"{self.name} is {'closed, or ' * is_stdin}a folder.")
+        refuse_as_output(self.begun, self.name)
         if os.isatty(self.fd):
             say("reading lines from the terminal, which shows them; Ctrl-D ends them.")
         self.start = self.regular and os.lseek(self.fd, 0, os.SEEK_CUR)
@@ -253,6 +254,16 @@ def quoted(word):
 def is_unheard(fd, error):
     """Whether this is standard error, closed or a pipe that nobody reads, which ends no run."""
     return fd == 2 and error.errno in (errno.EPIPE, errno.EBADF)
+
+def refuse_as_output(status, name):
+    """Refuses a regular file to which this run would add what it prints, and would read that again, as `audit a >> a`."""
+    for fd, output in (2, "standard error"), (1, "standard output"):
+        if stat.S_ISREG(status.st_mode) and status.st_size and os.path.samestat(os.fstat(fd), status):
+            sentence = f"{name} is {output} too. Write to another file."
+            if fd == 2:      # the sentence isn't added to the file, either
+                on_terminal(f"pwhash: {sentence}\n")
+                os.dup2(os.open(os.devnull, os.O_WRONLY), 2)
+            raise Stop(sentence, 2)
 
 def write(fd, lines):
     """Writes all of them, also where somebody made the descriptor non-blocking."""

@@ -206,7 +206,8 @@ def show(fd, block, new=False):
     begin = 0
     for place in [*sorted(block.refusals), len(block.answers)]:
         answers = [each for each in block.answers[begin:place] if not new or b":ok:$" in each]
-        write(fd, [each.replace(b":ok:", b":", 1) for each in answers] if new else answers)
+        answers = [each.replace(b":ok:", b":", 1) for each in answers] if new else answers
+        write(fd, [readable(each).encode() for each in answers] if os.isatty(fd) else answers)
         write(2, filter(None, block.answers[place:place + 1]))
         begin = place + 1
 

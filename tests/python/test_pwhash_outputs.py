@@ -1,0 +1,136 @@
+"""Where pwhash prints: never into the file that it reads, and so that no name commands a terminal.
+
+Each test sees only what a user sees: the command, its outputs, files and status.
+"""
+
+from __future__ import annotations
+
+import os
+import pathlib
+
+import pexpect
+import pytest
+
+from pwhash_runs import MD5CRYPT, PWHASH, hashed, pwhash, read, save, shell, users
+from support import MD5
+
+ESCAPE = b"\x1b[2J"
+# An output of a megabyte ends the run, so that it doesn't fill the disk where it goes on for ever.
+LIMIT = "ulimit -f 2048; exec "
+
+
+@pytest.fixture(autouse=True)
+def folder(tmp_path: pathlib.Path, monkeypatch: pytest.MonkeyPatch) -> pathlib.Path:
+    """A scratch folder, which is the current one."""
+    monkeypatch.chdir(tmp_path)
+    monkeypatch.setenv("LC_ALL", "C.UTF-8")
+    return tmp_path
+
+
+# The file that is read.
+
+COMMANDS = [
+    pytest.param(("audit",), id="audit"),
+    pytest.param(("audit", "--json"), id="audit in JSON"),
+    pytest.param(("check",), id="check"),
+    pytest.param(("check", "--shadow", "shadow"), id="check of known passwords"),
+    pytest.param(("file", *MD5CRYPT), id="file"),
+    pytest.param(("file", *MD5CRYPT, "--skip-doubtful", "--skip-refused"), id="file, in part"),
+    pytest.param(("file", *MD5CRYPT, "-o", "hashes"), id="file, with another OUT"),
+]
+APPENDED = [
+    pytest.param('"$@" list >> list', b"standard output", id="appended"),
+    pytest.param('"$@" list 1<> list', b"standard output", id="from its beginning"),
+    pytest.param('"$@" - < list >> list', b"standard output", id="from standard input"),
+    pytest.param('"$@" ./link >> list', b"standard output", id="by another name"),
+]
+
+
+@pytest.mark.parametrize(("script", "output"), APPENDED)
+@pytest.mark.parametrize("words", COMMANDS)
+def test_nothing_is_printed_into_the_file_that_is_read(
+    words: tuple[str, ...], script: str, output: bytes
+) -> None:
+    save("shadow", b"".join(b"user%d:%b:1:::\n" % (number, MD5.encode()) for number in range(9)))
+    save("list", users(9))
+    os.symlink("list", "link")
+    done = shell(LIMIT + script, *words)
+    assert done.status == 2 and output in done.err, done
+    assert read("list") == users(9) and not os.path.exists("hashes.part"), done
+
+
+@pytest.mark.parametrize("redirected", ["2>> list", ">> list 2>&1"])
+@pytest.mark.parametrize("words", [("check",), ("check", "--shadow", "shadow")], ids=" ".join)
+def test_no_message_is_added_to_the_file_that_is_read(
+    words: tuple[str, ...], redirected: str
+) -> None:
+    """Each would be a line more, and make one more message."""
+    save("shadow", b"ann:!:1:::\n")
+    lines = b"x" * 3000 + b"\n"
+    save("list", lines)
+    done = shell(f'{LIMIT} "$@" list {redirected}', *words)
+    assert done.status == 2 and read("list") == lines, done
+
+
+def test_why_nothing_is_added_is_on_the_terminal() -> None:
+    save("list", users(9))
+    script = f"{LIMIT} {PWHASH} check list 2>> list"
+    child = pexpect.spawn("/bin/sh", ["-c", script], timeout=60)
+    child.expect(pexpect.EOF)
+    child.close()
+    shown = bytes(child.before)
+    assert child.exitstatus == 2 and read("list") == users(9), shown
+    assert b"list is standard error too" in shown, shown
+
+
+def test_another_file_is_added_to() -> None:
+    save("list", b"ann:password\n")
+    save("hashes", b"eve:!\n")
+    done = shell('exec "$@" < list >> hashes', "file", *MD5CRYPT)
+    assert done.status == 0 and read("hashes") == b"eve:!\nann:" + MD5.encode() + b"\n", done
+
+
+# Names on a terminal.
+
+NAME = b"an" + ESCAPE + b"\xffn"
+SHOWN = b"an\\x1b[2J\\xffn:"
+
+
+def at_terminal(*words: str) -> tuple[int, bytes]:
+    """The status, and what a terminal shows of a run."""
+    child = pexpect.spawn(PWHASH, list(words), timeout=60)
+    child.expect(pexpect.EOF)
+    child.close()
+    return child.exitstatus, bytes(child.before)
+
+
+@pytest.mark.parametrize(
+    "words",
+    [
+        pytest.param(("check", "stored"), id="check"),
+        pytest.param(("check", "--shadow", "shadow", "list"), id="check of known passwords"),
+        pytest.param(("file", *MD5CRYPT, "--accept-doubtful", "list"), id="file"),
+        pytest.param(("audit", "shadow"), id="audit"),
+        pytest.param(("audit", "--json", "shadow"), id="audit in JSON"),
+    ],
+)
+def test_no_name_of_a_line_commands_the_terminal(words: tuple[str, ...]) -> None:
+    save("list", NAME + b":password\n")
+    save("shadow", NAME + b":" + MD5.encode() + b":1:::\n")
+    save("stored", NAME + b":" + MD5.encode() + b":password\n")
+    status, shown = at_terminal(*words)
+    assert b"\x1b[2J" not in shown, (status, shown)
+    name = SHOWN[:-1].replace(b"\\", b"\\\\") if "--json" in words else SHOWN[:-1]
+    assert name in shown, (status, shown)
+
+
+def test_a_name_is_printed_as_it_is_where_no_terminal_shows_it() -> None:
+    done = pwhash("file", *MD5CRYPT, "--accept-doubtful", stdin=NAME + b":password\n")
+    assert (done.status, done.out) == (0, NAME + b":" + MD5.encode() + b"\n"), done
+
+
+def test_names_of_any_script_are_shown_as_they_are() -> None:
+    save("list", "zoë:password\nЯна:password\n".encode())
+    status, shown = at_terminal("file", *MD5CRYPT, "list")
+    assert status == 0 and "zoë:".encode() in shown and "Яна:".encode() in shown, shown
+    assert shown.count(hashed(b"password")) == 2, shown
