@@ -1,5 +1,5 @@
 """Lines that come in and go out, as bytes, since names and passwords have no encoding, and what the terminal shows."""
-import contextlib, csv, errno, itertools, os, re, select, shlex, stat, time
+import contextlib, csv, errno, itertools, os, re, select, shlex, signal, stat, time
 
 MARK = b"\xef\xbb\xbf"
 LONGEST_ROW = 1 << 17      # bytes of a line of a table, and of a field; csv takes no longer ones
@@ -11,6 +11,7 @@ PASSWORD_WORDS |= {"mot de passe", "mot_de_passe"}
 # Python takes these for printable, but they show nothing: fillers, selectors of a variant, an empty pattern of Braille.
 SHOWS_NOTHING = re.compile("[\u034f\u115f\u1160\u17b4\u17b5\u180b-\u180f\u2800\u3164\ufe00-\ufe0f\uffa0\U000e0100-\U000e01ef]")
 SEPARATORS = {",": "a comma", ";": "a semicolon", "\t": "a tab"}
+WAIT_FOR_WRITER = 3      # seconds until somebody writes a pipe with a name
 shown = False      # whether the terminal shows the progress
 
 class Refused(bytes):
@@ -207,19 +208,52 @@ class Source:
 
     def paired(self, pairs):
         """Lines `name:password` as `name:field:password`, with the first field of a name; without a name, with each."""
-        fields = dict(re.findall(rb"(?m)^([^:\n]*):([^:\n]*)", open(self.options.shadow, "rb").read())[::-1])
+        fields = fields_of(self.options.shadow)
         if not fields:
             raise Stop(f"{named(self.options.shadow)} has no line name:field.", 2)
         def tried(number, line):
             if isinstance(line, Refused):
                 return [(number, line)]
             name, _, password = line.partition(b":") if b":" in line else (b"", b":", line)
-            names = [name] if name else reversed(fields)
+            names = [name] if name else fields
             self.absent += [number] * (name != b"" and name not in fields and len(self.absent) < 20)
             self.marked += [number] * ((b"\r" in line or MARK in line) and len(self.marked) < 20)
             self.odd += "\ufffd" in line.decode(errors="replace") or b"\0" in line
             return [(number, b"%b:%b:%b" % (each, fields[each], password)) for each in names if each in fields]
         return itertools.chain.from_iterable(tried(*pair) if pair else [pair] for pair in pairs)
+
+def fields_of(path):
+    """The first field of each name in a file name:field."""
+    fields, number = {}, 0
+    with open(open_fields(path), "rb") as file:
+        refuse_as_output(os.fstat(file.fileno()), named(path))
+        while line := file.readline(LONGEST_ROW):
+            number += 1
+            if len(line) == LONGEST_ROW:
+                raise Stop(f"{named(path)}, line {number}: longer than 128 KiB, which no line name:field is.", 2)
+            name, colon, rest = line.removesuffix(b"\n").partition(b":")
+            if colon:
+                fields.setdefault(name, rest.partition(b":")[0])
+    return fields
+
+def open_fields(path):
+    """A file, or a pipe that somebody writes, as a shell's <(..) is."""
+    fd = open_in_time(path)
+    kind = os.fstat(fd).st_mode
+    if not stat.S_ISREG(kind) and not stat.S_ISFIFO(kind):
+        raise Stop(f"{named(path)} is {'a folder' if stat.S_ISDIR(kind) else 'no file'}. Name a file with lines name:field.", 2)
+    return fd
+
+def open_in_time(path):
+    """Opens a file, but doesn't wait for ever until somebody writes a pipe."""
+    def give_up(*_):
+        raise Stop(f"{named(path)} is a pipe that nobody writes.", 2)
+    signal.signal(signal.SIGALRM, give_up)
+    signal.alarm(WAIT_FOR_WRITER)
+    try:
+        return os.open(path, os.O_RDONLY)
+    finally:
+        signal.alarm(0)
 
 def folded(fields, encode=lambda field: field.encode("latin-1")):
     """Names of columns, as they are compared: however spelled in capitals, and not by bytes."""

@@ -1,0 +1,92 @@
+"""pwhash check --shadow FIELDS, where FIELDS is no ordinary file.
+
+Each test sees only what a user sees: the command, its outputs, files and status.
+"""
+
+from __future__ import annotations
+
+import os
+import pathlib
+
+import pytest
+
+from pwhash_runs import PWHASH, Ended, ended, pwhash, read, save, shell, started_program
+from support import MD5
+
+SHADOW = b"ann:" + MD5.encode() + b":1:::\nbob:!:1:::\n"
+
+
+@pytest.fixture(autouse=True)
+def folder(tmp_path: pathlib.Path, monkeypatch: pytest.MonkeyPatch) -> pathlib.Path:
+    """A scratch folder, which is the current one."""
+    monkeypatch.chdir(tmp_path)
+    monkeypatch.setenv("LC_ALL", "C.UTF-8")
+    return tmp_path
+
+
+def bash(script: str) -> Ended:
+    """Runs a script of bash, in which "$@" is pwhash, with little memory."""
+    command = ["bash", "-c", f"ulimit -v 400000; {script}", "bash", PWHASH]
+    return ended(started_program(*command), b"ann:password\n")
+
+
+@pytest.mark.parametrize(
+    ("script", "reason"),
+    [
+        pytest.param('"$@" check --shadow /dev/zero', b"/dev/zero is no file", id="a device"),
+        pytest.param('"$@" check --shadow .', b". is a folder", id="a folder"),
+        pytest.param(
+            'mkfifo pipe; "$@" check --shadow pipe', b"pipe is a pipe that nobody", id="a pipe"
+        ),
+        pytest.param(
+            '"$@" check --shadow <(cat /dev/zero)', b"line 1: longer than", id="a line without end"
+        ),
+        pytest.param('"$@" check --shadow nowhere', b"nowhere: No such file", id="nothing"),
+        pytest.param('"$@" check --shadow /dev/null', b"/dev/null", id="the null device"),
+    ],
+)
+def test_what_holds_no_fields_is_named(script: str, reason: bytes) -> None:
+    done = bash(script)
+    assert done.status in (2, 3) and done.out == b"" and reason in done.err, done
+    assert b"Error" not in done.err, done
+
+
+@pytest.mark.parametrize(
+    "script",
+    [
+        pytest.param('"$@" check --shadow <(cat shadow)', id="a pipe of the shell"),
+        pytest.param('"$@" check --shadow <(sleep 5; cat shadow)', id="one that is slow"),
+        pytest.param(
+            'mkfifo pipe; cat shadow > pipe & "$@" check --shadow pipe', id="a pipe with a name"
+        ),
+        pytest.param('"$@" check --shadow /dev/stdin list < shadow', id="standard input"),
+        pytest.param('"$@" check --shadow <(cat many shadow)', id="many fields of one name"),
+    ],
+)
+def test_fields_are_read_from_what_somebody_writes(script: str) -> None:
+    save("shadow", SHADOW)
+    save("list", b"ann:password\n")
+    save("many", b"eve:!:1:::\n" * 1000000)
+    done = bash(script)
+    assert (done.status, done.out) == (0, b"ann:ok\n"), done
+
+
+def test_the_first_field_of_a_name_counts() -> None:
+    save("shadow", b"no colon\n" + SHADOW + b"ann:!\nbob:" + MD5.encode())
+    done = pwhash("check", "--shadow", "shadow", stdin=b"ann:password\nbob:password\n")
+    assert (done.status, done.out) == (0, b"ann:ok\nbob:locked\n"), done
+
+
+def test_a_last_field_without_a_line_feed_counts() -> None:
+    save("shadow", b"ann:" + MD5.encode())
+    done = pwhash("check", "--shadow", "shadow", stdin=b"password\n")
+    assert (done.status, done.out) == (0, b"ann:ok\n"), done
+    assert os.listdir() == ["shadow"], done
+
+
+@pytest.mark.parametrize("redirected", [">> shadow", "2>> shadow"])
+def test_nothing_is_printed_into_the_file_with_the_hashes(redirected: str) -> None:
+    shadow = b"ann:" + MD5.encode() + b":1:::\n"
+    save("shadow", shadow)
+    done = shell(f'exec "$@" {redirected}', "check", "--shadow", "shadow", stdin=b"ann:x\n")
+    assert done.status == 2 and read("shadow") == shadow, done
