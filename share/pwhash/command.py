@@ -49,6 +49,14 @@ COMMANDS = {     # what runs it, its input by default, its options
     "check": (check, "-", "shadow rehash out windows csv columns salt"),
     "audit": (audit, None, "only_problems json locked")}
 
+class Once(argparse.Action):
+    """An option of which two values contradict each other, so mkpasswd takes one, too."""
+    def __call__(self, parser, options, value, option=None):
+        if self.dest in options.given:
+            parser.error(f"{option} is given twice")
+        options.given.add(self.dest)
+        setattr(options, self.dest, value)
+
 def arguments(words):
     command = words[0] if words and words[0] in COMMANDS else None
     run, default, names = COMMANDS[command]
@@ -63,7 +71,8 @@ def arguments(words):
         help_text = "by default -" if default else "a file such as /etc/shadow, or - for standard input"
         parser.add_argument("file", nargs="?", default=default, metavar="FILE", help=help_text)
     for flags, how, text in map(OPTIONS.get, (names + " method rounds budget quiet").split()):
-        parser.add_argument(*flags.split(), help=text, **how)
+        parser.add_argument(*flags.split(), help=text, **({"action": Once} | how))
+    parser.set_defaults(given=set())
     options, more = parser.parse_known_args(words[bool(command):])
     if more:      # a password, maybe
         unknown = [each for each in more if re.fullmatch("--[a-z-]+", each)]

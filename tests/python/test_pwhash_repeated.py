@@ -1,0 +1,65 @@
+"""pwhash and options that are given twice: no value is dropped without a word.
+
+Each test sees only what a user sees: the command, its outputs and status.
+"""
+
+from __future__ import annotations
+
+import os
+import pathlib
+
+import pytest
+
+from pwhash_runs import hashed, pwhash, save
+
+
+@pytest.fixture(autouse=True)
+def folder(tmp_path: pathlib.Path, monkeypatch: pytest.MonkeyPatch) -> pathlib.Path:
+    """A scratch folder, which is the current one."""
+    monkeypatch.chdir(tmp_path)
+    monkeypatch.setenv("LC_ALL", "C.UTF-8")
+    return tmp_path
+
+
+@pytest.mark.parametrize(
+    ("words", "option"),
+    [
+        pytest.param(("-R", "x", "-R", "5000"), b"-R", id="no number first"),
+        pytest.param(("-R", "1", "-R", "5000"), b"-R", id="too few rounds first"),
+        pytest.param(("-R", "5000", "-R", "1"), b"-R", id="too few rounds last"),
+        pytest.param(("-R", "5000", "--rounds=6000"), b"--rounds", id="rounds, both right"),
+        pytest.param(("-m", "descrypt", "-m", "sha512crypt"), b"-m", id="no method first"),
+        pytest.param(("-m", "md5crypt", "-m", "sha512crypt"), b"-m", id="methods, both right"),
+        pytest.param(("-S", "b@d", "-S", "good"), b"-S", id="no salt first"),
+        pytest.param(("--budget", "1", "--budget", "100M"), b"--budget", id="budgets"),
+    ],
+)
+@pytest.mark.parametrize("command", [(), ("file",)], ids=["one", "file"])
+def test_an_option_is_given_once(
+    words: tuple[str, ...], option: bytes, command: tuple[str, ...]
+) -> None:
+    done = pwhash(*command, *words, stdin=b"ann:x\n")
+    assert (done.status, done.out) == (2, b"") and option in done.err, done
+
+
+@pytest.mark.parametrize(
+    "words",
+    [
+        pytest.param(("check", "--shadow", "list", "--shadow", "other"), id="--shadow"),
+        pytest.param(("file", "-o", "hashes", "--out", "others", "list"), id="-o"),
+        pytest.param(("file", "--csv", "--columns", "1,2", "--columns", "2,1"), id="--columns"),
+        pytest.param(("file", "--for", "apache", "--for", "ldap"), id="--for"),
+    ],
+)
+def test_a_file_is_not_dropped_for_another(words: tuple[str, ...]) -> None:
+    save("list", b"ann:x\n")
+    save("other", b"ann:x\n")
+    done = pwhash(*words, "-m", "md5crypt", stdin=b"ann:x\n")
+    assert (done.status, done.out) == (2, b"") and b"twice" in done.err, done
+    assert sorted(os.listdir()) == ["list", "other"], done
+
+
+def test_a_switch_can_be_given_again() -> None:
+    words = ("file", "--quiet", "--quiet", "-m", "md5crypt", "-S", "xxxxxxxx", "--windows")
+    done = pwhash(*words, "--windows", stdin=b"ann:x\r\n")
+    assert (done.status, done.out) == (0, b"ann:" + hashed(b"x") + b"\n"), done
