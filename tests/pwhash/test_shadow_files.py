@@ -6,22 +6,21 @@ Each test sees only what a user sees: the command, its outputs, files and status
 from __future__ import annotations
 
 import os
-import pathlib
 
 import pytest
-
-from pwhash_runs import PWHASH, Ended, ended, pwhash, read, save, shell, started_program
-from support import MD5
+from support.pwhash_runs import (
+    Ended,
+    MD5,
+    PWHASH,
+    ended,
+    pwhash,
+    read,
+    save,
+    shell,
+    started_program,
+)
 
 SHADOW = b"ann:" + MD5.encode() + b":1:::\nbob:!:1:::\n"
-
-
-@pytest.fixture(autouse=True)
-def folder(tmp_path: pathlib.Path, monkeypatch: pytest.MonkeyPatch) -> pathlib.Path:
-    """A scratch folder, which is the current one."""
-    monkeypatch.chdir(tmp_path)
-    monkeypatch.setenv("LC_ALL", "C.UTF-8")
-    return tmp_path
 
 
 def bash(script: str) -> Ended:

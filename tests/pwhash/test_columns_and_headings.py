@@ -6,23 +6,12 @@ Each test sees only what a user sees: the command, its outputs, files and status
 from __future__ import annotations
 
 import os
-import pathlib
 
 import pytest
-
-from pwhash_runs import MD5CRYPT, hashed, lines_named_in, pwhash, read, save
-from support import MD5
+from support.pwhash_runs import MD5, MD5CRYPT, hashed, lines_named_in, pwhash, read, save
 
 ANN = b"ann:" + hashed(b"pw1") + b"\n"
 BOB = b"bob:" + hashed(b"pw2") + b"\n"
-
-
-@pytest.fixture(autouse=True)
-def folder(tmp_path: pathlib.Path, monkeypatch: pytest.MonkeyPatch) -> pathlib.Path:
-    """A scratch folder, which is the current one."""
-    monkeypatch.chdir(tmp_path)
-    monkeypatch.setenv("LC_ALL", "C.UTF-8")
-    return tmp_path
 
 
 # Columns that were exchanged.

@@ -7,17 +7,15 @@ from __future__ import annotations
 
 import contextlib
 import os
-import pathlib
 import shutil
 import signal
 import subprocess
 from collections.abc import Callable
 
 import pytest
-
-from pwhash_runs import (
-    SLOW,
+from support.pwhash_runs import (
     Ended,
+    SLOW,
     ended,
     hashed,
     in_namespace,
@@ -37,16 +35,6 @@ SETTING = "$6$rounds=20000$saltsalt"
 WORDS = ("file", *SLOW, "passwords", "-o", "hashes")
 OLD = (1e9, 1e9)
 OLDER = (9e8, 9e8)
-
-
-@pytest.fixture(autouse=True)
-def folder(tmp_path: pathlib.Path, monkeypatch: pytest.MonkeyPatch) -> pathlib.Path:
-    """A scratch folder, which is the current one, with an old list of passwords."""
-    monkeypatch.chdir(tmp_path)
-    monkeypatch.setenv("LC_ALL", "C.UTF-8")
-    save("passwords", users(COUNT))
-    os.utime("passwords", OLD)
-    return tmp_path
 
 
 def interrupted(

@@ -6,25 +6,17 @@ Each test sees only what a user sees: the command, its outputs, files and status
 from __future__ import annotations
 
 import os
-import pathlib
 
-import pexpect
 import pytest
+from support.needs import needed
+from support.pwhash_runs import MD5, MD5CRYPT, PWHASH, hashed, pwhash, read, save, shell, users
 
-from pwhash_runs import MD5CRYPT, PWHASH, hashed, pwhash, read, save, shell, users
-from support import MD5
+with needed("python3-pexpect"):
+    import pexpect
 
 ESCAPE = b"\x1b[2J"
 # An output of a megabyte ends the run, so that it doesn't fill the disk where it goes on for ever.
 LIMIT = "ulimit -f 2048; exec "
-
-
-@pytest.fixture(autouse=True)
-def folder(tmp_path: pathlib.Path, monkeypatch: pytest.MonkeyPatch) -> pathlib.Path:
-    """A scratch folder, which is the current one."""
-    monkeypatch.chdir(tmp_path)
-    monkeypatch.setenv("LC_ALL", "C.UTF-8")
-    return tmp_path
 
 
 # The file that is read.

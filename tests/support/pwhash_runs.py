@@ -1,4 +1,7 @@
-"""Runs pwhash as a user does: in the current folder, at a terminal, on a machine with limits."""
+"""Runs pwhash as a user does: in the current folder, at a terminal, on a machine with limits.
+
+PWHASH names another one that is tried, beside whose folder is its share/pwhash.
+"""
 
 from __future__ import annotations
 
@@ -8,21 +11,26 @@ import os
 import pathlib
 import re
 import shlex
-import shutil
 import signal
 import statistics
 import subprocess
 import termios
 import time
-from collections.abc import Callable, Sequence
+from collections.abc import Callable, Iterator, Sequence
 from typing import Any
 
 import pexpect
 
-from support import ROOT, libxcrypt, missing
+from . import ROOT
+from .libxcrypt import crypt
+from .needs import need, not_applicable
 
-PWHASH = str(ROOT / "bin" / "pwhash")
+PWHASH = os.environ.get("PWHASH", str(ROOT / "bin/pwhash"))
+MD5 = "$1$xxxxxxxx$UYCIxa628.9qXjpQCjM4a."  # by libxcrypt, of "password" with MD5CRYPT's salt
 MD5CRYPT = ("-m", "md5crypt", "-S", "xxxxxxxx")
+MARK = b"\xef\xbb\xbf"  # which Windows puts before UTF-8
+ESCAPE = "\x1b[2J"  # commands a terminal
+BY_NUMBER = ("--columns", "1,2")
 SLOW = ("-m", "sha512crypt", "-R", "20000", "-S", "saltsalt")
 
 
@@ -78,8 +86,7 @@ def shell(script: str, *words: str, stdin: bytes = b"") -> Ended:
 
 def in_namespace(script: str, *words: str, stdin: bytes = b"") -> Ended:
     """The same with mounts of its own, which only root can make."""
-    if os.geteuid() or subprocess.run(["unshare", "--mount", "true"], check=False).returncode:
-        missing("root, or unshare (Debian package util-linux), is missing")
+    need("unshare", "namespaces")
     command = ["unshare", "--mount", "/bin/sh", "-c", f"set -e\n{script}", "sh", PWHASH, *words]
     return ended(started_program(*command), stdin)
 
@@ -101,11 +108,17 @@ def read(name: str) -> bytes:
 
 
 def hashed(password: bytes, setting: str = "$1$xxxxxxxx") -> bytes:
-    return libxcrypt(password, setting).encode()
+    """The hash of a password by libxcrypt."""
+    return crypt(password, setting.encode())
 
 
 def lines_named_in(message: bytes) -> list[int]:
     return [int(number) for number in re.findall(rb"line ([0-9]+)", message)]
+
+
+# What pwhash makes of "ann:pw1" and "bob:pw2" with MD5CRYPT.
+ANN = b"ann:" + hashed(b"pw1") + b"\n"
+BOB = b"bob:" + hashed(b"pw2") + b"\n"
 
 
 def wait_for(condition: Callable[[], bool]) -> None:
@@ -121,6 +134,24 @@ def has_begun(part: str = "hashes.part") -> bool:
 
 def users(count: int) -> bytes:
     return b"".join(b"user%d:password%d\n" % (number, number) for number in range(count))
+
+
+@contextlib.contextmanager
+def slow_run(*words: str) -> Iterator[subprocess.Popen[bytes]]:
+    """A run that takes some seconds, once it has begun its part."""
+    save("passwords", users(1500))
+    os.utime("passwords", (1e9, 1e9))
+    with started("file", *SLOW, "passwords", "-o", "hashes", *words) as process:
+        try:
+            wait_for(has_begun)
+            yield process
+        finally:
+            process.kill()
+
+
+def command_to_go_on(done: Ended) -> str:
+    """The command by which an interrupted run says that it goes on."""
+    return done.err.decode().split("To go on:\n")[1].strip()
 
 
 @dataclasses.dataclass(frozen=True)
@@ -209,6 +240,14 @@ def working_threads(process: int, first: int) -> int:
     return count
 
 
+def state_of(process: int) -> str:
+    """The letter of proc(5) for what a process does, as T if it is stopped; empty if it is gone."""
+    with contextlib.suppress(OSError):
+        text = pathlib.Path(f"/proc/{process}/stat").read_text(encoding="latin-1")
+        return text.rpartition(")")[2].split()[0]
+    return ""
+
+
 def resident(process: int) -> int:
     with contextlib.suppress(OSError):
         pages = pathlib.Path(f"/proc/{process}/statm").read_text(encoding="ascii").split()[1]
@@ -232,8 +271,7 @@ def load_of(process: subprocess.Popen[bytes]) -> Load:
 
 def watched(script: str, *words: str) -> tuple[Ended, Load]:
     """Runs pwhash after a script that gives it what the machine shall look like."""
-    if os.geteuid() or not shutil.which("unshare"):
-        missing("root, or unshare (Debian package util-linux), is missing")
+    need("unshare", "namespaces")
     script = f'set -e\n{script}\nexec "$@"'
     command = ["unshare", "--mount", "/bin/sh", "-c", script, "sh", PWHASH, *words]
     with open("out", "wb") as out, open("err", "wb") as err:
@@ -246,7 +284,7 @@ def watched(script: str, *words: str) -> tuple[Ended, Load]:
 def some_processors(count: int) -> str:
     available = sorted(os.sched_getaffinity(0))
     if len(available) < 4:
-        missing("four processors are missing")
+        not_applicable("fewer than four processors")
     return f"taskset -cp {','.join(map(str, available[:count]))} $$ > mask"
 
 

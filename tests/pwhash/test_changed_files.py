@@ -1,0 +1,156 @@
+"""A list that changes during a run: nobody gets an old password, or another's."""
+from __future__ import annotations
+
+import contextlib
+import os
+import re
+import signal
+import subprocess
+import time
+from collections.abc import Callable
+
+import pytest
+from support.pwhash_runs import (
+    SLOW,
+    command_to_go_on,
+    ended,
+    hashed,
+    pwhash,
+    read,
+    save,
+    slow_run,
+    started,
+    started_program,
+    users,
+    wait_for,
+)
+
+
+def touch_access() -> None:
+    os.utime("passwords", (time.time(), os.stat("passwords").st_mtime))
+
+
+def link_file() -> None:
+    os.link("passwords", "another name")
+
+
+@pytest.mark.parametrize(
+    "change",
+    [
+        pytest.param(touch_access, id="touch -a"),
+        pytest.param(lambda: os.chmod("passwords", 0o600), id="chmod"),
+        pytest.param(link_file, id="ln"),
+        pytest.param(lambda: read("passwords"), id="reading"),
+    ],
+)
+def test_a_file_whose_lines_did_not_change_is_hashed(change: Callable[[], object]) -> None:
+    with slow_run() as process:
+        change()
+        done = ended(process)
+    assert done.status == 0 and read("hashes").count(b"\n") == 1500, done
+
+
+@pytest.mark.parametrize(
+    "change", [touch_access, lambda: os.chmod("passwords", 0o600)], ids=["touch -a", "chmod"]
+)
+def test_a_run_goes_on_though_the_file_was_touched(change: Callable[[], object]) -> None:
+    with slow_run() as process:
+        process.send_signal(signal.SIGTERM)
+        first = ended(process)
+    change()
+    command = command_to_go_on(first)
+    second = ended(started_program("/bin/sh", "-c", command))
+    assert second.status == 0 and read("hashes").count(b"\n") == 1500, second
+
+
+def add_a_line() -> None:
+    with open("passwords", "ab") as file:
+        file.write(b"eve:password\n")
+
+
+def change_a_line() -> None:
+    with open("passwords", "r+b") as file:
+        file.seek(len(b"user0:password0\n"))
+        file.write(b"user1:PASSWORD1\n")
+
+
+def replace_by_an_old_file() -> None:
+    save("new", users(1500).replace(b"password1\n", b"PASSWORD1\n"))
+    os.utime("new", (1e9, 1e9))
+    os.rename("new", "passwords")
+
+
+@pytest.mark.parametrize(
+    "change",
+    [
+        pytest.param(add_a_line, id="a line more"),
+        pytest.param(change_a_line, id="another password"),
+        pytest.param(replace_by_an_old_file, id="another file of the same size and time"),
+        pytest.param(lambda: os.remove("passwords"), id="removed"),
+    ],
+)
+def test_a_file_that_changed_makes_no_out(change: Callable[[], None]) -> None:
+    with slow_run() as process:
+        change()
+        done = ended(process)
+    assert done.status == 2 and not os.path.exists("hashes"), done
+    assert b"passwords was changed" in done.err and b"remove hashes.part" in done.err, done
+    if b"--resume" in done.err:  # it is offered, so it has to work
+        touch = re.search(rb"touch -r \S+ \S+", done.err)
+        assert touch, done
+        subprocess.run(["/bin/sh", "-c", touch[0].decode().rstrip(":;")], check=True)
+        again = pwhash("file", *SLOW, "passwords", "-o", "hashes", "--resume")
+        assert again.status in (0, 2), again
+
+
+@pytest.mark.parametrize("number", [signal.SIGINT, signal.SIGTERM], ids=["Ctrl-C", "SIGTERM"])
+def test_old_passwords_are_not_gone_on_with(number: int) -> None:
+    """A line is changed after it was hashed, and the run is ended later than that."""
+    with slow_run() as process:
+        size = os.path.getsize("hashes.part")
+        change_a_line()
+        wait_for(lambda: process.poll() is not None or os.path.getsize("hashes.part") > size)
+        process.send_signal(number)
+        ended(process)
+    again = pwhash("file", *SLOW, "passwords", "-o", "hashes", "--resume")
+    assert again.status == 2 and not os.path.exists("hashes"), again
+
+
+@pytest.mark.parametrize("redirected", [False, True], ids=["named", "redirected"])
+def test_a_file_that_changed_is_named_without_out_too(redirected: bool) -> None:
+    """Lines were taken for others, or for passwords that nobody gave."""
+    save("list", users(1500))
+    before = os.stat("list").st_mtime
+    with contextlib.ExitStack() as stack:
+        words: dict[str, object] = {"stdout": stack.enter_context(open("out", "wb"))}
+        if redirected:
+            words["stdin"] = stack.enter_context(open("list", "rb"))
+        process = stack.enter_context(
+            started("file", *SLOW, *([] if redirected else ["list"]), **words)
+        )
+        wait_for(lambda: os.path.getsize("out") > 0)
+        save("list", users(1500).replace(b"password", b"pass"))
+        done = ended(process)
+    assert os.stat("list").st_mtime > before
+    assert done.status == 2 and b"changed" in done.err and b"out.part" not in done.err, done
+    made = read("out").splitlines()
+    assert 0 < len(made) < 1500
+    for number in 0, len(made) - 1:
+        expected = hashed(b"password%d" % number, "$6$rounds=20000$saltsalt")
+        assert made[number] == b"user%d:%b" % (number, expected)
+
+
+@pytest.mark.parametrize(
+    "change",
+    [
+        pytest.param(lambda: os.remove("hashes.part"), id="removed"),
+        pytest.param(lambda: os.rename(save("other", b""), "hashes.part"), id="another file"),
+        pytest.param(lambda: os.rename(save("new", b""), "passwords"), id="an empty list instead"),
+    ],
+)
+def test_a_part_or_a_list_that_is_replaced_makes_no_out(change: Callable[[], None]) -> None:
+    """Nobody takes a part for the whole."""
+    with slow_run() as process:
+        change()
+        done = ended(process)
+    assert done.status in (2, 3) and not os.path.exists("hashes"), done

@@ -1,0 +1,100 @@
+"""Which columns of a table are the name and the password, and what is between columns."""
+from __future__ import annotations
+
+import pytest
+from support.pwhash_runs import ANN, BOB, BY_NUMBER, MD5, MD5CRYPT, pwhash, save
+
+
+@pytest.mark.parametrize(
+    ("columns", "heading"),
+    [
+        pytest.param("identità,parola", "Identità,Parola", id="a letter whose bytes end in A0"),
+        pytest.param("IDENTITÀ,PAROLA", "identità,parola", id="in capitals"),
+        pytest.param("имя,пароль", "Имя,ПАРОЛЬ", id="Cyrillic"),
+        pytest.param("straße,x", "STRASSE,x", id="folded"),
+        pytest.param("nàme , x", " nàme,x ", id="blanks around"),
+    ],
+)
+def test_a_column_is_found_by_its_name(columns: str, heading: str) -> None:
+    table = f"{heading}\nann,password\n".encode()
+    done = pwhash("file", "--csv", *MD5CRYPT, "--columns", columns, stdin=table)
+    assert (done.status, done.out) == (0, b"ann:" + MD5.encode() + b"\n"), done
+
+
+def test_a_zero_byte_in_a_heading_is_no_end() -> None:
+    done = pwhash("file", "--csv", *MD5CRYPT, stdin=b"name,password\0x\nann,pw1\n")
+    assert (done.status, done.out) == (2, b"") and b"--columns" in done.err, done
+
+
+@pytest.mark.parametrize("columns", ["name,name", "name,NAME", "1,1"])
+def test_one_column_is_not_both_name_and_password(columns: str) -> None:
+    table = b"name,password\nann,password\n"
+    done = pwhash("file", "--csv", *MD5CRYPT, "--columns", columns, stdin=table)
+    assert (done.status, done.out) == (2, b"") and b"--columns" in done.err, done
+
+
+def test_a_separator_that_may_be_another_is_not_guessed() -> None:
+    for row in b"smith,j;pw1\n", b"smith\tj,pw1\n", b"\nann;pa,ss\n":
+        done = pwhash("file", "--csv", *MD5CRYPT, *BY_NUMBER, stdin=row)
+        assert (done.status, done.out) == (2, b"") and b"between columns" in done.err, done
+    done = pwhash("file", "--csv", *MD5CRYPT, *BY_NUMBER, stdin=b'"ann";pw1\nbob;pw2\n')
+    assert (done.status, done.out) == (0, ANN + BOB), done
+
+
+def test_the_separator_is_that_of_the_columns() -> None:
+    for heading in b"last,first;name;password", b"last;first\tname\tpassword":
+        between = heading[-9:-8]
+        row = between.join([b"x", b"ann", b"pw1"])
+        done = pwhash("file", "--csv", *MD5CRYPT, stdin=heading + b"\n" + row + b"\n")
+        assert (done.status, done.out) == (0, ANN), done
+
+
+# ---- Tables as programs write them
+
+BOTH = b"".join(name + b":" + MD5.encode() + b"\n" for name in (b"ann", b"bob"))
+EXCEL = b'\xef\xbb\xbfRoom;Password;Name\r\n1;"password";ann\r\n\r\n2;password;bob\r\n'
+TABS = b'"a,b"\tname\tpassword\nx,y;z\tann\tpassword\n\tbob\tpassword\n'
+SPANISH = "Usuario,Contraseña\nann,password\nbob,password\n".encode()
+
+
+@pytest.mark.parametrize(
+    ("table", "words"),
+    [
+        pytest.param(EXCEL, (), id="Excel's, with a mark and carriage returns"),
+        pytest.param(TABS, (), id="with tabs between columns"),
+        pytest.param(SPANISH, ("--columns", "usuario,contraseña"), id="with columns by name"),
+        pytest.param(b"ann,password\nbob,password\n", BY_NUMBER, id="without a heading"),
+    ],
+)
+def test_a_table_is_read(table: bytes, words: tuple[str, ...]) -> None:
+    done = pwhash("file", *MD5CRYPT, save("table", table), "--csv", *words)
+    assert (done.status, done.out, done.err) == (0, BOTH, b""), done
+
+
+def test_a_table_without_a_heading_needs_columns() -> None:
+    done = pwhash("file", *MD5CRYPT, save("table", b"ann,password\nbob,password\n"), "--csv")
+    assert done.status == 2 and b"--columns" in done.err and b'password"' not in done.err, done
+
+
+def test_a_heading_is_no_user_where_columns_are_numbers() -> None:
+    table = save("table", b"user,password\nann,x\n")
+    done = pwhash("file", *MD5CRYPT, table, "--csv", *BY_NUMBER)
+    assert (done.status, done.out) == (1, b""), done
+
+
+@pytest.mark.parametrize(
+    ("table", "words"),
+    [
+        pytest.param(b"ann,password\n", BY_NUMBER, id="columns without --csv"),
+        pytest.param(EXCEL, ("--csv", "--columns", "name"), id="one column"),
+        pytest.param("name,password\nann,x\n".encode("utf-16"), ("--csv",), id="UTF-16"),
+    ],
+)
+def test_columns_that_can_not_be_read_are_named(table: bytes, words: tuple[str, ...]) -> None:
+    done = pwhash("file", *MD5CRYPT, save("table", table), *words)
+    assert done.status == 2 and b"--columns" in done.err and b"line 1" not in done.err, done
+
+
+def test_a_quote_that_does_not_end_ends_the_run() -> None:
+    done = pwhash("file", *MD5CRYPT, "--csv", save("table", b'name,password\n"a,x\n'))
+    assert done.status == 3, done

@@ -1,0 +1,135 @@
+"""Lines that hardly anybody means as they are: none is hashed unasked."""
+from __future__ import annotations
+
+import os
+import re
+
+import pytest
+from support.pwhash_runs import BOB, MARK, MD5, MD5CRYPT, hashed, lines_named_in, pwhash, save
+
+
+@pytest.mark.parametrize(
+    "line",
+    [
+        pytest.param(MARK + b"ann:hunter2", id="a mark that begins a later line"),
+        pytest.param(b"an" + MARK + b"n:hunter2", id="a mark in a name"),
+        pytest.param(b"ann" + MARK + b":hunter2", id="a mark that ends a name"),
+        pytest.param(b"ann:" + MARK + b"hunter2", id="a mark that begins a password"),
+        pytest.param(b"ann:hun" + MARK + b"ter2", id="a mark in a password"),
+        pytest.param(b"ann:hunter2" + MARK, id="a mark that ends a password"),
+        pytest.param(b"\rann:hunter2", id="a carriage return that begins a line"),
+        pytest.param(b"an\rn:hunter2", id="a carriage return in a name"),
+        pytest.param(b"ann\r:hunter2", id="a carriage return that ends a name"),
+        pytest.param(b"ann:\rhunter2", id="a carriage return that begins a password"),
+        pytest.param(b"ann:hun\rter2", id="a carriage return in a password"),
+        pytest.param(b"ann:hunter2\r", id="a carriage return that ends a password"),
+        pytest.param(b"ann:hunter2\r" + MARK, id="both at the end"),
+    ],
+)
+def test_a_mark_or_carriage_return_makes_a_line_doubtful(line: bytes) -> None:
+    lines = b"bob:hunter2\n" + line + b"\n"
+    bob = b"bob:" + hashed(b"hunter2") + b"\n"
+    by_pipe = pwhash("file", *MD5CRYPT, stdin=lines)
+    assert (by_pipe.status, by_pipe.out, lines_named_in(by_pipe.err)) == (1, bob, [2]), by_pipe
+    from_file = pwhash("file", *MD5CRYPT, save("lines", lines), "-o", "hashes")
+    assert from_file.status == 1 and not os.path.exists("hashes"), from_file
+    assert 2 in lines_named_in(from_file.err) and b"ter2" not in from_file.err, from_file
+    accepted = pwhash("file", *MD5CRYPT, "--accept-doubtful", stdin=lines)
+    password = line.partition(b":")[2]
+    assert accepted.status == 0 and accepted.out.endswith(hashed(password) + b"\n"), accepted
+
+
+@pytest.mark.parametrize("character", ["\u3164", "\u2800", "\ufe0f", "\u034f", "\uffa0"], ids=ascii)
+def test_a_line_with_a_character_that_shows_nothing_is_doubtful(character: str) -> None:
+    done = pwhash("file", *MD5CRYPT, stdin=f"ann:pass{character}word\n".encode())
+    assert (done.status, done.out) == (1, b"") and b"invisible" in done.err, done
+
+
+@pytest.mark.parametrize(
+    "field",
+    [
+        pytest.param(hashed(b"secret"), id="md5crypt"),
+        pytest.param(b"$2b$10$abcdefghijklmnopqrstuu", id="bcrypt"),
+        pytest.param(b"$apr1$abcdefgh$abcdefghijklmnopqrstuu", id="of Apache"),
+        pytest.param(b"{SSHA}abcdefghijklmnop", id="of LDAP"),
+        pytest.param(b"!", id="locked"),
+        pytest.param(b"!:1::", id="fields behind a lock"),
+        pytest.param(b"*:19000:0:99999:7:::", id="fields of a service"),
+        pytest.param(hashed(b"secret") + b":19000:0:99999:7:::", id="fields behind a hash"),
+        pytest.param(b":19000:0:99999:7:::", id="fields behind no hash"),
+        pytest.param(b"x:0:0:root:/root:/bin/bash", id="a line of passwd"),
+    ],
+)
+def test_a_stored_field_is_no_password(field: bytes) -> None:
+    done = pwhash("file", *MD5CRYPT, stdin=b"eve:%b\nbob:pw2\n" % field)
+    assert (done.status, done.out, lines_named_in(done.err)) == (1, BOB, [1]), done
+    done = pwhash("file", *MD5CRYPT, "--accept-doubtful", stdin=b"eve:%b\n" % field)
+    assert (done.status, done.out) == (0, b"eve:" + hashed(field) + b"\n"), done
+
+
+@pytest.mark.parametrize(
+    "password", [b"$ecret$password1", b"!secret", b"a:1:b", b"{secret}", b"*x*"]
+)
+def test_a_password_with_signs_of_hashes_is_hashed(password: bytes) -> None:
+    done = pwhash("file", *MD5CRYPT, stdin=b"ann:%b\n" % password)
+    assert (done.status, done.out) == (0, b"ann:" + hashed(password) + b"\n"), done
+
+
+# ---- Several at once
+
+DOUBTS = [
+    b"name:x",
+    b"ann:password",
+    b"bob:",
+    b"carl:x\r",
+    b" dan:x",
+    b"eva:x ",
+    b"ann:y",
+    b"fay\xe2\x80\x8b:x",
+    b"gil:x\xc2\xa0",
+]
+DOUBTFUL = [1, 3, 4, 5, 6, 7, 8, 9]
+
+
+def doubts() -> bytes:
+    return b"\n".join(DOUBTS) + b"\n"
+
+
+def test_a_doubtful_line_of_a_pipe_is_not_hashed() -> None:
+    done = pwhash("file", *MD5CRYPT, stdin=doubts())
+    assert (done.status, done.out) == (1, b"ann:" + MD5.encode() + b"\n"), done
+
+
+def test_each_doubtful_line_of_a_pipe_is_named() -> None:
+    """The seventh with the second, whose name it has."""
+    done = pwhash("file", *MD5CRYPT, stdin=doubts())
+    named = [int(number) for number in re.findall(rb"line (\d)", done.err)]
+    assert named == [1, 3, 4, 5, 6, 7, 2, 8, 9], done
+
+
+def test_each_doubtful_line_of_a_file_is_named() -> None:
+    done = pwhash("file", *MD5CRYPT, save("lines", doubts()), "--look")
+    named = {int(number) for number in re.findall(rb"line (\d) ", done.err)}
+    assert done.status == 1 and named == set(DOUBTFUL), done
+
+
+@pytest.mark.parametrize(
+    ("reason", "numbers"), [("blank", [5, 6, 9]), ("invisible", [8, 9])], ids=["blank", "invisible"]
+)
+def test_the_reason_of_a_doubt_is_named(reason: str, numbers: list[int]) -> None:
+    done = pwhash("file", *MD5CRYPT, save("lines", doubts()), "--look")
+    named = re.findall(rf"line (\d) .*{reason}".encode(), done.err)
+    assert [int(number) for number in named] == numbers, done
+
+
+def test_windows_leaves_out_a_mark_and_carriage_returns() -> None:
+    lines = save("windows", MARK + b"ann:password\r\nbob:password\r\n")
+    done = pwhash("file", *MD5CRYPT, lines, "--windows")
+    expected = b"".join(name + b":" + MD5.encode() + b"\n" for name in (b"ann", b"bob"))
+    assert (done.status, done.out, done.err) == (0, expected, b""), done
+
+
+def test_a_list_of_windows_is_doubtful_without_the_option() -> None:
+    lines = save("windows", MARK + b"ann:password\r\nbob:password\r\n")
+    done = pwhash("file", *MD5CRYPT, lines)
+    assert (done.status, done.out) == (1, b""), done

@@ -1,0 +1,120 @@
+"""Lines that may be anything: pwhash prints the very bytes that one mkpasswd prints."""
+from __future__ import annotations
+
+import random
+from dataclasses import dataclass
+from pathlib import Path
+
+import pytest
+from support.process import Result, run
+from support.pwhash_runs import MD5, MD5CRYPT, PWHASH, save
+
+COUNT = 40_000
+BUDGET = "--budget=300000"
+
+NAMES = [b"n" * 64 + b":x", b"n" * 65 + b":x", b"n" * 2049]
+PASSWORDS = [b"n:" + b"p" * length for length in (1024, 1025, 2047, 70_000)]
+CHARACTERS = [b"n:a\0b", b"\0:a", b"n::", b"n:a\r", b"\xff:\xfe", b"\x1b[2J:x"]
+LIKE_ANSWERS = [
+    b"mkpasswd: line 3: no name",
+    b"mkpasswd: out of memory",
+    b"mkpasswd:no",
+    b"a:ok",
+    b"a:$1$x$y",
+]
+ODD_LINES = [b"", b":", b":x", b"no colon", b" "]
+ODD_LINES += NAMES + PASSWORDS + CHARACTERS + LIKE_ANSWERS
+
+HASH = MD5.encode()
+FIELDS = [
+    *(HASH, HASH[:-1], HASH + b"$x", b"!" + HASH),
+    *(b"", b"!", b"*", b"x" * 385, b"\xff", b"secret"),
+    *(b"$1$", b"$1$a b", b"$5$rounds=0$a", b"$6$rounds=999999999$a$b", b"$7$E/..../....a"),
+    *(b"$2b$10$x", b"$y$x", b"_abc", b"abcdefghijklm"),
+]
+
+
+def lines_of_passwords(seed: int) -> list[bytes]:
+    """Lines of a batch: passwords, each kind of refusal, long lines, what looks like an answer."""
+    source = random.Random(seed)
+    return [
+        source.choice(ODD_LINES) if source.random() < 0.3 else b"user%d:password%d" % (n, n)
+        for n in range(COUNT)
+    ]
+
+
+def lines_of_fields(seed: int) -> list[bytes]:
+    """Lines to be checked: stored fields of each kind, and among them what is no such line."""
+    source = random.Random(seed)
+    return [
+        line if source.random() < 0.1 else b"u%d:%b:password" % (n, source.choice(FIELDS))
+        for n, line in enumerate(lines_of_passwords(seed + 1))
+    ]
+
+
+@dataclass(frozen=True)
+class Job:
+    """A command of pwhash, and the mode of mkpasswd that does the same."""
+
+    title: str
+    command: str
+    mode: str
+    words: tuple[str, ...]
+    more: tuple[str, ...] = ()  # for pwhash, which asks before it hashes a doubtful line
+    more_of_file: tuple[str, ...] = ()  # likewise for lines in a file
+
+    def __str__(self) -> str:
+        return self.title
+
+    def lines(self) -> bytes:
+        """The lines, the last of which has no line feed."""
+        lines = lines_of_passwords(1) if self.mode == "--batch" else lines_of_fields(2)
+        return b"\n".join(lines)
+
+    def by_mkpasswd(self, program: Path) -> Result:
+        """What one mkpasswd prints."""
+        return run(program, self.mode, *self.words, BUDGET, stdin=self.lines())
+
+    def by_pwhash(self, *words: str, stdin: bytes = b"") -> Result:
+        """What pwhash prints."""
+        return run(PWHASH, self.command, *self.words, BUDGET, *self.more, *words, stdin=stdin)
+
+
+REHASH = ("--rehash", "-m", "sha256crypt", "-R", "1000", "-S", "ab")
+JOBS = [
+    Job("file", "file", "--batch", MD5CRYPT, ("--accept-doubtful",), ("--skip-refused",)),
+    Job("check", "check", "--check", ("-m", "md5crypt")),
+    Job("rehash", "check", "--check", REHASH),
+]
+
+
+@pytest.mark.slow
+@pytest.mark.parametrize("job", JOBS, ids=str)
+def test_a_pipe_is_answered_as_by_one_mkpasswd(program: Path, job: Job) -> None:
+    expected, done = job.by_mkpasswd(program), job.by_pwhash(stdin=job.lines())
+    assert done.status == expected.status, done
+    is_same = (done.stdout, done.stderr) == (expected.stdout, expected.stderr)
+    assert is_same, first_difference(expected, done)
+
+
+@pytest.mark.slow
+@pytest.mark.parametrize("job", JOBS, ids=str)
+def test_a_file_is_answered_as_by_one_mkpasswd(program: Path, job: Job) -> None:
+    expected = job.by_mkpasswd(program)
+    done = job.by_pwhash(*job.more_of_file, save("lines", job.lines()))
+    assert done.status == expected.status, done
+    is_same = done.stdout == expected.stdout
+    assert is_same, first_difference(expected, done)
+
+
+def first_difference(expected: Result, done: Result) -> str:
+    """The first line that differs, on either output; pytest would compare megabytes."""
+    for name, wanted, came in (
+        ("stdout", expected.stdout, done.stdout),
+        ("stderr", expected.stderr, done.stderr),
+    ):
+        pairs = zip(wanted.splitlines() + [b"the end"], came.splitlines() + [b"the end"])
+        for number, (line, other) in enumerate(pairs, start=1):
+            if line != other:
+                return f"{name}, line {number}: expected {line[:200]!r}, got {other[:200]!r}"
+    return f"the same lines, with other ends\n{done}"

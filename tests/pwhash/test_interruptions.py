@@ -1,0 +1,87 @@
+"""Runs that are ended at any moment: what is made is right, and the printed command goes on."""
+from __future__ import annotations
+
+import contextlib
+import os
+import random
+import signal
+import time
+from dataclasses import dataclass
+from pathlib import Path
+
+import pytest
+from support.process import run
+from support.pwhash_copies import Copy
+from support.pwhash_runs import PWHASH, command_to_go_on, ended, read, save, started_program, tree
+
+SIGNALS = 40
+NUMBERS = (signal.SIGINT, signal.SIGTERM, signal.SIGHUP, signal.SIGKILL)
+WORDS = ("-m", "sha512crypt", "-R", "20000", "-S", "saltsalt")
+LINES = b"".join(b"user%d:password%d\n" % (n, n) if n % 17 else b"no colon\n" for n in range(300))
+FIRST = f"{PWHASH} file {' '.join(WORDS)} 'my lines' -o out --skip-refused"
+PART = "out.part"
+
+
+def size_of_part() -> int:
+    return os.path.getsize(PART) if os.path.exists(PART) else 0
+
+
+def kill_a_worker(process: int) -> None:
+    """Kills one of the processes that a run has begun."""
+    for each in tree(process)[1:2]:
+        with contextlib.suppress(ProcessLookupError):
+            os.kill(each, signal.SIGKILL)
+
+
+@dataclass
+class Interrupted:
+    """A run, gone on with after each signal, and begun anew whenever it was whole."""
+
+    source: random.Random
+    expected: bytes
+    command: str = FIRST
+    sent: int = 0
+    finished: int = 0
+
+    def run_once(self) -> None:
+        """Runs the command until a signal at some moment, or to its end."""
+        number = self.source.choice(NUMBERS)
+        goal = size_of_part() + self.source.randrange(6000)
+        with started_program("/bin/sh", "-c", f"exec {self.command}") as process:
+            while process.poll() is None and self.sent < SIGNALS:
+                if os.path.exists(PART) and size_of_part() >= goal:
+                    kill_a_worker(process.pid)
+                    process.send_signal(number)
+                    self.sent += 1
+                    break
+                time.sleep(0.01)
+            done = ended(process)
+        if os.path.exists("out"):
+            assert read("out") == self.expected, done
+            os.remove("out")
+            self.command = FIRST
+            self.finished += 1
+            return
+        assert done.status in (-number, 3), done
+        assert self.expected.startswith(read(PART).rpartition(b"\n")[0]), done
+        is_silent = number == signal.SIGKILL
+        self.command = f"{FIRST} --resume" if is_silent else command_to_go_on(done)
+        assert " --resume" in self.command, done
+
+
+@pytest.mark.slow
+def test_an_interrupted_run_is_gone_on_with_by_the_printed_command(program: Path) -> None:
+    """Forty signals, at moments by a fixed seed, and workers that are killed."""
+    save("my lines", LINES)
+    expected = run(program, "--batch", *WORDS, stdin=LINES).stdout
+    interrupted = Interrupted(random.Random(5), expected)
+    while interrupted.sent < SIGNALS or not interrupted.finished:
+        interrupted.run_once()
+
+
+def test_ctrl_c_while_it_begins_ends_it_without_a_message(copy: Copy) -> None:
+    """Before its own handler is there, a message would be python's."""
+    script = b"import os, signal, time\nos.kill(os.getpid(), signal.SIGINT)\ntime.sleep(9)\n"
+    save(str(copy.folder / "share/pwhash/lines.py"), script)
+    done = ended(started_program(str(copy.pwhash), "file"))
+    assert (done.status, done.out, done.err) == (-signal.SIGINT, b"", b""), done

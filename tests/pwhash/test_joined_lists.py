@@ -1,0 +1,53 @@
+"""Lists that were joined: headings and marks inside them are no users."""
+from __future__ import annotations
+
+
+import pytest
+from support.pwhash_runs import ANN, BOB, BY_NUMBER, MARK, MD5, MD5CRYPT, lines_named_in, pwhash
+
+
+@pytest.mark.parametrize(
+    ("table", "words"),
+    [
+        pytest.param(b"name,password,mail\nann,pw1,a\nname,password\nbob,pw2\n", (), id="fewer"),
+        pytest.param(b"name,password\nann,pw1\nName, PASSWORD\nbob,pw2\n", (), id="capitals"),
+        pytest.param(b"ann,pw1\nname,password\nbob,pw2\n", BY_NUMBER, id="by number"),
+    ],
+)
+def test_the_heading_of_a_joined_table_is_no_user(table: bytes, words: tuple[str, ...]) -> None:
+    done = pwhash("file", "--csv", *MD5CRYPT, *words, stdin=table)
+    assert (done.status, done.out, lines_named_in(done.err)) == (
+        1,
+        ANN + BOB,
+        [3 - len(words) // 2],
+    )
+
+
+@pytest.mark.parametrize(
+    ("first", "second"),
+    [
+        pytest.param(b"name,password", b"password,name", id="swapped"),
+        pytest.param(b"name,password,mail", b"mail,name,password", id="moved"),
+        pytest.param(b"name,password", b"Passwort,Benutzername", id="swapped, in German"),
+    ],
+)
+def test_a_joined_table_with_other_columns_ends_the_run(first: bytes, second: bytes) -> None:
+    table = first + b"\nann,pw1\n" + second + b"\nsecret2,bob,secret2\n"
+    done = pwhash("file", "--csv", *MD5CRYPT, stdin=table)
+    assert done.status == 2 and ANN.startswith(done.out) and lines_named_in(done.err) == [3], done
+    assert b"secret2" not in done.out + done.err, done
+
+
+@pytest.mark.parametrize("heading", [b"name:password", b"Benutzer:Kennwort", b"password:name"])
+def test_a_heading_on_any_line_is_doubtful(heading: bytes) -> None:
+    lines = b"ann:pw1\n" + heading + b"\nbob:pw2\n"
+    done = pwhash("file", *MD5CRYPT, stdin=lines)
+    assert (done.status, done.out, lines_named_in(done.err)) == (1, ANN + BOB, [2]), done
+
+
+def test_windows_leaves_out_marks_of_joined_lists() -> None:
+    """As `cat` joins two lists of Notepad."""
+    lists = MARK + b"ann:password\r\n" + MARK + b"bob:password\r\neve:password\n"
+    expected = b"".join(name + b":" + MD5.encode() + b"\n" for name in (b"ann", b"bob", b"eve"))
+    done = pwhash("file", *MD5CRYPT, "--windows", stdin=lists)
+    assert (done.status, done.out, done.err) == (0, expected, b""), done

@@ -1,0 +1,114 @@
+"""Lists of known passwords, tried against stored hashes."""
+from __future__ import annotations
+
+import re
+
+import pytest
+from support.pwhash_runs import MARK, MD5, hashed, pwhash, read, save
+
+
+@pytest.mark.parametrize(
+    ("word", "reason"),
+    [
+        pytest.param(b"x" * 1100, b"password too long", id="too long"),
+        pytest.param(b"x" * 3000, b"too long", id="much too long"),
+        pytest.param(b"a\0b", b"zero byte", id="a zero byte"),
+        pytest.param(b"x" * 500, b"over budget", id="too costly"),
+    ],
+)
+@pytest.mark.parametrize("name", [b"", b"ann:"], ids=["for all", "for one"])
+def test_a_word_that_is_refused_is_named_by_its_line(
+    name: bytes, word: bytes, reason: bytes
+) -> None:
+    costly = hashed(b"password", "$6$rounds=400000$saltsaltsaltsalt")
+    save("shadow", b"ann:%b:1:::\nbob:%b:1:::\n" % (costly, costly))
+    words = b"first\n" + name + word + b"\n" + b"ann:password\n"
+    done = pwhash("check", "--shadow", "shadow", stdin=words)
+    assert done.status == 1 and b"ann:ok\n" in done.out, done
+    assert done.err.count(b"line 2 ") == 1 and reason in done.err, done
+    assert b"ann isn't checked" not in done.err and b"xx" not in done.err, done
+
+
+@pytest.mark.parametrize(
+    ("line", "is_left_out"),
+    [
+        pytest.param(MARK + b"ann:password", True, id="a mark before a name"),
+        pytest.param(MARK + b"password", True, id="a mark before a lone password"),
+        pytest.param(b"password\r", True, id="a carriage return behind a password"),
+        pytest.param(b"ann:pass" + MARK + b"word", False, id="a mark in a password"),
+    ],
+)
+def test_a_list_of_known_passwords_reports_marks_and_carriage_returns(
+    line: bytes, is_left_out: bool
+) -> None:
+    save("shadow", b"ann:" + MD5.encode() + b":1:::\n")
+    lines = b"ann:other\n" + line + b"\n"
+    done = pwhash("check", "--shadow", "shadow", stdin=lines)
+    assert done.status == 1 and b"ann:ok" not in done.out, done
+    assert re.search(rb"byte order mark.*\[2\]", done.err) and b"word" not in done.err, done
+    done = pwhash("check", "--windows", "--shadow", "shadow", stdin=lines)
+    assert (b"ann:ok" in done.out) == is_left_out, done
+    assert (b"[2]" in done.err) != is_left_out, done
+
+
+# ---- What is found
+
+HASH = MD5.encode()
+SHADOW = b"ann:%b:1:::\nbob:%b:1:::\neve:!:1:::\nann:*:1\n" % (HASH, HASH)
+LIST = b"ann:password\nbob:other\neve:x\nnobody:x\nann:second\n"
+
+
+def test_each_password_is_tried_for_its_name() -> None:
+    save("shadow", SHADOW)
+    done = pwhash("check", "--shadow", "shadow", save("list", LIST))
+    assert (done.status, done.out) == (1, b"ann:ok\nbob:no\neve:locked\nann:no\n"), done
+
+
+def test_a_name_without_a_stored_hash_is_named_by_its_line() -> None:
+    save("shadow", SHADOW)
+    done = pwhash("check", "--shadow", "shadow", save("list", LIST))
+    assert done.err.endswith(b" (the first 20): [4].\n"), done
+
+
+def test_a_password_that_fits_gets_a_new_hash() -> None:
+    save("shadow", SHADOW)
+    words = ("--rehash", "-m", "sha256crypt", "-R", "2000", "-S", "ab")
+    done = pwhash("check", "--shadow", "shadow", *words, save("list", LIST), "-o", "new")
+    assert (done.status, done.out) == (1, b""), done
+    assert read("new") == b"ann:" + hashed(b"password", "$5$rounds=2000$ab") + b"\n"
+
+
+ANN_AND_ANOTHER_METHOD = b"ann:%b:1\nyes:$y$j9T$x$y:1\n" % HASH
+
+
+def test_a_table_of_known_passwords_is_tried() -> None:
+    save("shadow", ANN_AND_ANOTHER_METHOD)
+    table = save("list.csv", b"password;name\r\npassword;ann\r\n")
+    done = pwhash("check", "--csv", "--shadow", "shadow", table)
+    assert (done.status, done.out, done.err) == (0, b"ann:ok\n", b""), done
+
+
+def test_a_name_without_a_stored_hash_fails_the_check() -> None:
+    save("shadow", ANN_AND_ANOTHER_METHOD)
+    done = pwhash("check", "--shadow", "shadow", stdin=b"ann:password\nzoe:x\n")
+    assert (done.status, done.out) == (1, b"ann:ok\n"), done
+
+
+def test_a_word_that_is_not_utf8_is_named_by_its_line() -> None:
+    save("shadow", ANN_AND_ANOTHER_METHOD)
+    done = pwhash("check", "--shadow", "shadow", stdin=b"\xff\n")
+    assert done.err.endswith(b"a zero byte: 1.\n"), done
+
+
+def test_a_file_without_stored_hashes_is_named() -> None:
+    done = pwhash("check", "--shadow", save("lone", HASH + b"\n"), stdin=b"password\n")
+    message = b"pwhash: lone has no line name:field.\n"
+    assert (done.status, done.out, done.err) == (2, b"", message), done
+
+
+def test_words_without_a_name_are_tried_for_all() -> None:
+    """Those whose method can be checked; the others are named."""
+    save("shadow", ANN_AND_ANOTHER_METHOD)
+    done = pwhash("check", "--shadow", "shadow", stdin=b"a\npassword\nb\n")
+    assert (done.status, done.out) == (1, b"ann:no\nann:ok\nann:no\n"), done
+    assert done.err == b"pwhash: yes isn't checked: unknown scheme\n", done

@@ -1,0 +1,42 @@
+"""One password from a pipe that nobody means as it is: it is refused, and its reason named."""
+from __future__ import annotations
+
+
+import pytest
+from support.pwhash_runs import MARK, MD5CRYPT, pwhash
+
+
+@pytest.mark.parametrize(
+    ("data", "reason"),
+    [
+        pytest.param(b"p\xe4ssword\n", b"UTF-8", id="Latin-1"),
+        pytest.param("password\n".encode("utf-16"), b"UTF-8", id="UTF-16"),
+        pytest.param("password\n".encode("utf-16-le"), b"zero", id="UTF-16 without a mark"),
+        pytest.param(b"pass\tword\n", b"control character", id="a tab"),
+        pytest.param(b"\x1b[200~password\n", b"control character", id="what pasting adds"),
+        pytest.param("pass\u2800word\n".encode(), b"invisible", id="an empty pattern of Braille"),
+    ],
+)
+def test_one_doubtful_password_of_a_pipe_is_not_hashed(data: bytes, reason: bytes) -> None:
+    done = pwhash(*MD5CRYPT, stdin=data)
+    assert (done.status, done.out) == (2, b"") and reason in done.err, done
+    assert b"word" not in done.err.replace(b"password ", b"").replace(b":password", b""), done
+
+
+@pytest.mark.parametrize(
+    ("password", "reason"),
+    [
+        pytest.param(MARK + b"hunter2", b"byte order mark", id="a mark"),
+        pytest.param(MARK + b"hunter2\n", b"byte order mark", id="a mark, and a line feed"),
+        pytest.param(MARK, b"byte order mark", id="a mark alone"),
+        pytest.param(b"hunter2\r\n", b"carriage return", id="a carriage return at the end"),
+        pytest.param(b"hun\rter2\n", b"carriage return", id="a carriage return inside"),
+        pytest.param(MARK + b"hunter2\r\n", b"carriage return", id="both"),
+    ],
+)
+def test_one_password_with_a_mark_or_carriage_return_is_refused(
+    password: bytes, reason: bytes
+) -> None:
+    done = pwhash(*MD5CRYPT, stdin=password)
+    assert (done.status, done.out) == (2, b"") and reason in done.err, done
+    assert b"hunter2" not in done.err, done

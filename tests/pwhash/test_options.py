@@ -1,0 +1,78 @@
+"""Options: numbers, empty values, and words that may be passwords."""
+from __future__ import annotations
+
+import pytest
+from support.pwhash_runs import MD5, MD5CRYPT, hashed, pwhash, save
+
+
+@pytest.mark.parametrize(
+    "words",
+    [
+        pytest.param(("-R", "6k5"), id="a k inside"),
+        pytest.param(("-R", "kkk"), id="no digits"),
+        pytest.param(("-R", "2kk"), id="two k"),
+        pytest.param(("-R", "1kM"), id="k and M"),
+        pytest.param(("-R", "20K"), id="a capital K"),
+        pytest.param(("-R", ""), id="nothing"),
+        pytest.param(("-R", " 2000"), id="a blank"),
+        pytest.param(("-R", "2_000"), id="an underline"),
+        pytest.param(("-R", "+2000"), id="a plus"),
+        pytest.param(("-R", "٢٠٠٠"), id="other digits"),
+        pytest.param(("-R", "1e4"), id="an exponent"),
+        pytest.param(("--budget", "-1"), id="a minus"),
+        pytest.param(("--budget=-1",), id="a minus behind an equals sign"),
+        pytest.param(("--budget", "1.5M"), id="a point"),
+    ],
+)
+@pytest.mark.parametrize(
+    "command", [(), ("file",), ("check",), ("audit", "-")], ids=["one", "file", "check", "audit"]
+)
+def test_what_is_no_number_is_refused(words: tuple[str, ...], command: tuple[str, ...]) -> None:
+    done = pwhash(*command, "-m", "sha512crypt", *words, stdin=b"x\n")
+    option = words[0].partition("=")[0]
+    assert (done.status, done.out) == (2, b"") and option.encode() in done.err, done
+    assert b"number" in done.err and b"digits" in done.err, done
+
+
+@pytest.mark.parametrize("number", ["9" * 25, "9" * 5000], ids=["25 digits", "5000 digits"])
+def test_a_budget_beyond_all_numbers_is_named(number: str) -> None:
+    done = pwhash("--budget", number, stdin=b"x\n")
+    assert (done.status, done.out) == (2, b"") and b"budget" in done.err, done
+    assert b"ended" not in done.err, done
+
+
+def test_thousands_and_millions_are_multiplied() -> None:
+    done = pwhash("-m", "sha256crypt", "-R", "2k", "-S", "ab", "--budget", "1M", stdin=b"x\n")
+    assert done.out == hashed(b"x", "$5$rounds=2000$ab") + b"\n", done
+
+
+def test_no_rounds_are_not_the_usual_ones() -> None:
+    done = pwhash("-R", "0", stdin=b"x\n")
+    assert (done.status, done.out) == (2, b"") and b"1000" in done.err, done
+
+
+@pytest.mark.parametrize("option", ["-o", "--columns", "--shadow"])
+def test_an_option_without_a_value_is_refused(option: str) -> None:
+    """As of a shell's variable that isn't set."""
+    save("passwords", b"ann:$1$x$x:password\n")
+    command = ("check",) if option == "--shadow" else ("file", *MD5CRYPT)
+    done = pwhash(*command, "passwords", option, "")
+    assert (done.status, done.out) == (2, b"") and b"empty" in done.err, done
+
+
+@pytest.mark.parametrize(
+    "words", [("hunter2",), ("file", "list", "hunter2"), ("--password=hunter2",)], ids=" ".join
+)
+def test_no_message_repeats_a_word_that_may_be_a_password(words: tuple[str, ...]) -> None:
+    done = pwhash(*words, stdin=b"x\n")
+    assert (done.status, done.out) == (2, b"") and b"hunter2" not in done.err, done
+
+
+def test_an_unknown_option_is_named() -> None:
+    done = pwhash("--rouns", "hunter2", stdin=b"x\n")
+    assert done.status == 2 and b"--rouns" in done.err and b"hunter2" not in done.err, done
+
+
+def test_a_budget_of_nothing_checks_nothing() -> None:
+    done = pwhash("check", "--budget", "0", stdin=b"ann:" + MD5.encode() + b":password\n")
+    assert (done.status, done.out) == (1, b""), done

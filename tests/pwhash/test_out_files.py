@@ -1,0 +1,92 @@
+"""OUT: it is whole, its owner's alone, and never another file's end."""
+from __future__ import annotations
+
+import os
+import stat
+
+import pytest
+from support.needs import not_applicable
+from support.pwhash_runs import (
+    MD5CRYPT,
+    SLOW,
+    command_to_go_on,
+    ended,
+    hashed,
+    in_namespace,
+    pwhash,
+    read,
+    save,
+    slow_run,
+    started,
+    started_program,
+    users,
+    wait_for,
+)
+
+
+@pytest.mark.parametrize("umask", [0o000, 0o022, 0o777], ids="{:03o}".format)
+def test_only_its_owner_can_read_out(umask: int) -> None:
+    save("passwords", b"ann:password\n")
+    before = os.umask(umask)
+    try:
+        done = pwhash("file", *MD5CRYPT, "passwords", "-o", "hashes")
+    finally:
+        os.umask(before)
+    status = os.stat("hashes")
+    assert done.status == 0 and stat.S_IMODE(status.st_mode) == 0o600, done
+    assert status.st_nlink == 1 and sorted(os.listdir()) == ["hashes", "passwords"], done
+
+
+def test_an_out_that_was_made_meanwhile_stays() -> None:
+    with slow_run() as process:
+        save("hashes", b"somebody's\n")
+        done = ended(process)
+    assert done.status != 0 and read("hashes") == b"somebody's\n", done
+    assert read("hashes.part").count(b"\n") == 1500 and b"hashes.part" in done.err, done
+    os.remove("hashes")
+    command = command_to_go_on(done)
+    again = ended(started_program("/bin/sh", "-c", command))
+    assert again.status == 0 and read("hashes").count(b"\n") == 1500, again
+    assert not os.path.exists("hashes.part"), again
+
+
+def test_an_out_that_check_finds_made_meanwhile_stays() -> None:
+    save("shadow", b"".join(b"user%d:%b:1\n" % (n, hashed(b"password%d" % n)) for n in range(200)))
+    save("list", users(200))
+    words = ("check", "--shadow", "shadow", "--rehash", *SLOW, "list", "-o", "hashes")
+    with started(*words) as process:
+        wait_for(lambda: os.path.exists("hashes.part"))
+        os.symlink("nowhere", "hashes")
+        done = ended(process)
+    assert done.status != 0 and os.readlink("hashes") == "nowhere", done
+    assert read("hashes.part").count(b"\n") == 200 and b"hashes.part" in done.err, done
+
+
+@pytest.mark.needs("mkfs.vfat")
+def test_out_on_a_file_system_without_links_replaces_nothing() -> None:
+    save("passwords", users(500))
+    script = """
+        mkdir fat; truncate -s 4M image; mkfs.vfat image > made
+        mount -o loop,umask=077,fmask=177 image fat || exit 77
+        trap 'umount fat' EXIT
+        "$@"; wc -l < fat/hashes; ls fat
+        rm fat/hashes
+        "$@" & until [ -s fat/hashes.part ]; do sleep 0.01; done
+        echo other > fat/hashes; wait $! || echo status $?; cat fat/hashes; ls fat
+    """
+    done = in_namespace(script, "file", *SLOW, "passwords", "-o", "fat/hashes")
+    if done.status == 77:
+        not_applicable("no loop device can be made")
+    left = b"hashes\nhashes.part\nhashes.part.options\n"
+    assert done.out == b"500\nhashes\nstatus 3\nother\n" + left, done
+
+
+def test_no_file_is_written_by_the_name_of_standard_output() -> None:
+    done = pwhash("file", *MD5CRYPT, save("list", users(2)), "-o", "-")
+    assert done.status == 2 and sorted(os.listdir()) == ["list"], done
+
+
+def test_a_folder_that_is_not_there_leaves_nothing_to_go_on_with() -> None:
+    done = pwhash("file", *MD5CRYPT, save("lines", b"ann:x\n"), "-o", "nowhere/out")
+    assert done.status == 3 and b"nowhere/out.part" in done.err, done
+    assert b"--resume" not in done.err, done

@@ -1,0 +1,95 @@
+"""Outputs that are closed, full, or read by nobody."""
+from __future__ import annotations
+
+import os
+import signal
+
+import pytest
+from support.pwhash_runs import MD5CRYPT, hashed, in_namespace, read, save, shell, started, users
+
+
+@pytest.mark.parametrize(
+    ("words", "lines"),
+    [
+        pytest.param(("file", *MD5CRYPT), users(3000), id="file"),
+        pytest.param(("check",), b"ann:!:x\n" * 200000, id="check"),
+        pytest.param(("audit", "-"), b"ann:!:x\n" * 200000, id="audit"),
+        pytest.param(("audit", "--json", "-"), b"ann:!:x\n" * 200000, id="audit in JSON"),
+        pytest.param(("--help",), b"", id="help"),
+        pytest.param(MD5CRYPT, b"password\n", id="one"),
+    ],
+)
+def test_a_reader_that_ends_ends_the_run_quietly(words: tuple[str, ...], lines: bytes) -> None:
+    save("lines", lines)
+    with open("lines", "rb") as source, started(*words, stdin=source) as process:
+        assert process.stdout and process.stderr
+        process.stdout.close()
+        said = process.stderr.read()
+    assert (process.returncode, said) == (-signal.SIGPIPE, b""), (words, process.returncode, said)
+
+
+@pytest.mark.parametrize(
+    "redirected",
+    [
+        pytest.param(
+            '{ "$@" 2>&1; echo $? > status; } | :', id="both outputs into a pipe that ends"
+        ),
+        pytest.param(
+            '{ "$@" 2>&1 >&3 3>&-; echo $? > status; } 3>&1 | :', id="errors into a pipe that ends"
+        ),
+        pytest.param('"$@" 2>&-; echo $? > status', id="errors closed"),
+    ],
+)
+def test_no_out_is_lost_by_standard_error(redirected: str) -> None:
+    """Messages that nobody reads end no run whose result is a file."""
+    save("passwords", users(50) + b"no colon\n" + users(50).replace(b"user", b"other"))
+    script = redirected.replace('"$@"', 'sleep 0.2; "$@"')
+    done = shell(script, "file", *MD5CRYPT, "passwords", "-o", "hashes", "--skip-refused")
+    assert read("status") == b"1\n" and read("hashes").count(b"\n") == 100, done
+    assert not os.path.exists("hashes.part"), done
+
+
+# ---- Full and closed
+
+COMMANDS = pytest.mark.parametrize(
+    "words",
+    [
+        pytest.param(("file", *MD5CRYPT), id="file"),
+        pytest.param(("check",), id="check"),
+        pytest.param(("audit", "-"), id="audit"),
+        pytest.param((), id="one"),
+    ],
+)
+
+
+@COMMANDS
+@pytest.mark.parametrize(
+    ("redirected", "message"),
+    [
+        pytest.param("> /dev/full", b"standard output", id="a full device as output"),
+        pytest.param(">&-", b"", id="a closed output"),
+        pytest.param("<&-", b"", id="a closed input"),
+        pytest.param("< .", b"standard input is a folder", id="a folder as input"),
+    ],
+)
+def test_an_input_or_output_that_is_none_is_a_failure(
+    words: tuple[str, ...], redirected: str, message: bytes
+) -> None:
+    done = shell(f'exec "$@" {redirected}', *words, stdin=b"ann:!:x\n" * 3)
+    assert done.status == 3 and done.err.startswith(b"pwhash: ") and message in done.err, done
+
+
+@pytest.mark.needs("namespaces")
+def test_a_run_on_a_full_disk_goes_on_once_there_is_room() -> None:
+    lines = save("lines", users(1000))
+    script = """
+        mkdir full
+        mount -t tmpfs -o size=16k none full
+        "$@" 2> said || echo status $?
+        mount -o remount,size=1m full
+        sh -c "$(tail -n 1 said)"
+        cat full/out
+    """
+    done = in_namespace(script, "file", *MD5CRYPT, lines, "-o", "full/out")
+    hashes = [b"user%d:%b\n" % (n, hashed(b"password%d" % n)) for n in range(1000)]
+    assert done.out == b"status 3\n" + b"".join(hashes), done

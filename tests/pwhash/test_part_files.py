@@ -1,0 +1,149 @@
+"""OUT.part: only the user's own is written, and no other file is touched."""
+from __future__ import annotations
+
+import os
+import stat
+import time
+from collections.abc import Callable
+
+import pytest
+from support.needs import need
+from support.pwhash_runs import (
+    Ended,
+    MD5,
+    MD5CRYPT,
+    PWHASH,
+    SLOW,
+    ended,
+    pwhash,
+    read,
+    save,
+    save_part,
+    slow_run,
+    started_program,
+    users,
+    wait_for,
+)
+
+
+def run_in_the_open_folder(*words: str) -> Ended:
+    """As root in a folder in which everybody can write."""
+    os.chmod(".", 0o777)
+    return pwhash("file", *MD5CRYPT, "passwords", "-o", "hashes", *words)
+
+
+def link_part() -> None:
+    save_part("elsewhere", b"")
+    os.symlink("elsewhere", "hashes.part")
+
+
+def hard_link_part() -> None:
+    save_part("elsewhere", b"")
+    os.link("elsewhere", "hashes.part")
+
+
+NOBODY = 65534
+
+
+def part_of_nobody() -> None:
+    need("root")
+    save_part("hashes.part", b"")
+    os.chown("hashes.part", NOBODY, NOBODY)
+
+
+def part_for_all() -> None:
+    save("hashes.part", b"")
+    os.chmod("hashes.part", 0o666)
+
+
+@pytest.mark.parametrize("words", [(), ("--resume",)], ids=["anew", "with --resume"])
+@pytest.mark.parametrize(
+    "put",
+    [
+        pytest.param(part_of_nobody, id="somebody else's"),
+        pytest.param(part_for_all, id="one that others can write"),
+        pytest.param(lambda: os.mkfifo("hashes.part", 0o600), id="a pipe"),
+        pytest.param(link_part, id="a symbolic link"),
+        pytest.param(hard_link_part, id="one with a second name"),
+        pytest.param(lambda: os.mkdir("hashes.part"), id="a folder"),
+    ],
+)
+def test_a_part_that_is_not_the_users_own_is_never_written(
+    put: Callable[[], None], words: tuple[str, ...]
+) -> None:
+    """Its owner could add lines before chpasswd loads them."""
+    save("passwords", b"ann:password\n")
+    put()
+    before = os.lstat("hashes.part")
+    done = run_in_the_open_folder(*words)
+    assert done.status == 2 and b"hashes.part" in done.err, done
+    assert not os.path.lexists("hashes"), done
+    after = os.lstat("hashes.part")
+    assert (after.st_ino, after.st_uid) == (before.st_ino, before.st_uid), done
+    assert not stat.S_ISREG(after.st_mode) or after.st_size == 0, done
+    assert not os.path.exists("elsewhere") or read("elsewhere") == b"", done
+
+
+def test_an_empty_part_of_the_users_own_is_not_taken_without_resume() -> None:
+    save("passwords", b"ann:password\n")
+    save_part("hashes.part", b"")
+    done = pwhash("file", *MD5CRYPT, "passwords", "-o", "hashes")
+    assert done.status == 2 and b"--resume" in done.err and not os.path.exists("hashes"), done
+    done = pwhash("file", *MD5CRYPT, "passwords", "-o", "hashes", "--resume")
+    assert done.status == 0 and read("hashes") == b"ann:" + MD5.encode() + b"\n", done
+
+
+def test_the_file_that_is_read_is_not_removed() -> None:
+    save("hashes.part", users(3))
+    done = pwhash("file", *MD5CRYPT, "hashes.part", "-o", "hashes")
+    assert done.status == 2 and b"remove it" not in done.err and b"read" in done.err, done
+    assert read("hashes.part") == users(3)
+
+
+@pytest.mark.needs("strace")
+def test_a_strangers_file_is_not_taken_for_out() -> None:
+    """Where there are no hard links, a name is renamed; strace holds that for a second."""
+    save("list", users(3))
+    command = ["strace", "-f", "-qq", "-o", "log", "-e", "trace=linkat,renameat2"]
+    command += ["-e", "inject=linkat:error=EPERM", "-e", "inject=renameat2:delay_enter=2000000"]
+    command += [PWHASH, "file", *MD5CRYPT, "list", "-o", "hashes"]
+    with started_program(*command) as process:
+        wait_for(lambda: os.path.exists("log") and b"linkat" in read("log"))
+        time.sleep(0.5)
+        save("other", b"root:strangers\n")
+        os.rename("other", "hashes.part")
+        done = ended(process)
+    assert done.status == 3 and b"hashes isn't" in done.err, done
+
+
+def link_options() -> None:
+    os.symlink("list", "hashes.part.options")
+
+
+@pytest.mark.parametrize(
+    "put",
+    [
+        pytest.param(lambda: save("hashes.part.options", b"name,password\n"), id="a list"),
+        pytest.param(lambda: save_part("hashes.part.options", b"ann:pw1\n"), id="a private list"),
+        pytest.param(link_options, id="a symbolic link"),
+        pytest.param(lambda: os.mkdir("hashes.part.options"), id="a folder"),
+    ],
+)
+def test_a_file_with_the_name_of_the_kept_options_stays(put: Callable[[], object]) -> None:
+    save("list", b"name,password\nann,pw1\n")
+    put()
+    before = os.lstat("hashes.part.options")
+    done = pwhash("file", *MD5CRYPT, "list", "-o", "hashes", "--csv")
+    assert done.status == 2 and b"hashes.part.options" in done.err, done
+    assert os.path.samestat(os.lstat("hashes.part.options"), before), done
+    assert sorted(os.listdir()) == ["hashes.part.options", "list"], done
+
+
+def test_two_runs_do_not_share_a_part() -> None:
+    with slow_run() as process:
+        anew = pwhash("file", *SLOW, "passwords", "-o", "hashes")
+        resumed = pwhash("file", *SLOW, "passwords", "-o", "hashes", "--resume")
+        done = ended(process)
+    assert anew.status == 2 and b"another run" in anew.err, anew
+    assert resumed.status == 2, resumed
+    assert done.status == 0 and read("hashes").count(b"\n") == 1500, done

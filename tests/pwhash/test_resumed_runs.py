@@ -1,0 +1,257 @@
+"""--resume: a part that another command made, or that somebody changed, is not gone on with."""
+from __future__ import annotations
+
+import os
+import signal
+
+import pytest
+from support.pwhash_copies import Copy
+from support.pwhash_runs import (
+    ANN,
+    ESCAPE,
+    MD5CRYPT,
+    SLOW,
+    command_to_go_on,
+    ended,
+    has_begun,
+    hashed,
+    pwhash,
+    read,
+    save,
+    save_part,
+    started,
+    started_program,
+    users,
+    wait_for,
+)
+
+SHA256 = "$5$rounds=1000$"
+
+
+OTHER_MIDDLES = [
+    pytest.param(hashed(b"b", "$1$saltsalt"), id="another method"),
+    pytest.param(hashed(b"b", "$5$rounds=1001$saltsaltsaltsalt"), id="other rounds"),
+    pytest.param(hashed(b"b", "$5$saltsaltsaltsalt"), id="no rounds"),
+    pytest.param(hashed(b"b", SHA256 + "salt"), id="a shorter salt"),
+    pytest.param(hashed(b"b", SHA256 + "saltsaltsaltsalt")[:-1], id="a hash that was cut"),
+    pytest.param(hashed(b"b", SHA256 + "saltsaltsaltsalt") + b":0:", id="more fields"),
+    pytest.param(SHA256.encode() + b"$" + b"x" * 43, id="no salt"),
+    pytest.param(b"!", id="no hash"),
+]
+
+
+@pytest.mark.parametrize("middle", OTHER_MIDDLES)
+def test_resume_refuses_a_forged_line_in_the_middle(middle: bytes) -> None:
+    save("passwords", b"ann:a\nbob:b\neve:c\nzoe:d\n")
+    words = ("file", "-m", "sha256crypt", "-R", "1000", "passwords", "-o", "hashes")
+    setting = SHA256 + "saltsaltsaltsalt"
+    kept = [b"ann:" + hashed(b"a", setting), b"bob:" + middle, b"eve:" + hashed(b"c", setting)]
+    save_part("hashes.part", b"\n".join(kept) + b"\n")
+    done = pwhash(*words, "--resume")
+    assert done.status == 2 and b"hashes.part, line 2" in done.err, done
+    assert not os.path.exists("hashes"), done
+    kept[1] = b"bob:" + hashed(b"b", setting)
+    save_part("hashes.part", b"\n".join(kept) + b"\n")
+    done = pwhash(*words, "--resume")
+    assert done.status == 0 and read("hashes").startswith(b"\n".join(kept) + b"\nzoe:$5$"), done
+
+
+def test_resume_refuses_another_salt_in_the_middle_where_one_was_given() -> None:
+    save("passwords", b"ann:a\nbob:b\neve:c\nzoe:d\n")
+    salts = ["$1$xxxxxxxx", "$1$yyyyyyyy", "$1$xxxxxxxx"]
+    kept = [
+        b"%b:%b" % (name, hashed(password, salt))
+        for name, password, salt in zip((b"ann", b"bob", b"eve"), (b"a", b"b", b"c"), salts)
+    ]
+    save_part("hashes.part", b"\n".join(kept) + b"\n")
+    done = pwhash("file", *MD5CRYPT, "passwords", "-o", "hashes", "--resume")
+    assert done.status == 2 and b"hashes.part, line 2" in done.err, done
+
+
+OTHER_LINES = [
+    pytest.param(("--accept-doubtful",), ("--windows",), id="with --windows"),
+    pytest.param(("--windows",), ("--accept-doubtful",), id="without --windows"),
+    pytest.param(("--csv",), ("--csv", "--columns", "name,old"), id="other columns"),
+    pytest.param(("--csv", "--columns", "name,old"), ("--csv",), id="the usual columns"),
+    pytest.param(("--csv",), ("--accept-doubtful",), id="without --csv"),
+]
+
+
+@pytest.mark.parametrize(("first", "second"), OTHER_LINES)
+def test_a_part_is_not_gone_on_with_by_options_that_change_lines(
+    first: tuple[str, ...], second: tuple[str, ...]
+) -> None:
+    """The first and last lines, which are hashed again, are the same either way."""
+    text = b"".join(b"user%d:password%d%b\n" % (n, n, b"\r" * (n % 2)) for n in range(1500))
+    if "--csv" in first:
+        rows = (b"user%d,password%d,other%d\n" % (n, n, n * (n % 2)) for n in range(1500))
+        text = b"name,password,old\n" + b"".join(rows)
+    save("list", text)
+    os.utime("list", (1e9, 1e9))
+    words = ("file", *SLOW, "list", "-o", "hashes")
+    with started(*words, *first) as process:
+        wait_for(has_begun)
+        process.send_signal(signal.SIGTERM)
+        ended(process)
+    part = read("hashes.part").splitlines(keepends=True)
+    if len(part) % 2 == 0:
+        part.pop()
+    save("hashes.part", b"".join(part))
+    done = pwhash(*words, *second, "--resume")
+    assert done.status in (1, 2) and not os.path.exists("hashes"), done
+    done = pwhash(*words, *first, "--resume")
+    assert done.status == 0 and read("hashes").count(b"\n") == 1500, done
+    assert sorted(os.listdir()) == ["hashes", "list"], done
+
+
+def test_options_of_another_are_not_gone_on_with() -> None:
+    save("list", b"ann,pw1\nbob,pw2\n")
+    save_part("hashes.part", ANN)
+    os.utime("list", (1e9, 1e9))
+    words = ("file", *MD5CRYPT, "list", "-o", "hashes", "--csv", "--columns", "1,2", "--resume")
+    for is_pipe in False, True:
+        if is_pipe:
+            os.mkfifo("hashes.part.options")
+        else:
+            save("hashes.part.options", b"--csv --columns=1,2")
+        os.chmod("hashes.part.options", 0o644)
+        done = pwhash(*words)
+        assert done.status == 2 and b"hashes.part.options" in done.err, done
+        os.remove("hashes.part.options")
+    save_part("hashes.part.options", b"--csv --columns=1,2")  # which tells nothing of the list
+    done = pwhash(*words)
+    assert done.status == 2 and not os.path.exists("hashes"), done
+
+
+def test_the_command_that_goes_on_is_readable_and_works() -> None:
+    name = f"pass{ESCAPE}'\nwörds\\"
+    save(name, users(1500))
+    out = f"o{ESCAPE}ut"
+    with started("file", *SLOW, name, "-o", out) as process:
+        wait_for(lambda: has_begun(f"{out}.part"))
+        process.send_signal(signal.SIGTERM)
+        first = ended(process)
+    assert b"\x1b" not in first.err, first
+    command = command_to_go_on(first)
+    assert "\n" not in command, command
+    second = ended(started_program("/bin/bash", "-c", command))
+    assert second.status == 0 and read(out).count(b"\n") == 1500, second
+
+
+# ---- What was kept
+
+LINES = b"ann:x\nno colon\nbob:y\ncarl:z\n"
+RESUMED = ("file", *MD5CRYPT, "lines", "-o", "out", "--resume", "--skip-refused")
+WHOLE = b"".join(
+    b"%b:%b\n" % (name, hashed(password))
+    for name, password in ((b"ann", b"x"), (b"bob", b"y"), (b"carl", b"z"))
+)
+FIRST, SECOND, THIRD = WHOLE.splitlines(keepends=True)
+
+
+@pytest.mark.parametrize(
+    "part",
+    [
+        pytest.param(b"", id="nothing"),
+        pytest.param(FIRST, id="a line"),
+        pytest.param(FIRST + SECOND[:30], id="a line and a half"),
+        pytest.param(WHOLE.removesuffix(b"\n"), id="all but the last line feed"),
+        pytest.param(WHOLE, id="all"),
+    ],
+)
+def test_a_part_of_the_same_run_is_gone_on_with(part: bytes) -> None:
+    save("lines", LINES)
+    save_part("out.part", part)
+    done = pwhash(*RESUMED)
+    assert done.status == 1 and read("out") == WHOLE, done
+
+
+@pytest.mark.parametrize(
+    "part",
+    [
+        pytest.param(SECOND, id="another line first"),
+        pytest.param(b"ann:$1$xxxxxxxx$wrong\n", id="another hash"),
+        pytest.param(WHOLE + b"\nx", id="more than the run makes"),
+        pytest.param(b"Welcome!\n", id="no hash"),
+    ],
+)
+def test_a_part_of_no_such_run_is_not_gone_on_with(part: bytes) -> None:
+    save("lines", LINES)
+    save_part("out.part", part)
+    done = pwhash(*RESUMED)
+    assert done.status == 2 and b"password" in done.err and b"gone" in done.err, done
+    assert not os.path.exists("out")
+
+
+@pytest.mark.parametrize(
+    "words",
+    [
+        pytest.param(("-m", "sha256crypt"), id="another method"),
+        pytest.param(("-m", "md5crypt", "-S", "yyyyyyyy"), id="another salt"),
+    ],
+)
+def test_a_part_of_other_hashes_is_not_gone_on_with(words: tuple[str, ...]) -> None:
+    save("lines", LINES)
+    save_part("out.part", FIRST)
+    done = pwhash("file", *words, "lines", "-o", "out", "--resume", "--skip-refused")
+    assert done.status == 2 and not os.path.exists("out"), done
+
+
+def test_a_part_is_not_taken_without_resume() -> None:
+    save("lines", LINES)
+    save_part("out.part", FIRST)
+    done = pwhash("file", *MD5CRYPT, "lines", "-o", "out", "--skip-refused")
+    assert done.status == 2 and not os.path.exists("out"), done
+
+
+def test_a_list_that_is_newer_than_the_part_is_not_gone_on_with() -> None:
+    save_part("out.part", FIRST)
+    save("lines", LINES)
+    later = os.stat("out.part").st_mtime + 1
+    os.utime("lines", (later, later))
+    done = pwhash(*RESUMED)
+    assert done.status == 2 and not os.path.exists("out"), done
+
+
+def test_resume_without_a_part_begins() -> None:
+    save("lines", LINES)
+    done = pwhash(*RESUMED)
+    assert done.status == 1 and read("out") == WHOLE, done
+
+
+def test_resume_of_a_whole_run_is_refused() -> None:
+    save("lines", LINES)
+    save("out", WHOLE)
+    done = pwhash(*RESUMED)
+    assert done.status == 2 and read("out") == WHOLE, done
+
+
+# ---- Checks, which go on with nothing
+
+
+def test_a_check_names_the_part_that_is_to_be_removed() -> None:
+    save("out.part", b"ann:locked\n")
+    done = pwhash("check", save("lines", b"ann:!:x\n"), "-o", "out")
+    assert done.status == 2 and b"out.part already exists: remove it" in done.err, done
+    assert b"--resume" not in done.err, done
+
+
+def test_a_check_that_failed_says_how_to_start_again(copy: Copy) -> None:
+    copy.replace_engine("exit 3")
+    done = copy.run("check", save("lines", b"ann:!:x\n"), "-o", "out")
+    assert done.stderr.endswith(b" To start again, remove out.part.\n"), done
+
+
+def test_a_run_that_failed_says_how_to_go_on(copy: Copy) -> None:
+    save("lines", b"ann:x\n")
+    save_part("out.part", b"")
+    copy.replace_engine("exit 3")
+    done = copy.run("file", "lines", "-o", "out", "--resume")
+    command = f"  {copy.pwhash} file lines -o out --resume\n"
+    assert done.stderr.endswith(f" To go on:\n{command}".encode()), done
+
+
+def test_nobody_is_told_to_remove_what_is_no_file() -> None:
+    done = pwhash("file", save("lines", b"ann:x\n"), "-o", "/dev/null")
+    assert done.status == 2 and b"/dev/null already exists" in done.err, done
+    assert b"remove" not in done.err, done

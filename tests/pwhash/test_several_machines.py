@@ -1,0 +1,37 @@
+"""GUIDE's recipe for several machines, with this machine as the only one."""
+from __future__ import annotations
+
+from pathlib import Path
+
+import pytest
+from support.documents import marked
+from support.process import run
+from support.pwhash_copies import Copy
+from support.pwhash_runs import hashed, users
+
+COUNT = 1500
+# What GNU parallel made is cut in half, so that pwhash has something to complete.
+CUT = "cut=$(wc -c < hashes.part); truncate -s $((cut / 2)) hashes.part; "
+
+
+def quick_recipe() -> str:
+    """The recipe with fewer rounds."""
+    recipe = marked("several machines", "sh").code
+    recipe = recipe.replace("-R 656000", "-R 1000").replace(" -o hashes", " -R 1000 -o hashes")
+    assert "pwhash file passwords -R" in recipe, recipe
+    return recipe.replace("pwhash file passwords -R", f"{CUT}pwhash file passwords -R")
+
+
+@pytest.mark.needs("parallel")
+def test_pwhash_completes_what_gnu_parallel_made(copy: Copy, folder: Path) -> None:
+    (folder / "hosts").write_bytes(b"2/:\n")
+    (folder / "passwords").write_bytes(users(COUNT))
+    (copy.folder / "bin/mkpasswd.proved").symlink_to("mkpasswd")
+    path = f"{copy.folder}/bin:/usr/bin:/bin"
+    done = run("/bin/sh", "-euc", quick_recipe(), env={"PATH": path, "HOME": str(folder)})
+    assert done.status == 0, done
+    hashes = (folder / "hashes").read_bytes().splitlines()
+    assert len(hashes) == COUNT, done
+    for n in 0, 700, COUNT - 1:
+        name, made = hashes[n].split(b":")
+        assert (name, made) == (b"user%d" % n, hashed(b"password%d" % n, made.decode()))

@@ -1,0 +1,47 @@
+"""Pipes: answers come as soon as they are there, and nothing is read that can't be answered."""
+from __future__ import annotations
+
+import os
+import subprocess
+import time
+
+from support.pwhash_runs import MD5, MD5CRYPT, PWHASH, started
+
+GREATEST = 1 << 26  # more than pipes and blocks hold
+SECONDS_OF_SILENCE = 2
+
+
+def test_each_answer_comes_as_soon_as_it_is_there() -> None:
+    with started("file", *MD5CRYPT, bufsize=0) as process:
+        assert process.stdin and process.stdout
+        for name in b"ann", b"bob":
+            process.stdin.write(name + b":password\n")
+            assert process.stdout.readline() == name + b":" + MD5.encode() + b"\n"
+        process.stdin.close()
+        assert process.wait() == 0
+
+
+def written_until_it_waits(process: subprocess.Popen[bytes]) -> int:
+    """How many bytes a process reads while nobody takes its answers."""
+    assert process.stdin
+    descriptor = process.stdin.fileno()
+    os.set_blocking(descriptor, False)
+    written = 0
+    silent_since = time.monotonic()
+    while written < GREATEST and time.monotonic() - silent_since < SECONDS_OF_SILENCE:
+        try:
+            written += os.write(descriptor, b"ann:!:x\n" * 1000)
+            silent_since = time.monotonic()
+        except BlockingIOError:
+            time.sleep(0.02)
+    return written
+
+
+def test_nothing_is_read_while_nobody_takes_answers() -> None:
+    """So its memory doesn't grow."""
+    with subprocess.Popen([PWHASH, "check"], stdin=-1, stdout=-1, bufsize=0) as process:
+        try:
+            assert written_until_it_waits(process) < GREATEST
+        finally:
+            process.kill()
+            process.communicate()

@@ -1,0 +1,37 @@
+"""System calls that the kernel refuses: status 3, a sentence, and no OUT."""
+from __future__ import annotations
+
+import os
+
+import pytest
+from support.pwhash_runs import PWHASH, ended, save, started_program, users
+
+PYTHON = "/usr/bin/python3"  # by which pwhash begins itself; strace counts calls from here on
+WORDS = ("file", "-m", "sha512crypt", "-R", "20k", "-S", "saltsalt", "lines", "-o", "out")
+
+
+@pytest.mark.needs("strace")
+@pytest.mark.parametrize(
+    ("call", "error", "first"),
+    [
+        pytest.param("memfd_create", "EMFILE", 1, id="no file in memory"),
+        pytest.param("memfd_create", "ENOMEM", 6, id="no memory for a file, later"),
+        pytest.param("pipe2", "EMFILE", 3, id="no pipe"),
+        pytest.param("vfork,clone,clone3", "EAGAIN", 3, id="no process"),
+        pytest.param("vfork,clone,clone3", "ENOMEM", 5, id="no memory for a process, later"),
+        pytest.param("poll", "ENOMEM", 2, id="no memory to wait for processes"),
+        pytest.param("flock", "EIO", 1, id="no lock"),
+        pytest.param("fsync", "EIO", 1, id="a disk that fails"),
+        pytest.param("fsync", "ENOSPC", 1, id="a disk that is full in the end"),
+        pytest.param("linkat", "ENOSPC", 1, id="no room for a name"),
+        pytest.param("linkat", "EACCES", 1, id="no right to a name"),
+        pytest.param("fchmod", "EPERM", 1, id="no right to a mode"),
+    ],
+)
+def test_a_system_call_that_fails_makes_no_out(call: str, error: str, first: int) -> None:
+    save("lines", users(40))
+    inject = f"inject={call}:error={error}:when={first}+"
+    command = ["strace", "-qq", "-o", "/dev/null", "-e", inject, PYTHON, "-IB", PWHASH, *WORDS]
+    done = ended(started_program(*command))
+    assert (done.status, done.out) == (3, b"") and done.err.startswith(b"pwhash: "), done
+    assert not os.path.exists("out"), done

@@ -1,0 +1,121 @@
+"""Rows of a table: which fields are read, and which rows are refused by their lines."""
+from __future__ import annotations
+
+import os
+import re
+
+import pytest
+from support.pwhash_runs import (
+    BOB,
+    BY_NUMBER,
+    MARK,
+    MD5,
+    MD5CRYPT,
+    hashed,
+    lines_named_in,
+    pwhash,
+    read,
+    save,
+)
+
+TOO_MANY = [
+    pytest.param(b"name,password\nann,pa,ss\nbob,password\n", (), 2, id="a comma"),
+    pytest.param(b"name;password\nann;pa;ss\nbob;password\n", (), 2, id="a semicolon"),
+    pytest.param(b"name\tpassword\nbob\tpassword\nann\tpa\tss\n", (), 3, id="a tab, last"),
+    pytest.param(b"bob,password\nann,pa,ss\n", ("--columns", "1,2"), 2, id="columns by number"),
+    pytest.param(b"id,password,name\n1,pa,ss,ann\n2,password,bob\n", (), 2, id="before the name"),
+    pytest.param(b"name,password\nann,pa,\nbob,password\n", (), 2, id="an empty third"),
+    pytest.param(b"name,password\n\nbob,password\nann,a,b\n", (), 4, id="behind a blank line"),
+]
+
+
+@pytest.mark.parametrize(("table", "words", "number"), TOO_MANY)
+def test_a_row_with_more_fields_than_the_first_is_refused(
+    table: bytes, words: tuple[str, ...], number: int
+) -> None:
+    bob = b"bob:" + MD5.encode() + b"\n"
+    by_pipe = pwhash("file", "--csv", *MD5CRYPT, *words, stdin=table)
+    assert (by_pipe.status, by_pipe.out) == (1, bob), by_pipe
+    assert lines_named_in(by_pipe.err) == [number] and b"fields" in by_pipe.err, by_pipe
+    from_file = pwhash("file", "--csv", *MD5CRYPT, *words, save("table", table))
+    assert (from_file.status, from_file.out) == (1, b""), from_file
+    assert lines_named_in(from_file.err) == [number], from_file
+    left_out = pwhash("file", "--csv", *MD5CRYPT, *words, "table", "--skip-refused", "-o", "hashes")
+    assert left_out.status == 1 and read("hashes") == bob, left_out
+    for done in by_pipe, from_file, left_out:
+        assert not re.search(rb"\bpa\b|\bss\b", done.err), done
+
+
+def test_a_row_with_more_fields_is_refused_in_lists_of_known_passwords() -> None:
+    save("shadow", b"ann:" + MD5.encode() + b":1:::\n")
+    table = b"name,password\nann,password\nann,pass,word\n"
+    done = pwhash("check", "--csv", "--shadow", "shadow", stdin=table)
+    assert (done.status, done.out, lines_named_in(done.err)) == (1, b"ann:ok\n", [3]), done
+
+
+@pytest.mark.parametrize(
+    ("row", "reason"),
+    [
+        pytest.param(b'"a:b",secret\n', b"colon", id="a colon in a name"),
+        pytest.param(b'ann,"secret\nsecret"\n', b"line feed", id="a line feed in a password"),
+        pytest.param(b"ann\n", b"no password field", id="a row that is too short"),
+        pytest.param(b"name,password\n", b"heading", id="the heading of a table joined to it"),
+        pytest.param(MARK + b"name,password\r\n", b"heading", id="the heading of Notepad's table"),
+    ],
+)
+def test_a_row_that_is_no_line_is_refused_by_its_number(row: bytes, reason: bytes) -> None:
+    table = b"name,password\nbob,password\n" + row + b"eve,password\n"
+    done = pwhash("file", "--csv", *MD5CRYPT, stdin=table)
+    expected = b"bob:%b\neve:%b\n" % (MD5.encode(), MD5.encode())
+    assert (done.status, done.out) == (1, expected), done
+    assert reason in done.err and b"secret" not in done.err, done
+    assert lines_named_in(done.err) == [2 + row.count(b"\n")], done
+
+
+@pytest.mark.parametrize(
+    ("table", "words"),
+    [
+        pytest.param(b"ann,password\0more\nbob,pw2\n", BY_NUMBER, id="in a password"),
+        pytest.param(b"\0ann,password\nbob,pw2\n", BY_NUMBER, id="before a name"),
+        pytest.param(b"\nann,password\0\nbob,pw2\n", BY_NUMBER, id="behind a blank line"),
+    ],
+)
+def test_a_zero_byte_in_the_first_row_cuts_nothing(table: bytes, words: tuple[str, ...]) -> None:
+    done = pwhash("file", "--csv", *MD5CRYPT, *words, stdin=table)
+    assert done.status == 1 and done.out == BOB, done
+    done = pwhash("file", "--csv", *MD5CRYPT, *words, save("table", table), "-o", "hashes")
+    assert done.status == 1 and not os.path.exists("hashes"), done
+
+
+def test_a_known_password_with_a_zero_byte_in_the_first_row_is_not_cut() -> None:
+    save("shadow", b"ann:" + MD5.encode() + b":1:::\n")
+    table = b"ann,password\0more\n"
+    done = pwhash("check", "--csv", *BY_NUMBER, "--shadow", "shadow", stdin=table)
+    assert (done.status, done.out) == (1, b"") and b"zero byte" in done.err, done
+
+
+@pytest.mark.parametrize("row", [b"ann", b",password", b"password,"], ids=os.fsdecode)
+def test_a_row_without_a_name_or_password_is_tried_for_nobody(row: bytes) -> None:
+    save("shadow", b"ann:%b:1:::\nbob:%b:1:::\n" % (MD5.encode(), hashed(b"ann")))
+    table = (
+        b"password,name\npassword,ann\n"
+        if row == b"password,"
+        else b"name,password\nann,password\n"
+    )
+    done = pwhash("check", "--csv", "--shadow", "shadow", stdin=table + row + b"\n")
+    assert (done.status, done.out, lines_named_in(done.err)) == (1, b"ann:ok\n", [3]), done
+
+
+def test_a_stray_quote_in_another_column_loses_no_user() -> None:
+    """It hides the lines up to the next quote, so that row is refused, and no user is left out."""
+    table = b'name,password,note\nann,password,"\nbob,password,"\ncid,password,\n'
+    done = pwhash("file", "--csv", *MD5CRYPT, stdin=table)
+    assert done.status == 1 and lines_named_in(done.err) == [3], done
+    assert done.out == b"cid:" + MD5.encode() + b"\n", done
+    from_file = pwhash("file", "--csv", *MD5CRYPT, save("table", table), "-o", "hashes")
+    assert from_file.status == 1 and not os.path.exists("hashes"), from_file
+
+
+def test_lines_that_end_in_carriage_returns_alone_are_no_table() -> None:
+    done = pwhash("file", "--csv", *MD5CRYPT, stdin=b"name,password\rann,x\r")
+    assert done.status == 3 and b"not CSV" in done.err and b"Error at" not in done.err, done
