@@ -1,12 +1,11 @@
-"""Runs the tests that are not of this harness yet: those in Perl, and those of the Python package.
+"""Runs the tests that are not of this harness yet, which are in Perl.
 
-Each file, or half of the package's tests, is one test here. What it skips is listed with the
-reason, and what failed in it is shown.
+Each file is one test here. What it skips is listed with the reason, and what failed in it is
+shown.
 """
 from __future__ import annotations
 
 import re
-import sys
 
 import pytest
 from support import ROOT
@@ -48,22 +47,3 @@ def test_in_perl(name: str) -> None:
     output = result.stdout.decode(errors="replace")
     assert re.search(r"^1\.\.\d+", output, re.MULTILINE), f"no plan:\n{result}"
     skip_if_incomplete(re.findall(r"^ok.*# skip (.*)", output, re.MULTILINE))
-
-
-@pytest.mark.slow
-@pytest.mark.needs("python3-hypothesis", "python3-passlib")
-@pytest.mark.parametrize(
-    "half",
-    [
-        pytest.param("test_hashers.py", id="the handlers for Django and passlib"),
-        pytest.param("--ignore=test_hashers.py", id="all others"),
-    ],
-)
-def test_of_the_python_package(half: str) -> None:
-    """A session of its own, since its conftest changes the whole process."""
-    words = [sys.executable, "-B", "-m", "pytest", "-p", "no:xdist", "-q", "-rfEs", "--tb=short"]
-    environment = {"LC_ALL": "C.UTF-8", "PYTEST_ADDOPTS": None, "PYTHONPATH": None}
-    result = run(*words, "--color=no", half, env=environment, cwd=TESTS / "python", timeout=HOUR)
-    assert_passed(result, "")
-    output = result.stdout.decode(errors="replace")
-    skip_if_incomplete(re.findall(r"^SKIPPED \[\d+\] \S+: (.*)", output, re.MULTILINE))

@@ -3,9 +3,12 @@ from __future__ import annotations
 
 import shlex
 
-import pexpect
 import pytest
+from support.needs import needed
 from support.pwhash_runs import MD5CRYPT, PWHASH, hashed, in_namespace, shows_keys, type_secret
+
+with needed("python3-pexpect"):
+    import pexpect
 
 EMPTY_DEV = """
     mount -t tmpfs none /dev

@@ -3,8 +3,11 @@ from __future__ import annotations
 
 import signal
 
-import pexpect
+from support.needs import needed
 from support.pwhash_runs import PWHASH, read, save, users
+
+with needed("python3-pexpect"):
+    import pexpect
 
 
 def test_the_terminal_shows_progress_and_how_to_go_on() -> None:

@@ -8,8 +8,8 @@ import shlex
 import signal
 import subprocess
 
-import pexpect
 import pytest
+from support.needs import needed
 from support.pwhash_runs import (
     MD5CRYPT,
     PWHASH,
@@ -22,6 +22,9 @@ from support.pwhash_runs import (
     tree,
     wait_for,
 )
+
+with needed("python3-pexpect"):
+    import pexpect
 
 
 def at_again(script: str = "", words: tuple[str, ...] = MD5CRYPT) -> pexpect.spawn[bytes]:

@@ -8,8 +8,8 @@ import shlex
 import signal
 import termios
 
-import pexpect
 import pytest
+from support.needs import needed
 from support.pwhash_runs import (
     MD5CRYPT,
     PWHASH,
@@ -23,6 +23,9 @@ from support.pwhash_runs import (
     type_secret,
     wait_for,
 )
+
+with needed("python3-pexpect"):
+    import pexpect
 
 HALF_ERASED = b"TopSecret\xc3\xbc\x7f1"  # where the terminal erases one byte
 

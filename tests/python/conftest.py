@@ -1,14 +1,30 @@
-"""The tests try the package of this tree over the library of this tree, which is found by its soname."""
-import ctypes
-import os
-import sys
-import tempfile
+"""What tests of the Python package share; each module imports it by support/package.py."""
+from __future__ import annotations
 
-from support import LIBRARY, ROOT
+from typing import Any
 
-sys.dont_write_bytecode = True
-sys.path.insert(0, str(ROOT / "python" / "src"))
-# For the interpreters that tests start.
-os.environ.update(PYTHONPATH=sys.path[0], LD_LIBRARY_PATH=str(ROOT), PYTHONDONTWRITEBYTECODE="1")
-os.environ["HYPOTHESIS_STORAGE_DIRECTORY"] = os.path.join(tempfile.gettempdir(), "mkpasswd-hypothesis")
-ctypes.CDLL(str(LIBRARY))
+import pytest
+from support.package import Cook
+
+
+@pytest.fixture(scope="session", name="cook")
+def fixture_cook(tmp_path_factory: pytest.TempPathFactory) -> Cook:
+    """Who follows recipes of the document."""
+    return Cook(tmp_path_factory.mktemp("recipes"))
+
+
+@pytest.fixture(name="digests")
+def fixture_digests(monkeypatch: pytest.MonkeyPatch) -> list[int]:
+    """The number of digests of each call that hashes, from now on."""
+    from mkpasswd import _library
+
+    numbers: list[int] = []
+    for name in ("mkpasswd_hash", "mkpasswd_login", "mkpasswd_new", "mkpasswd_verify"):
+
+        def counted(*arguments: Any, call: Any = getattr(_library.lib, name)) -> int:
+            returned: int = call(*arguments)
+            numbers.append(arguments[-1].work.digests)
+            return returned
+
+        monkeypatch.setattr(_library.lib, name, counted)
+    return numbers

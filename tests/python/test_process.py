@@ -1,69 +1,111 @@
 """Threads, memory, and an interpreter that has no library."""
-import os
+from __future__ import annotations
+
 import shutil
-import sys
 import threading
 import time
 from concurrent.futures import ThreadPoolExecutor
+from pathlib import Path
 
-import mkpasswd
 import pytest
-from support import MD5, ended, run_python
+from support.package import SONAME, environment_of, run_python, tried_package
+from support.process import assert_result
+from support.stored_strings import MD5
+
+with tried_package():
+    import mkpasswd
+
+COUNT = 40
 
 
-def test_other_threads_run_while_a_hash_is_made():
+def test_other_threads_run_while_a_hash_is_made() -> None:
     """With the interpreter's lock kept, this thread would get next to no processor time."""
-    stored, spent = mkpasswd.Policy(rounds=1_000_000).hash("password"), []
+    stored = mkpasswd.Policy(rounds=1_000_000).hash("password")
+    spent: list[float] = []
 
-    def verify():
+    def verify() -> None:
         began = time.thread_time()
         assert mkpasswd.verify("password", field=stored)
         spent.append(time.thread_time() - began)
 
-    thread, began = threading.Thread(target=verify), time.thread_time()
+    thread = threading.Thread(target=verify)
+    began = time.thread_time()
     thread.start()
     while thread.is_alive():
         pass
     assert time.thread_time() - began > 0.2 * spent[0] > 0.02
 
 
-def test_threads_get_their_own_answers():
-    stored = [mkpasswd.Policy("md5crypt").hash("password %d" % n) for n in range(40)]
-    pairs = [(n, m) for n in range(40) for m in range(40)]
+def test_threads_get_their_own_answers() -> None:
+    stored = [mkpasswd.Policy("md5crypt").hash(f"password {n}") for n in range(COUNT)]
+    pairs = [(n, m) for n in range(COUNT) for m in range(COUNT)]
+
+    def is_match(pair: tuple[int, int]) -> bool:
+        return mkpasswd.verify(f"password {pair[0]}", field=stored[pair[1]])
+
     with ThreadPoolExecutor(8) as pool:
-        answers = list(pool.map(lambda pair: mkpasswd.verify("password %d" % pair[0], field=stored[pair[1]]), pairs))
+        answers = list(pool.map(is_match, pairs))
     assert answers == [n == m for n, m in pairs]
 
 
-WITHOUT_MEMORY = """
+# ---- Too little memory for scrypt
+
+LIMIT = """
 import resource, mkpasswd
 used = int(open("/proc/self/statm").read().split()[0]) * resource.getpagesize()
 resource.setrlimit(resource.RLIMIT_AS, (used + (32 << 20),) * 2)
-setting = "$7$CU..../....salt"
 policy = mkpasswd.Policy("scrypt")
-calls = lambda: policy.hash("x"), lambda: policy.verify("x", field=setting), lambda: mkpasswd.crypt.crypt("x", setting)
-for call in calls:
-    try:
-        print(call())
-    except MemoryError as error:
-        print(error)
-for field in setting, None, "%s":
-    print(*policy.login("password", field=field))
 """
+CALL = """
+try:
+    print({call})
+except MemoryError as error:
+    print(error)
+"""
+SETTING = "$7$CU..../....salt"
 
 
-def test_memory_is_refused():
-    """A login goes on: whoever has a hash that needs none gets in, and keeps it."""
-    assert run_python(WITHOUT_MEMORY % MD5) == "out of memory\n" * 3 + "False None\n" * 2 + "True None\n"
+@pytest.mark.parametrize(
+    "call",
+    [
+        pytest.param('policy.hash("x")', id="hash"),
+        pytest.param(f'policy.verify("x", field="{SETTING}")', id="verify"),
+        pytest.param(f'mkpasswd.crypt.crypt("x", "{SETTING}")', id="crypt"),
+    ],
+)
+def test_too_little_memory_is_an_error(call: str) -> None:
+    assert_result(run_python(LIMIT + CALL.format(call=call)), stdout=b"out of memory\n")
 
 
-@pytest.mark.parametrize("library", ["empty file", "garbage", "another library"])
-def test_no_library(library, tmp_path):
+@pytest.mark.parametrize(
+    ("field", "answer"),
+    [
+        pytest.param(SETTING, b"False None\n", id="a hash of scrypt"),
+        pytest.param(None, b"False None\n", id="no name"),
+        pytest.param(MD5, b"True None\n", id="a hash that needs none"),
+    ],
+)
+def test_a_login_goes_on_with_too_little_memory(field: str | None, answer: bytes) -> None:
+    """Whoever has a hash that needs none gets in, and keeps it."""
+    script = f'{LIMIT}print(*policy.login("password", field={field!r}))'
+    assert_result(run_python(script), stdout=answer)
+
+
+# ---- A library that is none
+
+ANOTHER_LIBRARY = "import _ctypes; print(_ctypes.__file__)"
+MESSAGE = b"ImportError: mkpasswd needs its C library, libmkpasswd.so.2, and could not load it: "
+
+
+@pytest.mark.parametrize("kind", ["an empty file", "garbage", "another library"])
+def test_a_library_that_is_none_is_named(kind: str, tmp_path: Path) -> None:
     """The loader stops at a file that is none, so that it finds none of the system's after it."""
-    place = tmp_path / "libmkpasswd.so.2"
-    place.write_bytes(b"" if library == "empty file" else b"garbage" * 100)
-    if library == "another library":
-        shutil.copy(run_python("import _ctypes; print(_ctypes.__file__)").strip(), str(place))
-    status, said = ended(sys.executable, "-c", "import mkpasswd", env=dict(os.environ, LD_LIBRARY_PATH=str(tmp_path)))
-    words = "ImportError: mkpasswd needs its C library, libmkpasswd.so.2, and could not load it: "
-    assert status == 1 and said.split("\n")[-2].startswith(words) and said.count("Traceback") == 1
+    place = tmp_path / SONAME
+    place.write_bytes(b"garbage" * 100 if kind == "garbage" else b"")
+    if kind == "another library":
+        found = run_python(ANOTHER_LIBRARY).required().stdout.decode().strip()
+        shutil.copy(found, place)
+    result = run_python("import mkpasswd", env=environment_of(place))
+    last = result.stderr.splitlines()[-1]
+    assert result.status == 1 and last.startswith(MESSAGE), result
+    assert result.stderr.count(b"Traceback") == 1, result

@@ -5,10 +5,12 @@ another processor, skips it also then.
 """
 from __future__ import annotations
 
+import contextlib
 import functools
 import importlib.util
 import os
 import shutil
+from collections.abc import Iterator
 from pathlib import Path
 from typing import NoReturn
 
@@ -21,11 +23,11 @@ PACKAGES = ROOT / "tests/packages.txt"
 
 
 def missing(what: str, remedy: str) -> NoReturn:
-    """Ends a test that lacks something."""
+    """Ends a test that lacks something, or a module of tests before they are collected."""
     reason = f"{what} is missing ({remedy})"
     if os.environ.get("STRICT") == "1":
         pytest.fail(reason, pytrace=False)
-    pytest.skip(reason)
+    pytest.skip(reason, allow_module_level=True)
 
 
 def not_applicable(reason: str) -> NoReturn:
@@ -72,6 +74,13 @@ def need(*names: str) -> None:
                 missing("unshare", "run the tests as root where namespaces can be made")
         elif not is_there(name):
             missing(name, f"Debian package {package_of()[name]}")
+
+
+@contextlib.contextmanager
+def needed(*names: str) -> Iterator[None]:
+    """Lets the block import modules; where one is missing, the tests of this module end."""
+    need(*names)
+    yield
 
 
 def built(path: str, target: str) -> Path:

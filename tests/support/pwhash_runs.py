@@ -19,8 +19,6 @@ import time
 from collections.abc import Callable, Iterator, Sequence
 from typing import Any
 
-import pexpect
-
 from . import ROOT
 from .libxcrypt import crypt
 from .needs import need, not_applicable
@@ -172,6 +170,9 @@ def at_terminal(
     words: Sequence[str], keys: Sequence[bytes], kill: int | None = None, utf8: bool = False
 ) -> Terminal:
     """Types keys, each at a prompt, then sends a signal if one is given."""
+    need("python3-pexpect")
+    import pexpect
+
     child = pexpect.spawn(PWHASH, list(words), timeout=60, echo=True)
     flags = termios.tcgetattr(child.child_fd)
     iutf8 = getattr(termios, "IUTF8", 0o40000)
@@ -197,6 +198,8 @@ def at_terminal(
 
 def type_secret(child: Any) -> bytes:
     """Types "secret" at both prompts, the first of which is shown. Returns what is shown then."""
+    import pexpect
+
     child.send(b"secret\r")
     child.expect(rb"Again: ")
     shown = bytes(child.before)

@@ -1,0 +1,137 @@
+"""Ansible takes the package as filters, by the recipe of docs/PYTHON.md."""
+from __future__ import annotations
+
+import json
+import re
+import secrets
+
+import pytest
+from support.package import environment_of, recipe_under, tried_package
+from support.process import run
+from support.stored_strings import MD5
+
+with tried_package():
+    import mkpasswd
+
+pytestmark = [
+    pytest.mark.needs("ansible-playbook"),
+    pytest.mark.xdist_group("ansible"),
+    pytest.mark.slow,
+]
+
+UNLOCKED = "is not match('[!*]')"
+HASH = "mkpasswd_hash"
+VERIFY = "mkpasswd_verify"
+# A message that were nothing but an answer would be a boolean.
+TASKS = {
+    "lock": f"it is {{{{ ('!' + stored) {UNLOCKED} }}}}",
+    "asterisk": f"it is {{{{ '*' {UNLOCKED} }}}}",
+    "hash": f"it is {{{{ stored {UNLOCKED} }}}}",
+    "relocked": f"{{{{ 'password' | {HASH}('md5crypt', current='!' + stored) }}}}",
+    "weak": f"{{{{ 'password' | {HASH}('sha512crypt', 12) }}}}",
+    "new": f"{{{{ 'pässword' | {HASH}('sha512crypt', 6000) }}}}",
+    "kept": f"{{{{ vaulted | {HASH}('md5crypt', current=stored) }}}}",
+    "renewed": f"{{{{ 'password' | {HASH}(current=stored) }}}}",
+    "changed": f"{{{{ 'passw0rd' | {HASH}('md5crypt', current=stored) }}}}",
+    "replaced": f"{{{{ 'password' | {HASH}('md5crypt', current='$y$x') }}}}",
+    "right": f"it is {{{{ vaulted | {VERIFY}(stored) }}}}",
+    "wrong": f"it is {{{{ 'passw0rd' | {VERIFY}(stored) }}}}",
+    "refused": f"{{{{ 's3cret\0' | {HASH} }}}}",
+    "number": f"{{{{ 5 | {HASH} }}}}",
+    "longest": f"it is {{{{ fresh | {VERIFY}(fresh_hash) }}}}",
+    "longest_kept": f"it is {{{{ (fresh | {HASH}(current=fresh_hash)) == fresh_hash }}}}",
+    "too_long": f"{{{{ ('x' * 169) | {HASH} }}}}",
+}
+LONGEST = "x" * 168
+
+
+@pytest.fixture(scope="module", name="messages")
+def fixture_messages(tmp_path_factory: pytest.TempPathFactory) -> dict[str, str]:
+    """What a play says of each task."""
+    folder = tmp_path_factory.mktemp("ansible")
+    environment: dict[str, str | None] = {
+        **environment_of(),
+        "HOME": str(folder),
+        "LC_ALL": "C.UTF-8",
+    }
+    key = ("--vault-password-file", folder / "key")
+    (folder / "key").write_text(secrets.token_hex(), encoding="ascii")
+    command = ("/usr/bin/ansible-vault", "encrypt_string", *key, "--name", "vaulted", "password")
+    vault = run(*command, env=environment, cwd=folder).required().stdout.decode()
+    variable = vault[vault.index("vaulted:") :].partition("\nEncryption")[0]
+    (folder / "vault.yml").write_text(variable, encoding="ascii")
+    (folder / "filter_plugins").mkdir()
+    (folder / "filter_plugins/mkpasswd.py").write_text(recipe_under("Ansible"), encoding="ascii")
+    play = {
+        "hosts": "localhost",
+        "gather_facts": False,
+        "vars": {"stored": MD5, "fresh": LONGEST, "fresh_hash": mkpasswd.hash(LONGEST)},
+        "vars_files": ["vault.yml"],
+        "tasks": [
+            {"name": name, "debug": {"msg": words}, "ignore_errors": True}
+            for name, words in TASKS.items()
+        ],
+    }
+    (folder / "play.yml").write_text(json.dumps([play]), encoding="ascii")
+    words = ("-i", "localhost,", "-c", "local", *key, "play.yml")
+    result = run("/usr/bin/ansible-playbook", *words, env=environment, cwd=folder).required()
+    pattern = r'^TASK \[(\w+)\] \*+\n.*?"msg": ("(?:[^"\\]|\\.)*")'
+    found = re.findall(pattern, result.stdout.decode(), re.MULTILINE | re.DOTALL)
+    return {name: json.loads(message) for name, message in found}
+
+
+def test_a_current_hash_is_kept(messages: dict[str, str]) -> None:
+    assert messages["kept"] == MD5
+
+
+@pytest.mark.parametrize(("task", "answer"), [("right", "it is True"), ("wrong", "it is False")])
+def test_a_password_is_checked(messages: dict[str, str], task: str, answer: str) -> None:
+    assert messages[task] == answer
+
+
+@pytest.mark.parametrize(
+    ("task", "answer"),
+    [("lock", "it is False"), ("asterisk", "it is False"), ("hash", "it is True")],
+    ids=["a hash behind a lock", "an asterisk", "a hash"],
+)
+def test_the_condition_of_the_recipe_leaves_out_locked_accounts(
+    messages: dict[str, str], task: str, answer: str
+) -> None:
+    assert messages[task] == answer
+
+
+@pytest.mark.parametrize(
+    ("task", "password", "front"),
+    [
+        pytest.param("new", "pässword", "$6$rounds=6000$", id="a new password"),
+        pytest.param("renewed", "password", "$6$rounds=656000$", id="an outdated hash"),
+        pytest.param("changed", "passw0rd", "$1$", id="another password"),
+        pytest.param("relocked", "password", "$1$", id="a locked hash"),
+        pytest.param("replaced", "password", "$1$", id="another scheme"),
+    ],
+)
+def test_a_new_hash_is_made_for(
+    messages: dict[str, str], task: str, password: str, front: str
+) -> None:
+    made = messages[task]
+    assert made.startswith(front) and mkpasswd.verify(password, field=made)
+
+
+@pytest.mark.parametrize("task", ["longest", "longest_kept"])
+def test_the_longest_password_of_the_recommended_policy_is_taken(
+    messages: dict[str, str], task: str
+) -> None:
+    assert messages[task] == "it is True"
+
+
+@pytest.mark.parametrize(
+    ("task", "reason"),
+    [
+        pytest.param("too_long", "more than 253921472", id="a password that costs too much"),
+        pytest.param("weak", "rounds must be 1000 to 999999999, or 0 for 656000", id="few rounds"),
+        pytest.param("refused", "password has a zero byte", id="a zero byte"),
+        pytest.param("number", "must be str or bytes, not int", id="a number as the password"),
+    ],
+)
+def test_a_refusal_is_named(messages: dict[str, str], task: str, reason: str) -> None:
+    assert reason in messages[task]

@@ -1,0 +1,308 @@
+"""What calls refuse: other types, numbers out of range, what is no password, arguments by place."""
+from __future__ import annotations
+
+import array
+import math
+import runpy
+from collections.abc import Callable
+from dataclasses import dataclass
+from pathlib import Path
+from typing import Any
+
+import pytest
+from support.package import crypt, error_of, kind_raised, tried_package
+from support.stored_strings import COSTLY, MD5, SHA512
+
+with tried_package():
+    import mkpasswd
+    from mkpasswd import Policy, Reason, Refused, cost, describe, needs_rehash, verify
+    from mkpasswd.crypt import crypt as crypt_call
+    from mkpasswd.crypt import mksalt
+
+
+@dataclass(frozen=True)
+class Call:
+    """A call, which gets some value at one place."""
+
+    title: str
+    function: Callable[[Any], object]
+
+    def __str__(self) -> str:
+        return self.title
+
+
+WITH_PASSWORD = [
+    Call("hash(..)", mkpasswd.hash),
+    Call("verify(.., a hash)", lambda password: verify(password, field=MD5)),
+    Call("verify(.., a lock)", lambda password: verify(password, field="!")),
+    Call("crypt(.., a hash)", lambda password: crypt_call(password, MD5)),
+]
+WITH_FIELD = [
+    Call("verify(a password, ..)", lambda field: verify("x", field=field)),
+    Call("needs_rehash(..)", needs_rehash),
+    Call("cost(.., 8)", lambda field: cost(field, 8)),
+]
+A_NUMBER: Any = 0
+# These take None besides, and the second also an empty setting.
+WITH_FIELD_OR_NONE = [
+    Call("describe(..)", lambda field: describe(A_NUMBER if field is None else field)),
+    Call("crypt(a password, ..)", lambda setting: crypt_call("x", setting or A_NUMBER)),
+]
+
+
+# ---- Types
+
+OTHER_TYPES = [
+    pytest.param(None, id="None"),
+    pytest.param(5, id="a number"),
+    pytest.param(True, id="True"),
+    pytest.param(1.5, id="a float"),
+    pytest.param([], id="an empty list"),
+    pytest.param(["x"], id="a list"),
+    pytest.param(object(), id="an object"),
+    pytest.param(bytearray(b"x"), id="a bytearray"),
+    pytest.param(array.array("b", b"x"), id="an array"),
+    pytest.param(memoryview(b"x"), id="a view"),
+    pytest.param(memoryview(b"x" * 9)[::2], id="a view of every second byte"),
+    pytest.param(memoryview(b"x" * 8).cast("I"), id="a view of numbers"),
+]
+
+
+@pytest.mark.parametrize("value", OTHER_TYPES)
+@pytest.mark.parametrize("call", [*WITH_PASSWORD, *WITH_FIELD, *WITH_FIELD_OR_NONE], ids=str)
+def test_what_is_neither_str_nor_bytes_is_refused(call: Call, value: object) -> None:
+    error = error_of(call.function, value)
+    assert error.__class__ is TypeError and "must be str or bytes, not " in str(error)
+
+
+NO_NUMBERS = [
+    pytest.param("5000", id="digits"),
+    pytest.param(b"5", id="a byte"),
+    pytest.param(5000.0, id="a whole float"),
+    pytest.param(1.3e9, id="a float with an exponent"),
+    pytest.param(math.inf, id="infinity"),
+    pytest.param(math.nan, id="nan"),
+    pytest.param(5j, id="a complex number"),
+    pytest.param([], id="a list"),
+    pytest.param(True, id="True"),
+    pytest.param(False, id="False"),
+]
+
+
+@pytest.mark.parametrize("number", NO_NUMBERS)
+@pytest.mark.parametrize(
+    "call",
+    [
+        Call("Policy(rounds=..)", lambda number: Policy(rounds=number)),
+        Call("Policy(budget=..)", lambda number: Policy(budget=number)),
+        Call("crypt(budget=..)", lambda number: crypt_call("x", MD5, budget=number)),
+        Call("cost(a hash, ..)", lambda number: cost(MD5, number)),
+    ],
+    ids=str,
+)
+def test_what_is_no_int_is_refused(call: Call, number: object) -> None:
+    assert kind_raised(call.function, number) is TypeError
+
+
+@pytest.mark.parametrize(
+    "method", [None, 6, b"md5crypt", crypt_call], ids=["None", "6", "bytes", "a call"]
+)
+def test_what_is_no_name_of_a_method_is_refused(method: object) -> None:
+    assert kind_raised(Policy, method=method) is TypeError
+
+
+def test_a_cost_needs_a_length() -> None:
+    assert kind_raised(cost, MD5, None) is TypeError
+
+
+def test_a_salt_needs_a_method() -> None:
+    assert kind_raised(mksalt, "6") is TypeError
+
+
+# ---- Ranges
+
+OTHER_ROUNDS = [-1, 1, 12, 999, 10**9, 2**32 - 1, 2**32 + 5000, 2**64 + 5000]
+
+
+@pytest.mark.parametrize("rounds", OTHER_ROUNDS)
+@pytest.mark.parametrize("method", ["sha256crypt", "sha512crypt"])
+def test_rounds_that_no_hash_has_are_refused(method: str, rounds: int) -> None:
+    """The command and the calls of C clamp them, so that a hash of 12 rounds would have 1000."""
+    error = error_of(Policy, method, rounds)
+    assert str(error) == "rounds must be 1000 to 999999999, or 0 for 656000"
+
+
+@pytest.mark.parametrize("rounds", [-1, 2**32, 2**64 + 5000])
+def test_rounds_that_the_library_can_not_take_are_refused_though_ignored(rounds: int) -> None:
+    assert kind_raised(Policy, "md5crypt", rounds) is ValueError
+
+
+def test_the_most_rounds_are_more_than_any() -> None:
+    assert Policy(rounds=999_999_999).needs_rehash(SHA512)
+
+
+@pytest.mark.parametrize("length", [-1, 1025, 2**64 + 8])
+def test_a_length_that_no_password_has_is_refused(length: int) -> None:
+    assert kind_raised(cost, MD5, length) is ValueError
+
+
+@pytest.mark.parametrize("budget", [0, -1])
+def test_a_budget_below_1_is_refused(budget: int) -> None:
+    assert kind_raised(Policy, budget=budget) is ValueError
+    assert kind_raised(crypt_call, "x", MD5, budget=budget) is ValueError
+
+
+@pytest.mark.parametrize("method", ["bcrypt", "", "md5", "$6$"])
+def test_an_unknown_method_is_refused_by_its_argument(method: str) -> None:
+    error = error_of(Policy, method)
+    assert isinstance(error, Refused) and error.reason is Reason.UNKNOWN_METHOD
+    assert str(error) == "method must be md5crypt, sha256crypt, sha512crypt or scrypt"
+
+
+@pytest.mark.parametrize("rounds", [1, 5, 12, 2**32 - 1])
+def test_a_cost_that_scrypt_does_not_take_is_refused_by_its_argument(rounds: int) -> None:
+    """The library says "cost", and Python names the argument."""
+    error = error_of(Policy, "scrypt", rounds)
+    assert isinstance(error, Refused) and error.reason is Reason.COST
+    assert str(error) == "rounds must be 6 to 11, or 0 for 7"
+
+
+# ---- Passwords that are none
+
+
+@pytest.mark.parametrize(
+    ("password", "message"),
+    [
+        pytest.param("pass\0word", "password has a zero byte", id="a zero byte"),
+        pytest.param(b"pass\0word", "password has a zero byte", id="a zero byte in bytes"),
+        pytest.param("\0", "password has a zero byte", id="a zero byte alone"),
+        pytest.param("pass\ud800word", "password has a lone surrogate", id="the first surrogate"),
+        pytest.param("\udfff", "password has a lone surrogate", id="the last surrogate"),
+        pytest.param("x" * 1025, "password too long", id="1025 bytes"),
+        pytest.param("é" * 513, "password too long", id="1026 bytes of 513 characters"),
+        pytest.param(b"x" * 1025, "password too long", id="1025 bytes in bytes"),
+        pytest.param("x" * 2000 + "\0", "password too long", id="too long with a zero byte"),
+    ],
+)
+@pytest.mark.parametrize("call", WITH_PASSWORD, ids=str)
+def test_a_password_that_no_hash_can_have_is_refused(
+    call: Call, password: str | bytes, message: str
+) -> None:
+    error = error_of(call.function, password)
+    assert error.__class__ is ValueError and str(error) == message
+
+
+@pytest.mark.parametrize(
+    "password",
+    [
+        pytest.param("x" * 1024, id="1024 bytes"),
+        pytest.param("é" * 512, id="1024 bytes of 512 characters"),
+        pytest.param(b"\xff" * 1024, id="bytes of no encoding"),
+        pytest.param("\ud7ff\ue000", id="the characters beside the surrogates"),
+    ],
+)
+def test_any_other_password_is_taken(password: str | bytes) -> None:
+    assert verify(password, field=Policy("md5crypt").hash(password))
+
+
+@pytest.mark.parametrize("setting", ["$1$salt", "$5$rounds=1000$salt", "$6$rounds=1000$salt"])
+@pytest.mark.parametrize("password", ["é", "pässwörd", "€uro", "\U0001f511key", "ünïcödé" * 20])
+def test_str_is_its_utf8(password: str, setting: str) -> None:
+    expected = crypt(password, setting)
+    assert crypt_call(password, setting) == crypt_call(password.encode(), setting) == expected
+    assert verify(password, field=expected)
+    assert not verify(password.encode()[: len(password)], field=expected)
+
+
+def test_bytes_of_a_surrogate_are_taken() -> None:
+    """As they are characters of Latin-1."""
+    assert crypt_call(b"\xed\xa0", "$1$salt") == crypt(b"\xed\xa0", "$1$salt")
+
+
+# ---- Arguments by place, and those that were once
+
+SWAPPED = [
+    pytest.param(("x", COSTLY), id="both by place"),
+    pytest.param(("x",), id="no field"),
+    pytest.param((), id="nothing"),
+    pytest.param((COSTLY, "x", "md5crypt"), id="three by place"),
+]
+
+
+@pytest.mark.parametrize("given", SWAPPED)
+@pytest.mark.parametrize("name", ["login", "verify"])
+def test_a_field_is_named(name: str, given: tuple[str, ...]) -> None:
+    """Swapped, password and field would open accounts. Nothing is hashed then."""
+    error = error_of(getattr(mkpasswd, name), *given)
+    assert error.__class__ is TypeError and f"{name}(password, field=stored)" in str(error)
+
+
+OF_A_POLICY = "mkpasswd.Policy(method, rounds, budget)."
+
+
+@pytest.mark.parametrize(
+    "option",
+    [{"method": "md5crypt"}, {"rounds": 5000}, {"budget": 5}, {"stored": MD5}],
+    ids=["method", "rounds", "budget", "stored"],
+)
+@pytest.mark.parametrize("name", ["login", "verify"])
+def test_a_policy_has_what_login_and_verify_once_took(name: str, option: dict[str, object]) -> None:
+    named: dict[str, object] = {"field": COSTLY}
+    named.update(option)
+    error = error_of(getattr(mkpasswd, name), "x", **named)
+    assert error.__class__ is TypeError
+    assert f"{OF_A_POLICY}{name}(password, field=stored)" in str(error)
+
+
+@pytest.mark.parametrize(
+    ("given", "option"),
+    [
+        pytest.param(("md5crypt",), {}, id="a method by place"),
+        pytest.param((), {"rounds": 5000}, id="rounds"),
+        pytest.param((), {"budget": 5}, id="a budget"),
+    ],
+)
+@pytest.mark.parametrize("name", ["hash", "needs_rehash", "describe"])
+def test_a_policy_has_what_other_calls_once_took(
+    name: str, given: tuple[str, ...], option: dict[str, object]
+) -> None:
+    error = error_of(getattr(mkpasswd, name), "x" if name == "hash" else MD5, *given, **option)
+    assert error.__class__ is TypeError and f"{OF_A_POLICY}{name}(" in str(error)
+
+
+GONE = [
+    pytest.param("verify_and_update", "mkpasswd.login(password, field=stored)", id="the old login"),
+    pytest.param("work", "mkpasswd.cost(stored, password_len)", id="work"),
+    pytest.param("DEFAULT_BUDGET", "mkpasswd.Policy(budget=None)", id="the old budget"),
+    pytest.param("mksalt", "mkpasswd.crypt.mksalt", id="mksalt"),
+    pytest.param("methods", "mkpasswd.crypt.methods", id="methods"),
+    pytest.param("METHOD_SHA512", "mkpasswd.crypt.METHOD_SHA512", id="a method"),
+    pytest.param("METHOD_CRYPT", "mkpasswd.crypt.METHOD_CRYPT", id="a method that isn't ours"),
+]
+
+
+def run_line(line: str, folder: Path) -> None:
+    """Runs a line of Python here."""
+    path = folder / "line.py"
+    path.write_text(line, encoding="ascii")
+    runpy.run_path(str(path))
+
+
+@pytest.mark.parametrize(("name", "new"), GONE)
+def test_a_name_that_went_says_what_stands_in_its_place(
+    name: str, new: str, tmp_path: Path
+) -> None:
+    assert not hasattr(mkpasswd, name)
+    assert new in str(error_of(getattr, mkpasswd, name))
+    error = error_of(run_line, f"from mkpasswd import {name}", tmp_path)
+    assert error.__class__ is ImportError and new in str(error)
+
+
+def test_the_module_crypt_is_no_call() -> None:
+    module: Any = mkpasswd.crypt
+    error = error_of(module, "x", MD5)
+    assert "mkpasswd.crypt.crypt(word, salt)" in str(error)
+
+
+def test_a_name_that_never_was_is_unknown(tmp_path: Path) -> None:
+    assert kind_raised(run_line, "from mkpasswd import other", tmp_path) is ImportError

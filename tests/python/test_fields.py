@@ -1,0 +1,320 @@
+"""Stored fields: which need a new hash, what they cost, how they are described or refused."""
+from __future__ import annotations
+
+from pathlib import Path
+from typing import Any
+
+import pytest
+from support.package import crypt, error_of, kind_raised, tried_package
+from support.process import Word, run
+from support.stored_strings import (
+    COSTLY,
+    DEAD,
+    LOCKED,
+    MD5,
+    REFUSED,
+    SCRYPT,
+    SHA512,
+    StoredField,
+    title,
+)
+
+with tried_package():
+    from mkpasswd import Policy, Reason, Refused, TooCostly, _library, cost, describe, needs_rehash
+    from mkpasswd import verify
+    from mkpasswd.crypt import crypt as crypt_call
+
+NO_BUDGET = 2**42  # more than any hash costs
+
+
+# ---- Fields that are empty or locked
+
+
+FORMS = pytest.mark.parametrize("form", [str, str.encode], ids=["str", "bytes"])
+EACH_LOCKED = pytest.mark.parametrize("field", LOCKED, ids=title)
+
+
+@FORMS
+@EACH_LOCKED
+def test_an_empty_or_locked_field_matches_no_password(field: str, form: Any) -> None:
+    assert verify("password", field=form(field)) is False
+    assert Policy(budget=1).verify("password", field=form(field)) is False
+
+
+@FORMS
+@EACH_LOCKED
+def test_an_empty_or_locked_field_needs_no_new_hash(field: str, form: Any) -> None:
+    assert needs_rehash(form(field)) is False
+
+
+@FORMS
+@EACH_LOCKED
+def test_an_empty_or_locked_field_is_described(field: str, form: Any) -> None:
+    assert describe(form(field)) == (None, None, "locked" if field else "none", None)
+
+
+@FORMS
+@EACH_LOCKED
+def test_an_empty_or_locked_field_has_no_cost(field: str, form: Any) -> None:
+    assert kind_raised(cost, form(field), 8) is Refused
+
+
+# ---- Fields that are refused
+
+
+@pytest.mark.parametrize("field", REFUSED, ids=str)
+@pytest.mark.parametrize(
+    "call",
+    [
+        pytest.param(lambda field: verify("x", field=field), id="verify"),
+        pytest.param(needs_rehash, id="needs_rehash"),
+        pytest.param(lambda field: cost(field, 8), id="cost"),
+        pytest.param(
+            lambda field: Policy(budget=1).verify("password", field=field), id="verify of a policy"
+        ),
+    ],
+)
+def test_a_refused_field_is_refused_by_its_first_broken_rule(call: Any, field: StoredField) -> None:
+    error = error_of(call, field.text)
+    assert isinstance(error, Refused) and error.__class__ is Refused
+    assert error.reason.value == field.reason and str(error) == field.reason.message
+
+
+@pytest.mark.parametrize("field", REFUSED, ids=str)
+def test_a_refused_field_is_described_by_what_it_lacks(field: StoredField) -> None:
+    expected: tuple[object, ...] = (None, None, "malformed", Reason(int(field.reason)))
+    if field.is_of_another_scheme:
+        expected = (None, None, "unknown", None)
+    elif not field.text.startswith("$"):
+        expected = (None, None, "no scheme", None)
+    assert describe(field.text) == expected
+
+
+# ---- Which hashes need a new one
+
+
+@pytest.mark.parametrize(
+    ("stored", "policy"),
+    [
+        pytest.param(MD5, Policy("md5crypt"), id="md5crypt"),
+        pytest.param(SHA512, Policy(rounds=5000), id="sha512crypt of as many rounds"),
+        pytest.param(SHA512, Policy(rounds=4999), id="sha512crypt of more rounds"),
+        pytest.param(SCRYPT, Policy("scrypt"), id="scrypt as recommended"),
+        pytest.param(SCRYPT, Policy("scrypt", 7), id="scrypt of the same cost"),
+        pytest.param(SCRYPT, Policy("scrypt", 6), id="scrypt of a higher cost"),
+    ],
+)
+def test_a_hash_by_the_policy_needs_no_new_one(stored: str, policy: Policy) -> None:
+    assert not policy.needs_rehash(stored)
+
+
+@pytest.mark.parametrize(
+    ("stored", "policy"),
+    [
+        pytest.param(MD5, Policy("sha256crypt"), id="md5crypt instead of sha256crypt"),
+        pytest.param(SHA512, Policy("sha256crypt"), id="sha512crypt instead of sha256crypt"),
+        pytest.param(SCRYPT, Policy("sha256crypt"), id="scrypt instead of sha256crypt"),
+        pytest.param(SCRYPT, Policy(), id="scrypt instead of the recommended method"),
+        pytest.param(MD5, Policy(), id="md5crypt instead of the recommended method"),
+        pytest.param(SHA512, Policy(), id="fewer rounds than recommended"),
+        pytest.param(SHA512, Policy(rounds=5001), id="fewer rounds"),
+        pytest.param(SCRYPT, Policy("scrypt", 8), id="a lower cost of scrypt"),
+    ],
+)
+def test_a_hash_by_another_policy_needs_a_new_one(stored: str, policy: Policy) -> None:
+    assert policy.needs_rehash(stored)
+
+
+# ---- Costs
+
+
+def test_the_cost_of_scrypt_is_that_of_the_messages_of_rfc_7914() -> None:
+    """Section 6; docs/FORMATS.md adds them."""
+    n, r = 2**14, 32
+    expected = 4 * r * 168 + 164 + 128 * r + 2 * n * 128 * r
+    assert cost("$7$CU..../....salt", 8) == expected
+
+
+@pytest.mark.parametrize(
+    ("stored", "length", "expected"),
+    [
+        pytest.param(MD5, 8, 36239, id="md5crypt"),
+        pytest.param("$5$saltstring", 12, 307760, id="sha256crypt"),
+    ],
+)
+def test_a_cost_is_as_documented(stored: str, length: int, expected: int) -> None:
+    assert cost(stored, length) == expected
+
+
+# ---- Descriptions
+
+SETTINGS = pytest.mark.parametrize(
+    ("setting", "state"),
+    [
+        pytest.param("$1$salt", "current", id="md5crypt"),
+        pytest.param("$5$salt", "outdated", id="sha256crypt"),
+        pytest.param("$6$rounds=656000$saltsaltsaltsalt", "outdated", id="sha512crypt"),
+        pytest.param("$7$BU..../....salt", "outdated", id="scrypt"),
+    ],
+)
+AUDIT = Policy("md5crypt", budget=NO_BUDGET)
+
+
+@SETTINGS
+def test_a_whole_hash_is_current_or_outdated(setting: str, state: str) -> None:
+    assert AUDIT.describe(crypt("password", setting)).state == state
+
+
+@SETTINGS
+def test_a_hash_is_dead_once_its_form_is_changed(setting: str, state: str) -> None:
+    stored = crypt("password", setting)
+    whole = AUDIT.describe(stored)
+    assert whole.state == state
+    longer = [stored + "x", stored + "$", stored + "$x", stored[:-1] + "z"]
+    shorter = [stored[:length] for length in range(len(setting), len(stored))]
+    for field in longer + shorter:
+        found = AUDIT.describe(field)
+        assert found == (whole.method, whole.cost, "dead", None), field
+
+
+THREE_ROUNDS = (655_999, 656_000, 656_001)
+
+
+@pytest.mark.parametrize(
+    ("policy", "states"),
+    [
+        pytest.param(Policy(), ["outdated", "current", "over budget"], id="recommended"),
+        pytest.param(Policy(rounds=0), ["outdated", "current", "over budget"], id="0"),
+        pytest.param(Policy(rounds=656_000), ["outdated", "current", "over budget"], id="656000"),
+        pytest.param(
+            Policy(rounds=656_001, budget=NO_BUDGET),
+            ["outdated", "outdated", "current"],
+            id="656001 with a budget",
+        ),
+        pytest.param(Policy("scrypt"), ["outdated", "outdated", "over budget"], id="scrypt"),
+    ],
+)
+def test_an_audit_takes_the_recommended_rounds(policy: Policy, states: list[str]) -> None:
+    """By default it takes 656000 rounds, or 7 with scrypt, and admits what they can cost."""
+    fields = [f"$6$rounds={rounds}$saltsaltsaltsalt${'.' * 86}" for rounds in THREE_ROUNDS]
+    assert [policy.describe(field).state for field in fields] == states
+
+
+# With N = 2^15 even the empty password costs 268463524, more than a login by sha512crypt admits
+# without a budget.
+DEAR = f"$7$DU..../....{'a' * 22}${'.' * 43}"
+
+
+@pytest.mark.parametrize(
+    ("policy", "state"),
+    [
+        pytest.param(Policy(), "over budget", id="sha512crypt"),
+        pytest.param(Policy(budget=NO_BUDGET), "outdated", id="sha512crypt with a budget"),
+        pytest.param(Policy("scrypt"), "current", id="scrypt"),
+    ],
+)
+def test_a_dear_hash_is_described_by_the_limit_of_the_policy(policy: Policy, state: str) -> None:
+    assert policy.describe(DEAR).state == state
+
+
+def test_a_dear_hash_is_not_verified() -> None:
+    assert kind_raised(verify, "", field=DEAR) is TooCostly
+
+
+DESCRIBED = [*LOCKED, *DEAD, *(field.text for field in REFUSED), MD5, SHA512, SCRYPT, COSTLY]
+DESCRIBED.append("$6$rounds=656001$salt$" + "." * 86)
+MOST_OF_MD5CRYPT = 1_927_022  # what md5crypt digests of 1,024 bytes
+
+
+def states_by_the_command(program: Path, policy: Policy, fields: list[str]) -> list[str]:
+    """What the command's audit prints, without rounds and the names of other schemes."""
+    lines = "".join(f"ann:{field}\n" for field in fields).encode()
+    words: list[Word] = ["--audit", "-m", policy.method, "-R", policy.rounds or 0]
+    words += ["--budget", policy.budget or 0]
+    result = run(program, *words, stdin=lines)
+    assert result.stderr == b"", result
+    return [shortened(line) for line in result.stdout.decode().splitlines()]
+
+
+def shortened(line: str) -> str:
+    """A line of an audit as describe() says the same."""
+    parts = line.removeprefix("ann:").split(":")
+    if parts[-1] == "unknown":
+        return "unknown"
+    if len(parts) == 4:  # a method, rounds, a cost and a state
+        del parts[1]
+    return ":".join(parts)
+
+
+@pytest.mark.parametrize("form", [str, str.encode], ids=["str", "bytes"])
+@pytest.mark.parametrize(
+    "budget",
+    [
+        pytest.param(MOST_OF_MD5CRYPT, id="what md5crypt can cost"),
+        pytest.param(MOST_OF_MD5CRYPT - 1, id="one less"),
+        pytest.param(None, id="the usual budget"),
+        pytest.param(2**64 - 1, id="the greatest budget"),
+    ],
+)
+@pytest.mark.parametrize(
+    ("method", "rounds"),
+    [
+        ("sha512crypt", 656_000),
+        ("sha512crypt", 5000),
+        ("md5crypt", 0),
+        ("scrypt", 8),
+        ("scrypt", 0),
+    ],
+)
+def test_a_description_is_what_the_command_prints(
+    program: Path, method: str, rounds: int, budget: int | None, form: Any
+) -> None:
+    policy = Policy(method, rounds, budget)
+    fields = [field for field in DESCRIBED if not set(field) & set(":\n\ud800")]
+    expected = states_by_the_command(program, policy, fields)
+    assert [str(policy.describe(form(field))) for field in fields] == expected
+
+
+# ---- Reasons that no argument brings about
+
+KINDS: dict[int, type[Exception]] = {
+    -11: MemoryError,
+    -19: OSError,
+    **dict.fromkeys((0, -12, -15, 1, 2, 3, 4), RuntimeError),
+}
+NAMES = ("hash", "verify", "needs_rehash", "cost", "crypt", "describe")
+# An audit reports DONE of a hash that is as it should be.
+REPORTED = [
+    (name, number)
+    for name in NAMES
+    for number in KINDS
+    if (name, number) != ("describe", Reason.DONE.value)
+]
+
+
+def report_as(number: int) -> Any:
+    """A call of the library that does nothing but report a reason."""
+
+    def call(*arguments: Any) -> None:
+        arguments[-1].reason = number
+
+    return call
+
+
+@pytest.mark.parametrize(("name", "number"), REPORTED)
+def test_a_reason_of_the_library_is_an_error(
+    monkeypatch: pytest.MonkeyPatch, name: str, number: int
+) -> None:
+    """Those of memory and random bytes, and those that no call should report."""
+    policy = Policy(budget=10**6)
+    for call in "verify", "new", "hash", "needs_rehash", "bound", "audit":
+        monkeypatch.setattr(_library.lib, f"mkpasswd_{call}", report_as(number))
+    calls = {
+        "hash": lambda: policy.hash("x"),
+        "verify": lambda: policy.verify("x", field=MD5),
+        "needs_rehash": lambda: policy.needs_rehash(MD5),
+        "cost": lambda: cost(MD5, 8),
+        "crypt": lambda: crypt_call("x", MD5, budget=10**6),
+        "describe": lambda: policy.describe(MD5),
+    }
+    assert kind_raised(calls[name]) is KINDS[number]

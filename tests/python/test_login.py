@@ -1,0 +1,244 @@
+"""login: who gets in, what it costs, and what the log says."""
+from __future__ import annotations
+
+from typing import Any
+
+import pytest
+from support.package import crypt, kind_raised, tried_package
+from support.stored_strings import COSTLY, MD5, NEVER_OPEN, SHA512, title
+
+with tried_package():
+    import mkpasswd
+    from mkpasswd import Policy, Reason, _library
+
+QUICK = Policy(rounds=1000)
+
+
+# ---- Who gets in
+
+# The setting of a stored hash, the policy of the service, and how a new hash begins where the
+# stored one is outdated.
+LOGINS = [
+    pytest.param("$1$salt", Policy("md5crypt"), None, id="md5crypt"),
+    pytest.param("$1$salt", Policy("sha256crypt", 1000), "$5$rounds=1000$", id="to sha256crypt"),
+    pytest.param("$5$salt", Policy("scrypt", 6), "$7$BU", id="to scrypt"),
+    pytest.param("$6$rounds=3000$salt", Policy(rounds=3000), None, id="the same rounds"),
+    pytest.param("$6$rounds=3000$salt", Policy(rounds=2000), None, id="more rounds"),
+    pytest.param("$6$rounds=3000$salt", Policy(rounds=4000), "$6$rounds=4000$", id="fewer rounds"),
+    pytest.param("$6$rounds=3000$salt", Policy(), "$6$rounds=656000$", id="fewer than recommended"),
+    pytest.param("$7$BU..../....salt", Policy("scrypt"), "$7$CU", id="a lower cost of scrypt"),
+]
+STORED = pytest.mark.parametrize(
+    ("setting", "policy"), [pytest.param(*row.values[:2], id=row.id) for row in LOGINS]
+)
+
+
+@pytest.mark.parametrize(("setting", "policy", "front"), LOGINS)
+@pytest.mark.parametrize("form", [str, str.encode], ids=["str", "bytes"])
+def test_the_right_password_gets_in_and_an_outdated_hash_is_renewed(
+    setting: str, policy: Policy, front: str | None, form: Any
+) -> None:
+    stored = crypt("pässword", setting)
+    matches, new = policy.login("pässword", field=form(stored))
+    assert matches is True
+    if front is None:
+        assert new is None
+    else:
+        assert new.startswith(front) and new == crypt("pässword", new)
+
+
+@STORED
+@pytest.mark.parametrize("password", ["password", "pässword ", "", "!"])
+def test_another_password_stays_outside(setting: str, policy: Policy, password: str) -> None:
+    stored = crypt("pässword", setting)
+    assert tuple(policy.login(password, field=stored)) == (False, None)
+
+
+@STORED
+def test_the_stored_hash_is_no_password(setting: str, policy: Policy) -> None:
+    stored = crypt("pässword", setting)
+    assert tuple(policy.login(stored, field=stored)) == (False, None)
+
+
+@pytest.mark.parametrize(
+    "field", [None, *NEVER_OPEN, "x" * 10**6], ids=lambda text: title(str(text))
+)
+def test_no_field_that_may_be_stored_raises_or_lets_in(field: str | None) -> None:
+    as_bytes = None if field is None else field.encode("utf-8", "surrogatepass")
+    for stored in field, as_bytes:
+        assert tuple(QUICK.login("password", field=stored)) == (False, None)
+
+
+@pytest.mark.parametrize(
+    "password",
+    [
+        pytest.param("", id="nothing"),
+        pytest.param("x\0", id="a zero byte"),
+        pytest.param(b"\0", id="a zero byte in bytes"),
+        pytest.param("\ud800", id="a lone surrogate"),
+        pytest.param(b"\xff", id="no UTF-8"),
+        pytest.param("x" * 1025, id="1025 bytes"),
+        pytest.param("\u00e9" * 513, id="1026 bytes of 513 characters"),
+        pytest.param("x" * 10**6, id="a million bytes"),
+        pytest.param("x" * 1024, id="1024 bytes"),
+        pytest.param(MD5, id="a hash"),
+        pytest.param("!", id="a lock"),
+    ],
+)
+@pytest.mark.parametrize("field", [None, "", "!", MD5, SHA512], ids=lambda text: title(str(text)))
+def test_no_password_that_may_be_typed_raises_or_lets_in(
+    password: str | bytes, field: str | None
+) -> None:
+    assert tuple(QUICK.login(password, field=field)) == (False, None)
+
+
+def test_a_hash_above_the_budget_lets_nobody_in() -> None:
+    assert tuple(Policy(budget=1).login("password", field=MD5)) == (False, None)
+
+
+@pytest.mark.parametrize(
+    ("password", "field"),
+    [
+        pytest.param(None, MD5, id="no password"),
+        pytest.param(5, MD5, id="a number as the password"),
+        pytest.param(bytearray(b"x"), MD5, id="a bytearray as the password"),
+        pytest.param("x", 5, id="a number as the field"),
+        pytest.param("x", True, id="True as the field"),
+        pytest.param("x", bytearray(b"x"), id="a bytearray as the field"),
+        pytest.param("x", [MD5], id="a list as the field"),
+    ],
+)
+def test_a_login_tells_its_programmer(password: object, field: object) -> None:
+    assert kind_raised(mkpasswd.login, password, field=field) is TypeError
+
+
+# ---- New hashes
+
+
+def test_each_of_the_two_hashes_of_a_login_has_the_budget() -> None:
+    """So a service can move to a method which costs more than half of its budget."""
+    stored = crypt("password", "$6$rounds=900000$salt")
+    policy = Policy("scrypt", budget=mkpasswd.cost("$7$CU..../....salt", 8) + 5000)
+    assert policy.budget is not None and policy.budget < 2 * mkpasswd.cost(stored, 8)
+    new = policy.login("password", field=stored).new
+    assert new is not None and new.startswith("$7$CU")
+
+
+def test_a_login_goes_on_where_a_new_hash_would_cost_too_much() -> None:
+    stored = crypt("x" * 83, "$1$salt")
+    assert tuple(Policy(budget=150_000_000).login("x" * 83, field=stored)) == (True, None)
+
+
+def test_a_login_goes_on_where_the_system_has_no_random_bytes(
+    monkeypatch: pytest.MonkeyPatch,
+) -> None:
+    def without_random_bytes(*arguments: Any) -> None:
+        arguments[-1].reason = Reason.NO_RANDOM_WORDS.value
+
+    monkeypatch.setattr(_library.lib, "mkpasswd_new", without_random_bytes)
+    assert tuple(mkpasswd.login("password", field=MD5)) == (True, None)
+
+
+# ---- What it costs
+
+POLICIES = [
+    Policy("md5crypt"),
+    Policy("sha256crypt", 2000),
+    Policy("sha512crypt", 2000),
+    Policy("scrypt", 6),
+]
+# Fields that can't be checked.
+UNCHECKED = [None, "", "!" + SHA512, "$y$j9T$salt$x", "$5$rounds=0$a$x", COSTLY]
+
+
+@pytest.fixture(name="works")
+def fixture_works(monkeypatch: pytest.MonkeyPatch) -> list[Any]:
+    """What each login reports that it did, from now on."""
+    works = []
+    call = _library.lib.mkpasswd_login
+
+    def counted(*arguments: Any) -> int:
+        returned: int = call(*arguments)
+        works.append(arguments[-1].work)
+        return returned
+
+    monkeypatch.setattr(_library.lib, "mkpasswd_login", counted)
+    return works
+
+
+@pytest.mark.parametrize("policy", POLICIES, ids=[policy.method for policy in POLICIES])
+def test_a_login_does_the_same_work_for_every_name(works: list[Any], policy: Policy) -> None:
+    """A wrong password for a hash of the service's own kind, and fields that can't be checked."""
+    for field in policy.hash("password"), *UNCHECKED:
+        assert not policy.login("passw0rd", field=field)
+    counts = {(work.digests, work.mixes, work.table) for work in works}
+    assert len(counts) == 1 and works[0].digests > 0
+    assert len({work.bytes for work in works[1:]}) == 1
+
+
+@pytest.mark.parametrize(
+    "password",
+    [
+        pytest.param("x\0", id="a zero byte"),
+        pytest.param("\ud800", id="a lone surrogate"),
+        pytest.param("x" * 1025, id="too long"),
+        pytest.param("x" * 169, id="too costly"),
+    ],
+)
+@pytest.mark.parametrize(
+    "field",
+    [
+        pytest.param("$6$rounds=656000$saltsaltsaltsalt$" + "x" * 86, id="a hash as recommended"),
+        pytest.param(crypt("x" * 169, "$1$salt"), id="a cheap hash"),
+        pytest.param(None, id="no hash"),
+        pytest.param("!", id="a lock"),
+    ],
+)
+def test_a_password_that_no_hash_can_have_is_refused_at_once_for_every_name(
+    works: list[Any], password: str, field: str | None
+) -> None:
+    assert not mkpasswd.login(password, field=field)
+    assert all(work.digests == 0 for work in works)
+
+
+# ---- The log
+
+
+def messages_of(caplog: pytest.LogCaptureFixture) -> list[str]:
+    return [record.getMessage() for record in caplog.records]
+
+
+@pytest.mark.parametrize(
+    ("password", "field", "reason"),
+    [
+        pytest.param("x", MD5, "differs", id="another password"),
+        pytest.param("password", None, "no hash", id="no name"),
+        pytest.param("password", "", "no hash", id="no hash"),
+        pytest.param("password", "!", "locked", id="a lock"),
+        pytest.param("password", "*", "locked", id="the other lock"),
+        pytest.param("password", "!" + "x" * 400, "locked", id="a long field behind a lock"),
+        pytest.param("password", "$y$x", "unknown scheme", id="another scheme"),
+        pytest.param("password", COSTLY, "over budget", id="a costly hash"),
+        pytest.param("password", MD5[:-1], "dead", id="a hash that was cut"),
+        pytest.param("\0", MD5, "password has a zero byte", id="a zero byte"),
+    ],
+)
+def test_the_log_says_why_a_login_is_refused(
+    caplog: pytest.LogCaptureFixture, password: str, field: str | None, reason: str
+) -> None:
+    caplog.set_level("DEBUG", "mkpasswd")
+    assert not Policy(budget=150_000_000).login(password, field=field)
+    assert messages_of(caplog) == [f"login refused: {reason}"]
+
+
+def test_the_log_says_why_there_is_no_new_hash(caplog: pytest.LogCaptureFixture) -> None:
+    caplog.set_level("DEBUG", "mkpasswd")
+    assert Policy(budget=150_000_000).login("x" * 83, field=crypt("x" * 83, "$1$salt"))
+    expected = "no new hash: over budget: the hash can cost more than 150000000"
+    assert messages_of(caplog) == [expected]
+
+
+def test_the_log_says_nothing_of_a_login_that_succeeds(caplog: pytest.LogCaptureFixture) -> None:
+    caplog.set_level("DEBUG", "mkpasswd")
+    assert Policy("md5crypt").login("password", field=MD5)
+    assert messages_of(caplog) == []

@@ -1,0 +1,39 @@
+"""passlib's own tests of its handlers, over those of the package.
+
+Every hash is made by the package. What passlib's tests skip is listed with their reasons, such as
+other backends, which a handler over a library doesn't have.
+"""
+from __future__ import annotations
+
+import importlib
+import unittest
+import warnings
+from typing import Any
+
+import pytest
+from support.needs import needed
+from support.package import tried_package
+
+with tried_package():
+    import mkpasswd
+
+with needed("python3-passlib"), warnings.catch_warnings():
+    warnings.simplefilter("ignore")
+    HANDLERS = importlib.import_module("mkpasswd.passlib")
+    SUITE = importlib.import_module("passlib.tests.test_handlers")
+
+pytestmark = pytest.mark.filterwarnings("ignore")
+NO_BUDGET = 2**42  # more than any hash costs; passlib's tests know no budget
+
+
+def suite_of(name: str) -> Any:
+    """passlib's tests of a handler. One wants verify() to raise an error above 4,096 characters."""
+    assert mkpasswd.__version__
+    handler = type(name, (getattr(HANDLERS, name),), {"budget": NO_BUDGET})
+    tests: type[unittest.TestCase] = getattr(SUITE, f"_{name}_test")
+    return type(f"PasslibsOwn_{name}", (tests,), {"handler": handler, "test_63_large_secret": None})
+
+
+test_by_passlibs_own_suite_md5_crypt = suite_of("md5_crypt")
+test_by_passlibs_own_suite_sha256_crypt = suite_of("sha256_crypt")
+test_by_passlibs_own_suite_sha512_crypt = suite_of("sha512_crypt")

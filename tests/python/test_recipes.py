@@ -1,0 +1,212 @@
+"""The recipes of docs/PYTHON.md do what they say."""
+from __future__ import annotations
+
+import asyncio
+import contextlib
+import importlib
+import sqlite3
+from concurrent.futures import ThreadPoolExecutor
+from pathlib import Path
+from typing import Any
+
+import pytest
+from support.package import Cook, crypt, tried_package
+from support.stored_strings import COSTLY, MD5, SHA512, title
+
+with tried_package():
+    import mkpasswd
+    from mkpasswd import _library
+
+RECOMMENDED = "$6$rounds=656000$"
+# A right hash, none, a locked one, one that costs too much, and NULL.
+USERS = {"ann": MD5, "joe": "", "bob": "!" + MD5, "eve": COSTLY, "kim": None}
+WRONG_PASSWORDS = ["passw0rd", "", "x\0", "\ud800", "x" * 1025, MD5, "!"]
+
+
+@pytest.fixture(name="database")
+def fixture_database() -> sqlite3.Connection:
+    users = sqlite3.connect(":memory:")
+    users.execute("CREATE TABLE users (name TEXT PRIMARY KEY, hash TEXT)")
+    users.executemany("INSERT INTO users VALUES (?, ?)", USERS.items())
+    users.commit()
+    return users
+
+
+def fields_of(users: sqlite3.Connection) -> dict[str, Any]:
+    return dict(users.execute("SELECT name, hash FROM users"))
+
+
+# ---- A whole login
+
+
+@pytest.fixture(name="login")
+def fixture_login(cook: Cook) -> Any:
+    return cook.follow("A whole login")["login"]
+
+
+@pytest.mark.parametrize("name", [*USERS, "nobody", None], ids=str)
+@pytest.mark.parametrize("password", WRONG_PASSWORDS, ids=title)
+def test_a_wrong_password_lets_nobody_in_and_changes_nothing(
+    database: sqlite3.Connection, login: Any, name: str | None, password: str
+) -> None:
+    assert login(database, name, password) is False
+    assert fields_of(database) == USERS
+
+
+def test_the_right_password_lets_in_who_has_its_hash(
+    database: sqlite3.Connection, login: Any
+) -> None:
+    names = [name for name in (*USERS, "nobody") if login(database, name, "password")]
+    assert names == ["ann"]
+
+
+def test_an_outdated_hash_is_renewed(database: sqlite3.Connection, login: Any) -> None:
+    assert login(database, "ann", "password") is True
+    fields = fields_of(database)
+    assert fields.pop("ann").startswith(RECOMMENDED)
+    assert fields == {name: field for name, field in USERS.items() if name != "ann"}
+    assert login(database, "ann", "password") is True
+
+
+def test_a_new_user_gets_a_hash_that_is_kept(database: sqlite3.Connection, cook: Cook) -> None:
+    names = cook.follow("A whole login")
+    names["register"](database, "zoe", "pässword")
+    stored = fields_of(database)["zoe"]
+    assert stored.startswith(RECOMMENDED) and stored == crypt("pässword", stored)
+    assert names["login"](database, "zoe", "pässword") is True
+    assert fields_of(database)["zoe"] == stored
+
+
+def test_a_database_that_can_not_be_written_keeps_the_old_hash(
+    database: sqlite3.Connection, login: Any
+) -> None:
+    database.execute("PRAGMA query_only = 1")
+    assert login(database, "ann", "password") is True and fields_of(database)["ann"] == MD5
+
+
+@pytest.mark.parametrize(
+    "change",
+    [
+        pytest.param("!" + MD5, id="a lock"),
+        pytest.param(SHA512, id="a new password"),
+        pytest.param("", id="a demand for one"),
+        pytest.param(None, id="a deletion"),
+    ],
+)
+def test_nothing_is_stored_over_what_changed_meanwhile(
+    database: sqlite3.Connection,
+    login: Any,
+    monkeypatch: pytest.MonkeyPatch,
+    change: str | None,
+) -> None:
+    new = _library.lib.mkpasswd_new
+
+    def meanwhile(*arguments: Any) -> int:
+        database.execute("UPDATE users SET hash = ? WHERE name = 'ann'", (change,))
+        return int(new(*arguments))
+
+    monkeypatch.setattr(_library.lib, "mkpasswd_new", meanwhile)
+    assert login(database, "ann", "password") is True
+    assert fields_of(database)["ann"] == change
+
+
+# ---- The others
+
+
+def test_an_audit_prints_each_field(
+    database: sqlite3.Connection, cook: Cook, capsys: pytest.CaptureFixture[str]
+) -> None:
+    cook.follow("Audit", database=database, mkpasswd=mkpasswd)
+    costly = f"sha512crypt:{mkpasswd.cost(COSTLY, 1024)}:over budget"
+    answers = ["md5crypt:1927022:outdated", "none", "locked", costly, "none"]
+    expected = [f"{name!r}:{answer}" for name, answer in zip(USERS, answers)]
+    assert capsys.readouterr().out.splitlines() == expected
+
+
+def test_the_log_has_the_name(cook: Cook, capsys: pytest.CaptureFixture[str]) -> None:
+    names = cook.follow("Logging")
+    try:
+        names["user"].set("ann\n")
+        mkpasswd.login("password", field="!")
+    finally:
+        names["logger"].removeHandler(names["handler"])
+        names["logger"].setLevel("NOTSET")
+    assert capsys.readouterr().err.endswith(" 'ann\\n': login refused: locked\n")
+
+
+@pytest.mark.parametrize(
+    ("password", "is_match"), [("password", True), ("passw0rd", False)], ids=["right", "wrong"]
+)
+def test_asyncio_waits_for_a_login(cook: Cook, password: str, is_match: bool) -> None:
+    login = cook.follow("asyncio")["login"]
+    assert bool(asyncio.run(login(password, MD5))) is is_match
+
+
+@pytest.fixture(name="post")
+def fixture_post(
+    database: sqlite3.Connection,
+    cook: Cook,
+    login: Any,
+    tmp_path: Path,
+    monkeypatch: pytest.MonkeyPatch,
+) -> Any:
+    """Posts a form to Flask's application, in a thread, and returns the status."""
+    flask = importlib.import_module("flask")
+    app = flask.Flask("test")
+    monkeypatch.chdir(tmp_path)
+    with contextlib.closing(sqlite3.connect("users.db")) as users:
+        database.backup(users)
+    cook.follow("Flask", app=app, flask=flask, contextlib=contextlib, sqlite3=sqlite3, login=login)
+
+    def post(**form: str) -> int:
+        with ThreadPoolExecutor(1) as threads:
+            answer = threads.submit(app.test_client().post, "/login", data=form).result()
+        return int(answer.status_code)
+
+    return post
+
+
+@pytest.mark.needs("python3-flask")
+def test_flask_lets_in_the_right_password(post: Any) -> None:
+    assert post(name="ann", password="password") == 200
+
+
+@pytest.mark.needs("python3-flask")
+@pytest.mark.parametrize("name", ["ann", "bob", "eve", "nobody"])
+@pytest.mark.parametrize("password", ["passw0rd", "", "x\0", "x" * 1025], ids=title)
+def test_flask_refuses_a_wrong_password(post: Any, name: str, password: str) -> None:
+    assert post(name=name, password=password) == 403
+
+
+@pytest.mark.needs("python3-flask")
+def test_flask_refuses_a_locked_account(post: Any) -> None:
+    assert post(name="bob", password="password") == 403
+
+
+@pytest.mark.needs("python3-flask")
+@pytest.mark.parametrize(
+    "form", [{}, {"name": "ann"}, {"password": "password"}], ids=["nothing", "a name", "a password"]
+)
+def test_flask_refuses_half_a_form(post: Any, form: dict[str, str]) -> None:
+    assert post(**form) == 400
+
+
+@pytest.fixture(name="matches")
+def fixture_matches(cook: Cook) -> Any:
+    return cook.follow("The standard library's crypt")["matches"]
+
+
+def test_crypt_matches_the_right_password_alone(matches: Any) -> None:
+    assert matches("password", MD5) and not matches("passw0rd", MD5)
+
+
+@pytest.mark.parametrize(
+    "field",
+    [
+        *("", "!", "*0", "*1", "!" + MD5, "$2b$05$x", "x", "é", "$1$é$x", MD5 + "é", "\udcff"),
+        "$6$\ud800",
+    ],
+    ids=title,
+)
+def test_crypt_matches_no_field_that_is_no_hash(matches: Any, field: str) -> None:
+    assert not matches("password", field)

@@ -1,0 +1,73 @@
+"""Nothing that a call raises or prints has the password in it."""
+from __future__ import annotations
+
+import traceback
+from collections.abc import Callable
+from typing import Any
+
+import pytest
+from support.package import error_of, tried_package
+from support.stored_strings import COSTLY, MD5
+
+with tried_package():
+    import mkpasswd
+    from mkpasswd import Policy
+    from mkpasswd.crypt import crypt
+
+SECRET = "s3cret-Pässwörd"
+CALLS: list[tuple[str, Callable[[Any], object]]] = [
+    ("hash", mkpasswd.hash),
+    ("verify a hash", lambda password: mkpasswd.verify(password, field=MD5)),
+    ("verify a lock", lambda password: mkpasswd.verify(password, field="!")),
+    ("crypt", lambda password: crypt(password, MD5)),
+]
+WRONG: list[tuple[str, Any]] = [
+    ("a zero byte", SECRET + "\0"),
+    ("a surrogate", SECRET + "\ud800"),
+    ("too long", SECRET * 100),
+    ("a zero byte in bytes", (SECRET + "\0").encode()),
+    ("a list", [SECRET]),
+    ("a dict", {SECRET: SECRET}),
+]
+
+
+def all_of(error: BaseException | None) -> str:
+    """Whatever a log or a debugger could show of an error and its causes."""
+    assert error is not None
+    shown = "".join(traceback.format_exception(type(error), error, error.__traceback__))
+    while error is not None:
+        shown += repr((error, str(error), error.args, vars(error), getattr(error, "object", "")))
+        error = error.__cause__ or error.__context__
+    return shown
+
+
+@pytest.mark.parametrize("password", [value for _, value in WRONG], ids=[name for name, _ in WRONG])
+@pytest.mark.parametrize("call", [call for _, call in CALLS], ids=[name for name, _ in CALLS])
+def test_no_error_about_a_password_shows_it(
+    call: Callable[[Any], object], password: Any, capfd: pytest.CaptureFixture[str]
+) -> None:
+    assert "s3cret" not in all_of(error_of(call, password))
+    assert capfd.readouterr() == ("", "")
+
+
+@pytest.mark.parametrize(
+    ("call", "arguments", "named"),
+    [
+        pytest.param(mkpasswd.verify, (SECRET, "x"), {}, id="a field by place"),
+        pytest.param(mkpasswd.login, ("x", SECRET), {}, id="a password in the field's place"),
+        pytest.param(mkpasswd.verify, (SECRET,), {"field": "x"}, id="an unknown scheme"),
+        pytest.param(mkpasswd.verify, (SECRET,), {"field": COSTLY}, id="a costly hash"),
+        pytest.param(crypt, (SECRET, COSTLY), {}, id="a costly setting"),
+        pytest.param(mkpasswd.verify, (SECRET,), {"field": 5}, id="a number as the field"),
+        pytest.param(mkpasswd.hash, (SECRET, "bcrypt"), {}, id="a method behind the password"),
+        pytest.param(Policy(budget=1).hash, (SECRET,), {}, id="a budget that is too low"),
+    ],
+)
+def test_no_error_about_something_else_shows_the_password(
+    call: Callable[..., object],
+    arguments: tuple[object, ...],
+    named: dict[str, object],
+    capfd: pytest.CaptureFixture[str],
+) -> None:
+    assert "s3cret" not in all_of(error_of(call, *arguments, **named))
+    assert capfd.readouterr() == ("", "")

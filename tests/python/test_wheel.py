@@ -1,0 +1,123 @@
+"""The wheel: its bytes, its files, and how it is installed."""
+from __future__ import annotations
+
+import glob
+import os
+import re
+import shutil
+from collections.abc import Iterator
+from pathlib import Path
+
+import pytest
+from support import ROOT
+from support.package import ELSEWHERE, LIBRARY, PACKAGE, tried_package
+from support.process import Result, run
+from support.stored_strings import MD5
+
+with tried_package():
+    import mkpasswd
+
+# A fixture of a worker makes the wheels once, in seconds.
+pytestmark = [
+    pytest.mark.needs("python3-build", "python3-wheel", "objdump"),
+    pytest.mark.xdist_group("the wheel"),
+    pytest.mark.slow,
+]
+
+# Prints where the library is that an interpreter took.
+TRY = f"""
+import doctest, mkpasswd
+assert mkpasswd.verify("password", field="{MD5}") and not mkpasswd.verify("passw0rd", field="{MD5}")
+assert not doctest.testmod(mkpasswd).failed and not doctest.testmod(mkpasswd.crypt).failed
+print(mkpasswd.lib._name)
+"""
+
+
+def printed(result: Result) -> str:
+    """What a command printed, which has to succeed."""
+    return result.required().stdout.decode().strip()
+
+
+def only_file(folder: Path) -> Path:
+    (file,) = folder.iterdir()
+    return file
+
+
+@pytest.fixture(scope="module", name="folder")
+def fixture_folder(tmp_path_factory: pytest.TempPathFactory) -> Path:
+    return tmp_path_factory.mktemp("made")
+
+
+@pytest.fixture(scope="module", name="wheel")
+def fixture_wheel(folder: Path) -> Path:
+    """The wheel of this tree."""
+    run(ROOT / "tools/wheel", LIBRARY, folder / "first").required()
+    return only_file(folder / "first")
+
+
+def test_a_wheel_has_the_same_bytes_elsewhere(wheel: Path, folder: Path) -> None:
+    """At another time of day, in another folder, and with another mask."""
+    command = ("sh", "-c", 'umask 077 && "$0" "$1" second', ROOT / "tools/wheel", LIBRARY)
+    run(*command, cwd=folder, env={"TZ": "Asia/Tokyo"}).required()
+    again = only_file(folder / "second")
+    assert again.name == wheel.name and again.read_bytes() == wheel.read_bytes()
+
+
+def test_a_wheel_is_named_after_the_version_and_the_c_library_that_it_needs(wheel: Path) -> None:
+    version = printed(run(ROOT / "tools/version"))
+    symbols = re.findall(r"GLIBC_([\d.]+)", printed(run("objdump", "-T", LIBRARY)))
+    newest = max(symbols, key=lambda symbol: [int(number) for number in symbol.split(".")])
+    tag = f"manylinux_{newest.replace('.', '_')}_x86_64"
+    assert wheel.name == f"mkpasswd-{version}-py3-none-{tag}.whl"
+
+
+def test_a_wheel_has_the_package_and_the_library(wheel: Path) -> None:
+    version = printed(run(ROOT / "tools/version"))
+    modules = {file.name for file in (PACKAGE / "mkpasswd").iterdir() if file.is_file()}
+    files = [f"mkpasswd/{name}" for name in modules | {LIBRARY.name}]
+    metadata = ("METADATA", "RECORD", "WHEEL", "top_level.txt")
+    files += [f"mkpasswd-{version}.dist-info/{name}" for name in metadata]
+    assert sorted(printed(run("unzip", "-Z1", wheel)).split()) == sorted(files)
+
+
+def test_a_wheel_is_of_one_processor(wheel: Path) -> None:
+    lines = printed(run("unzip", "-p", wheel, "mkpasswd-*/WHEEL")).splitlines()
+    assert lines[2] == "Root-Is-Purelib: false"
+
+
+def test_the_commands_of_the_document_install_it(wheel: Path, tmp_path: Path) -> None:
+    text = (ROOT / "docs/PYTHON.md").read_text(encoding="utf-8")
+    commands = text.split("```sh\n")[1].split("```")[0]
+    assert "--no-index" in commands
+    shutil.copy(wheel, tmp_path)
+    environment: dict[str, str | None] = {**ELSEWHERE, "PATH": "/usr/bin:/bin"}
+    made = printed(run("sh", "-ec", commands, cwd=tmp_path, env=environment)).splitlines()[-1]
+    assert made.startswith("$6$") and mkpasswd.verify("x", field=made)
+    place_of_library = printed(run("v/bin/python", "-c", TRY, cwd=tmp_path, env=ELSEWHERE))
+    assert place_of_library.startswith(str(tmp_path / "v/lib"))
+    assert place_of_library.endswith("site-packages/mkpasswd/libmkpasswd.so.2")
+
+
+def interpreters() -> Iterator[tuple[str, str]]:
+    """The versions of Python from 3.8 on, and where there is an interpreter of each."""
+    for minor in range(8, 20):
+        version = f"3.{minor}"
+        found = shutil.which(f"python{version}", path="/usr/bin:/usr/local/bin")
+        own = sorted(glob.glob(os.path.expanduser(f"~/.pyenv/versions/{version}.*/bin/python3")))
+        if found or own:
+            yield f"Python {version}", found or own[0]
+
+
+@pytest.mark.parametrize(
+    "python", [pytest.param(python, id=version) for version, python in interpreters()]
+)
+def test_each_python_takes_it(wheel: Path, python: str, tmp_path: Path) -> None:
+    place = tmp_path / "there"
+    pip = ("-m", "pip", "install", "--quiet", "--no-index", "--no-compile", "--target")
+    result = run(python, *pip, place, wheel, env=ELSEWHERE)
+    if b"No module named pip" in result.stderr:
+        result = run("/usr/bin/python3", "-m", "zipfile", "-e", wheel, place, env=ELSEWHERE)
+    result.required()
+    environment: dict[str, str | None] = {**ELSEWHERE, "PYTHONPATH": str(place)}
+    place_of_library = printed(run(python, "-W", "error", "-c", TRY, cwd=tmp_path, env=environment))
+    assert place_of_library == str(place / "mkpasswd/libmkpasswd.so.2")

@@ -1,0 +1,108 @@
+"""The Python package that is tried, over the library that is tried.
+
+A module of tests imports the package so, and then knows its types:
+
+    with tried_package():
+        import mkpasswd
+
+PACKAGE names another folder than python/src in which a package mkpasswd is, and LIBRARY another
+file of the name libmkpasswd.so.2. What a test starts gets both by environment_of().
+"""
+from __future__ import annotations
+
+import contextlib
+import ctypes
+import os
+import runpy
+import sys
+from collections.abc import Callable, Iterator
+from pathlib import Path
+from typing import Any
+
+import pytest
+
+from . import ROOT, libxcrypt
+from .needs import missing
+from .process import Changes, Result, run
+
+SONAME = "libmkpasswd.so.2"
+LIBRARY = Path(os.environ.get("LIBRARY", ROOT / SONAME)).absolute()
+PACKAGE = Path(os.environ.get("PACKAGE", ROOT / "python/src")).absolute()
+
+
+@contextlib.contextmanager
+def tried_package() -> Iterator[None]:
+    """Lets the block import the package. Without a library, the tests of the module are skipped.
+
+    The package asks for its library by name, and a library of that name is loaded here by its
+    path. So no environment has to change, which other tests of this process have too.
+    """
+    assert LIBRARY.name == SONAME, f"LIBRARY has to be a file of the name {SONAME}"
+    if not LIBRARY.is_file():
+        missing(str(LIBRARY), "make lib")
+    ctypes.CDLL(str(LIBRARY))
+    sys.path.insert(0, str(PACKAGE))
+    try:
+        yield
+    finally:
+        sys.path.remove(str(PACKAGE))
+
+
+def environment_of(library: Path = LIBRARY, package: Path = PACKAGE) -> dict[str, str | None]:
+    """What an interpreter needs that imports the package over a library."""
+    return {
+        "PYTHONPATH": str(package),
+        "LD_LIBRARY_PATH": str(library.parent),
+        "PYTHONDONTWRITEBYTECODE": "1",
+    }
+
+
+# What an interpreter gets that was never told of this tree.
+ELSEWHERE: dict[str, str | None] = {"PYTHONPATH": None, "LD_LIBRARY_PATH": None}
+
+
+def run_python(code: str, *, env: Changes | None = None, cwd: Path | None = None) -> Result:
+    """Runs a script in an interpreter of its own, which can import the package."""
+    environment = {**environment_of(), **(env or {})}
+    return run(sys.executable, "-c", code, env=environment, cwd=cwd)
+
+
+def error_of(call: Callable[..., object], *arguments: object, **named: object) -> Exception:
+    """What a call raises."""
+    with pytest.raises(Exception) as raised:
+        call(*arguments, **named)
+    return raised.value
+
+
+def kind_raised(call: Callable[..., object], *arguments: object, **named: object) -> object:
+    """The very class of what a call raises."""
+    return error_of(call, *arguments, **named).__class__
+
+
+def crypt(password: str | bytes, setting: str) -> str:
+    """The hash of a password by libxcrypt, as the package takes and makes it."""
+    word = password.encode() if isinstance(password, str) else password
+    return libxcrypt.crypt(word, setting.encode()).decode()
+
+
+def recipe_under(heading: str) -> str:
+    """The first block in Python below a heading of docs/PYTHON.md."""
+    text = (ROOT / "docs/PYTHON.md").read_text(encoding="utf-8")
+    for section in text.split("\n#")[1:]:
+        title, _, rest = section.partition("\n")
+        if title.lstrip("# ") == heading:
+            return rest.split("```python\n")[1].split("```")[0]
+    raise AssertionError(f"docs/PYTHON.md has no heading {heading!r}")
+
+
+class Cook:
+    """Runs recipes of docs/PYTHON.md, each from a file of a folder, so that failures show lines."""
+
+    def __init__(self, folder: Path) -> None:
+        self.folder = folder
+
+    def follow(self, heading: str, **names: object) -> dict[str, Any]:
+        """The names that a recipe defines, where these are defined before it."""
+        path = self.folder / f"{heading.replace(' ', '_')}.py"
+        path.write_text(recipe_under(heading), encoding="utf-8")
+        return runpy.run_path(str(path), init_globals=names)

@@ -1,0 +1,72 @@
+"""Stored hashes and fields as the Python package gets them: str, also what no file could have."""
+from __future__ import annotations
+
+from dataclasses import dataclass
+
+from .model.calls import Reason
+
+# Hashes that libxcrypt makes, of "password" and of "Hello world!".
+MD5 = "$1$xxxxxxxx$UYCIxa628.9qXjpQCjM4a."
+SHA256 = "$5$saltstring$5B8vYYiY.CVt1RlTTf8KbXBH3hsxY/GNooZaBBGWEc5"
+SHA512 = (
+    "$6$saltstring$svn8UoSVapNtMuq1ukKS4tPQd8iKwSMHWjl/O817G3uBnIFNjnQJuesI68u4OTLiBFdcbYEdFCoEOfa"
+    "S35inz1"
+)
+SCRYPT = "$7$CU..../....s"
+# It would take a second or two, which a test can wait for if the budget is not heeded.
+COSTLY = "$6$rounds=2500000$saltstring$" + "x" * 86
+
+
+@dataclass(frozen=True)
+class StoredField:
+    """A field without a valid setting of ours, and why it is refused."""
+
+    text: str
+    reason: Reason
+    is_of_another_scheme: bool = False
+
+    def __str__(self) -> str:
+        return f"{self.reason.message}: {ascii(self.text[:40])[1:-1]}"
+
+
+UNKNOWN = [StoredField(text, Reason.UNKNOWN_SCHEME) for text in ("x", "password")]
+OTHER_SCHEMES = [
+    StoredField(text, Reason.UNKNOWN_SCHEME, is_of_another_scheme=True)
+    for text in (
+        *("$", "$2b$05$abcdefghijklmnopqrstuu", "$y$j9T$abc$x", "ab0Z8yq2hBQEo"),
+        "_J9..Xabcsecret",
+    )
+]
+WITH_BAD_CHARACTERS = [
+    StoredField(text, Reason.BAD_CHARACTER)
+    for text in (
+        *(MD5 + "\n", " " + MD5, "root:" + MD5, MD5 + "\0"),
+        *("$1$é$x", "$1$\ud800$x"),
+    )
+]
+INVALID = [
+    StoredField("$1$" + "a" * 382, Reason.SETTING_TOO_LONG),
+    StoredField("$5$rounds=0$salt$x", Reason.BAD_ROUNDS),
+    StoredField("$6$rounds=05000$salt$x", Reason.BAD_ROUNDS),
+    StoredField("$6$rounds=x", Reason.BAD_ROUNDS),
+    StoredField("$7$CU..../...", Reason.BAD_COST),
+    StoredField("$7$" + "." * 11 + "salt", Reason.SCRYPT_RANGE),
+    StoredField("$7$JU..../....salt", Reason.ABOVE_CEILING),
+    StoredField("$7$CU..../....a_b", Reason.BAD_SALT),
+]
+REFUSED = [*UNKNOWN, *OTHER_SCHEMES, *WITH_BAD_CHARACTERS, *INVALID]
+
+LOCKED = ["", "!", "*", "!!", "*0", "*1", "*LK*", "!" + MD5, "*" + MD5, "!" + "x" * 500]
+# Settings without a hash, and hashes that are cut, longer, or not written as they are made.
+DEAD = [
+    *("$6$", "$1$xxxxxxxx", "$1$xxxxxxxx$", "$5$rounds=10$salt$x"),
+    *(MD5[:-1], SHA512[:-1], MD5 + "x", MD5 + "$", "$5$" + MD5[3:]),
+]
+# No password gets in by any of these.
+NEVER_OPEN = [*LOCKED, *DEAD, *(field.text for field in REFUSED), COSTLY]
+
+
+def title(text: str) -> str:
+    """A field as the id of a test, cut if it is long."""
+    shown = ascii(text[:40])[1:-1] + (".." if len(text) > 40 else "")
+    return shown or "nothing"
