@@ -10,10 +10,12 @@ from pathlib import Path
 import pytest
 from support import ROOT
 from support.needs import need
+from support.process import Changes
 
 NOTHING_CHOSEN = 5  # pytest's status where -k chose none of the tests
 ENDED = pytest.StashKey[int]()
 PR_SET_PDEATHSIG = 1  # of prctl(2)
+COMMANDS_OF_ROOT = "/usr/sbin:/sbin"  # among them services
 
 
 @pytest.fixture(scope="session", name="program")
@@ -25,13 +27,33 @@ def fixture_program() -> Path:
     return path
 
 
+@pytest.fixture(scope="session", name="commands")
+def fixture_commands(program: Path, tmp_path_factory: pytest.TempPathFactory) -> Path:
+    """A folder with the tree's commands by the names that documents call them by."""
+    folder = tmp_path_factory.mktemp("commands")
+    for name in ("mkpasswd", "mkpasswd.proved"):  # the latter is Debian's
+        (folder / name).symlink_to(program)
+    (folder / "pwhash").symlink_to(ROOT / "bin/pwhash")
+    return folder
+
+
+@pytest.fixture(scope="session", name="environment")
+def fixture_environment(commands: Path) -> Changes:
+    """Where a shell finds the tree's commands first."""
+    return {"PATH": f"{commands}:{os.environ['PATH']}", "BASH_ENV": None}
+
+
 def is_worker(config: pytest.Config) -> bool:
     """Whether this process runs tests for another one, as xdist's do."""
     return hasattr(config, "workerinput")
 
 
 def pytest_configure(config: pytest.Config) -> None:
-    """Ends what a test started with the process that runs tests, and that with the first one."""
+    """Ends what a test started with the process that runs tests, and that with the first one.
+
+    The commands of root are found, whatever PATH root has.
+    """
+    os.environ["PATH"] = f"{os.environ['PATH']}:{COMMANDS_OF_ROOT}"
     if is_worker(config):
         ctypes.CDLL(None).prctl(PR_SET_PDEATHSIG, signal.SIGTERM)
     if is_worker(config) or not config.getoption("numprocesses", None):

@@ -55,6 +55,7 @@ def is_there(name: str) -> bool:
     return shutil.which(name) is not None
 
 
+@functools.cache
 def can_make_namespaces() -> bool:
     """Whether this process may have mounts, processes and a network of its own."""
     if os.geteuid() != 0:

@@ -1,0 +1,125 @@
+"""Follows the recipes of documents on a machine of a test's own, for users of each method."""
+from __future__ import annotations
+
+import functools
+import re
+from dataclasses import dataclass
+from pathlib import Path
+
+from .documents import marked
+from .libxcrypt import crypt
+from .namespaces import Namespaces
+from .process import Changes, Result, run
+
+RECOMMENDED = b"$6$rounds=656000$"
+
+
+@dataclass(frozen=True)
+class User:
+    """Somebody with a password, and how its hash is made."""
+
+    name: str
+    password: str
+    method: str
+    cost: int | None = None  # None where the recipe says it
+
+    def __str__(self) -> str:
+        return self.method
+
+
+# A low cost is enough here.
+ANN = User("ann", "pass word:ann", "the recipe's method")
+ONE = User("one", "pass word:one", "md5crypt", 0)
+FIVE = User("five", "pass word:five", "sha256crypt", 1000)
+SIX = User("six", "pass word:six", "sha512crypt", 1000)
+SEVEN = User("seven", "pass word:seven", "scrypt", 6)
+USERS = (ANN, ONE, FIVE, SIX, SEVEN)
+
+# Names whose field lets nobody in, or which only the system's own scheme lets in.
+SECRET = "secret"
+CLOSED = ("cut", "hostile", "locked", "star", "yescrypt")
+
+
+@functools.cache
+def closed_fields() -> dict[str, bytes]:
+    """The fields of these names, made of one password."""
+    sha512 = crypt(SECRET.encode(), b"$6$abcdefghijklmnop")
+    return {
+        "cut": sha512[:-1],
+        "hostile": b"$6$rounds=999999999$abcdefgh$" + b"x" * 86,
+        "locked": b"!" + sha512,
+        "star": b"*",
+        "yescrypt": crypt(SECRET.encode(), b"$y$j9T$abcdefghijklmnopqrstu."),
+    }
+
+
+@dataclass(frozen=True)
+class Site:
+    """A machine, and a folder of it where somebody follows the recipes."""
+
+    machine: Namespaces
+    folder: Path
+    environment: Changes
+    program: Path
+
+    def run(self, *command: str, stdin: str = "") -> Result:
+        """Runs a command in the folder."""
+        return self.machine.run(
+            *command, stdin=stdin.encode(), env=self.environment, folder=self.folder
+        )
+
+    def follow(self, mark: str) -> None:
+        """Follows a recipe, as it stands."""
+        block = marked(mark, "sh")
+        result = self.answer(block.code)
+        assert result.status == 0, f"{block.place}\nexpected status: 0\n{result}"
+
+    def answer(self, commands: str) -> Result:
+        """Runs commands. Whatever asks for a password gets Ann's, and another line behind it."""
+        return self.run("sh", "-euc", commands, stdin=f"{ANN.password}\nmore\n")
+
+    def hash_passwords(self) -> None:
+        """Makes the file `hashes` of `passwords` by its recipe, and adds all other users."""
+        (self.folder / "passwords").write_text(f"{ANN.name}:{ANN.password}\n", encoding="ascii")
+        self.follow("hashes for services")
+        with (self.folder / "hashes").open("ab") as file:
+            for user in USERS:
+                if user.cost is not None:
+                    file.write(self.line_of(user))
+            for name, field in closed_fields().items():
+                file.write(name.encode() + b":" + field + b"\n")
+
+    def line_of(self, user: User) -> bytes:
+        """A user's line, with a hash that the program makes."""
+        options = ("--batch", "-m", user.method, "-R", user.cost or 0)
+        line = f"{user.name}:{user.password}\n".encode()
+        return run(self.program, *options, stdin=line).required().stdout
+
+    def hashes(self) -> dict[str, str]:
+        """The fields of the file `hashes`, by their names."""
+        lines = (self.folder / "hashes").read_text(encoding="ascii").splitlines()
+        fields = {}
+        for line in lines:
+            name, _, field = line.partition(":")
+            fields[name] = field
+        return fields
+
+    def load_hashes(self, mark: str) -> None:
+        """Makes the hashes, and loads them by the recipe for a service."""
+        self.hash_passwords()
+        self.follow(mark)
+
+    def add_accounts(self) -> None:
+        """Gives all names an account of the system, with a locked password."""
+        names = sorted([*(user.name for user in USERS), *CLOSED])
+        users = "".join(f"{name}:x:4242:4242::/:/bin/sh\n" for name in names)
+        self.machine.append("/etc/passwd", users)
+        fields = "".join(f"{name}:!:19000:0:99999:7:::\n" for name in names)
+        self.machine.append("/etc/shadow", fields)
+
+
+def is_recommended_hash(field: bytes, password: str) -> bool:
+    """Whether a field is a hash of a password, with the cost that is recommended."""
+    if not field.startswith(RECOMMENDED) or re.search(rb"\s", field):
+        return False
+    return crypt(password.encode(), field) == field

@@ -1,0 +1,84 @@
+"""Runs a service on a machine of a test's own, once it answers and until the test has ended."""
+from __future__ import annotations
+
+import contextlib
+import os
+import signal
+import subprocess
+import time
+from collections.abc import Callable, Iterator
+from dataclasses import dataclass
+from pathlib import Path
+
+from .namespaces import Namespaces, children_of
+from .process import Changes, Word, shown_command
+
+SECONDS = 120  # that a service may take for anything
+PAUSE = 0.005  # seconds between two looks
+LONGEST_SHOWN = 4000  # bytes of a log
+
+
+def wait_until(condition: Callable[[], bool], what: str) -> None:
+    """Waits until something is so, and fails the test where it takes too long."""
+    end = time.monotonic() + SECONDS
+    while not condition():
+        assert time.monotonic() < end, f"waited {SECONDS} s for {what}"
+        time.sleep(PAUSE)
+
+
+@dataclass(frozen=True)
+class Service:
+    """A service that runs in the foreground and has a port of its machine."""
+
+    machine: Namespaces
+    command: tuple[Word, ...]
+    port: int
+    log: Path
+    process: subprocess.Popen[bytes]  # that has brought it inside
+
+    def __str__(self) -> str:
+        printed = self.log.read_bytes()[-LONGEST_SHOWN:].decode(errors="backslashreplace")
+        return f"the service: {shown_command(self.command)}\nits log:\n{printed}"
+
+    @property
+    def number(self) -> int:
+        """The number of the service's process, as it is outside."""
+        children = children_of(self.process.pid)
+        assert children, f"the service has ended\n{self}"
+        return children[0]
+
+    @property
+    def has_ended(self) -> bool:
+        """Whether the service's process has ended."""
+        return self.process.poll() is not None
+
+    def answers(self) -> bool:
+        """Whether the port takes connections. A service that has ended fails the test."""
+        assert not self.has_ended, f"the service has ended\n{self}"
+        try:
+            self.machine.connected(self.port, SECONDS).close()
+        except ConnectionRefusedError:
+            return False
+        return True
+
+    def stop(self) -> None:
+        """Ends the service as an administrator would. It has to run until then."""
+        assert not self.has_ended, f"the service has ended\n{self}"
+        os.kill(self.number, signal.SIGTERM)
+        with contextlib.suppress(subprocess.TimeoutExpired):
+            self.process.wait(SECONDS)
+
+
+@contextlib.contextmanager
+def serving(
+    machine: Namespaces, port: int, *command: Word, log: Path, env: Changes | None = None
+) -> Iterator[Service]:
+    """Runs a service beside the block, which begins when the service answers."""
+    with machine.started(*command, log=log, env=env) as process:
+        service = Service(machine, command, port, log, process)
+        try:
+            wait_until(service.answers, what="a port that answers")
+        except AssertionError as error:
+            raise AssertionError(f"{error}\n{service}") from None
+        yield service
+        service.stop()
