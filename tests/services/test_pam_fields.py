@@ -1,0 +1,122 @@
+"""pam_mkpasswd.so by pamtester: what it says of each name and field of a file.
+
+Nobody learns from the log which password was given: it is the same for all of them.
+"""
+from __future__ import annotations
+
+from collections.abc import Iterator
+from dataclasses import dataclass
+
+import pytest
+from support.pam import Answer, Login, Pam
+from support.pam_fields import CURRENT, CUT, FILE, HASHES, HOSTILE, OTHERS, OURS, PASSWORD, SHA512
+
+pytestmark = [pytest.mark.needs("namespaces", "pamtester"), pytest.mark.xdist_group("pam")]
+
+
+@dataclass(frozen=True)
+class Line:
+    """A line of the file, and what a login gets by it."""
+
+    title: str
+    name: str
+    field: bytes
+    accepts: bool = False  # the password
+    reason: str | None = None  # why no password can match, in the log
+
+    def __str__(self) -> str:
+        return self.title
+
+
+def lines_of_schemes() -> Iterator[Line]:
+    """A line for each scheme. Those of others are for other modules, which read no such file."""
+    for scheme in OURS:
+        yield Line(scheme, scheme, HASHES[scheme], accepts=True)
+    for scheme in OTHERS:
+        yield Line(scheme, scheme, HASHES[scheme], reason="unknown scheme")
+
+
+LINES = [
+    *lines_of_schemes(),
+    Line("a name with a blank", "a b", SHA512, accepts=True),
+    Line("a name that others begin with", "last", SHA512, accepts=True),
+    Line("a name like a setting", "$5$x", SHA512, accepts=True),
+    Line("more fields behind the hash", "more", SHA512 + b":19000:0:", accepts=True),
+    Line("a locked hash", "locked", b"!" + SHA512),
+    Line("a star", "starred", b"*"),
+    Line("an empty field", "empty", b""),
+    Line("a name that is locked in its first line", "twice", b"!"),
+    Line("a name that has a hash in its second line", "twice", SHA512),
+    Line("no name", "", SHA512),
+    Line("a name with a colon", "a:b", SHA512),
+    Line("a word", "word", b"x", reason="unknown scheme"),
+    Line("a dollar sign", "dollar", b"$", reason="unknown scheme"),
+    Line("a prefix", "prefix", b"$6", reason="unknown scheme"),
+    Line("a prefix glued to more", "glued", b"$5x" + SHA512[3:], reason="unknown scheme"),
+    Line("a hash over the budget", "costly", HOSTILE, reason="over budget"),
+    Line("a hash that is cut", "cut", CUT, reason="dead"),
+    Line("a zero byte", "zero", SHA512 + b"\0", reason="bad character"),
+    Line("a carriage return", "carriage", SHA512 + b"\r", reason="bad character"),
+    Line("a byte that is no character", "bytes", b"$y$j75$\xff", reason="bad character"),
+    Line("a long field", "long", SHA512 + b"a" * 384, reason="setting too long"),
+    Line("scrypt out of its range", "range", b"$7$.6..../....abcd", reason="scrypt range"),
+    Line("rounds that are no number", "rounds", b"$6$rounds=x$", reason="bad rounds"),
+]
+UNKNOWN_NAMES = [
+    pytest.param("nobody", id="another name"),
+    pytest.param("mor", id="the beginning of a name"),
+    pytest.param("last\n", id="a name with a line feed behind it"),
+]
+NOT_THE_PASSWORD = [
+    pytest.param(PASSWORD[1:], id="without its first character"),
+    pytest.param(b"", id="empty"),
+    pytest.param(SHA512, id="the hash itself"),
+    pytest.param(b"a" * 500, id="of 500 bytes"),
+]
+
+
+@pytest.fixture(scope="module", autouse=True)
+def _file(pam: Pam) -> None:
+    """The file has all lines. The last one doesn't end."""
+    lines = [line.name.encode() + b":" + line.field for line in LINES]
+    pam.machine.write(FILE, b"\n".join(lines))
+    pam.set_arguments(CURRENT)
+
+
+def expected_log(line: Line) -> tuple[str, ...]:
+    """What each login by a line logs."""
+    if line.reason is None:
+        return ()
+    return (f"{FILE}: line {LINES.index(line) + 1}: {line.reason}",)
+
+
+@pytest.mark.parametrize("line", LINES, ids=str)
+def test_the_password_gets_in_by_a_hash_of_ours_alone(pam: Pam, line: Line) -> None:
+    answer = Answer.ACCEPTED if line.accepts else Answer.REFUSED
+    assert pam.login(line.name, PASSWORD) == Login(answer, expected_log(line))
+
+
+@pytest.mark.parametrize("password", NOT_THE_PASSWORD)
+@pytest.mark.parametrize("line", LINES, ids=str)
+def test_another_password_is_refused_with_the_same_log(
+    pam: Pam, line: Line, password: bytes
+) -> None:
+    assert pam.login(line.name, password) == Login(Answer.REFUSED, expected_log(line))
+
+
+@pytest.mark.parametrize("password", [pytest.param(PASSWORD, id="the one"), *NOT_THE_PASSWORD])
+@pytest.mark.parametrize("name", UNKNOWN_NAMES)
+def test_no_password_gets_in_by_a_name_that_no_line_has(
+    pam: Pam, name: str, password: bytes
+) -> None:
+    assert pam.login(name, password) == Login(Answer.REFUSED)
+
+
+@pytest.mark.parametrize("name", ["more", "yescrypt", "costly"])
+def test_a_name_that_is_not_locked_is_an_account(pam: Pam, name: str) -> None:
+    assert pam.has_account(name)
+
+
+@pytest.mark.parametrize("name", ["locked", "starred", "twice", "nobody"])
+def test_a_name_that_is_locked_or_unknown_is_no_account(pam: Pam, name: str) -> None:
+    assert not pam.has_account(name)
