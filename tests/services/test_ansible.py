@@ -1,0 +1,102 @@
+"""Ansible gives an account the hash of a file, by the recipe in GUIDE."""
+from __future__ import annotations
+
+from dataclasses import dataclass, replace
+
+import pytest
+from support.documents import marked
+from support.logins import Verdict, pam_verdict
+from support.process import Result
+from support.recipes import ANN, SIX, Site, is_recommended_hash
+
+pytestmark = [
+    pytest.mark.needs("namespaces", "ansible-playbook"),
+    pytest.mark.xdist_group("services"),
+]
+
+INVENTORY = "localhost ansible_connection=local ansible_python_interpreter=/usr/bin/python3\n"
+PLAY = ("ansible-playbook", "-i", "inventory", "users.yml")
+SETTINGS = {"LC_ALL": "C.UTF-8", "ANSIBLE_GATHERING": "explicit"}
+STACK = "auth required pam_unix.so nodelay\naccount required pam_unix.so\n"
+NOT_A_HASH = b"appears not to have been hashed"
+
+
+@dataclass(frozen=True)
+class Played:
+    """How a play ended, and the accounts before and after it."""
+
+    result: Result
+    before: bytes
+    after: bytes
+
+
+def play(site: Site, *options: str) -> Played:
+    """Runs the recipe's play."""
+    before = site.machine.read("/etc/shadow")
+    result = site.run(*PLAY, *options)
+    return Played(result, before, site.machine.read("/etc/shadow"))
+
+
+@pytest.fixture(scope="module", name="prepared")
+def fixture_prepared(site: Site) -> Site:
+    """A site with accounts, and with all that the play reads."""
+    site = replace(site, environment={**site.environment, **SETTINGS})
+    site.add_accounts()
+    site.machine.write("/etc/pam.d/pam_unix", STACK)
+    (site.folder / "inventory").write_text(INVENTORY, encoding="ascii")
+    (site.folder / "users.yml").write_text(marked("Ansible", "yaml").code, encoding="ascii")
+    site.answer("pwhash > hash").required()
+    return site
+
+
+@pytest.fixture(scope="module", name="checked")
+def fixture_checked(prepared: Site) -> Played:
+    """The play that only says what it would change."""
+    return play(prepared, "--check")
+
+
+@pytest.fixture(scope="module", name="played")
+def fixture_played(prepared: Site, checked: Played) -> Played:
+    """The play, after the one that only checks."""
+    assert checked.before, "the accounts"
+    return play(prepared)
+
+
+def test_pwhash_makes_the_hash_that_the_play_reads(prepared: Site) -> None:
+    content = (prepared.folder / "hash").read_bytes()
+    assert content.endswith(b"\n")
+    assert is_recommended_hash(content[:-1], ANN.password), content
+
+
+def test_the_play_says_that_it_would_change_the_password(checked: Played) -> None:
+    assert b"changed=1" in checked.result.stdout.split(), checked.result
+
+
+def test_the_play_changes_nothing_where_it_only_checks(checked: Played) -> None:
+    assert checked.after == checked.before
+
+
+def test_the_play_changes_the_password(played: Played) -> None:
+    assert b"changed=1" in played.result.stdout.split(), played.result
+
+
+@pytest.mark.parametrize("fixture", ["checked", "played"])
+def test_ansible_takes_the_hash_for_one(fixture: str, request: pytest.FixtureRequest) -> None:
+    result: Result = request.getfixturevalue(fixture).result
+    printed = b" ".join((result.stdout + result.stderr).split())
+    assert NOT_A_HASH not in printed, result
+
+
+@pytest.mark.needs("pamtester")
+@pytest.mark.parametrize(
+    ("password", "verdict"),
+    [
+        pytest.param(ANN.password, Verdict.ACCEPTED, id="the password"),
+        pytest.param(SIX.password, Verdict.REFUSED, id="another password"),
+    ],
+)
+@pytest.mark.usefixtures("played")
+def test_the_account_has_the_password_after_the_play(
+    prepared: Site, password: str, verdict: Verdict
+) -> None:
+    assert pam_verdict(prepared.machine, "pam_unix", ANN.name, password) is verdict

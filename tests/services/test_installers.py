@@ -1,0 +1,80 @@
+"""Installers read the lines that pwhash makes for them by the recipes in GUIDE."""
+from __future__ import annotations
+
+import re
+from pathlib import Path
+
+import pytest
+from support.documents import marked
+from support.process import assert_result
+from support.recipes import ANN, Site, is_recommended_hash
+
+pytestmark = [pytest.mark.needs("namespaces"), pytest.mark.xdist_group("services")]
+
+# ---- preseed
+
+PRESEED = "d-i passwd/make-user boolean true\n"
+NEEDS_DEBCONF = pytest.mark.needs("debconf-set-selections", "debconf-communicate")
+
+
+@pytest.fixture(scope="module", name="preseed")
+def fixture_preseed(site: Site) -> Site:
+    """The site where each command of the recipe was run alone, since each asks for a password."""
+    (site.folder / "preseed.cfg").write_text(PRESEED, encoding="ascii")
+    for command in marked("preseed", "sh").code.splitlines():
+        result = site.answer(command)
+        assert result.status == 0, result
+    return site
+
+
+@NEEDS_DEBCONF
+def test_debconf_has_nothing_to_say_of_a_preseed_file(preseed: Site) -> None:
+    assert_result(preseed.run("debconf-set-selections", "--checkonly", "preseed.cfg"))
+
+
+@NEEDS_DEBCONF
+@pytest.mark.parametrize("user", ["root", "user"])
+def test_debconf_reads_a_hash_from_a_preseed_file(preseed: Site, user: str) -> None:
+    preseed.run("debconf-set-selections", "preseed.cfg").required()
+    question = f"GET passwd/{user}-password-crypted\n"
+    result = preseed.run("debconf-communicate", "d-i", stdin=question)
+    answer = re.fullmatch(rb"0 (.*)\n", result.stdout)
+    assert answer and is_recommended_hash(answer[1], ANN.password), result
+
+
+# ---- Kickstart
+
+
+def test_a_kickstart_file_gets_a_line_with_a_hash(site: Site) -> None:
+    file = site.folder / "site.ks"
+    file.write_text("reboot\n", encoding="ascii")
+    site.follow("kickstart")
+    lines = re.fullmatch(rb"reboot\nrootpw --iscrypted (\S+)\n", file.read_bytes())
+    assert lines and is_recommended_hash(lines[1], ANN.password), file.read_bytes()
+
+
+# ---- cloud-init
+
+
+@pytest.fixture(scope="module", name="user_data")
+def fixture_user_data(site: Site) -> Path:
+    """The file that the recipe has made, and that cloud-init has taken."""
+    site.follow("cloud-init")
+    return site.folder / "user-data"
+
+
+@pytest.mark.needs("cloud-init")
+@pytest.mark.usefixtures("user_data")
+def test_cloud_init_finds_the_file_valid(site: Site) -> None:
+    result = site.run("cloud-init", "schema", "--config-file", "user-data")
+    assert re.fullmatch(rb"\s*Valid .*user-data\n", result.stdout), result
+
+
+@pytest.mark.needs("cloud-init", "python3-yaml")
+def test_the_file_for_cloud_init_has_one_user_with_a_hash(user_data: Path) -> None:
+    import yaml
+
+    users = yaml.safe_load(user_data.read_text(encoding="ascii"))["users"]
+    values = [(user["name"], user["lock_passwd"], user["hashed_passwd"]) for user in users]
+    assert [value[:2] for value in values] == [(ANN.name, False)]
+    assert is_recommended_hash(values[0][2].encode(), ANN.password), values

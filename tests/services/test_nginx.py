@@ -1,0 +1,58 @@
+"""nginx takes the file that its recipe in GUIDE installs."""
+from __future__ import annotations
+
+import functools
+import stat
+from collections.abc import Iterator
+from pathlib import Path
+
+import pytest
+from support.documents import marked
+from support.logins import Door, LoginTests, http_verdict
+from support.recipes import Site
+from support.services import serving
+
+pytestmark = [pytest.mark.needs("namespaces", "nginx"), pytest.mark.xdist_group("services")]
+
+PORT = 8080
+CONFIGURATION = """\
+user www-data;
+pid /run/nginx.pid;
+error_log stderr;
+daemon off;
+events {}
+http {
+    access_log off;
+    server {
+        listen 127.0.0.1:%d;
+        root /run/www;
+        %s
+    }
+}
+"""
+
+
+@pytest.fixture(scope="module", name="loaded")
+def fixture_loaded(site: Site) -> Site:
+    """The site where the recipe was followed."""
+    site.load_hashes("nginx")
+    return site
+
+
+@pytest.fixture(scope="module", name="door")
+def fixture_door(loaded: Site, tmp_path_factory: pytest.TempPathFactory) -> Iterator[Door]:
+    folder: Path = tmp_path_factory.mktemp("nginx")
+    configuration = folder / "nginx.conf"
+    configuration.write_text(CONFIGURATION % (PORT, marked("nginx", "nginx").code))
+    command = ("nginx", "-c", configuration)
+    with serving(loaded.machine, PORT, *command, log=folder / "log") as service:
+        yield Door(loaded, functools.partial(http_verdict, loaded.machine, PORT), service)
+
+
+def test_not_everybody_reads_the_hashes(loaded: Site) -> None:
+    mode = loaded.machine.path("/etc/nginx/passwords").stat().st_mode
+    assert stat.S_IMODE(mode) == 0o640
+
+
+class TestLogins(LoginTests):
+    """Logins to nginx."""

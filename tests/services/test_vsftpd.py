@@ -1,0 +1,271 @@
+"""vsftpd asks the PAM module, which renews outdated hashes in its file and loses nothing."""
+from __future__ import annotations
+
+import contextlib
+import ftplib
+import functools
+import os
+import re
+import signal
+from collections.abc import Callable, Iterator
+from concurrent.futures import Future, ThreadPoolExecutor
+from dataclasses import dataclass
+from pathlib import Path
+
+import pytest
+from support.libxcrypt import crypt
+from support.logins import Door, PamLoginTests, Verdict
+from support.namespaces import Namespaces, children_of
+from support.pam import stacks_of_manual
+from support.recipes import ONE, SIX, USERS, Site, User, is_recommended_hash
+from support.services import SECONDS, Service, serving, wait_until
+
+pytestmark = [
+    pytest.mark.needs("namespaces", "vsftpd"),
+    pytest.mark.xdist_group("services"),
+]
+
+PORT = 8080
+FILE = "/srv/example/passwords"
+CONFIGURATION = f"""\
+listen=YES
+listen_address=127.0.0.1
+listen_port={PORT}
+background=NO
+local_enable=YES
+guest_enable=YES
+guest_username=ftp
+anonymous_enable=NO
+pam_service_name=example
+isolate=NO
+isolate_network=NO
+seccomp_sandbox=NO
+delay_failed_login=0
+local_root=/run/www
+secure_chroot_dir=/run/vsftpd/empty
+"""
+COMMENT = b"# more\n"
+LONG_TAIL = COMMENT * 5_000
+LONGER_TAIL = COMMENT * 1_000_000
+# A second's work: logins meet, and there is time to change the file once it was read.
+SLOW = b"$5$rounds=1500000$abcdefgh"
+
+
+def ftp_verdict(machine: Namespaces, name: str, password: str) -> Verdict:
+    """Logs in by FTP."""
+    client = ftplib.FTP(timeout=SECONDS)
+    with machine.network():
+        client.connect("127.0.0.1", PORT)
+    with contextlib.closing(client):
+        client.sendcmd(f"USER {name}")
+        try:
+            client.sendcmd(f"PASS {password}")
+        except ftplib.error_perm as error:
+            if not str(error).startswith("530"):
+                raise
+            return Verdict.REFUSED
+    return Verdict.ACCEPTED
+
+
+@pytest.fixture(scope="module", name="door")
+def fixture_door(
+    site_with_module: Site, tmp_path_factory: pytest.TempPathFactory
+) -> Iterator[Door]:
+    site, machine = site_with_module, site_with_module.machine
+    stack = re.sub(r"file=\S+", f"file={FILE} renew", stacks_of_manual().of_file)
+    machine.write("/etc/pam.d/example", stack)
+    machine.run("install", "-D", "/etc/example.passwords", FILE).required()
+    machine.make_folder("/run/vsftpd/empty")
+    machine.make_folder("/srv/ftp")
+    folder: Path = tmp_path_factory.mktemp("vsftpd")
+    (folder / "vsftpd.conf").write_text(CONFIGURATION, encoding="ascii")
+
+    def log_in(name: str, password: str) -> Verdict:
+        return ftp_verdict(machine, name, password)
+
+    command = ("vsftpd", folder / "vsftpd.conf")
+    with serving(machine, PORT, *command, log=folder / "log") as service:
+        yield Door(site, log_in, service)
+
+
+class TestLogins(PamLoginTests):
+    """Logins to vsftpd."""
+
+    @pytest.mark.parametrize("user", USERS, ids=str)
+    def test_a_login_renews_an_outdated_hash(self, door: Door, user: User) -> None:
+        door.assert_verdict(user.name, user.password, Verdict.ACCEPTED)
+        assert_renewed(door, user)
+
+
+def lines_by_name(content: bytes) -> dict[bytes, bytes]:
+    """The first line of each name."""
+    lines: dict[bytes, bytes] = {}
+    for line in content.splitlines():
+        name, _, field = line.partition(b":")
+        lines.setdefault(name, field)
+    return lines
+
+
+def assert_renewed(door: Door, user: User) -> None:
+    """Fails the test unless the file has a recommended hash of the user's password."""
+    field = lines_by_name(door.site.machine.read(FILE))[user.name.encode()]
+    assert is_recommended_hash(field, user.password), f"{field!r}\n{door.service}"
+
+
+def slow_line(user: User) -> bytes:
+    """A line whose hash takes a second."""
+    return user.name.encode() + b":" + crypt(user.password.encode(), SLOW) + b"\n"
+
+
+# ---- Renewals that somebody meets
+
+
+@pytest.fixture(scope="module", name="slow_lines")
+def fixture_slow_lines() -> dict[User, bytes]:
+    """A line of each of two users, whose hash takes a second."""
+    return {user: slow_line(user) for user in (ONE, SIX)}
+
+
+def test_three_logins_at_once_get_in_and_are_all_renewed(
+    door: Door, slow_lines: dict[User, bytes]
+) -> None:
+    door.site.machine.write(FILE, b"".join(slow_lines.values()))
+    with ThreadPoolExecutor(3) as pool:
+        verdicts = pool.map(lambda user: door.log_in(user.name, user.password), (ONE, SIX, SIX))
+    assert list(verdicts) == [Verdict.ACCEPTED] * 3, str(door.service)
+    assert_renewed(door, ONE)
+    assert_renewed(door, SIX)
+
+
+def log_in_while(
+    door: Door, content: bytes, meanwhile: Callable[[Future[Verdict]], None]
+) -> Verdict:
+    """Logs in the user `six` by a file with this content, while something else is done."""
+    door.site.machine.write(FILE, content)
+    # Whoever reads it sets the time of the last access.
+    os.utime(door.site.machine.path(FILE), (1, door.site.machine.path(FILE).stat().st_mtime))
+    with ThreadPoolExecutor(1) as pool:
+        login = pool.submit(door.log_in, SIX.name, SIX.password)
+        meanwhile(login)
+        return login.result()
+
+
+@dataclass(frozen=True)
+class Replacement:
+    """A file that takes the place of one with a slow line, and what the login gets by it."""
+
+    title: str
+    is_locked: bool
+    verdict: Verdict
+
+    def __str__(self) -> str:
+        return self.title
+
+    def content(self, slow_lines: dict[User, bytes]) -> bytes:
+        """The lines of the file."""
+        if self.is_locked:
+            return slow_lines[SIX].replace(b":", b":!", 1)
+        return slow_lines[ONE] + slow_lines[SIX]
+
+
+REPLACEMENTS = [
+    Replacement("where the user is locked", is_locked=True, verdict=Verdict.REFUSED),
+    Replacement("with another line", is_locked=False, verdict=Verdict.ACCEPTED),
+]
+
+
+@pytest.mark.parametrize("replacement", REPLACEMENTS, ids=str)
+def test_a_file_that_replaces_it_meanwhile_stays_but_for_the_hash_that_was_checked(
+    door: Door, slow_lines: dict[User, bytes], replacement: Replacement
+) -> None:
+    machine, new = door.site.machine, replacement.content(slow_lines)
+    machine.write(f"{FILE}.other", new)
+
+    def is_read() -> bool:
+        return machine.path(FILE).stat().st_atime != 1
+
+    def replace(login: Future[Verdict]) -> None:
+        wait_until(lambda: is_read() or login.done(), what="a login that reads the file")
+        machine.path(f"{FILE}.other").rename(machine.path(FILE))
+
+    verdict = log_in_while(door, slow_lines[SIX], replace)
+    content = machine.read(FILE)
+    with_old_hash = re.sub(
+        rb"^six:\$6\S+\n", lambda _: slow_lines[SIX], content, flags=re.MULTILINE
+    )
+    assert (verdict, with_old_hash) == (replacement.verdict, new), str(door.service)
+
+
+# ---- A full disk, and a kill
+
+
+@pytest.fixture(scope="module", name="short_line")
+def fixture_short_line(door: Door) -> bytes:
+    """The line of the user `six` that the recipe has made."""
+    return f"{SIX.name}:{door.site.hashes()[SIX.name]}\n".encode()
+
+
+def remount(door: Door, size: str) -> None:
+    """Gives the disk another size."""
+    door.site.machine.run("mount", "-o", f"remount,size={size}", "/srv").required()
+
+
+def test_a_user_gets_in_on_a_full_disk_and_the_file_stays(door: Door, short_line: bytes) -> None:
+    content = short_line + LONG_TAIL
+    remount(door, "60k")
+    try:
+        verdict = log_in_while(door, content, lambda _: None)
+        found = door.site.machine.read(FILE)
+    finally:
+        remount(door, "50%")
+    assert (verdict, found == content) == (Verdict.ACCEPTED, True), str(door.service)
+
+
+def new_files_of(number: int) -> list[str]:
+    """The files without a name that a process writes."""
+    links = []
+    with contextlib.suppress(FileNotFoundError, ProcessLookupError):
+        for descriptor in Path(f"/proc/{number}/fd").iterdir():
+            links.append(os.readlink(descriptor))
+    return [link for link in links if link.endswith("(deleted)") and "/example/" in link]
+
+
+def descendants_of(number: int) -> list[int]:
+    """The numbers of all processes below one."""
+    children = children_of(number)
+    return children + [below for child in children for below in descendants_of(child)]
+
+
+def kill_as_it_renews(service: Service, login: Future[Verdict]) -> None:
+    """Kills what serves a client once that writes a new file."""
+
+    def is_renewing() -> bool:
+        return any(map(new_files_of, descendants_of(service.number)))
+
+    wait_until(lambda: is_renewing() or login.done(), what="a login that writes a new file")
+    for number in children_of(service.number):
+        os.kill(number, signal.SIGKILL)
+
+
+@pytest.fixture(name="killed_content")
+def fixture_killed_content(door: Door, short_line: bytes) -> bytes:
+    """What a login leaves of a long file that is killed while it renews a hash there."""
+    service = door.service
+    assert service is not None
+    kill = functools.partial(kill_as_it_renews, service)
+    with contextlib.suppress(*ftplib.all_errors):
+        log_in_while(door, short_line + LONGER_TAIL, kill)
+    return door.site.machine.read(FILE)
+
+
+def test_the_file_is_whole_after_a_kill(
+    door: Door, short_line: bytes, killed_content: bytes
+) -> None:
+    with_old_hash = re.sub(rb"\Asix:\S+\n", lambda _: short_line, killed_content)
+    assert with_old_hash == short_line + LONGER_TAIL, f"{killed_content[:200]!r}\n{door.service}"
+
+
+@pytest.mark.usefixtures("killed_content")
+def test_a_login_after_a_kill_renews_the_hash(door: Door) -> None:
+    door.assert_verdict(SIX.name, SIX.password, Verdict.ACCEPTED)
+    assert_renewed(door, SIX)
