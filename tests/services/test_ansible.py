@@ -49,17 +49,18 @@ def fixture_prepared(site: Site) -> Site:
     return site
 
 
-@pytest.fixture(scope="module", name="checked")
-def fixture_checked(prepared: Site) -> Played:
-    """The play that only says what it would change."""
-    return play(prepared, "--check")
+@dataclass(frozen=True)
+class Plays:
+    """The recipe's play, first where it only says what it would change."""
+
+    checked: Played
+    played: Played
 
 
-@pytest.fixture(scope="module", name="played")
-def fixture_played(prepared: Site, checked: Played) -> Played:
-    """The play, after the one that only checks."""
-    assert checked.before, "the accounts"
-    return play(prepared)
+@pytest.fixture(scope="module", name="plays")
+def fixture_plays(prepared: Site) -> Plays:
+    checked = play(prepared, "--check")
+    return Plays(checked, play(prepared))
 
 
 def test_pwhash_makes_the_hash_that_the_play_reads(prepared: Site) -> None:
@@ -68,23 +69,24 @@ def test_pwhash_makes_the_hash_that_the_play_reads(prepared: Site) -> None:
     assert is_recommended_hash(content[:-1], ANN.password), content
 
 
-def test_the_play_says_that_it_would_change_the_password(checked: Played) -> None:
-    assert b"changed=1" in checked.result.stdout.split(), checked.result
+def test_the_play_says_that_it_would_change_the_password(plays: Plays) -> None:
+    result = plays.checked.result
+    assert b"changed=1" in result.stdout.split(), result
 
 
-def test_the_play_changes_nothing_where_it_only_checks(checked: Played) -> None:
-    assert checked.after == checked.before
+def test_the_play_changes_nothing_where_it_only_checks(plays: Plays) -> None:
+    assert plays.checked.after == plays.checked.before
 
 
-def test_the_play_changes_the_password(played: Played) -> None:
-    assert b"changed=1" in played.result.stdout.split(), played.result
+def test_the_play_changes_the_password(plays: Plays) -> None:
+    result = plays.played.result
+    assert b"changed=1" in result.stdout.split(), result
 
 
-@pytest.mark.parametrize("fixture", ["checked", "played"])
-def test_ansible_takes_the_hash_for_one(fixture: str, request: pytest.FixtureRequest) -> None:
-    result: Result = request.getfixturevalue(fixture).result
-    printed = b" ".join((result.stdout + result.stderr).split())
-    assert NOT_A_HASH not in printed, result
+def test_ansible_takes_the_hash_for_one(plays: Plays) -> None:
+    for result in (plays.checked.result, plays.played.result):
+        printed = b" ".join((result.stdout + result.stderr).split())
+        assert NOT_A_HASH not in printed, result
 
 
 @pytest.mark.needs("pamtester")
@@ -95,7 +97,7 @@ def test_ansible_takes_the_hash_for_one(fixture: str, request: pytest.FixtureReq
         pytest.param(SIX.password, Verdict.REFUSED, id="another password"),
     ],
 )
-@pytest.mark.usefixtures("played")
+@pytest.mark.usefixtures("plays")
 def test_the_account_has_the_password_after_the_play(
     prepared: Site, password: str, verdict: Verdict
 ) -> None:

@@ -32,8 +32,10 @@ LINE = b"two:" + SHA512 + b"\n"
 
 @pytest.fixture(autouse=True)
 def _arguments(pam: Pam) -> None:
+    """The service renews, and nothing is left of the test before."""
     pam.set_arguments(ARGUMENTS)
-    pam.log.entries()
+    for name in others_beside(pam.machine):
+        pam.machine.path(FILE).with_name(name).unlink()
 
 
 @pytest.fixture(scope="module", name="between")
@@ -114,7 +116,7 @@ class Met:
     others: list[str]
 
 
-@pytest.fixture(name="met", params=range(5), ids=["no change", "one change", "2", "3", "4 changes"])
+@pytest.fixture(name="met", params=range(5), ids=lambda count: f"{count} changes")
 def fixture_met(pam: Pam, between: tuple[str, str], request: pytest.FixtureRequest) -> Met:
     changes: int = request.param
     pam.machine.write(FILE, LINE)
@@ -162,8 +164,10 @@ def between_commands(block: Sequence[Word], unblock: Sequence[Word]) -> Blocking
     @contextlib.contextmanager
     def blocking(machine: Namespaces) -> Iterator[None]:
         machine.run(*block).required()
-        yield
-        machine.run(*unblock).required()
+        try:
+            yield
+        finally:
+            machine.run(*unblock).required()
 
     return blocking
 
@@ -185,8 +189,10 @@ def lock_is_link(machine: Namespaces) -> Iterator[None]:
     lock = machine.path(LOCK)
     lock.unlink(missing_ok=True)
     lock.symlink_to("x")
-    yield
-    lock.unlink()
+    try:
+        yield
+    finally:
+        lock.unlink()
 
 
 @contextlib.contextmanager

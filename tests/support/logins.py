@@ -71,12 +71,16 @@ class PamLoginTests(LoginTests):
     let_in: frozenset[str] = frozenset()  # names that the service takes all the same
 
     @pytest.mark.parametrize("name", CLOSED)
-    def test_a_field_that_is_no_hash_of_ours_is_refused(self, door: Door, name: str) -> None:
+    def test_a_field_that_is_no_hash_of_ours_is_refused_or_left_to_the_system(
+        self, door: Door, name: str
+    ) -> None:
         verdict = Verdict.ACCEPTED if name in self.let_in else Verdict.REFUSED
         door.assert_verdict(name, SECRET, verdict)
 
     @pytest.mark.parametrize("name", ["a b", "a:b"])
-    def test_a_name_with_a_special_character(self, door: Door, name: str) -> None:
+    def test_a_name_with_a_blank_or_a_colon_gets_in_where_the_service_takes_it(
+        self, door: Door, name: str
+    ) -> None:
         verdict = Verdict.ACCEPTED if name in self.let_in else Verdict.REFUSED
         door.assert_verdict(name, SIX.password, verdict)
 

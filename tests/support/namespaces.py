@@ -22,8 +22,9 @@ from pathlib import Path
 from .process import Changes, Result, Word, run, started
 
 UNSHARE = ("unshare", "--mount", "--net", "--pid", "--fork", "--kill-child", "--mount-proc")
-# The first process ends with the test. It reaps what others leave.
-HOLD = (*("setpriv", "--pdeathsig", "KILL"), *UNSHARE)
+# They end with the process that runs tests, however it ends.
+UNTIL_TESTS_END = ("setpriv", "--pdeathsig", "KILL", *UNSHARE)
+# The first process inside. What others leave behind needs no reaping.
 HOLDER = "trap '' CHLD; echo ready; exec sleep infinity"
 LONGEST = 7200  # seconds that namespaces are held
 CLONE_NEWNET = 0x40000000  # of setns(2)
@@ -174,7 +175,7 @@ def enter_network(descriptor: int) -> None:
 @contextlib.contextmanager
 def namespaces() -> Iterator[Namespaces]:
     """Makes namespaces, which end with the block. Only the superuser can."""
-    words = (*HOLD, "sh", "-c", HOLDER)
+    words = (*UNTIL_TESTS_END, "sh", "-c", HOLDER)
     with started(*words, stdout=subprocess.PIPE, timeout=LONGEST) as process:
         assert process.stdout is not None
         ready = process.stdout.readline()

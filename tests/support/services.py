@@ -54,7 +54,7 @@ class Service:
 
     def answers(self) -> bool:
         """Whether the port takes connections. A service that has ended fails the test."""
-        assert not self.has_ended, f"the service has ended\n{self}"
+        assert not self.has_ended, "the service has ended"
         try:
             self.machine.connected(self.port, SECONDS).close()
         except ConnectionRefusedError:
