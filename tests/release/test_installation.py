@@ -1,0 +1,132 @@
+"""tools/install: where files go, who may use them, and that an uninstallation takes them away."""
+from __future__ import annotations
+
+import stat
+from dataclasses import dataclass
+from pathlib import Path
+
+import pytest
+from support import ROOT
+from support.process import Result, Word, assert_result, run
+from support.release import Archive, files_below
+
+pytestmark = pytest.mark.xdist_group("archive")  # so that it is packed once
+
+LIBRARIES = "usr/lib/x86_64-linux-gnu"
+# Which files of the archive say what only holds for that.
+OF_ARCHIVES = ("share/doc/mkpasswd/README", "share/doc/mkpasswd/SHA256SUMS")
+
+
+@dataclass(frozen=True)
+class Destination:
+    """A folder to install below, as a package does."""
+
+    folder: Path
+
+    def install(self, *words: Word, mask: str = "022") -> Result:
+        """Installs what is built, or with --remove takes it away."""
+        environment = {
+            "DESTDIR": str(self.folder),
+            "PREFIX": "/usr",
+            "LIBDIR": f"/{LIBRARIES}",
+            "PAMDIR": None,
+            "FROM": None,
+        }
+        script = f'umask {mask} && exec "$0" "$@"'
+        return run("sh", "-c", script, ROOT / "tools/install", *words, env=environment)
+
+
+@pytest.fixture(scope="module", name="installation")
+def fixture_installation(
+    archive: Archive, tmp_path_factory: pytest.TempPathFactory
+) -> tuple[Path, Result]:
+    """What is installed with a umask that keeps others out, and how the command ended.
+
+    All that the archive has is built then.
+    """
+    assert archive.tree.is_dir()
+    destination = Destination(tmp_path_factory.mktemp("installed"))
+    return destination.folder, destination.install(mask="077")
+
+
+@pytest.fixture(scope="module", name="installed")
+def fixture_installed(installation: tuple[Path, Result]) -> Path:
+    """The folder below which it was installed."""
+    folder, result = installation
+    result.required()
+    return folder
+
+
+def test_it_is_installed_and_nothing_is_printed(installation: tuple[Path, Result]) -> None:
+    assert_result(installation[1])
+
+
+def mode_of(path: Path) -> int:
+    """The bits that say who may do what."""
+    return stat.S_IMODE(path.stat().st_mode)
+
+
+def test_everybody_may_look_into_each_folder(installed: Path) -> None:
+    folders = [path for path in installed.rglob("*") if path.is_dir() and not path.is_symlink()]
+    modes = {str(path): oct(mode_of(path)) for path in folders if mode_of(path) != 0o755}
+    assert modes == {}, "expected: folders with the mode 755"
+
+
+def test_everybody_may_run_each_command(installed: Path) -> None:
+    commands = list((installed / "usr/bin").iterdir())
+    modes = {path.name: oct(mode_of(path)) for path in commands if mode_of(path) != 0o755}
+    assert commands != []
+    assert modes == {}, "expected: commands with the mode 755"
+
+
+def test_everybody_may_read_each_file(installed: Path) -> None:
+    files = [installed / name for name in files_below(installed)]
+    modes = {str(path): oct(mode_of(path)) for path in files if mode_of(path) & 0o644 != 0o644}
+    assert modes == {}, "expected: files that all may read"
+
+
+def test_it_has_the_files_of_the_archive_below_the_prefix_and_the_folder_for_libraries(
+    installed: Path, archive: Archive
+) -> None:
+    expected = []
+    for name in files_below(archive.tree):
+        if name in OF_ARCHIVES:
+            continue
+        folder, _, rest = name.partition("/")
+        expected.append(f"{LIBRARIES}/{rest}" if folder == "lib" else f"usr/{name}")
+    assert files_below(installed) == sorted(expected)
+
+
+def test_it_has_each_manual(installed: Path) -> None:
+    manuals = [f"man{path.suffix[1:]}/{path.name}" for path in ROOT.glob("man/*.?")]
+    found = files_below(installed / "usr/share/man")
+    assert manuals != []
+    assert [name for name in manuals if name not in found] == []
+
+
+def test_pkg_config_gets_the_places(installed: Path) -> None:
+    lines = (installed / LIBRARIES / "pkgconfig/mkpasswd.pc").read_text("utf-8").splitlines()
+    assert lines[:2] == ["prefix=/usr", f"libdir=/{LIBRARIES}"]
+
+
+def test_an_uninstallation_leaves_what_was_not_installed(tmp_path: Path) -> None:
+    destination = Destination(tmp_path)
+    destination.install().required()
+    notes = "usr/share/doc/mkpasswd/notes"
+    (tmp_path / notes).touch()
+    assert_result(destination.install("--remove"))
+    assert files_below(tmp_path) == [notes]
+
+
+def test_a_second_uninstallation_does_nothing(tmp_path: Path) -> None:
+    destination = Destination(tmp_path)
+    destination.install().required()
+    destination.install("--remove").required()
+    assert_result(destination.install("--remove"))
+
+
+@pytest.mark.parametrize("name", ["PREFIX", "LIBDIR", "PAMDIR"])
+def test_a_place_that_does_not_begin_at_the_root_is_refused(name: str, tmp_path: Path) -> None:
+    result = run(ROOT / "tools/install", env={"DESTDIR": str(tmp_path), name: "usr"})
+    assert result.status == 2, str(result)
+    assert files_below(tmp_path) == []

@@ -1,0 +1,83 @@
+"""What is released: archives as somebody has them who unpacked one, and the program elsewhere."""
+from __future__ import annotations
+
+import re
+from dataclasses import dataclass
+from pathlib import Path
+
+from . import ROOT
+from .needs import built
+from .process import Changes, Result, run
+
+SUMS = "share/doc/mkpasswd/SHA256SUMS"
+
+
+def version() -> str:
+    """The version of this tree."""
+    return run(ROOT / "tools/version").required().stdout.decode().strip()
+
+
+def processor_of_build() -> str:
+    """The processor that the archive is for, as make was told."""
+    path = ROOT / "build/cpu"
+    told = path.read_text(encoding="ascii").strip() if path.exists() else ""
+    return told or "x86-64"
+
+
+def files_below(folder: Path) -> list[str]:
+    """The files and links below a folder, but no folders."""
+    return sorted(
+        str(path.relative_to(folder))
+        for path in folder.rglob("*")
+        if path.is_symlink() or not path.is_dir()
+    )
+
+
+@dataclass(frozen=True)
+class Archive:
+    """An archive, and the folder that it was unpacked in."""
+
+    file: Path
+    tree: Path
+
+    @property
+    def documents(self) -> Path:
+        """The folder of its documents."""
+        return self.tree / "share/doc/mkpasswd"
+
+    @property
+    def readme(self) -> str:
+        """Its README."""
+        return (self.documents / "README").read_text(encoding="utf-8")
+
+
+def pack(
+    processor: str, file: Path, mask: str = "022", environment: Changes | None = None
+) -> Result:
+    """Packs what was built for a processor."""
+    for path in ("build/site", "build/mkpasswd.mjs", f"build/{processor}/mkpasswd"):
+        built(path, "dist")
+    changes: dict[str, str | None] = {"ARCHIVE": str(file), **(environment or {})}
+    script = f'umask {mask} && exec "$0" "$1"'
+    return run("sh", "-c", script, ROOT / "tools/pack", processor, env=changes)
+
+
+def packed(processor: str, folder: Path) -> Archive:
+    """The archive for a processor, packed and unpacked in a folder."""
+    machine = "aarch64" if processor == "aarch64" else "x86_64"
+    archive = Archive(folder / f"mkpasswd-{version()}-{machine}-linux.tar.gz", folder / "tree")
+    pack(processor, archive.file).required()
+    archive.tree.mkdir()
+    run(
+        *("tar", "--extract", "--strip-components=1"),
+        *("--directory", archive.tree, "--file", archive.file),
+    ).required()
+    return archive
+
+
+def oldest_glibc(library: Path) -> str:
+    """The oldest version of glibc that has all that a library wants."""
+    found = re.findall(rb"\bGLIBC_([\d.]+)", run("objdump", "-p", library).required().stdout)
+    assert found, f"{library} wants no version of glibc"
+    numbers = [tuple(int(part) for part in text.split(b".")) for text in found]
+    return ".".join(str(part) for part in max(numbers))
