@@ -13,7 +13,7 @@ from support.process import Result, run
 
 TESTS = ROOT / "tests"
 HOUR = 3600  # what takes longer hangs
-BEGUN_FIRST = ("deb.t", "arm.t")  # they take longest
+BEGUN_FIRST = ()
 
 
 def perl_files() -> list[str]:

@@ -218,8 +218,9 @@ def test_the_readme_names_each_function_that_the_static_library_needs(archive: A
     row = r"^  libmkpasswd\.a: +a C library with (.*?)$(?!\n {9})"
     found = re.search(row, archive.readme, re.MULTILINE | re.DOTALL)
     assert found is not None, archive.readme
-    words = ["--undefined-only", "--format=just-symbols", archive.tree / "lib/libmkpasswd.a"]
-    listed = run("nm", *words).required().stdout.decode()
+    options = ("--undefined-only", "--format=just-symbols")
+    result = run("nm", *options, archive.tree / "lib/libmkpasswd.a").required()
+    listed = result.stdout.decode()
     needed = set(re.findall(r"^([a-z]\w*)$", listed, re.MULTILINE))
     assert sorted(re.split(r",\s+|\s+and\s+", found[1])) == sorted(needed)
 

@@ -32,7 +32,7 @@ SETTINGS = [
 ]
 
 
-def environment(archive: Archive) -> Changes:
+def environment(archive: Archive) -> dict[str, str]:
     """What finds the libraries in the unpacked tree, as the README sets it."""
     return {
         "PKG_CONFIG_PATH": str(archive.tree / "lib/pkgconfig"),
@@ -101,7 +101,11 @@ def assert_loads(
     archive: Archive, program: Path, library: Path, setting: bytes, tunables: str | None
 ) -> None:
     """Fails the test unless glibc loads this library, and that takes the hash of a setting."""
-    changes = {**environment(archive), "LD_DEBUG": "libs", "GLIBC_TUNABLES": tunables}
+    changes: Changes = {
+        **environment(archive),
+        "LD_DEBUG": "libs",
+        "GLIBC_TUNABLES": tunables,
+    }
     result = run(program, "password", libxcrypt.crypt(b"password", setting), env=changes)
     loaded = re.findall(r"calling init: (\S*/libmkpasswd\S*)", result.stderr.decode())
     assert (result.status, loaded) == (0, [str(library)])

@@ -1,0 +1,86 @@
+"""The image for containers: it has the same bytes whenever it is made, and holds the program."""
+from __future__ import annotations
+
+import re
+from collections.abc import Iterator
+from dataclasses import dataclass
+from pathlib import Path
+
+import pytest
+from support import ROOT
+from support.needs import not_applicable
+from support.process import Result, Word, assert_result, run
+from support.release import Archive
+
+pytestmark = pytest.mark.xdist_group("archive")  # so that it is packed once
+
+NAME = "mkpasswd:test"
+LOADED = f"localhost/{NAME}"
+HASHED = ("-m", "md5crypt", "-S", "xxxxxxxx", "password")
+HASH = b"$1$xxxxxxxx$UYCIxa628.9qXjpQCjM4a.\n"  # as libxcrypt makes it
+NOTHING_RUNS = rb"^Error: .*OCI (?:permission denied|runtime error)"
+
+
+def make_image(archive: Archive, file: Path) -> Path:
+    """Makes an image of the program in the archive."""
+    run(ROOT / "tools/image", archive.tree / "bin/mkpasswd", NAME, file).required()
+    return file
+
+
+@pytest.fixture(scope="module", name="image")
+def fixture_image(archive: Archive, tmp_path_factory: pytest.TempPathFactory) -> Path:
+    """The image, made once."""
+    return make_image(archive, tmp_path_factory.mktemp("image") / "image.tar")
+
+
+def test_another_image_has_the_same_bytes(archive: Archive, image: Path, tmp_path: Path) -> None:
+    assert make_image(archive, tmp_path / "again.tar").read_bytes() == image.read_bytes()
+
+
+@pytest.mark.needs("skopeo")
+@pytest.mark.parametrize("form", ["oci", "docker"])
+def test_it_is_an_image_for_linux_on_amd64(image: Path, form: str) -> None:
+    shown = "{{.Os}} {{.Architecture}}"
+    result = run("skopeo", "inspect", "--format", shown, f"{form}-archive:{image}")
+    assert_result(result, stdout=b"linux amd64\n")
+
+
+# ---- By podman
+
+
+@dataclass(frozen=True)
+class Podman:
+    """Podman with a storage of its own."""
+
+    folder: Path
+
+    def run(self, *words: Word) -> Result:
+        """Runs one of its commands."""
+        storage = ("--root", self.folder / "storage", "--runroot", self.folder / "run")
+        return run("podman", *storage, "--storage-driver", "vfs", *words)
+
+
+@pytest.fixture(scope="module", name="podman")
+def fixture_podman(image: Path, tmp_path_factory: pytest.TempPathFactory) -> Iterator[Podman]:
+    """Podman with the image, until the tests with it are done."""
+    podman = Podman(tmp_path_factory.mktemp("podman"))
+    podman.run("load", "-i", image).required()
+    yield podman
+    podman.run("image", "unmount", "--all")
+
+
+@pytest.mark.needs("podman")
+def test_podman_finds_the_program_in_it(podman: Podman, archive: Archive) -> None:
+    folder = Path(podman.run("image", "mount", LOADED).required().stdout.decode().strip())
+    program = folder / "bin/mkpasswd"
+    assert program.stat().st_mode & 0o111 == 0o111
+    assert program.read_bytes() == (archive.tree / "bin/mkpasswd").read_bytes()
+
+
+@pytest.mark.needs("podman")
+def test_podman_runs_it(podman: Podman) -> None:
+    options = ("--rm", "--network", "none", "--ulimit", "host")
+    result = podman.run("run", *options, LOADED, *HASHED)
+    if re.search(NOTHING_RUNS, result.stderr, re.MULTILINE):
+        not_applicable("podman can't run anything on this machine")
+    assert_result(result, stdout=HASH)

@@ -1,0 +1,199 @@
+"""Debian's packages: built by tools/deb, and installed in roots of Debian releases.
+
+A root is made once and doesn't change: each test works in a layer of its own over it.
+"""
+from __future__ import annotations
+
+import contextlib
+import os
+import shutil
+from dataclasses import dataclass
+from pathlib import Path
+from typing import Iterator
+
+import pytest
+
+from . import ROOT
+from .needs import built, missing
+from .process import Result, Word, run
+
+PACKAGES = (
+    "libmkpasswd-dev",
+    "libmkpasswd2",
+    "libpam-mkpasswd",
+    "mkpasswd",
+    "mkpasswd-default",
+    "pwhash",
+    "python3-mkpasswd",
+)
+# What else is in a root: what ours depend on, what tries them, and what they meet.
+OTHERS = (
+    "autopkgtest",
+    "bash-completion",
+    "dpkg-dev",
+    "gcc",
+    "libc6-dev",
+    "lintian",
+    "libpam-pwdfile",
+    "man-db",
+    "pamtester",
+    "parallel",
+    "pkgconf",
+    "python3",
+    "sse4.2-support",
+    "whois",
+)
+# Each release has a worker of its own, which makes its root.
+RELEASES = {"bookworm": "Debian 12", "trixie": "Debian 13"}
+OLDEST = "bookworm"
+# Without its cache, which apt takes for true for a second after dpkg has changed something.
+APT = "apt-get -q -y --no-install-recommends -o Dir::Cache::pkgcache="
+LONGEST_BUILD = 900  # seconds
+LONGEST_SCRIPT = 1200  # seconds, in a root
+LONGEST_BOOTSTRAP = 1800  # seconds
+LAST_LINES = 60  # of a script that failed
+# GNU parallel needs /dev/pts and /sys, without which it warns or counts no processors.
+ENTER = """
+mount -t overlay overlay -o "lowerdir=$0,upperdir=$1/changes,workdir=$1/work" "$1/root"
+mount -t proc proc "$1/root/proc"
+mount --rbind /sys "$1/root/sys"
+mount --bind /dev/pts "$1/root/dev/pts"
+exec chroot "$1/root" sh -euc "$2"
+"""
+UNWATCHED = (
+    *("/proc", "/sys", "/dev", "/tmp", "/debs", "/changed", "/source"),
+    *("/var/cache", "/var/lib/apt", "/var/lib/dpkg", "/var/log"),
+)
+BARE = (
+    "env",
+    "-i",
+    "PATH=/usr/sbin:/usr/bin:/sbin:/bin",
+    "HOME=/root",
+    "LC_ALL=C.UTF-8",
+    "DEBIAN_FRONTEND=noninteractive",
+)
+UNSHARE = ("unshare", "--mount", "--pid", "--fork", "--kill-child")
+
+
+def release(suite: str) -> object:
+    """A parameter for a release."""
+    title = RELEASES[suite]
+    return pytest.param(suite, id=title, marks=pytest.mark.xdist_group(title))
+
+
+def need_packages() -> None:
+    """Ends the test where no packages can be built, or nobody asked for tests that take long."""
+    if "1" not in (os.environ.get("DEB"), os.environ.get("STRICT")):
+        missing("DEB=1", "tests of the packages take ten minutes and 3 GB")
+    for path in ("libmkpasswd.so.2", "build/x86-64-v3/libmkpasswd.so.2"):
+        built(path, "deb")
+    built("build/site", "site")
+    built("build/mkpasswd.mjs", "web")
+
+
+@dataclass(frozen=True)
+class Packages:
+    """The packages in a folder."""
+
+    folder: Path
+
+    def names(self) -> list[str]:
+        """The name of each package."""
+        return sorted(path.name.partition("_")[0] for path in self.folder.iterdir())
+
+    def file(self, name: str) -> Path:
+        """The file of a package."""
+        (path,) = self.folder.glob(f"{name}_*.deb")
+        return path
+
+    def field(self, name: str, field: str) -> str:
+        """A field in the control file of a package."""
+        result = run("dpkg-deb", "-f", self.file(name), field).required()
+        return result.stdout.decode().strip()
+
+
+def build_packages(folder: Path) -> Packages:
+    """Builds the packages of this tree."""
+    run(ROOT / "tools/deb", folder, timeout=LONGEST_BUILD).required()
+    return Packages(folder)
+
+
+def change_package(package: Path, folder: Path, script: str) -> Path:
+    """A copy of a package in a folder, which a script changes that runs in its DEBIAN."""
+    tree, changed = folder / "tree", folder / "changed.deb"
+    folder.mkdir()
+    run("dpkg-deb", "-R", package, tree).required()
+    run("sh", "-euc", script, cwd=tree / "DEBIAN").required()
+    run("dpkg-deb", "-b", tree, changed).required()
+    shutil.rmtree(tree)
+    return changed
+
+
+# ---- Roots
+
+
+def mirror() -> str | None:
+    """Debian's mirror: MIRROR, or the first that apt has here."""
+    listed = run("apt-get", "indextargets", "--format", "$(REPO_URI)", "Created-By: Packages")
+    lines = listed.stdout.decode().splitlines()
+    return os.environ.get("MIRROR") or (lines[0] if lines else None)
+
+
+def make_root(suite: str, folder: Path) -> None:
+    """Makes a root of a Debian release in a folder.
+
+    It keeps the lists of the mirror, from which whois is installed again.
+    """
+    options: list[Word] = ["--variant=minbase", "--skip=cleanup", f"--include={','.join(OTHERS)}"]
+    address = mirror()
+    source: list[Word] = [address] if address else []
+    command = ("mmdebstrap", *options, suite, folder, *source)
+    result = run(*command, timeout=LONGEST_BOOTSTRAP)
+    if result.status != 0:
+        last_line = result.stderr.decode(errors="replace").strip().rpartition("\n")[2]
+        missing(f"a root of {suite}", f"mmdebstrap says: {last_line}")
+
+
+@dataclass(frozen=True)
+class Root:
+    """A root: folders that don't change, and a folder with what is changed over them."""
+
+    lower: tuple[Path, ...]  # the highest first
+    layer: Path
+
+    def run(self, script: str) -> Result:
+        """Runs a script in the root, in namespaces that end with it."""
+        lower = ":".join(str(path) for path in self.lower)
+        command = (*BARE, *UNSHARE, "sh", "-euc", ENTER, lower, self.layer, script)
+        return run(*command, timeout=LONGEST_SCRIPT)
+
+    def output_of(self, script: str) -> str:
+        """What a script prints, which has to end well."""
+        result = self.run(script)
+        if result.status != 0 or result.has_timed_out:
+            lines = (result.stdout + result.stderr).decode(errors="replace").splitlines()
+            expected = f"expected status: 0\nits status: {result.status}\nthe script: {script}"
+            raise AssertionError("\n".join([expected, *lines[-LAST_LINES:]]))
+        return result.stdout.decode(errors="replace")
+
+    def files(self) -> set[str]:
+        """All files but those that apt and dpkg write of any package."""
+        pruned = " -o ".join(f"-path {path}" for path in UNWATCHED)
+        return set(self.output_of(f"find / \\( {pruned} \\) -prune -o -print").splitlines())
+
+
+@contextlib.contextmanager
+def layer_over(*lower: Path, folder: Path) -> Iterator[Root]:
+    """A root that can be changed, in an empty folder, until the end of the block."""
+    for name in ("changes", "work", "root"):
+        (folder / name).mkdir()
+    (folder / "changes").chmod(0o755)  # which is the mode of / in the root
+    try:
+        yield Root(lower, folder)
+    finally:
+        shutil.rmtree(folder)
+
+
+def above(root: Root, folder: Path) -> contextlib.AbstractContextManager[Root]:
+    """A root that begins as another one is now, which isn't changed any more."""
+    return layer_over(root.layer / "changes", *root.lower, folder=folder)
