@@ -21,7 +21,7 @@ count_made n = go (clamped n) (omega arith) (omega arith) where
       rw (none, none, same) refl
 
 -- and those of new hashes have a field
-new_rounds : (rounds : ℕ) → made_rounds (chosen_rounds methods.Sha512crypt rounds)
+pub new_rounds : (rounds : ℕ) → made_rounds (chosen_rounds methods.Sha512crypt rounds)
     ≡ record { count = clamped (chosen_rounds methods.Sha512crypt rounds); is_written = true }
 new_rounds rounds = go (rounds == 0) refl where
   go : (default : Bool) → (rounds == 0) ≡ default → made_rounds (if default then 656000 else rounds)

@@ -1,6 +1,7 @@
 pub mod AuditReports
 pub mod CheckReports
 pub mod FittedSchemes
+pub mod GivenSettings
 pub mod LoginPromises
 pub mod LoginReports
 pub mod MadeSchemes

@@ -6,7 +6,7 @@ use Rattle.prims_core.specs.Work.{no_work}
 use Rattle.prims_core.specs.declared.meter.Work.{Work}
 use Rattle.crypt_core.specs.Crypt.{IsAfterRefusedGrowth, crypt}
 use Rattle.crypt_core.specs.Passwords.{IsPassword, IsPasswordRefused}
-use Rattle.crypt_core.specs.Replacements.{is_replaced_by}
+use Rattle.crypt_core.specs.OutdatedSchemes.{is_outdated_by}
 use Rattle.crypt_core.specs.Settings.{SettingValue, Spells}
 use Rattle.crypt_core.specs.Work.{cost, cost_by, work}
 use Rattle.crypt_core.specs.declared.password.PasswordFault.{PasswordFault}
@@ -21,9 +21,9 @@ use Rattle.call_core.specs.Private.Hashes.{IsRequestRefused}
 use Rattle.call_core.specs.Reasons.{reason_row}
 use Rattle.call_core.specs.Reports.{LacksMemory, refused, reported}
 use Rattle.call_core.specs.declared.reason.Reason.{Reason}
-use Rattle.call_core.specs.declared.reason.Reason.TheVariants.{Fits, Outdated, Refused}
+use Rattle.call_core.specs.declared.reason.Reason.TheVariants.{Matches, Outdated, Refused}
 use Rattle.call_core.specs.declared.reason.Refusal.{Refusal}
-use Rattle.call_core.specs.declared.reason.Refusal.TheVariants.{Cost, Dead, Differs, OutOfMemory, OverBudget, Password, UnknownMethod}
+use Rattle.call_core.specs.declared.reason.Refusal.TheVariants.{Dead, Differs, OutOfMemory, OverBudget, Password, Rounds, UnknownMethod}
 use Rattle.call_core.specs.declared.report.Report.{Report}
 use Rattle.call_core.proofs.MadeSchemes.{made_once, never_refused}
 use Rattle.call_core.proofs.ReasonNumbers.{reason_once}
@@ -48,17 +48,17 @@ declined password field number rounds budget scheme refusal report is makes (inr
 
 pub compared : (password field : List ℕ) (number rounds budget : ℕ) (scheme : Scheme) (kept : SettingValue) (misses : Refusal) (report : Report)
     → IsPassword password → IsSchemeMade TakesNewRounds number rounds scheme → Spells field kept → cost kept (length password) ≤ budget
-    → IsMiss field kept misses → Compares password kept field (if is_replaced_by kept.scheme scheme then Outdated else Fits) misses report
+    → IsMiss field kept misses → Compares password kept field (if is_outdated_by kept.scheme scheme then Outdated else Matches) misses report
     → LogsIn password field number rounds budget report
 compared password field number rounds budget scheme kept misses report is makes spells low miss compares =
     let test : nat_lt budget (cost kept (length password)) ≡ false = grind arith in
     inl (is, inl (scheme, makes, inl (kept, spells, rw test (misses, miss, compares))))
 
 pub outdated_fits : (kept other : SettingValue) (scheme also : Scheme) (reason : Reason)
-    → reason ≡ (if is_replaced_by kept.scheme scheme then Outdated else Fits) → kept ≡ other → scheme ≡ also
-    → IsTrue (is_replaced_by other.scheme also) → reason ≡ Outdated
+    → reason ≡ (if is_outdated_by kept.scheme scheme then Outdated else Matches) → kept ≡ other → scheme ≡ also
+    → IsTrue (is_outdated_by other.scheme also) → reason ≡ Outdated
 outdated_fits kept other scheme also reason e same made is =
-    let replaced : is_replaced_by other.scheme also ≡ true = is in
+    let replaced : is_outdated_by other.scheme also ≡ true = is in
     let told = rw (same, made) at e in
     rw replaced at told
 
@@ -75,8 +75,8 @@ miss_is field kept Dead miss = inr refl
 miss_is field kept misses miss = absurd miss
 
 told_agrees : (equal replaced : Bool) (misses : Refusal) (most : ℕ) (counts : Work) (report : Report) → (misses ≡ Differs) ⊎ (misses ≡ Dead)
-    → report ≡ reported (if equal then (if replaced then Outdated else Fits) else Refused misses) 0 most counts
-    → Agrees report (reported (if equal then Fits else Refused Differs) 0 most counts)
+    → report ≡ reported (if equal then (if replaced then Outdated else Matches) else Refused misses) 0 most counts
+    → Agrees report (reported (if equal then Matches else Refused Differs) 0 most counts)
 told_agrees false replaced misses most counts report (inl differs) e = rw (e, differs) (refl, inl refl)
 told_agrees false replaced misses most counts report (inr dead) e = rw (e, dead) (refl, inr (inr (refl, refl)))
 told_agrees true false misses most counts report miss e = rw e (refl, inl refl)
@@ -85,15 +85,15 @@ told_agrees true true misses most counts report miss e = rw e (refl, inr (inl (r
 checked_agrees : (over equal replaced : Bool) (password field : List ℕ) (budget most : ℕ) (scheme : Scheme) (kept : SettingValue) (report : Report)
     → MatchBool over (Declines password scheme budget (refused OverBudget most) report)
     ((misses : Refusal) × IsMiss field kept misses
-    × ((report ≡ reported (if equal then (if replaced then Outdated else Fits) else Refused misses) 0 most (work password kept))
+    × ((report ≡ reported (if equal then (if replaced then Outdated else Matches) else Refused misses) 0 most (work password kept))
     ⊎ LacksMemory kept most report))
     → (verified : Report) × MatchBool over (verified ≡ refused OverBudget most)
-    ((verified ≡ reported (if equal then Fits else Refused Differs) 0 most (work password kept)) ⊎ LacksMemory kept most verified)
+    ((verified ≡ reported (if equal then Matches else Refused Differs) 0 most (work password kept)) ⊎ LacksMemory kept most verified)
     × Agrees report verified
 checked_agrees true equal replaced password field budget most scheme kept report declines =
     (refused OverBudget most, refl, declined_agrees password scheme budget (refused OverBudget most) report declines)
 checked_agrees false equal replaced password field budget most scheme kept report (misses, miss, inl told) = (
-  reported (if equal then Fits else Refused Differs) 0 most (work password kept),
+  reported (if equal then Matches else Refused Differs) 0 most (work password kept),
   inl refl,
   told_agrees equal replaced misses most (work password kept) report (miss_is field kept misses miss) told,
 )
@@ -111,7 +111,7 @@ agrees password field number rounds budget scheme report makes (inl (is, inl (ot
     (refused fault 0, inl (is, inr (fault, broken, refl)), declined_agrees password other budget (refused fault 0) report declines)
 agrees password field number rounds budget scheme report makes (inl (is, inl (other, also, inl (kept, spells, checked)))) =
     let most = cost kept (length password) in
-    let agree = checked_agrees (nat_lt budget most) (bytes_eq (crypt password kept) field) (is_replaced_by kept.scheme other)
+    let agree = checked_agrees (nat_lt budget most) (bytes_eq (crypt password kept) field) (is_outdated_by kept.scheme other)
     password field budget most other kept report checked in
     (agree.0, inl (is, inl (kept, spells, agree.1)), agree.2)
 
@@ -169,7 +169,7 @@ one_hash password field number rounds budget report (inl (is, inl (scheme, makes
     inr (decoy scheme, inr (scheme, makes, refl), declines.1, spent_within password (decoy scheme) budget _ declines.1)
 one_hash password field number rounds budget report (inl (is, inl (scheme, makes, inl (kept, spells, checked)))) =
     elim (checked_work (nat_lt budget (cost kept (length password))) password field budget scheme kept
-    (if is_replaced_by kept.scheme scheme then Outdated else Fits) report refl checked) [
+    (if is_outdated_by kept.scheme scheme then Outdated else Matches) report refl checked) [
       | inl new ↦ inr (decoy scheme, inr (scheme, makes, refl), new, spent_within password (decoy scheme) budget _ new)
       | inr old ↦ inr (kept, inl spells, old, spent_within password kept budget _ old)
     ]
@@ -227,12 +227,12 @@ not_dead reason report other is told = other (reason_once reason (Refused Dead) 
 
 compared_dead : (equal replaced : Bool) (field : List ℕ) (kept : SettingValue) (misses : Refusal) (most : ℕ) (counts : Work) (report : Report)
     → Spells field kept → IsMiss field kept misses
-    → report ≡ reported (if equal then (if replaced then Outdated else Fits) else Refused misses) 0 most counts
+    → report ≡ reported (if equal then (if replaced then Outdated else Matches) else Refused misses) 0 most counts
     → report.reason ≡ (reason_row (Refused Dead)).0 → IsDead field
 compared_dead true true field kept misses most counts report spells miss e told =
     absurd (not_dead Outdated report (λ same. cc) (ap (λ (r : Report). r.reason) e) told)
 compared_dead true false field kept misses most counts report spells miss e told =
-    absurd (not_dead Fits report (λ same. cc) (ap (λ (r : Report). r.reason) e) told)
+    absurd (not_dead Matches report (λ same. cc) (ap (λ (r : Report). r.reason) e) told)
 compared_dead false replaced field kept misses most counts report spells miss e told =
     let same : Refused misses ≡ Refused Dead = reason_once (Refused misses) (Refused Dead) (sym (ap (λ (r : Report). r.reason) e) ∙ told) in
     let dead : misses ≡ Dead = cc same in
@@ -242,7 +242,7 @@ checked_dead : (above equal replaced : Bool) (password field : List ℕ) (budget
     → Spells field kept
     → MatchBool above (Declines password scheme budget (refused OverBudget (cost kept (length password))) report)
     ((misses : Refusal) × IsMiss field kept misses
-    × ((report ≡ reported (if equal then (if replaced then Outdated else Fits) else Refused misses) 0 (cost kept (length password)) (work password kept))
+    × ((report ≡ reported (if equal then (if replaced then Outdated else Matches) else Refused misses) 0 (cost kept (length password)) (work password kept))
     ⊎ LacksMemory kept (cost kept (length password)) report))
     → report.reason ≡ (reason_row (Refused Dead)).0 → IsDead field
 checked_dead true equal replaced password field budget scheme kept report spells declines told =
@@ -259,12 +259,12 @@ told_dead password field number rounds budget report (inr (fault, is, e)) told =
 told_dead password field number rounds budget report (inl (is, inr (inl (none, e)))) told =
     absurd (not_dead (Refused UnknownMethod) report (λ same. cc) (ap (λ (r : Report). r.reason) e) told)
 told_dead password field number rounds budget report (inl (is, inr (inr (method, named, never, e)))) told =
-    absurd (not_dead (Refused Cost) report (λ same. cc) (ap (λ (r : Report). r.reason) e) told)
+    absurd (not_dead (Refused Rounds) report (λ same. cc) (ap (λ (r : Report). r.reason) e) told)
 told_dead password field number rounds budget report (inl (is, inl (scheme, makes, inr (refusal, broken, declines)))) told =
     let same : Refused refusal ≡ Refused Dead =
     reason_once (Refused refusal) (Refused Dead) (sym (ap (λ (r : Report). r.reason) declines.0) ∙ told) in
     let dead : refusal ≡ Dead = cc same in
     absurd (subst (IsFieldRefusal field) dead broken)
 told_dead password field number rounds budget report (inl (is, inl (scheme, makes, inl (kept, spells, checked)))) told =
-    checked_dead (nat_lt budget (cost kept (length password))) (bytes_eq (crypt password kept) field) (is_replaced_by kept.scheme scheme)
+    checked_dead (nat_lt budget (cost kept (length password))) (bytes_eq (crypt password kept) field) (is_outdated_by kept.scheme scheme)
     password field budget scheme kept report spells checked told

@@ -3,7 +3,7 @@ use Rattle.std.proofs.Common.{◌≡◌, ℕ, Some, Err, false, inl, inr, refl, 
 use Rattle.std.specs.Prelude.{IsTrue}
 use Rattle.crypt_core.specs.MadeSettings.{TakesRounds}
 use Rattle.crypt_core.specs.Methods.{method_numbered}
-use Rattle.crypt_core.specs.Replacements.{is_replaced_by}
+use Rattle.crypt_core.specs.OutdatedSchemes.{is_outdated_by}
 use Rattle.crypt_core.specs.Settings.{SettingValue}
 use Rattle.crypt_core.specs.declared.method.Method.{Method}
 use Rattle.crypt_core.specs.declared.method.Method.TheVariants as methods
@@ -41,12 +41,12 @@ never_refused number rounds scheme Then makes method named never =
     let same : method ≡ makes.0 = cc (named, makes.1) in
     absurd (never (rw same makes.2))
 
-pub never_replaced : (scheme : Scheme) → is_replaced_by scheme scheme ≡ false
+pub never_replaced : (scheme : Scheme) → is_outdated_by scheme scheme ≡ false
 never_replaced Md5crypt = refl
 never_replaced (Shacrypt Sha256 rounds) = grind arith
 never_replaced (Shacrypt Sha512 rounds) = grind arith
 never_replaced (Scrypt params) = grind arith
 
 pub not_replaced : (kept other : SettingValue) (scheme also : Scheme) → kept ≡ other → scheme ≡ also
-    → is_replaced_by kept.scheme scheme ≡ false → IsTrue (is_replaced_by other.scheme also) → ⊥
+    → is_outdated_by kept.scheme scheme ≡ false → IsTrue (is_outdated_by other.scheme also) → ⊥
 not_replaced kept other scheme also same made never is = let no = rw (same, made) at never in cc (no, is)

@@ -3,12 +3,13 @@
 -- A password is the list of its bytes, `kept` is the setting that a text spells, and `rounds` is the number that makes a
 -- scheme.
 use Rattle.std.specs.Prelude.{◌≡◌, ◌⊎◌, ◌<◌, ◌≤◌, ℕ, List, [], Some, None, Result, Ok, Err}
-use Rattle.crypt_core.specs.MadeSettings.{TakesRounds, made_scheme}
+use Rattle.crypt_core.specs.MadeSettings.{BreaksMake, TakesRounds, made_scheme, make_faults}
 use Rattle.crypt_core.specs.Methods.{method_numbered}
 use Rattle.crypt_core.specs.Policies.{chosen_rounds}
 use Rattle.crypt_core.specs.Passwords.{IsPassword, IsPasswordRefused, password_limit}
 use Rattle.crypt_core.specs.Refusals.{IsRefused}
 use Rattle.crypt_core.specs.Rounds.{clamped}
+use Rattle.crypt_core.specs.Rules.{IsFirstBroken}
 use Rattle.crypt_core.specs.Settings.{SettingValue, Spells}
 use Rattle.crypt_core.specs.StoredFields.{IsLocked, IsStored}
 use Rattle.crypt_core.specs.declared.method.Method.{Method}
@@ -16,10 +17,12 @@ use Rattle.crypt_core.specs.declared.method.Method.TheVariants as methods
 use Rattle.crypt_core.specs.declared.password.PasswordFault.{PasswordFault}
 use Rattle.crypt_core.specs.declared.password.PasswordFault.TheVariants.{TooLong}
 use Rattle.crypt_core.specs.declared.scheme.Scheme.{Scheme}
+use Rattle.crypt_core.specs.declared.setting.fault.MakeFault.{MakeFault}
+use Rattle.crypt_core.specs.declared.setting.fault.MakeFault.TheVariants as making
 use Rattle.crypt_core.specs.declared.setting.fault.SettingFault.{SettingFault}
 use Rattle.call_core.specs.Reports.{refused}
 use Rattle.call_core.specs.declared.reason.Refusal.{Refusal}
-use Rattle.call_core.specs.declared.reason.Refusal.TheVariants.{Password, Setting, UnknownMethod, Cost, Locked, NoHash}
+use Rattle.call_core.specs.declared.reason.Refusal.TheVariants.{Password, Setting, UnknownMethod, Rounds, Locked, NoHash, SaltLength, SaltCharacter}
 use Rattle.call_core.specs.declared.report.Report.{Report}
 
 -- The bytes are a password, and `Then` holds; or they break a rule first, and `Refuses` holds of it.
@@ -65,14 +68,52 @@ abbrev pub OnScheme : (Method → ℕ → Type 0) → ℕ → ℕ → (Refusal �
 OnScheme Takes number rounds Refuses Then =
     ((scheme : Scheme) × IsSchemeMade Takes number rounds scheme × Then scheme)
     ⊎ (((method_numbered number ≡ None) × Refuses UnknownMethod)
-    ⊎ ((method : Method) × (method_numbered number ≡ Some method) × (¬ Takes method rounds) × Refuses Cost))
+    ⊎ ((method : Method) × (method_numbered number ≡ Some method) × (¬ Takes method rounds) × Refuses Rounds))
 
 -- The scheme that a method's number and rounds make, or the refusal.
 abbrev pub IsSchemeReading : (Method → ℕ → Type 0) → ℕ → ℕ → Result Scheme Refusal → Type 0
 IsSchemeReading Takes number rounds (Ok scheme) = IsSchemeMade Takes number rounds scheme
 IsSchemeReading Takes number rounds (Err refusal) =
     ((refusal ≡ UnknownMethod) × (method_numbered number ≡ None))
-    ⊎ ((refusal ≡ Cost) × ((method : Method) × (method_numbered number ≡ Some method) × (¬ Takes method rounds)))
+    ⊎ ((refusal ≡ Rounds) × ((method : Method) × (method_numbered number ≡ Some method) × (¬ Takes method rounds)))
+
+-- The refusal of a call for that of a setting with a given salt.
+abbrev pub make_refusal : MakeFault → Refusal
+make_refusal making.SaltLength = SaltLength
+make_refusal making.SaltCharacter = SaltCharacter
+make_refusal making.Cost = Rounds
+
+-- BreaksGiven method rounds salt fault: a method, rounds of new hashes and a given salt break the rule of this refusal.
+abbrev pub BreaksGiven : Method → ℕ → List ℕ → MakeFault → Type 0
+BreaksGiven method rounds salt making.Cost = ¬ TakesNewRounds method rounds
+BreaksGiven method rounds salt fault = BreaksMake method rounds (Some salt) fault
+
+-- IsGivenRefused method rounds salt fault: this is the refusal of the first rule that they break.
+unfoldable pub IsGivenRefused : Method → ℕ → List ℕ → MakeFault → Type 0
+IsGivenRefused method rounds salt = IsFirstBroken make_faults (BreaksGiven method rounds salt)
+
+-- The setting of the method with this number, with new rounds that it takes and a given salt.
+abbrev pub IsGivenMade : ℕ → ℕ → List ℕ → SettingValue → Type 0
+IsGivenMade number rounds salt kept =
+    (method : Method) × (method_numbered number ≡ Some method) × ((fault : MakeFault) → ¬ BreaksGiven method rounds salt fault)
+    × (kept ≡ record { scheme = made_scheme method (chosen_rounds method rounds); salt = salt })
+
+-- A method's number, rounds and a given salt make a setting, of which `Then` holds; or `Refuses` holds of the refusal: no method has
+-- the number, or of the first rule that the salt and the rounds break.
+abbrev pub OnGiven : ℕ → ℕ → List ℕ → (Refusal → Type 0) → (SettingValue → Type 0) → Type 0
+OnGiven number rounds salt Refuses Then =
+    ((kept : SettingValue) × IsGivenMade number rounds salt kept × Then kept)
+    ⊎ (((method_numbered number ≡ None) × Refuses UnknownMethod)
+    ⊎ ((method : Method) × (fault : MakeFault) × (method_numbered number ≡ Some method) × IsGivenRefused method rounds salt fault
+    × Refuses (make_refusal fault)))
+
+-- The setting that a method's number, rounds and a given salt make, or the refusal.
+abbrev pub IsGivenReading : ℕ → ℕ → List ℕ → Result SettingValue Refusal → Type 0
+IsGivenReading number rounds salt (Ok kept) = IsGivenMade number rounds salt kept
+IsGivenReading number rounds salt (Err refusal) =
+    ((refusal ≡ UnknownMethod) × (method_numbered number ≡ None))
+    ⊎ ((method : Method) × (fault : MakeFault) × (method_numbered number ≡ Some method) × IsGivenRefused method rounds salt fault
+    × (refusal ≡ make_refusal fault))
 
 -- The report of a refusal that precedes the cost of a hash.
 abbrev pub Refuses : Report → Refusal → Type 0

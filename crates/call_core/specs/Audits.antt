@@ -1,35 +1,65 @@
 -- The audit of a stored field, without a password.
 use Rattle.std.specs.Prelude.{◌≡◌, ◌≢◌, ℕ, List, []}
 use Rattle.prims_core.specs.Work.{no_work}
+use Rattle.crypt_core.specs.Findings.{Finds}
+use Rattle.crypt_core.specs.Methods.{method_row}
+use Rattle.crypt_core.specs.OtherSchemes.{other_scheme_row}
+use Rattle.crypt_core.specs.Schemes.{row_count, sha_method}
 use Rattle.crypt_core.specs.Settings.{SettingValue, Spells}
-use Rattle.crypt_core.specs.Standings.{HasStanding, greatest_cost}
+use Rattle.crypt_core.specs.Standings.{HasStanding}
+use Rattle.crypt_core.specs.declared.finding.Finding.{Finding}
+use Rattle.crypt_core.specs.declared.finding.Finding.TheVariants.{Hash, NoHash, Locked, Malformed, Other, Unknown, NoScheme}
+use Rattle.crypt_core.specs.declared.method.Method.TheVariants as methods
 use Rattle.crypt_core.specs.declared.scheme.Scheme.{Scheme}
+use Rattle.crypt_core.specs.declared.scheme.Scheme.TheVariants.{Md5crypt, Shacrypt, Scrypt}
+use Rattle.crypt_core.specs.declared.setting.fault.SettingFault.TheVariants.{UnknownScheme}
 use Rattle.crypt_core.specs.declared.standing.Standing.{Standing}
 use Rattle.crypt_core.specs.declared.standing.Standing.TheVariants as standings
-use Rattle.call_core.specs.Arguments.{IsSchemeMade, OnField, OnScheme, Refuses, TakesNewRounds}
+use Rattle.call_core.specs.Arguments.{IsSchemeMade, OnScheme, Refuses, TakesNewRounds}
 use Rattle.call_core.specs.Limits.{limit_of, twice}
 use Rattle.call_core.specs.Logins.{IsUncheckable}
 use Rattle.call_core.specs.Reasons.{reason_row}
-use Rattle.call_core.specs.Reports.{reported}
+use Rattle.call_core.specs.Reports.{refused, reported}
 use Rattle.call_core.specs.declared.reason.Reason.{Reason}
 use Rattle.call_core.specs.declared.reason.Reason.TheVariants.{Done, Refused}
-use Rattle.call_core.specs.declared.reason.Refusal.TheVariants.{Dead, OverBudget, Replaced}
+use Rattle.call_core.specs.declared.reason.Refusal.TheVariants as Refusals
+use Rattle.call_core.specs.declared.reason.Refusal.TheVariants.{Dead, OverBudget, Outdated}
 use Rattle.call_core.specs.declared.report.Report.{Report}
 
 -- The reason for each standing.
 abbrev pub standing_reason : Standing → Reason
 standing_reason standings.OverBudget = Refused OverBudget
 standing_reason standings.Dead = Refused Dead
-standing_reason standings.Outdated = Refused Replaced
+standing_reason standings.Outdated = Refused Outdated
 standing_reason standings.Current = Done
 
--- The report of mkpasswd_audit and web_audit: the standing of the stored hash, with the greatest cost of a hash with its
--- setting; or the refusal of the method, the rounds or the field. A budget of 0 stands for the audit's own.
+-- with_scheme scheme report: the report, with a scheme's number and its rounds, or N, r and p.
+abbrev pub with_scheme : Scheme → Report → Report
+with_scheme Md5crypt report = record report { scheme = (method_row methods.Md5crypt).number; rounds = 1000 }
+with_scheme (Shacrypt sha rounds) report = record report { scheme = (method_row (sha_method sha)).number; rounds = rounds.count }
+with_scheme (Scrypt params) report =
+    record report { scheme = (method_row methods.Scrypt).number; n = row_count params; r = params.r; p = params.p }
+
+-- audit_report finding: the report of a finding.
+--   Hash       the reason for its standing, the greatest cost of a hash with its setting, and its scheme
+--   Malformed  what is wrong with the setting
+--   Other      an unknown scheme, with its number
+--   Unknown    an unknown scheme
+abbrev pub audit_report : Finding → Report
+audit_report (Hash scheme most standing) = with_scheme scheme (reported (standing_reason standing) 0 most no_work)
+audit_report NoHash = refused Refusals.NoHash 0
+audit_report Locked = refused Refusals.Locked 0
+audit_report (Malformed fault) = refused (Refusals.Setting fault) 0
+audit_report (Other other) = record (refused (Refusals.Setting UnknownScheme) 0) { scheme = (other_scheme_row other).0 }
+audit_report Unknown = refused (Refusals.Setting UnknownScheme) 0
+audit_report NoScheme = refused Refusals.NoScheme 0
+
+-- The report of mkpasswd_audit and web_audit: what an audit finds in the field; or the refusal of the method or the rounds. A
+-- budget of 0 stands for the audit's own.
 abbrev pub Audits : List ℕ → ℕ → ℕ → ℕ → Report → Type 0
 Audits field number rounds budget report =
-    OnScheme TakesNewRounds number rounds (Refuses report) (λ scheme. OnField field (Refuses report) (λ kept.
-    (standing : Standing) × HasStanding scheme budget field kept standing
-    × (report ≡ reported (standing_reason standing) 0 (greatest_cost kept) no_work)))
+    OnScheme TakesNewRounds number rounds (Refuses report) (λ scheme.
+    (finding : Finding) × Finds scheme budget field finding × (report ≡ audit_report finding))
 
 -- A field that an audit passes: it spells a setting, and is current by the scheme of the method and the rounds, within the
 -- budget.

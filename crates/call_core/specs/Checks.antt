@@ -12,7 +12,7 @@ use Rattle.crypt_core.specs.Work.{cost, work}
 use Rattle.call_core.specs.Arguments.{OnField, OnPassword, Refuses}
 use Rattle.call_core.specs.Reports.{LacksMemory, refused, reported}
 use Rattle.call_core.specs.declared.reason.Reason.{Reason}
-use Rattle.call_core.specs.declared.reason.Reason.TheVariants.{Fits, Refused}
+use Rattle.call_core.specs.declared.reason.Reason.TheVariants.{Matches, Refused}
 use Rattle.call_core.specs.declared.reason.Refusal.{Refusal}
 use Rattle.call_core.specs.declared.reason.Refusal.TheVariants.{OverBudget, Differs}
 use Rattle.call_core.specs.declared.report.Report.{Report}
@@ -42,9 +42,9 @@ Compares password kept stored fits misses report =
 -- The report of mkpasswd_verify and web_verify.
 --   a refusal         that refusal
 --   above the budget  OverBudget and the cost, without work
---   otherwise         Fits or Differs with the cost and the work of one hash, or that scrypt could not allocate
+--   otherwise         Matches or Differs with the cost and the work of one hash, or that scrypt could not allocate
 abbrev pub Verifies : List ℕ → List ℕ → ℕ → Report → Type 0
 Verifies password stored budget report =
     OnPassword password (Refuses report) (OnField stored (Refuses report) (λ kept.
     let most = cost kept (length password) in
-    MatchBool (nat_lt budget most) (report ≡ refused OverBudget most) (Compares password kept stored Fits Differs report)))
+    MatchBool (nat_lt budget most) (report ≡ refused OverBudget most) (Compares password kept stored Matches Differs report)))

@@ -4,6 +4,7 @@ pub mod Checks
 pub mod Hashes
 pub mod Limits
 pub mod Logins
+pub mod Names
 pub mod Private
 pub mod Reasons
 pub mod Rehashes

@@ -10,7 +10,7 @@ use Rattle.crypt_core.specs.Passwords.{password_limit}
 -- The limit of a policy.
 pub use Rattle.crypt_core.specs.Policies.{new_cost, policy_limit}
 use Rattle.crypt_core.specs.Policies.{IsLongestWithin, chosen_rounds, fitted}
-use Rattle.crypt_core.specs.Replacements.{is_replaced_by}
+use Rattle.crypt_core.specs.OutdatedSchemes.{is_outdated_by}
 use Rattle.crypt_core.specs.Rounds.{clamped}
 use Rattle.crypt_core.specs.declared.method.Method.{Method}
 use Rattle.crypt_core.specs.declared.method.Method.TheVariants as methods
@@ -90,8 +90,8 @@ rounds_report scheme len (Some own) = record (reported Done 0 (new_cost own len)
 rounds_report scheme len None = refused OverBudget (new_cost scheme len)
 
 -- The report of mkpasswd_rounds and web_rounds: the rounds of the fitted scheme.
-abbrev pub Fits : ℕ → ℕ → ℕ → Limit → Report → Type 0
-Fits len number rounds limit report =
+abbrev pub ReportsRounds : ℕ → ℕ → ℕ → Limit → Report → Type 0
+ReportsRounds len number rounds limit report =
     OnLength len (Refuses report) (OnScheme TakesNewRounds number rounds (Refuses report) (λ scheme.
     report ≡ rounds_report scheme len (fitted scheme (limit_bytes limit scheme) len)))
 
@@ -102,4 +102,4 @@ pub record AreFitted (len number limit : ℕ) (scheme : Scheme) (report : Report
   pub makes : IsSchemeMade TakesNewRounds number report.rounds own
   pub price : report.cost ≡ new_cost own len
   pub within : report.cost ≤ limit
-  pub fewer : is_replaced_by scheme own ≡ false
+  pub fewer : is_outdated_by scheme own ≡ false

@@ -8,7 +8,7 @@ use Rattle.prims_core.specs.declared.meter.Work.{Work}
 use Rattle.crypt_core.specs.Crypt.{IsAfterRefusedGrowth, allocates}
 use Rattle.crypt_core.specs.MadeSettings.{salted}
 use Rattle.crypt_core.specs.Passwords.{IsPassword, IsPasswordRefused}
-use Rattle.crypt_core.specs.Replacements.{is_replaced_by}
+use Rattle.crypt_core.specs.OutdatedSchemes.{is_outdated_by}
 use Rattle.crypt_core.specs.Settings.{SettingValue, Spells}
 use Rattle.crypt_core.specs.StoredFields.{IsWhole}
 use Rattle.crypt_core.specs.Work.{cost, work}
@@ -21,7 +21,7 @@ use Rattle.call_core.specs.Limits.{limit_of, new_cost, policy_limit, twice}
 use Rattle.call_core.specs.Reasons.{reason_row}
 use Rattle.call_core.specs.Rehashes.{IsOutdated}
 use Rattle.call_core.specs.Reports.{refused, reported}
-use Rattle.call_core.specs.declared.reason.Reason.TheVariants.{Fits, Outdated, Refused}
+use Rattle.call_core.specs.declared.reason.Reason.TheVariants.{Matches, Outdated, Refused}
 use Rattle.call_core.specs.declared.reason.Refusal.{Refusal}
 use Rattle.call_core.specs.declared.reason.Refusal.TheVariants.{Dead, Differs, OutOfMemory, OverBudget, Password}
 use Rattle.call_core.specs.declared.report.Report.{Report}
@@ -52,7 +52,7 @@ IsMiss field kept refusal = ⊥
 -- The report of mkpasswd_login.
 --   a refused password, method or rounds that refusal, without work
 --   a stored hash that can't be checked  the report of mkpasswd_verify with the work of the decoy
---   otherwise                            the report of mkpasswd_verify, with Outdated in place of Fits if the scheme
+--   otherwise                            the report of mkpasswd_verify, with Outdated in place of Matches if the scheme
 --                                        replaces the setting, and Dead in place of Differs if the hash is not whole
 abbrev pub LogsIn : List ℕ → List ℕ → ℕ → ℕ → ℕ → Report → Type 0
 LogsIn password field number rounds budget report =
@@ -62,7 +62,7 @@ LogsIn password field number rounds budget report =
     MatchBool (nat_lt budget most)
     (Declines password scheme budget (refused OverBudget most) report)
     ((misses : Refusal) × IsMiss field kept misses
-    × Compares password kept field (if is_replaced_by kept.scheme scheme then Outdated else Fits) misses report))))
+    × Compares password kept field (if is_outdated_by kept.scheme scheme then Outdated else Matches) misses report))))
 
 -- What the work of a hash with this scheme cost: the bytes that were digested, and for scrypt those that were mixed, 2r
 -- blocks of 64 bytes in each mixing.
@@ -81,13 +81,13 @@ IsLoginWork password field number rounds budget done =
 abbrev pub IsUncheckable : List ℕ → List ℕ → ℕ → Type 0
 IsUncheckable password field budget = (kept : SettingValue) → Spells field kept → budget < cost kept (length password)
 
--- A report that agrees with that of mkpasswd_verify: its cost and reason are the same, but Outdated may stand for Fits, and
+-- A report that agrees with that of mkpasswd_verify: its cost and reason are the same, but Outdated may stand for Matches, and
 -- Dead for Differs.
 abbrev pub Agrees : Report → Report → Type 0
 Agrees report verified =
     (report.cost ≡ verified.cost)
     × ((report.reason ≡ verified.reason)
-    ⊎ (((report.reason ≡ (reason_row Outdated).0) × (verified.reason ≡ (reason_row Fits).0))
+    ⊎ (((report.reason ≡ (reason_row Outdated).0) × (verified.reason ≡ (reason_row Matches).0))
     ⊎ ((report.reason ≡ (reason_row (Refused Dead)).0) × (verified.reason ≡ (reason_row (Refused Differs)).0))))
 
 -- If the method and the rounds are valid, and a valid password is checked against a dead hash within the budget, the report is

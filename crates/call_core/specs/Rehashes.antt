@@ -2,7 +2,7 @@
 use Rattle.std.specs.Prelude.{◌≡◌, if◌then◌else◌, ℕ, IsTrue, List}
 use Rattle.prims_core.specs.Work.{no_work}
 use Rattle.crypt_core.specs.MadeSettings.{TakesRounds}
-use Rattle.crypt_core.specs.Replacements.{is_replaced_by}
+use Rattle.crypt_core.specs.OutdatedSchemes.{is_outdated_by}
 use Rattle.crypt_core.specs.Settings.{SettingValue, Spells}
 use Rattle.crypt_core.specs.declared.scheme.Scheme.{Scheme}
 use Rattle.call_core.specs.Arguments.{IsSchemeMade, OnScheme, OnSetting, Refuses}
@@ -15,11 +15,11 @@ use Rattle.call_core.specs.declared.report.Report.{Report}
 abbrev pub IsOutdated : List ℕ → ℕ → ℕ → Type 0
 IsOutdated stored number rounds =
     (kept : SettingValue) × (scheme : Scheme) × Spells stored kept × IsSchemeMade TakesRounds number rounds scheme
-    × IsTrue (is_replaced_by kept.scheme scheme)
+    × IsTrue (is_outdated_by kept.scheme scheme)
 
 -- The report of mkpasswd_needs_rehash: Outdated if the scheme replaces the setting, else Current; or the refusal of an
 -- argument.
 abbrev pub Rehashes : List ℕ → ℕ → ℕ → Report → Type 0
 Rehashes stored number rounds report =
     OnSetting stored (Refuses report) (λ kept. OnScheme TakesRounds number rounds (Refuses report) (λ scheme.
-    report ≡ (if is_replaced_by kept.scheme scheme then reported Outdated 0 0 no_work else refused Current 0)))
+    report ≡ (if is_outdated_by kept.scheme scheme then reported Outdated 0 0 no_work else refused Current 0)))

@@ -1,5 +1,5 @@
 -- Reports, and what a call leaves in the caller's bytes.
-use Rattle.std.specs.Prelude.{◌≡◌, ◌⊎◌, ◌↔◌, ◌<ℤ◌, ℕ, ℤ, pos, if◌then◌else◌, List, [], ◌∷◌, ◌++◌, length, take, drop, codes}
+use Rattle.std.specs.Prelude.{◌≡◌, ◌⊎◌, ◌↔◌, ◌<◌, ◌<ℤ◌, ℕ, ℤ, pos, if◌then◌else◌, List, [], ◌∷◌, ◌++◌, length, take, drop, codes}
 use Rattle.std.specs.Str.{bytes_eq}
 use Rattle.prims_core.specs.Work.{no_work}
 use Rattle.prims_core.specs.declared.meter.Work.{Work}
@@ -12,11 +12,11 @@ use Rattle.call_core.specs.declared.reason.Refusal.{Refusal}
 use Rattle.call_core.specs.declared.reason.Refusal.TheVariants.{OutOfMemory}
 use Rattle.call_core.specs.declared.report.Report.{Report}
 
--- The report of a reason: `len` bytes were written, a hash costs at most `most`, and `counts` is the work. Only the calls on
--- a policy report rounds.
+-- The report of a reason: `len` bytes were written, a hash costs at most `most`, and `counts` is the work. Only the calls
+-- on a policy and an audit report rounds, and only an audit a scheme.
 abbrev pub reported : Reason → ℕ → ℕ → Work → Report
 reported reason len most counts =
-    record { reason = (reason_row reason).0; length = len; cost = most; work = counts; rounds = 0; reserved = 0 }
+    record { reason = (reason_row reason).0; length = len; cost = most; work = counts; rounds = 0; scheme = 0; n = 0; r = 0; p = 0 }
 
 -- The report of a refusal before any hashing, with the cost, or 0 if it is not known yet.
 abbrev pub refused : Refusal → ℕ → Report
@@ -33,15 +33,19 @@ abbrev pub put : List ℕ → List ℕ → List ℕ
 put text [] = []
 put text (b ∷ rest) = let cut = take (length rest) text in cut ++ 0 ∷ drop (length cut) rest
 
+-- The effect of a call that writes a text alone: as much of it as fits, and 1 exactly if that is all of it.
+abbrev pub PutsWhole : List ℕ → List ℕ → ℤ → List ℕ → Type 0
+PutsWhole text old result new =
+    (new ≡ put text old) × ((result ≡ pos 1) ⊎ (result ≡ pos 0)) × (result ≡ pos 1 ↔ length text < length old)
+
 -- The string that a refusal writes in place of a hash with this setting (crypt(3)). It is never that setting, and
 -- spells none.
 abbrev pub token : List ℕ → List ℕ
 token setting = if bytes_eq (take 2 setting) (codes "*0") then codes "*1" else codes "*0"
 
--- The result of each call with a report: 1 or 0, and 1 exactly if the reason is above 0. The last field of the report
--- is 0.
+-- The result of each call with a report: 1 or 0, and 1 exactly if the reason is above 0.
 abbrev pub Answers : ℤ → Report → Type 0
-Answers result report = ((result ≡ pos 1) ⊎ (result ≡ pos 0)) × (result ≡ pos 1 ↔ pos 0 <ℤ report.reason) × (report.reserved ≡ 0)
+Answers result report = ((result ≡ pos 1) ⊎ (result ≡ pos 0)) × (result ≡ pos 1 ↔ pos 0 <ℤ report.reason)
 
 -- The effect of a call: the wanted report, and the string in the caller's bytes.
 abbrev pub Leaves : Report → List ℕ → List ℕ → Report → List ℕ → Type 0

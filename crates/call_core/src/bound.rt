@@ -11,7 +11,6 @@ use crypt_core::work::{bound, cost};
 /// Returns the report of the greatest cost and work of a hash with the setting in the text.
 pub fn report_bound(password_len: usize, text: &[u8]) -> Report
     ensures bounds { Bounds password_len text.now result }
-    ensures reserved { result.reserved ≡ 0 }
 {
     if password_len > PASSWORD_LIMIT {
         return Report::from(PasswordFault::TooLong);

@@ -37,7 +37,6 @@ pub fn put_hash<M: Memory>(
         ⊎ (M.HasSome ⊎ ((¬ (pos 0 <ℤ result.reason)) × (result.work ≡ no_work))) }
     ensures bytes { result.work.bytes ≤ budget }
     ensures counted { meter.new ≡ result.work }
-    ensures reserved { result.reserved ≡ 0 }
 {
     let hashed = hash_of(memory, password, text, budget, out.len(), meter);
     put_hashed(hashed, token(text), out)

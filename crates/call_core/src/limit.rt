@@ -5,7 +5,7 @@ ghost use Rattle.crypt_core.specs.Passwords.{password_limit};
 ghost use Rattle.crypt_core.specs.Policies.{NeverFits};
 ghost use Rattle.crypt_core.specs.declared.scheme.Scheme.{Scheme as Made};
 ghost use Rattle.call_core.specs.Arguments.{IsSchemeMade, TakesNewRounds};
-ghost use Rattle.call_core.specs.Limits.{AreFitted, Fits, Limits, allowance, limit_by, limit_bytes, limit_in, meant};
+ghost use Rattle.call_core.specs.Limits.{AreFitted, ReportsRounds, Limits, allowance, limit_by, limit_bytes, limit_in, meant};
 
 use crate::reading::new_scheme_of;
 use crate::reason::Refusal;
@@ -67,7 +67,6 @@ impl Limit {
 pub fn report_limit(method: u32, rounds: u32, limit: Limit) -> Report
     ensures limits { Limits method rounds limit result }
     ensures used { (len : ℕ) → pos 0 <ℤ result.reason → len ≤ result.length → limit_in method rounds limit len ≡ result.cost }
-    ensures reserved { result.reserved ≡ 0 }
 {
     let scheme = match new_scheme_of(method, rounds) {
         Ok(scheme) => scheme,
@@ -84,14 +83,13 @@ pub fn report_limit(method: u32, rounds: u32, limit: Limit) -> Report
 /// the method and the rounds: these, or for SHA-crypt fewer. If there are none, it is `OverBudget`, with the cost by the
 /// policy's rounds.
 pub fn report_rounds(password_len: usize, method: u32, rounds: u32, limit: Limit) -> Report
-    ensures fits { Fits password_len method rounds limit result }
+    ensures rounds { ReportsRounds password_len method rounds limit result }
     ensures fitted { (scheme : Made) → IsSchemeMade TakesNewRounds method rounds scheme → pos 0 <ℤ result.reason
         → AreFitted password_len method (limit_bytes limit scheme) scheme result }
     ensures none { (scheme : Made) → IsSchemeMade TakesNewRounds method rounds scheme → password_len ≤ password_limit
         → ¬ (pos 0 <ℤ result.reason) → NeverFits scheme (limit_bytes limit scheme) password_len }
     ensures policy { (scheme : Made) → IsSchemeMade TakesNewRounds method rounds scheme → password_len ≤ password_limit
         → limit ≡ Limit.Policy → pos 0 <ℤ result.reason }
-    ensures reserved { result.reserved ≡ 0 }
 {
     if password_len > PASSWORD_LIMIT {
         return Report::from(PasswordFault::TooLong);

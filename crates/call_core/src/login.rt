@@ -54,7 +54,6 @@ pub fn log_in<M: Memory>(
         → IsUncheckable password.now field.now (limit_in method rounds limit (length password.now)) → allocates scheme ≡ true → M.HasSome ⊎ (result.work ≡ no_work) }
     ensures bytes { result.work.bytes ≤ limit_in method rounds limit (length password.now) }
     ensures counted { meter.new ≡ result.work }
-    ensures reserved { result.reserved ≡ 0 }
 {
     let request = match read_request(password, method, rounds, limit) {
         Ok(request) => request,
@@ -62,10 +61,10 @@ pub fn log_in<M: Memory>(
     };
     match checkable(&request.password, field, request.limit) {
         Ok((stored, most)) => {
-            let fits = if stored.setting().scheme().is_replaced_by(&request.scheme) {
+            let fits = if stored.setting().scheme().is_outdated_by(&request.scheme) {
                 Reason::Outdated
             } else {
-                Reason::Fits
+                Reason::Matches
             };
             compare(
                 memory,
@@ -112,7 +111,7 @@ fn decline<M: Memory>(
     meter: &mut Meter,
 ) -> Report
     requires new { meter.old ≡ no_work }
-    requires refused { (¬ (pos 0 <ℤ refused.reason)) × (refused.work ≡ no_work) × (refused.reserved ≡ 0) }
+    requires refused { (¬ (pos 0 <ℤ refused.reason)) × (refused.work ≡ no_work) }
     ensures declines { (result ≡ record refused { work = result.work })
         × IsHashWork password.now decoy.now budget result.work }
     ensures granted { (allocates decoy.now.scheme ≡ false) ⊎ (M.HasSome ⊎ (result.work ≡ no_work)) }

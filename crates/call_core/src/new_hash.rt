@@ -39,7 +39,6 @@ pub fn put_new_hash<M: Memory>(
     ensures current { pos 0 <ℤ result.reason
         → Rehashes (take result.length out.new) method rounds (refused Refusal.Current 0) }
     ensures counted { meter.new ≡ result.work }
-    ensures reserved { result.reserved ≡ 0 }
 {
     let room = out.len();
     let hashed = new_hash_of(

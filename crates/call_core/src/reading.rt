@@ -1,14 +1,15 @@
 //! The scheme that a method's number and the rounds make, and the hash in a stored field, or the first refusal.
-ghost use Rattle.std.specs.Prelude.{◌≡◌, ◌<ℤ◌, pos, length, IfOk, IfErr, IsOk, IsOkAnd};
+ghost use Rattle.std.specs.Prelude.{◌≡◌, ◌↔◌, ◌<ℤ◌, pos, length, IfOk, IfErr, IsOk, IsOkAnd, IsTrue};
 ghost use Rattle.prims_core.specs.Work.{no_work};
 ghost use Rattle.crypt_core.specs.MadeSettings.{TakesRounds};
 ghost use Rattle.crypt_core.specs.Passwords.{IsPassword};
 ghost use Rattle.crypt_core.specs.Settings.{SettingValue, Spells};
 ghost use Rattle.crypt_core.specs.StoredFields.{IsHashOf};
 ghost use Rattle.crypt_core.specs.declared.scheme.Scheme.{Scheme as Made};
-ghost use Rattle.call_core.specs.Arguments.{IsFieldRefusal, IsSchemeMade, IsSchemeReading, TakesNewRounds};
+ghost use Rattle.call_core.specs.Arguments.{IsFieldRefusal, IsGivenReading, IsSchemeMade, IsSchemeReading, TakesNewRounds};
 ghost use Rattle.call_core.specs.Limits.{limit_in};
 ghost use Rattle.call_core.specs.Private.Hashes.{IsRequestRefused};
+ghost use Rattle.call_core.specs.Private.Settings.{IsClamped};
 
 use crate::limit::Limit;
 use crate::reason::Refusal;
@@ -16,6 +17,7 @@ use crate::report::Report;
 use crypt_core::method::Method;
 use crypt_core::password::Password;
 use crypt_core::scheme::Scheme;
+use crypt_core::setting::Setting;
 use crypt_core::stored::{StoredField, StoredHash};
 
 /// Makes the scheme with a method's number and the rounds, where 0 stands for the recommended ones.
@@ -23,7 +25,7 @@ use crypt_core::stored::{StoredField, StoredHash};
 /// # Errors
 ///
 /// - `UnknownMethod`: no method has the number.
-/// - `Cost`: the method does not take the rounds.
+/// - `Rounds`: the method does not take the rounds.
 pub(crate) fn scheme_of(number: u32, rounds: u32) -> Result<Scheme, Refusal>
     ensures { IsSchemeReading TakesRounds number rounds result }
 {
@@ -32,7 +34,7 @@ pub(crate) fn scheme_of(number: u32, rounds: u32) -> Result<Scheme, Refusal>
     };
     match Scheme::made(method, method.chosen_rounds(rounds)) {
         Ok(scheme) => Ok(scheme),
-        Err(_) => Err(Refusal::Cost),
+        Err(_) => Err(Refusal::Rounds),
     }
 }
 
@@ -41,14 +43,44 @@ pub(crate) fn scheme_of(number: u32, rounds: u32) -> Result<Scheme, Refusal>
 /// # Errors
 ///
 /// - `UnknownMethod`: no method has the number.
-/// - `Cost`: the method does not take the rounds, or would clamp them.
+/// - `Rounds`: the method does not take the rounds, or would clamp them.
 pub(crate) fn new_scheme_of(number: u32, rounds: u32) -> Result<Scheme, Refusal>
     ensures { IsSchemeReading TakesNewRounds number rounds result }
 {
     let scheme = scheme_of(number, rounds)?;
-    match &scheme {
-        Scheme::Shacrypt(_, kept) if rounds != 0 && kept.count() != rounds => Err(Refusal::Cost),
-        _ => Ok(scheme),
+    if is_clamped(&scheme, rounds) {
+        return Err(Refusal::Rounds);
+    }
+    Ok(scheme)
+}
+
+/// Makes the setting of a new hash with a method's number, the rounds and a given salt.
+///
+/// # Errors
+///
+/// - `UnknownMethod`: no method has the number.
+/// - `SaltLength`, `SaltCharacter`: the salt is empty, has more characters than the method keeps, or one outside crypt's alphabet.
+/// - `Rounds`: the method does not take the rounds, or would clamp them.
+pub(crate) fn given_setting(number: u32, rounds: u32, salt: &[u8]) -> Result<Setting, Refusal>
+    ensures { IsGivenReading number rounds salt.now result }
+{
+    let Some(method) = Method::numbered(number) else {
+        return Err(Refusal::UnknownMethod);
+    };
+    let setting = Setting::make(method, method.chosen_rounds(rounds), salt)?;
+    if is_clamped(&setting.scheme(), rounds) {
+        return Err(Refusal::Rounds);
+    }
+    Ok(setting)
+}
+
+// Returns whether a scheme that was made with these rounds has others of SHA-crypt. 0 are the recommended ones.
+fn is_clamped(scheme: &Scheme, rounds: u32) -> bool
+    ensures { IsTrue result ↔ IsClamped scheme.now rounds }
+{
+    match scheme {
+        Scheme::Shacrypt(_, kept) => rounds != 0 && kept.count() != rounds,
+        _ => false,
     }
 }
 
@@ -78,7 +110,7 @@ pub(crate) fn read_request(
     ensures scheme { IfOk result (λ request. IsSchemeMade TakesNewRounds number rounds request.scheme) }
     ensures limit { IfOk result (λ request. request.limit ≡ limit_in number rounds limit (length password.now)) }
     ensures refused { IfErr result (IsRequestRefused password.now number rounds) }
-    ensures idle { IfErr result (λ report. (¬ (pos 0 <ℤ report.reason)) × (report.work ≡ no_work) × (report.reserved ≡ 0)) }
+    ensures idle { IfErr result (λ report. (¬ (pos 0 <ℤ report.reason)) × (report.work ≡ no_work)) }
     ensures admits { (scheme : Made) → IsPassword password.now → IsSchemeMade TakesNewRounds number rounds scheme → IsOk result }
 {
     let password = Password::new(password)?;

@@ -20,8 +20,8 @@ pub enum Refusal {
     TooFewBytes,
     /// No method has the number.
     UnknownMethod,
-    /// The method does not accept the cost.
-    Cost,
+    /// The method does not accept the rounds.
+    Rounds,
     /// The hash can cost more than the budget.
     OverBudget,
     /// The password does not match the stored hash.
@@ -36,8 +36,28 @@ pub enum Refusal {
     NoHash,
     /// No password matches the stored hash, because it is not whole.
     Dead,
-    /// A new hash would replace the stored one, so it is not current. The message is that of [`Reason::Outdated`].
-    Replaced,
+    /// A new hash would replace the stored one, so an audit doesn't find it current. The message is that of [`Reason::Outdated`].
+    Outdated,
+    /// The given salt is empty, or has more characters than the method keeps.
+    SaltLength,
+    /// The given salt has a byte outside crypt's alphabet.
+    SaltCharacter,
+    /// The stored field has the form of no scheme: it is a password, say, or a damaged hash.
+    NoScheme,
+}
+
+impl From<MakeFault> for Refusal {
+    ghost use Rattle.call_core.specs.Arguments.{make_refusal};
+
+    ghost from_gives = { λ fault refusal. refusal ≡ make_refusal fault };
+
+    fn from(fault: MakeFault) -> Refusal {
+        match fault {
+            MakeFault::SaltLength => Refusal::SaltLength,
+            MakeFault::SaltCharacter => Refusal::SaltCharacter,
+            MakeFault::Cost => Refusal::Rounds,
+        }
+    }
 }
 
 /// The reason for what a call returned.
@@ -46,7 +66,7 @@ pub enum Refusal {
 #[derive(Clone, Copy, Debug, PartialEq, Eq)]
 pub enum Reason {
     /// The password matches the stored hash.
-    Fits,
+    Matches,
     /// A new hash would replace the stored one.
     Outdated,
     /// The call did what its name says.
@@ -61,7 +81,7 @@ impl Reason {
         ensures { result ≡ (reason_row self).0 }
     {
         match self {
-            Reason::Fits => 1,
+            Reason::Matches => 1,
             Reason::Outdated => 2,
             Reason::Done => 3,
             Reason::Refused(Refusal::Password(PasswordFault::TooLong)) => -1,
@@ -77,7 +97,7 @@ impl Reason {
             Reason::Refused(Refusal::OutOfMemory) => -11,
             Reason::Refused(Refusal::TooFewBytes) => -12,
             Reason::Refused(Refusal::UnknownMethod) => -13,
-            Reason::Refused(Refusal::Cost) => -14,
+            Reason::Refused(Refusal::Rounds) => -14,
             Reason::Refused(Refusal::OverBudget) => -16,
             Reason::Refused(Refusal::Differs) => -17,
             Reason::Refused(Refusal::Current) => -18,
@@ -85,7 +105,10 @@ impl Reason {
             Reason::Refused(Refusal::Locked) => -20,
             Reason::Refused(Refusal::NoHash) => -21,
             Reason::Refused(Refusal::Dead) => -22,
-            Reason::Refused(Refusal::Replaced) => -23,
+            Reason::Refused(Refusal::Outdated) => -23,
+            Reason::Refused(Refusal::SaltLength) => -24,
+            Reason::Refused(Refusal::SaltCharacter) => -25,
+            Reason::Refused(Refusal::NoScheme) => -26,
         }
     }
 
@@ -95,7 +118,7 @@ impl Reason {
         ensures unknown { IfNone result ((reason : Why) → number ≢ (reason_row reason).0) }
     {
         let refusal = match number {
-            1 => return Some(Reason::Fits),
+            1 => return Some(Reason::Matches),
             2 => return Some(Reason::Outdated),
             3 => return Some(Reason::Done),
             -1 => Refusal::Password(PasswordFault::TooLong),
@@ -111,7 +134,7 @@ impl Reason {
             -11 => Refusal::OutOfMemory,
             -12 => Refusal::TooFewBytes,
             -13 => Refusal::UnknownMethod,
-            -14 => Refusal::Cost,
+            -14 => Refusal::Rounds,
             -16 => Refusal::OverBudget,
             -17 => Refusal::Differs,
             -18 => Refusal::Current,
@@ -119,7 +142,10 @@ impl Reason {
             -20 => Refusal::Locked,
             -21 => Refusal::NoHash,
             -22 => Refusal::Dead,
-            -23 => Refusal::Replaced,
+            -23 => Refusal::Outdated,
+            -24 => Refusal::SaltLength,
+            -25 => Refusal::SaltCharacter,
+            -26 => Refusal::NoScheme,
             _ => return None,
         };
         Some(Reason::Refused(refusal))
@@ -130,7 +156,7 @@ impl Reason {
         ensures { result.now ≡ (reason_row self).1 }
     {
         match self {
-            Reason::Fits => "fits",
+            Reason::Matches => "fits",
             Reason::Outdated => "outdated",
             Reason::Done => "done",
             Reason::Refused(Refusal::Password(fault)) => fault.text(),
@@ -138,7 +164,7 @@ impl Reason {
             Reason::Refused(Refusal::OutOfMemory) => HashFault::OutOfMemory.text(),
             Reason::Refused(Refusal::TooFewBytes) => "too few bytes",
             Reason::Refused(Refusal::UnknownMethod) => "unknown method",
-            Reason::Refused(Refusal::Cost) => MakeFault::Cost.text(),
+            Reason::Refused(Refusal::Rounds) => MakeFault::Cost.text(),
             Reason::Refused(Refusal::OverBudget) => "over budget",
             Reason::Refused(Refusal::Differs) => "differs",
             Reason::Refused(Refusal::Current) => "current",
@@ -146,7 +172,10 @@ impl Reason {
             Reason::Refused(Refusal::Locked) => "locked",
             Reason::Refused(Refusal::NoHash) => "no hash",
             Reason::Refused(Refusal::Dead) => "dead",
-            Reason::Refused(Refusal::Replaced) => "outdated",
+            Reason::Refused(Refusal::Outdated) => "outdated",
+            Reason::Refused(Refusal::SaltLength) => MakeFault::SaltLength.text(),
+            Reason::Refused(Refusal::SaltCharacter) => MakeFault::SaltCharacter.text(),
+            Reason::Refused(Refusal::NoScheme) => "no scheme",
         }
     }
 }

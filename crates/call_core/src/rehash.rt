@@ -12,14 +12,13 @@ pub fn report_rehash(stored: &[u8], method: u32, rounds: u32) -> Report
     ensures rehashes { Rehashes stored.now method rounds result }
     ensures outdated { pos 0 <ℤ result.reason → IsOutdated stored.now method rounds }
     ensures replaced { IsOutdated stored.now method rounds → pos 0 <ℤ result.reason }
-    ensures reserved { result.reserved ≡ 0 }
 {
     let setting = match Setting::read(stored) {
         Ok(setting) => setting,
         Err(fault) => return Report::from(fault),
     };
     match scheme_of(method, rounds) {
-        Ok(scheme) if setting.scheme().is_replaced_by(&scheme) => {
+        Ok(scheme) if setting.scheme().is_outdated_by(&scheme) => {
             Report::new(Reason::Outdated, 0, 0, NO_WORK)
         }
         Ok(_) => Report::refused(Refusal::Current, 0),

@@ -1,7 +1,7 @@
 //! The report of a call, and the string that it leaves in the caller's bytes.
 ghost use Rattle.std.specs.Prelude.{◌≡◌, ◌↔◌, ◌⊎◌, ◌<ℤ◌, pos};
 ghost use Rattle.prims_core.specs.Work.{no_work};
-ghost use Rattle.call_core.specs.Reports.{Leaves, put, refused, reported, token};
+ghost use Rattle.call_core.specs.Reports.{Leaves, PutsWhole, put, refused, reported, token};
 
 use crate::reason::{Reason, Refusal};
 use crypt_core::password::PasswordFault;
@@ -31,14 +31,19 @@ pub struct Report {
     pub cost: u64,
     /// All the work that was done. In the report of a bound it is the greatest work.
     pub work: Work,
-    /// The rounds of new hashes, in the report of a limit or of rounds, or else 0.
+    /// The rounds of new hashes, in the report of a limit or of rounds; in that of an audit those of the stored hash, unless it
+    /// is of scrypt; or else 0.
     pub rounds: u32,
-    /// Always 0.
-    pub reserved: u32,
+    /// The number of the stored hash's scheme, in the report of an audit, or else 0. 0 also stands for an unknown scheme.
+    pub scheme: u32,
+    /// scrypt's N, r and p, in the report of an audit, or else 0.
+    pub n: u64,
+    pub r: u32,
+    pub p: u32,
 }
 
 // C and the page read the fields at fixed places.
-const _: () = prove!(size_of::<Report>() == 64);
+const _: () = prove!(size_of::<Report>() == 80);
 
 impl Report {
     /// Returns a report with these parts.
@@ -51,7 +56,10 @@ impl Report {
             cost,
             work,
             rounds: 0,
-            reserved: 0,
+            scheme: 0,
+            n: 0,
+            r: 0,
+            p: 0,
         }
     }
 
@@ -132,6 +140,14 @@ pub fn put(out: &mut [u8], text: &[u8])
     let cut = text.len().min(out.len() - 1);
     out[..cut].copy_from_slice(&text[..cut]);
     out[cut] = 0;
+}
+
+/// Writes a string to `out` as [`put`] does, and returns 1, or 0 if it was cut.
+pub fn put_whole(out: &mut [u8], text: &[u8]) -> i32
+    ensures { PutsWhole text.now out.old result out.new }
+{
+    put(out, text);
+    if text.len() < out.len() { 1 } else { 0 }
 }
 
 /// Writes a string to `out` as [`put`] does, and returns the report.

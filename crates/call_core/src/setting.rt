@@ -1,9 +1,10 @@
 //! A new setting.
 ghost use Rattle.std.specs.Prelude.{◌≡◌, ◌<ℤ◌, pos, []};
+ghost use Rattle.crypt_core.specs.Settings.{canonical_text};
 ghost use Rattle.call_core.specs.Reports.{put, token};
-ghost use Rattle.call_core.specs.Settings.{PutsSetting};
+ghost use Rattle.call_core.specs.Settings.{PutsGivenSetting, PutsSetting, PutsText};
 
-use crate::reading::new_scheme_of;
+use crate::reading::{given_setting, new_scheme_of};
 use crate::reason::{Reason, Refusal};
 use crate::report::{NO_WORK, Report, leave, token};
 use crypt_core::setting::Setting;
@@ -12,13 +13,30 @@ use crypt_core::setting::Setting;
 pub fn put_setting(method: u32, rounds: u32, numbers: [u64; 3], out: &mut [u8]) -> Report
     ensures puts { PutsSetting method rounds numbers out.old result out.new }
     ensures locked { ¬ (pos 0 <ℤ result.reason) → out.new ≡ put (token []) out.old }
-    ensures reserved { result.reserved ≡ 0 }
 {
-    let scheme = match new_scheme_of(method, rounds) {
-        Ok(scheme) => scheme,
-        Err(refusal) => return leave(Report::from(refusal), out, token(b"")),
-    };
-    let text = Setting::salted(scheme, numbers).text();
+    match new_scheme_of(method, rounds) {
+        Ok(scheme) => put_text(&Setting::salted(scheme, numbers), out),
+        Err(refusal) => leave(Report::from(refusal), out, token(b"")),
+    }
+}
+
+/// Writes the setting with the given salt to `out`, or after a refusal the token, and returns the report.
+pub fn put_setting_with_salt(method: u32, rounds: u32, salt: &[u8], out: &mut [u8]) -> Report
+    ensures puts { PutsGivenSetting method rounds salt.now out.old result out.new }
+    ensures locked { ¬ (pos 0 <ℤ result.reason) → out.new ≡ put (token []) out.old }
+{
+    match given_setting(method, rounds, salt) {
+        Ok(setting) => put_text(&setting, out),
+        Err(refusal) => leave(Report::from(refusal), out, token(b"")),
+    }
+}
+
+// Writes the setting to `out`, or the token if there is no room for it, and returns the report.
+fn put_text(setting: &Setting, out: &mut [u8]) -> Report
+    ensures puts { PutsText (canonical_text setting.now) out.old result out.new }
+    ensures locked { ¬ (pos 0 <ℤ result.reason) → out.new ≡ put (token []) out.old }
+{
+    let text = setting.text();
     if text.len() >= out.len() {
         return leave(Report::refused(Refusal::TooFewBytes, 0), out, token(b""));
     }

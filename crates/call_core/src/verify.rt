@@ -37,7 +37,6 @@ pub fn verify<M: Memory>(
         ⊎ (M.HasSome ⊎ ((¬ (pos 0 <ℤ result.reason)) × (result.work ≡ no_work))) }
     ensures bytes { result.work.bytes ≤ budget }
     ensures counted { meter.new ≡ result.work }
-    ensures reserved { result.reserved ≡ 0 }
 {
     let password = match Password::new(password) {
         Ok(password) => password,
@@ -49,7 +48,7 @@ pub fn verify<M: Memory>(
             &password,
             &stored,
             most,
-            Reason::Fits,
+            Reason::Matches,
             Refusal::Differs,
             meter,
         ),
@@ -67,7 +66,7 @@ pub(crate) fn checkable<'a>(
     ensures found { IfOk result (λ check. IsHashOf field.now check.0) }
     ensures within { IfOk result (λ check. (check.1 ≡ cost check.0.setting (length password.now)) × (check.1 ≤ budget)) }
     ensures refused { IfErr result (IsCheckRefused password.now field.now budget) }
-    ensures idle { IfErr result (λ report. (¬ (pos 0 <ℤ report.reason)) × (report.work ≡ no_work) × (report.reserved ≡ 0)) }
+    ensures idle { IfErr result (λ report. (¬ (pos 0 <ℤ report.reason)) × (report.work ≡ no_work)) }
     ensures only { IfOk result (λ check. (kept : SettingValue) → Spells field.now kept → check.0.setting ≡ kept) }
     ensures admits { (kept : SettingValue) → Spells field.now kept → cost kept (length password.now) ≤ budget → IsOk result }
 {
@@ -89,7 +88,7 @@ pub(crate) fn compare<M: Memory>(
 ) -> Report
     requires new { meter.old ≡ no_work }
     requires most { most ≡ cost stored.now.setting (length password.now) }
-    requires fits { (fits ≡ Reason.Fits) ⊎ (fits ≡ Reason.Outdated) }
+    requires fits { (fits ≡ Reason.Matches) ⊎ (fits ≡ Reason.Outdated) }
     requires misses { (misses ≡ Refusal.Differs) ⊎ (misses ≡ Refusal.Dead) }
     ensures compares { Compares password.now stored.now.setting stored.now.text fits misses result }
     ensures same { pos 0 <ℤ result.reason
@@ -103,9 +102,8 @@ pub(crate) fn compare<M: Memory>(
         ⊎ (M.HasSome ⊎ ((¬ (pos 0 <ℤ result.reason)) × (result.work ≡ no_work))) }
     ensures bytes { result.work.bytes ≤ most }
     ensures counted { meter.new ≡ result.work }
-    ensures reserved { result.reserved ≡ 0 }
 {
-    let reason = match stored.fits(memory, password, meter) {
+    let reason = match stored.matches(memory, password, meter) {
         Ok(true) => fits,
         Ok(false) => Reason::Refused(misses),
         Err(_) => Reason::Refused(Refusal::OutOfMemory),

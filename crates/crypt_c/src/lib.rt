@@ -24,12 +24,13 @@ ghost use Rattle.call_core.specs.Arguments.{IsSchemeMade, TakesNewRounds};
 ghost use Rattle.call_core.specs.Audits.{Audits, ForeseesLogins, IsCurrent};
 ghost use Rattle.call_core.specs.Checks.{IsDead, Opens, Verifies};
 ghost use Rattle.call_core.specs.Hashes.{Hashes, HashesAnew};
-ghost use Rattle.call_core.specs.Limits.{AreFitted, Fits, Limits, limit_bytes, limit_of, meant, new_cost, policy_limit, twice};
+ghost use Rattle.call_core.specs.Limits.{AreFitted, ReportsRounds, Limits, limit_bytes, limit_of, meant, new_cost, policy_limit, twice};
 ghost use Rattle.call_core.specs.Logins.{JudgesStoredHash, LogsIn, TreatsFieldsAlike};
+ghost use Rattle.call_core.specs.Names.{PutsSchemeName};
 ghost use Rattle.call_core.specs.Reasons.{reason_row};
 ghost use Rattle.call_core.specs.Rehashes.{IsOutdated, Rehashes};
 ghost use Rattle.call_core.specs.Reports.{Answers, put, refused, token};
-ghost use Rattle.call_core.specs.Settings.{Bounds, PutsSetting};
+ghost use Rattle.call_core.specs.Settings.{Bounds, PutsGivenSetting, PutsSetting};
 ghost use Rattle.call_core.specs.declared.reason.Reason.{Reason as Why};
 ghost use Rattle.call_core.specs.declared.reason.Reason.TheVariants.{Refused};
 ghost use Rattle.call_core.specs.declared.reason.Refusal.TheVariants.{Current, OutOfMemory};
@@ -39,11 +40,12 @@ use call_core::bound::report_bound;
 use call_core::hash::put_hash;
 use call_core::limit::{Limit, report_limit, report_rounds};
 use call_core::login::log_in;
+use call_core::name::put_scheme_name;
 use call_core::new_hash::put_new_hash;
 use call_core::reason::Reason;
 use call_core::rehash::report_rehash;
-use call_core::report::{Report, put, tell};
-use call_core::setting::put_setting;
+use call_core::report::{Report, put, put_whole, tell};
+use call_core::setting::{put_setting, put_setting_with_salt};
 use call_core::verify::verify;
 use crypt_core::version::VERSION_NUMBER;
 use prims_core::meter::Meter;
@@ -100,7 +102,7 @@ pub extern "C" fn mkpasswd_proved_verify(
 /// # Errors
 ///
 /// - `Password`: the password is invalid. The field makes no difference.
-/// - `UnknownMethod`, `Cost`: no method has the number, or a new hash cannot have the rounds. Here too the field makes no
+/// - `UnknownMethod`, `Rounds`: no method has the number, or a new hash cannot have the rounds. Here too the field makes no
 ///   difference.
 /// - `Locked`, `NoHash`: the field begins with `!` or `*`, or is empty.
 /// - `Setting`, `OverBudget`: any other field has no valid hash, or one that can cost more than the budget. After these
@@ -156,7 +158,7 @@ pub extern "C" fn mkpasswd_proved_login(
 /// # Errors
 ///
 /// - `Password`: the password is invalid.
-/// - `UnknownMethod`, `Cost`: no method has the number, or the method does not accept the rounds, or would clamp them.
+/// - `UnknownMethod`, `Rounds`: no method has the number, or the method does not accept the rounds, or would clamp them.
 /// - `OverBudget`: the hash can cost more than the budget.
 /// - `TooFewBytes`: the hash and the byte 0 do not fit into `out`.
 /// - `NoRandomNumbers`: `numbers` does not have three.
@@ -204,7 +206,7 @@ pub extern "C" fn mkpasswd_proved_new_from(
 /// # Errors
 ///
 /// - `Setting`: the stored hash is invalid.
-/// - `UnknownMethod`, `Cost`: no method has the number, or the method does not accept the rounds.
+/// - `UnknownMethod`, `Rounds`: no method has the number, or the method does not accept the rounds.
 /// - `Current`: the stored hash needs no replacement.
 #[unsafe(no_mangle)]
 pub extern "C" fn mkpasswd_needs_rehash(
@@ -225,17 +227,20 @@ pub extern "C" fn mkpasswd_needs_rehash(
 ///
 /// Rounds of 0 are the recommended ones, 656000 and for scrypt 7. A budget of 0 is the greatest cost of a hash with the
 /// method and the rounds, and at least that of sha512crypt with 656000 rounds; above it is also a hash for which a login by
-/// them and the limit of the policy refuses even the empty password. The report has the greatest cost of a hash with the
-/// setting in the field, for a password of 1,024 bytes. The call hashes and allocates nothing.
+/// them and the limit of the policy refuses even the empty password. The report has the number of the field's scheme, and of a
+/// hash its rounds, or scrypt's N, r and p, and the greatest cost of a hash with its setting, for a password of 1,024 bytes. The
+/// call hashes and allocates nothing.
 ///
 /// # Errors
 ///
-/// - `UnknownMethod`, `Cost`: no method has the number, or a new hash cannot have the rounds.
+/// - `UnknownMethod`, `Rounds`: no method has the number, or a new hash cannot have the rounds.
 /// - `Locked`, `NoHash`: the field begins with `!` or `*`, or is empty.
-/// - `Setting`: any other field has no valid hash.
+/// - `Setting`: any other field begins with `$`, and has no valid hash; or with `UnknownScheme` it has the form of another scheme
+///   of crypt(5).
+/// - `NoScheme`: any other field has the form of no scheme: it is a password, say, or a damaged hash.
 /// - `OverBudget`: the hash is over the budget.
 /// - `Dead`: no password matches the hash, because it is not whole.
-/// - `Replaced`: a new hash would replace it.
+/// - `Outdated`: a new hash would replace it.
 #[unsafe(no_mangle)]
 pub extern "C" fn mkpasswd_audit(
     field: &[u8],
@@ -262,7 +267,7 @@ pub extern "C" fn mkpasswd_audit(
 ///
 /// # Errors
 ///
-/// - `UnknownMethod`, `Cost`: no method has the number, or a new hash cannot have the rounds.
+/// - `UnknownMethod`, `Rounds`: no method has the number, or a new hash cannot have the rounds.
 /// - `OverBudget`: no new hash is within the limit. The cost in the report is the limit.
 #[unsafe(no_mangle)]
 pub extern "C" fn mkpasswd_limit(method: u32, rounds: u32, budget: u64, report: &mut Report) -> i32
@@ -282,7 +287,7 @@ pub extern "C" fn mkpasswd_limit(method: u32, rounds: u32, budget: u64, report: 
 /// # Errors
 ///
 /// - `Password`: the length exceeds that of any password.
-/// - `UnknownMethod`, `Cost`: no method has the number, or a new hash cannot have the rounds.
+/// - `UnknownMethod`, `Rounds`: no method has the number, or a new hash cannot have the rounds.
 /// - `OverBudget`: no hash of such a password is within the limit, with SHA-crypt by whatever rounds. With a budget of 0 there
 ///   always is one.
 #[unsafe(no_mangle)]
@@ -294,7 +299,7 @@ pub extern "C" fn mkpasswd_rounds(
     report: &mut Report,
 ) -> i32
     ensures answers { Answers result report.new }
-    ensures fits { Fits password_len method rounds (meant budget) report.new }
+    ensures rounds { ReportsRounds password_len method rounds (meant budget) report.new }
     ensures fitted { (scheme : Scheme) → IsSchemeMade TakesNewRounds method rounds scheme → result ≡ pos 1
         → AreFitted password_len method (limit_bytes (meant budget) scheme) scheme report.new }
     ensures none { (scheme : Scheme) → IsSchemeMade TakesNewRounds method rounds scheme → password_len ≤ password_limit
@@ -359,7 +364,7 @@ pub extern "C" fn mkpasswd_proved_hash(
 ///
 /// # Errors
 ///
-/// - `UnknownMethod`, `Cost`: no method has the number, or the method does not accept the rounds, or would clamp them.
+/// - `UnknownMethod`, `Rounds`: no method has the number, or the method does not accept the rounds, or would clamp them.
 /// - `TooFewBytes`: the setting and the byte 0 do not fit into `out`.
 #[unsafe(no_mangle)]
 pub extern "C" fn mkpasswd_setting(
@@ -381,6 +386,30 @@ pub extern "C" fn mkpasswd_setting(
     )
 }
 
+/// Makes a setting with a method, the rounds and a given salt, and writes it and a byte 0 to `out`.
+///
+/// # Errors
+///
+/// - `UnknownMethod`: no method has the number.
+/// - `SaltLength`, `SaltCharacter`: the salt is empty, has more characters than the method keeps, or one outside crypt's alphabet.
+/// - `Rounds`: the method does not accept the rounds, or would clamp them.
+/// - `TooFewBytes`: the setting and the byte 0 do not fit into `out`.
+#[unsafe(no_mangle)]
+pub extern "C" fn mkpasswd_setting_with_salt(
+    method: u32,
+    rounds: u32,
+    salt: &[u8],
+    out: &mut [u8],
+    report: &mut Report,
+) -> i32
+    ensures answers { Answers result report.new }
+    ensures puts { PutsGivenSetting method rounds salt.now out.old report.new out.new }
+    ensures locked { result ≡ pos 0 → out.new ≡ put (token []) out.old }
+{
+    let told = put_setting_with_salt(method, rounds, salt, out);
+    tell(report, told)
+}
+
 /// Writes the message for a reason and a byte 0 to `out`, cut to the capacity of `out`.
 ///
 /// It returns 1, or 0 if the message is cut or no reason has the number.
@@ -396,9 +425,17 @@ pub extern "C" fn mkpasswd_words(reason: i32, out: &mut [u8]) -> i32
         put(out, b"unknown reason");
         return 0;
     };
-    let message = reason.message().as_bytes();
-    put(out, message);
-    if message.len() < out.len() { 1 } else { 0 }
+    put_whole(out, reason.message().as_bytes())
+}
+
+/// Writes the name in crypt(5) of the scheme with this number and a byte 0 to `out`, cut to the capacity of `out`.
+///
+/// It returns 1, or 0 if the name is cut or no scheme has the number.
+#[unsafe(no_mangle)]
+pub extern "C" fn mkpasswd_scheme_name(scheme: u32, out: &mut [u8]) -> i32
+    ensures { PutsSchemeName scheme out.old result out.new }
+{
+    put_scheme_name(scheme, out)
 }
 
 /// Returns the version: 10000 times its first number, plus 100 times its second, plus its third.

@@ -8,7 +8,7 @@ use Rattle.std.proofs.Math.Nat.{div-mul-le_self, mul-le-mul, mul-le-mul_right}
 use Rattle.kdf_core.specs.Hmac.{key_digests}
 use Rattle.crypt_core.specs.Cycle.{digit_bytes}
 use Rattle.crypt_core.specs.Policies.{NeverFits, fewer_rounds, fitting_rounds, limit_floor, new_cost, policy_limit}
-use Rattle.crypt_core.specs.Replacements.{is_replaced_by}
+use Rattle.crypt_core.specs.OutdatedSchemes.{is_outdated_by}
 use Rattle.crypt_core.specs.Rounds.{Rounds, clamped}
 use Rattle.crypt_core.specs.Schemes.{IsScheme, method_of, sha_method}
 use Rattle.crypt_core.specs.Work.{rounds_bytes, shacrypt_bytes}
@@ -91,14 +91,14 @@ never_fits digest limit len count many above = elim (cases_lt (fitting digest li
 -- ---- each scheme
 
 pub fewer_kept : (scheme : Scheme) (limit len : ℕ) → IsScheme scheme → limit < new_cost scheme len
-    → IfSome (fewer_rounds scheme limit len) (λ fewer. is_replaced_by scheme fewer ≡ false)
+    → IfSome (fewer_rounds scheme limit len) (λ fewer. is_outdated_by scheme fewer ≡ false)
 fewer_kept Md5crypt limit len is above = tt
 fewer_kept (Shacrypt Sha256 rounds) limit len is above =
     go (nat_le (shacrypt_bytes 32 255 (clamped (fitting 32 limit len)) len 16) limit) (fewer_fit 32 limit len rounds.count (omega (arith, is.0)) above)
   where
     go : (within : Bool) → clamped (fitting 32 limit len) ≤ rounds.count
         → IfSome (if within then Some (Shacrypt Sha256 (record { count = clamped (fitting 32 limit len); is_written = true })) else None)
-        (λ fewer. is_replaced_by (Shacrypt Sha256 rounds) fewer ≡ false)
+        (λ fewer. is_outdated_by (Shacrypt Sha256 rounds) fewer ≡ false)
     go true less = grind (arith, nat_tests, less)
     go false less = tt
 fewer_kept (Shacrypt Sha512 rounds) limit len is above =
@@ -106,7 +106,7 @@ fewer_kept (Shacrypt Sha512 rounds) limit len is above =
   where
     go : (within : Bool) → clamped (fitting 64 limit len) ≤ rounds.count
         → IfSome (if within then Some (Shacrypt Sha512 (record { count = clamped (fitting 64 limit len); is_written = true })) else None)
-        (λ fewer. is_replaced_by (Shacrypt Sha512 rounds) fewer ≡ false)
+        (λ fewer. is_outdated_by (Shacrypt Sha512 rounds) fewer ≡ false)
     go true less = grind (arith, nat_tests, less)
     go false less = tt
 fewer_kept (Scrypt params) limit len is above = tt

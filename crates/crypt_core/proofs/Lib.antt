@@ -12,6 +12,7 @@ pub mod FirstRefusal
 pub mod FittedRounds
 pub mod GroupNumbers
 pub mod HashedTexts
+pub mod JudgedHashes
 pub mod MadeSaltLemmas
 pub mod MadeSettings
 pub mod Md5cryptLemmas

@@ -1,6 +1,7 @@
 pub mod Crypt
 pub mod Cycle
 pub mod Faults
+pub mod Findings
 pub mod Fits
 pub mod MadeSalts
 pub mod MadeSettings
@@ -9,13 +10,14 @@ pub mod Messages
 pub mod Metering
 pub mod MethodLimits
 pub mod Methods
+pub mod OtherSchemes
+pub mod OutdatedSchemes
 pub mod Packing
 pub mod Passwords
 pub mod Policies
 pub mod Private
 pub mod Readings
 pub mod Refusals
-pub mod Replacements
 pub mod RoundMessage
 pub mod Rounds
 pub mod Rules

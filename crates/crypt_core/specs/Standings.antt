@@ -2,7 +2,7 @@
 use Rattle.std.specs.Prelude.{◌≡◌, ◌⊎◌, ℕ, ◌<◌, List, Option, Some, None, true, false}
 use Rattle.crypt_core.specs.Passwords.{password_limit}
 use Rattle.crypt_core.specs.Policies.{chosen_budget, policy_limit}
-use Rattle.crypt_core.specs.Replacements.{is_replaced_by}
+use Rattle.crypt_core.specs.OutdatedSchemes.{is_outdated_by}
 use Rattle.crypt_core.specs.Settings.{SettingValue}
 use Rattle.crypt_core.specs.StoredFields.{IsWhole}
 use Rattle.crypt_core.specs.Work.{cost}
@@ -34,6 +34,6 @@ abbrev pub HasStanding : Scheme → ℕ → List ℕ → SettingValue → Standi
 HasStanding new budget text kept OverBudget = IsOverBudget new budget kept
 HasStanding new budget text kept Dead = (¬ IsOverBudget new budget kept) × (¬ IsWhole text kept)
 HasStanding new budget text kept Outdated =
-    (¬ IsOverBudget new budget kept) × IsWhole text kept × (is_replaced_by kept.scheme new ≡ true)
+    (¬ IsOverBudget new budget kept) × IsWhole text kept × (is_outdated_by kept.scheme new ≡ true)
 HasStanding new budget text kept Current =
-    (¬ IsOverBudget new budget kept) × IsWhole text kept × (is_replaced_by kept.scheme new ≡ false)
+    (¬ IsOverBudget new budget kept) × IsWhole text kept × (is_outdated_by kept.scheme new ≡ false)

@@ -88,5 +88,5 @@ pub fn fits(
     ensures below { (kept : SettingValue) → Spells stored.now kept → IsBelow (work password.now kept) work_limit }
     ensures each_refusal { (fault : Refusal) → IsRefused stored.now fault → result ≡ Err (FitFault.Setting fault) }
 {
-    Ok(StoredHash::read(stored)?.fits(&alloc, password, meter)?)
+    Ok(StoredHash::read(stored)?.matches(&alloc, password, meter)?)
 }

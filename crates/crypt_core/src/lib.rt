@@ -2,6 +2,7 @@
 //! work as it is known before hashing, and the version.
 #![tactic(auto)]
 
+pub mod finding;
 pub mod fits;
 pub mod hash;
 pub mod made_salt;
@@ -9,6 +10,7 @@ pub mod md5crypt;
 pub mod memory;
 mod messages;
 pub mod method;
+pub mod other_scheme;
 pub mod pack;
 pub mod password;
 pub mod policy;

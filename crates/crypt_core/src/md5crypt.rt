@@ -21,7 +21,7 @@ use prims_core::counted::{Counted, CountedMd5};
 use prims_core::meter::Meter;
 
 /// The number of rounds.
-pub(crate) const ROUNDS: u32 = 1000;
+pub const ROUNDS: u32 = 1000;
 
 // The rounds run in parts of this many, which divides their number. LLVM inlines the calls of MD5's padding in a loop
 // within a loop, and not in a single one.

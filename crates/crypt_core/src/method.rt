@@ -100,6 +100,13 @@ impl Method {
             .find(|method| number == method.row().number)
     }
 
+    /// Returns the number in the method's prefix, by which [`numbered`](Method::numbered) finds it.
+    pub fn number(self) -> u32
+        ensures { result ≡ (method_row self).number }
+    {
+        self.row().number
+    }
+
     /// Returns the name of the method, by which [`named`](Method::named) finds it.
     pub fn name(self) -> &'static [u8]
         ensures { result.now ≡ (method_row self).name }

@@ -7,7 +7,7 @@ ghost use Rattle.crypt_core.specs.MadeSettings.{TakesRounds};
 ghost use Rattle.crypt_core.specs.MethodLimits.{salt_limit};
 ghost use Rattle.crypt_core.specs.Policies.{IsLongestWithin, NeverFits, audit_budget, chosen_budget, chosen_rounds, fewer_rounds, fitted, fitting_rounds, greatest_cost_by, longest_round, new_cost, opening_bytes, policy_limit, recommended_rounds};
 ghost use Rattle.crypt_core.specs.Passwords.{password_limit};
-ghost use Rattle.crypt_core.specs.Replacements.{is_replaced_by};
+ghost use Rattle.crypt_core.specs.OutdatedSchemes.{is_outdated_by};
 ghost use Rattle.crypt_core.specs.Rounds.{clamped};
 ghost use Rattle.crypt_core.specs.Schemes.{IsScheme, method_of};
 ghost use Rattle.crypt_core.specs.Settings.{SettingValue};
@@ -117,7 +117,7 @@ impl Scheme {
         ensures within { IfSome result (λ scheme. new_cost scheme password_len ≤ limit) }
         ensures own { new_cost self.now password_len ≤ limit → result ≡ Some self.now }
         ensures method { IfSome result (λ scheme. method_of scheme ≡ method_of self.now) }
-        ensures kept { IfSome result (λ scheme. is_replaced_by self.now scheme ≡ false) }
+        ensures kept { IfSome result (λ scheme. is_outdated_by self.now scheme ≡ false) }
         ensures none { IfNone result (NeverFits self.now limit password_len) }
         ensures policy { policy_limit self.now ≤ limit → IsSome result }
     {

@@ -4,7 +4,7 @@
 ghost use Rattle.std.specs.Prelude.{◌≡◌, ◌+◌, ◌≤◌, ◌↔◌, IsOk, IfOk, IfErr, true, false};
 ghost use Rattle.kdf_core.specs.Params.{IsAccepted};
 ghost use Rattle.crypt_core.specs.MadeSettings.{TakesRounds, made_scheme, rounds_of};
-ghost use Rattle.crypt_core.specs.Replacements.{is_replaced_by};
+ghost use Rattle.crypt_core.specs.OutdatedSchemes.{is_outdated_by};
 ghost use Rattle.crypt_core.specs.Rounds.{IsRounds, default_rounds, clamped};
 ghost use Rattle.crypt_core.specs.Schemes.{IsScheme, method_of};
 
@@ -188,8 +188,8 @@ impl Scheme {
     ///
     /// It is if `new` has another method, or the same one with more rounds or, for scrypt, a greater `N * r * p`.
     /// Whether the rounds have a field makes no difference.
-    pub fn is_replaced_by(&self, new: &Scheme) -> bool
-        ensures { result ≡ is_replaced_by self.now new.now }
+    pub fn is_outdated_by(&self, new: &Scheme) -> bool
+        ensures { result ≡ is_outdated_by self.now new.now }
     {
         match (self, new) {
             (Scheme::Md5crypt, Scheme::Md5crypt) => false,

@@ -7,7 +7,7 @@ ghost use Rattle.std.specs.Prelude.{◌≡◌, ◌≤◌, ◌↔◌, length, All
 ghost use Rattle.prims_core.specs.Alphabet.{alphabet};
 ghost use Rattle.crypt_core.specs.MethodLimits.{salt_limit};
 ghost use Rattle.crypt_core.specs.Schemes.{IsScheme, method_of};
-ghost use Rattle.crypt_core.specs.Replacements.{is_replaced_by};
+ghost use Rattle.crypt_core.specs.OutdatedSchemes.{is_outdated_by};
 
 mod fault;
 mod make;
@@ -89,11 +89,11 @@ impl Setting {
 
     /// Returns whether a hash with this setting is out of date once new hashes are made with the setting `new`.
     ///
-    /// [`Scheme::is_replaced_by`] decides that by their schemes. Salts make no difference.
+    /// [`Scheme::is_outdated_by`] decides that by their schemes. Salts make no difference.
     pub fn replaced_by(&self, new: &Setting) -> bool
-        ensures { result ≡ is_replaced_by self.now.scheme new.now.scheme }
+        ensures { result ≡ is_outdated_by self.now.scheme new.now.scheme }
     {
-        self.scheme.is_replaced_by(&new.scheme)
+        self.scheme.is_outdated_by(&new.scheme)
     }
 }
 

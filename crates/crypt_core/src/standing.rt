@@ -45,7 +45,7 @@ impl StoredHash<'_> {
             Standing::OverBudget
         } else if !self.is_whole() {
             Standing::Dead
-        } else if self.setting().scheme().is_replaced_by(new) {
+        } else if self.setting().scheme().is_outdated_by(new) {
             Standing::Outdated
         } else {
             Standing::Current

@@ -97,7 +97,7 @@ impl<'a> StoredHash<'a> {
     ///
     /// - `OutOfMemory`: scrypt has no memory, or could not allocate. The meter adds only the allocations that succeeded.
     ///   No other method allocates.
-    pub fn fits<M: Memory>(
+    pub fn matches<M: Memory>(
         &self,
         memory: &M,
         password: &Password,

@@ -23,8 +23,9 @@ ghost use Rattle.call_core.specs.Arguments.{IsSchemeMade, TakesNewRounds};
 ghost use Rattle.call_core.specs.Audits.{Audits, ForeseesLogins, IsCurrent};
 ghost use Rattle.call_core.specs.Checks.{IsDead, NeedsNoMemory, Opens, Verifies};
 ghost use Rattle.call_core.specs.Hashes.{Hashes};
-ghost use Rattle.call_core.specs.Limits.{AreFitted, Fits, Limits, limit_bytes, limit_of, meant, twice};
+ghost use Rattle.call_core.specs.Limits.{AreFitted, ReportsRounds, Limits, limit_bytes, limit_of, meant, twice};
 ghost use Rattle.call_core.specs.Logins.{IsUncheckable, JudgesStoredHash, LogsIn, TreatsFieldsAlike};
+ghost use Rattle.call_core.specs.Names.{PutsSchemeName};
 ghost use Rattle.call_core.specs.Rehashes.{IsOutdated, Rehashes};
 ghost use Rattle.call_core.specs.Reports.{Answers, put, token};
 ghost use Rattle.call_core.specs.Settings.{Bounds, PutsSetting};
@@ -34,6 +35,7 @@ use call_core::bound::report_bound;
 use call_core::hash::put_hash;
 use call_core::limit::{Limit, report_limit, report_rounds};
 use call_core::login::log_in;
+use call_core::name::put_scheme_name;
 use call_core::rehash::report_rehash;
 use call_core::report::{Report, tell};
 use call_core::setting::put_setting;
@@ -93,7 +95,7 @@ pub extern "C" fn web_verify(
 /// # Errors
 ///
 /// - `Password`: the password is invalid. The field makes no difference.
-/// - `UnknownMethod`, `Cost`: no method has the number, or a new hash cannot have the rounds. Here too the field makes no
+/// - `UnknownMethod`, `Rounds`: no method has the number, or a new hash cannot have the rounds. Here too the field makes no
 ///   difference.
 /// - `Locked`, `NoHash`: the field begins with `!` or `*`, or is empty.
 /// - `Setting`, `OverBudget`: any other field has no valid hash, or one that can cost more than the budget. After these
@@ -147,7 +149,7 @@ pub extern "C" fn web_login(
 /// # Errors
 ///
 /// - `Setting`: the stored hash is invalid.
-/// - `UnknownMethod`, `Cost`: no method has the number, or the method does not accept the rounds.
+/// - `UnknownMethod`, `Rounds`: no method has the number, or the method does not accept the rounds.
 /// - `Current`: the stored hash needs no replacement.
 #[unsafe(no_mangle)]
 pub extern "C" fn web_needs_rehash(
@@ -206,7 +208,7 @@ pub extern "C" fn web_hash(
 ///
 /// # Errors
 ///
-/// - `UnknownMethod`, `Cost`: no method has the number, or the method does not accept the rounds, or would clamp them.
+/// - `UnknownMethod`, `Rounds`: no method has the number, or the method does not accept the rounds, or would clamp them.
 /// - `TooFewBytes`: the setting and the byte 0 do not fit into `out`.
 #[unsafe(no_mangle)]
 pub extern "C" fn web_setting(
@@ -231,14 +233,17 @@ pub extern "C" fn web_setting(
 /// Audits the stored hash in a field, as `mkpasswd_audit` does for C. Returns 1 if it is current: some digest makes it, no
 /// hash with its setting costs more than the budget, and a new hash with the method and the rounds would not replace it.
 ///
-/// It hashes nothing. Rounds of 0 are the recommended ones, and a budget of 0 is that of an audit.
+/// It hashes nothing. Rounds of 0 are the recommended ones, and a budget of 0 is that of an audit. The report has the number of
+/// the field's scheme, and of a hash its rounds, or scrypt's N, r and p, and its greatest cost.
 ///
 /// # Errors
 ///
-/// - `UnknownMethod`, `Cost`: no method has the number, or a new hash cannot have the rounds.
+/// - `UnknownMethod`, `Rounds`: no method has the number, or a new hash cannot have the rounds.
 /// - `Locked`, `NoHash`: the field begins with `!` or `*`, or is empty.
-/// - `Setting`: any other field has no valid hash.
-/// - `OverBudget`, `Dead`, `Replaced`: the hash is over the budget; no password matches it, because it is not whole; a new
+/// - `Setting`: any other field begins with `$`, and has no valid hash; or with `UnknownScheme` it has the form of another scheme
+///   of crypt(5).
+/// - `NoScheme`: any other field has the form of no scheme.
+/// - `OverBudget`, `Dead`, `Outdated`: the hash is over the budget; no password matches it, because it is not whole; a new
 ///   hash would replace it.
 #[unsafe(no_mangle)]
 pub extern "C" fn web_audit(
@@ -266,7 +271,7 @@ pub extern "C" fn web_audit(
 ///
 /// # Errors
 ///
-/// - `UnknownMethod`, `Cost`: no method has the number, or a new hash cannot have the rounds.
+/// - `UnknownMethod`, `Rounds`: no method has the number, or a new hash cannot have the rounds.
 /// - `OverBudget`: no new hash is within the limit. The cost in the report is the limit.
 #[unsafe(no_mangle)]
 pub extern "C" fn web_limit(method: u32, rounds: u32, budget: u64, report: &mut Report) -> i32
@@ -286,7 +291,7 @@ pub extern "C" fn web_limit(method: u32, rounds: u32, budget: u64, report: &mut 
 /// # Errors
 ///
 /// - `Password`: the length exceeds that of any password.
-/// - `UnknownMethod`, `Cost`: no method has the number, or a new hash cannot have the rounds.
+/// - `UnknownMethod`, `Rounds`: no method has the number, or a new hash cannot have the rounds.
 /// - `OverBudget`: no hash of such a password is within the limit, with SHA-crypt by whatever rounds. With a budget of 0 there
 ///   always is one.
 #[unsafe(no_mangle)]
@@ -298,7 +303,7 @@ pub extern "C" fn web_rounds(
     report: &mut Report,
 ) -> i32
     ensures answers { Answers result report.new }
-    ensures fits { Fits password_len method rounds (meant budget) report.new }
+    ensures rounds { ReportsRounds password_len method rounds (meant budget) report.new }
     ensures fitted { (scheme : Scheme) → IsSchemeMade TakesNewRounds method rounds scheme → result ≡ pos 1
         → AreFitted password_len method (limit_bytes (meant budget) scheme) scheme report.new }
     ensures none { (scheme : Scheme) → IsSchemeMade TakesNewRounds method rounds scheme → password_len ≤ password_limit
@@ -324,4 +329,14 @@ pub extern "C" fn web_cost(setting: &[u8], password_len: usize, report: &mut Rep
     ensures bounds { Bounds password_len setting.now report.new }
 {
     tell(report, report_bound(password_len, setting))
+}
+
+/// Writes the name in crypt(5) of the scheme with this number and a byte 0 to `out`, cut to the capacity of `out`.
+///
+/// It returns 1, or 0 if the name is cut or no scheme has the number.
+#[unsafe(no_mangle)]
+pub extern "C" fn web_scheme_name(scheme: u32, out: &mut [u8]) -> i32
+    ensures { PutsSchemeName scheme out.old result out.new }
+{
+    put_scheme_name(scheme, out)
 }

@@ -20,9 +20,9 @@ use Rattle.crypt_core.specs.declared.method.Method.TheVariants.{Md5crypt}
 use Rattle.crypt_core.specs.declared.stored.StoredField.{StoredField}
 use Rattle.crypt_core.specs.declared.stored.StoredField.TheVariants as fields
 use Rattle.run_core.specs.Answers.{Answer, Hashing, hashing, new_hash, new_hashing}
-use Rattle.run_core.specs.Audits.{Finds}
+use Rattle.crypt_core.specs.Findings.{Finds}
 use Rattle.crypt_core.specs.Standings.{IsAbove}
-use Rattle.run_core.specs.JobOptions.{check_cost, is_outdated}
+use Rattle.run_core.specs.JobOptions.{check_cost, given_budget, is_outdated}
 use Rattle.run_core.specs.LineAnswers.{ComesTo, IsAnswer, IsCostly, IsPasswordAnswer, answer_of, refusal}
 use Rattle.run_core.specs.Lines.{HasParts, IsLineRefused, Parts}
 use Rattle.run_core.specs.Makers.{made_cost_by}
@@ -30,7 +30,7 @@ use Rattle.run_core.specs.Private.Answers.{Concludes, IsChecked, IsSettled, Sett
 use Rattle.run_core.specs.Private.Lines.{HasSoundParts, IsFieldOf, IsLine}
 use Rattle.run_core.specs.declared.answer.Outcome.{Outcome}
 use Rattle.run_core.specs.declared.answer.Outcome.TheVariants.{Match, Rehashed, Misfit, Audited}
-use Rattle.run_core.specs.declared.audit.Finding.{Finding}
+use Rattle.crypt_core.specs.declared.finding.Finding.{Finding}
 use Rattle.run_core.specs.declared.job.Job.{Job}
 use Rattle.run_core.specs.declared.line.Kind.{Kind}
 use Rattle.run_core.specs.declared.line.Kind.TheVariants.{Batch, Check, Audit}
@@ -199,7 +199,7 @@ password_answer kind job number line stream answer other is = is
 
 -- one that is gets the finding of its field
 pub audit_answer : (kind : Kind) (job : Job) (number : ℕ) (line : List ℕ) (stream : Stream) (parts : Parts) (field : List ℕ) (finding : Finding) → kind ≡ Audit
-    → HasSoundParts kind line parts → parts.field ≡ Some field → Finds job field finding
+    → HasSoundParts kind line parts → parts.field ≡ Some field → Finds job.maker.scheme (given_budget job) field finding
     → IsAnswer kind job number line stream (answer_of job parts.name (Audited finding) [])
 audit_answer Audit job number line stream parts field finding is taken fielded finds =
     inr (taken.sound, parts, taken.cut, field, fielded, finding, finds, refl)

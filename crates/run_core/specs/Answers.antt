@@ -6,7 +6,8 @@ use Rattle.prims_core.specs.declared.meter.Work.{Work}
 use Rattle.crypt_core.specs.Crypt.{crypt, IsAfterRefusedGrowth}
 use Rattle.crypt_core.specs.Settings.{SettingValue}
 use Rattle.crypt_core.specs.Work.{raised_by, work}
-use Rattle.run_core.specs.Audits.{finding_text, needs_care}
+use Rattle.crypt_core.specs.Findings.{needs_care}
+use Rattle.run_core.specs.Audits.{finding_text}
 use Rattle.run_core.specs.Makers.{next_setting, stream_after}
 use Rattle.run_core.specs.Texts.{as_line, colon}
 use Rattle.run_core.specs.declared.answer.Outcome.{Outcome}

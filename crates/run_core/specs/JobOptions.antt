@@ -1,7 +1,7 @@
 -- The options of a job: a budget, which limits the cost of a line, and rehashes of passwords whose stored hash is out
 -- of date.
 use Rattle.std.specs.Prelude.{ℕ, ◌+◌, ◌&&◌, Bool, false, None, if◌then◌else◌, unwrap_or}
-use Rattle.crypt_core.specs.Replacements.{is_replaced_by}
+use Rattle.crypt_core.specs.OutdatedSchemes.{is_outdated_by}
 use Rattle.crypt_core.specs.Settings.{SettingValue}
 use Rattle.crypt_core.specs.Work.{cost}
 use Rattle.run_core.specs.Makers.{made_cost_by}
@@ -17,7 +17,7 @@ given_budget job = unwrap_or job.budget 0
 
 -- is_outdated job kept is true if the job asks for rehashes, and its scheme replaces that of the setting.
 abbrev pub is_outdated : Job → SettingValue → Bool
-is_outdated job kept = job.rehash && is_replaced_by kept.scheme job.maker.scheme
+is_outdated job kept = job.rehash && is_outdated_by kept.scheme job.maker.scheme
 
 -- check_cost job kept password_length is the greatest cost of the check of a password with this length. It is the cost
 -- of its hash with the stored setting. If that is out of date, the cost of the new hash is added, whether or not the

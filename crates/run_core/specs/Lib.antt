@@ -12,7 +12,6 @@ pub mod Lines
 pub mod Makers
 pub mod Methods
 pub mod One
-pub mod OtherSchemes
 pub mod Output
 pub mod Private
 pub mod Runs

@@ -6,8 +6,8 @@ use Rattle.crypt_core.specs.Settings.{SettingValue, Spells}
 use Rattle.crypt_core.specs.StoredFields.{IsLocked}
 use Rattle.crypt_core.specs.Standings.{IsAbove}
 use Rattle.run_core.specs.Answers.{Answer, Hashing, counts_text, hashing, new_hash, new_hashing, rendered, shows_work, stream_left}
-use Rattle.run_core.specs.Audits.{Finds}
-use Rattle.run_core.specs.JobOptions.{check_cost, is_outdated}
+use Rattle.crypt_core.specs.Findings.{Finds}
+use Rattle.run_core.specs.JobOptions.{check_cost, given_budget, is_outdated}
 use Rattle.run_core.specs.Faults.{line_fault_text}
 use Rattle.run_core.specs.Lines.{Parts, HasParts, IsLineRefused, IsSound}
 use Rattle.run_core.specs.Makers.{made_cost_by}
@@ -15,7 +15,7 @@ use Rattle.run_core.specs.Texts.{as_line, colon}
 use Rattle.run_core.specs.declared.answer.Outcome.{Outcome}
 use Rattle.run_core.specs.declared.answer.Outcome.TheVariants.{Hashed, Match, Rehashed, Misfit, NoHash, Locked, Audited}
 use Rattle.run_core.specs.declared.job.Job.{Job}
-use Rattle.run_core.specs.declared.audit.Finding.{Finding}
+use Rattle.crypt_core.specs.declared.finding.Finding.{Finding}
 use Rattle.run_core.specs.declared.line.Kind.{Kind}
 use Rattle.run_core.specs.declared.line.Kind.TheVariants.{Audit}
 use Rattle.run_core.specs.declared.line.LineFault.{LineFault}
@@ -104,7 +104,7 @@ abbrev pub IsAuditAnswer : Job → ℕ → List ℕ → Answer → Type 0
 IsAuditAnswer job number line answer =
     ((fault : LineFault) × IsLineRefused Audit line fault × (answer ≡ refusal number fault))
     ⊎ (IsSound Audit line × (parts : Parts) × HasParts Audit line parts × (field : List ℕ) × (parts.field ≡ Some field)
-    × (finding : Finding) × Finds job field finding × (answer ≡ answer_of job parts.name (Audited finding) []))
+    × (finding : Finding) × Finds job.maker.scheme (given_budget job) field finding × (answer ≡ answer_of job parts.name (Audited finding) []))
 
 -- IsAnswer kind job number line stream answer: this is the answer to the line with this number.
 --   stream  the random numbers that are left for it

@@ -11,12 +11,12 @@ use Rattle.crypt_core.specs.declared.scheme.Scheme.{Scheme}
 use Rattle.crypt_core.specs.declared.standing.Standing.{Standing}
 use Rattle.crypt_core.specs.declared.standing.Standing.TheVariants.{OverBudget, Dead}
 use Rattle.run_core.specs.Answers.{Answer}
-use Rattle.run_core.specs.Audits.{Finds}
+use Rattle.crypt_core.specs.Findings.{Finds}
 use Rattle.run_core.specs.JobOptions.{given_budget, is_outdated, without_budget, without_rehash}
 use Rattle.run_core.specs.LineAnswers.{HasSetting, IsAnswer, IsCostly, refusal}
 use Rattle.run_core.specs.Lines.{HasParts, IsSound, Parts}
 use Rattle.run_core.specs.declared.answer.Outcome.TheVariants.{Misfit}
-use Rattle.run_core.specs.declared.audit.Finding.TheVariants.{Hash}
+use Rattle.crypt_core.specs.declared.finding.Finding.TheVariants.{Hash}
 use Rattle.run_core.specs.declared.job.Job.{Job}
 use Rattle.run_core.specs.declared.line.Kind.{Kind}
 use Rattle.run_core.specs.declared.line.Kind.TheVariants.{Check}
@@ -66,7 +66,7 @@ RenewsNone kind job = (number : ℕ) → (line : List ℕ) → (stream : Stream)
 -- budget in a check without rehashes, whatever its password is.
 abbrev pub Foresees : Job → Type 0
 Foresees job = (field : List ℕ) → (scheme : Scheme) → (most : ℕ) → (standing : Standing)
-    → Finds job field (Hash scheme most standing) → standing ≢ OverBudget
+    → Finds job.maker.scheme (given_budget job) field (Hash scheme most standing) → standing ≢ OverBudget
     → (checking : Job) → checking.budget ≡ Some (chosen_budget job.maker.scheme (given_budget job))
     → (line : List ℕ) → (parts : Parts) → HasParts Check line parts → parts.field ≡ Some field
     → ¬ IsCostly Check (without_rehash checking) line
@@ -75,13 +75,13 @@ Foresees job = (field : List ℕ) → (scheme : Scheme) → (most : ℕ) → (st
 -- the job's scheme can check this hash within the limit of the policy, at least with the empty password.
 abbrev pub HeedsLimit : Job → Type 0
 HeedsLimit job = (field : List ℕ) → (scheme : Scheme) → (most : ℕ) → (standing : Standing)
-    → Finds job field (Hash scheme most standing) → standing ≢ OverBudget → given_budget job ≡ 0
+    → Finds job.maker.scheme (given_budget job) field (Hash scheme most standing) → standing ≢ OverBudget → given_budget job ≡ 0
     → (kept : SettingValue) × Spells field kept × (cost kept 0 ≤ policy_limit job.maker.scheme)
 
 -- Refutes job: if an audit finds that a field is a dead hash, then every line with this field that breaks no rule and is
 -- not costly gets the verdict `no` in any check, whatever its password is.
 abbrev pub Refutes : Job → Type 0
-Refutes job = (field : List ℕ) → (scheme : Scheme) → (most : ℕ) → Finds job field (Hash scheme most Dead)
+Refutes job = (field : List ℕ) → (scheme : Scheme) → (most : ℕ) → Finds job.maker.scheme (given_budget job) field (Hash scheme most Dead)
     → (checking : Job) → (line : List ℕ) → (parts : Parts) → HasParts Check line parts → parts.field ≡ Some field
     → IsSound Check line → ¬ IsCostly Check checking line
     → (number : ℕ) → (stream : Stream) → (answer : Answer) → IsAnswer Check checking number line stream answer

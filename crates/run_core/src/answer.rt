@@ -17,11 +17,12 @@ ghost use Rattle.run_core.specs.Private.Lines.{AreSound, HasSoundParts, Represen
 ghost use Rattle.run_core.specs.Texts.{as_line};
 ghost use Rattle.crypt_core.specs.declared.stored.StoredField.TheVariants.{Hash};
 
-use crate::audit::{Finding, audit, standing_text};
+use crate::audit::{audit, standing_text};
 use crate::job::Job;
 use crate::line::{Kind, LineFault, NAME_LIMIT, Parts, inspect};
 use crate::reader::buffer::LineBuffer;
 use arrayvec::ArrayVec;
+use crypt_core::finding::Finding;
 use crypt_core::hash::{HASH_LIMIT, HashFault, Hashed, hash};
 use crypt_core::password::Password;
 use crypt_core::scheme::Scheme;
@@ -213,7 +214,7 @@ fn check_within_budget<R: Rng>(
     ensures small { IsRaisedBelow line_work_limit meter.old meter.new }
 {
     let password_len = password.bytes().len();
-    let is_outdated = job.renews(stored);
+    let is_outdated = job.is_outdated(stored);
     let new_cost = if is_outdated {
         job.maker.cost(password_len)
     } else {
@@ -222,7 +223,7 @@ fn check_within_budget<R: Rng>(
     if job.is_exceeded_by(cost(stored.setting(), password_len) + new_cost) {
         return Ok(Err(LineFault::OverBudget));
     }
-    if !stored.fits(&alloc, password, meter)? {
+    if !stored.matches(&alloc, password, meter)? {
         return Ok(Ok(Outcome::Misfit));
     }
     if !is_outdated {

@@ -4,7 +4,6 @@ ghost use Rattle.std.specs.Option.{option_map_or};
 ghost use Rattle.crypt_core.specs.declared.setting.fault.MakeFault.{MakeFault as Fault};
 ghost use Rattle.crypt_core.specs.MadeSettings.{BreaksMake, IsMakeRefused, made_scheme};
 ghost use Rattle.crypt_core.specs.Passwords.{password_limit};
-ghost use Rattle.crypt_core.specs.Replacements.{is_replaced_by};
 ghost use Rattle.crypt_core.specs.Schemes.{method_of};
 ghost use Rattle.crypt_core.specs.Work.{cost};
 ghost use Rattle.crypt_core.specs.Standings.{IsAbove};
@@ -39,13 +38,6 @@ pub struct Job {
 }
 
 impl Job {
-    /// Returns whether the job's scheme replaces that of the setting.
-    pub(crate) fn replaces(&self, setting: &Setting) -> bool
-        ensures { result ≡ is_replaced_by setting.now.scheme self.now.maker.scheme }
-    {
-        setting.scheme().is_replaced_by(&self.maker.scheme())
-    }
-
     /// Returns whether the cost exceeds the budget, if there is one.
     pub(crate) fn is_exceeded_by(&self, cost: u64) -> bool
         ensures { IsTrue result ↔ IsAbove self.now.budget cost }
@@ -53,13 +45,14 @@ impl Job {
         is_above(self.budget, cost)
     }
 
-    /// Returns whether a stored hash is renewed once a password matches it.
+    /// Returns whether a stored hash gets a rehash once a password matches it.
     ///
-    /// The job asks for rehashes, and its scheme replaces that of the stored hash.
-    pub(crate) fn renews(&self, stored: &StoredHash<'_>) -> bool
+    /// The job asks for rehashes, and the stored hash is outdated by its scheme.
+    pub(crate) fn is_outdated(&self, stored: &StoredHash<'_>) -> bool
         ensures { result ≡ is_outdated self.now stored.now.setting }
     {
-        self.rehash && self.replaces(stored.setting())
+        let scheme = stored.setting().scheme();
+        self.rehash && scheme.is_outdated_by(&self.maker.scheme())
     }
 }
 

@@ -11,7 +11,6 @@ pub mod line;
 pub mod lines;
 pub mod methods;
 pub mod one;
-mod other_scheme;
 mod reader;
 pub mod tally;
 #[cfg(test)]

@@ -49,8 +49,8 @@ MakesHashAnew password number rounds numbers budget room made =
 abbrev pub IsTold : ℕ → ℕ → Work → Result (List ℕ × Report) Report → Type 0
 IsTold budget room done (Ok (text, report)) =
     (pos 0 <ℤ report.reason) × (report.length ≡ length text) × (length text < room) × (report.cost ≤ budget)
-    × (done ≡ report.work) × (report.reserved ≡ 0)
-IsTold budget room done (Err report) = (¬ (pos 0 <ℤ report.reason)) × (done ≡ report.work) × (report.reserved ≡ 0)
+    × (done ≡ report.work)
+IsTold budget room done (Err report) = (¬ (pos 0 <ℤ report.reason)) × (done ≡ report.work)
 
 -- The report and `out` of a hash: the hash, or the lock after a refusal.
 abbrev pub IsPut : Result (List ℕ × Report) Report → List ℕ → List ℕ → Report → List ℕ → Type 0

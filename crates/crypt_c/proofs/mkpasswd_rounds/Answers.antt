@@ -1,8 +1,8 @@
 use Rattle.std.proofs.Common.{◌≡◌, pos, rules}
 use Rattle.crypt_c.proofs.mkpasswd_rounds.Goals as goal
 
-pub returns-clause-fits : goal.returns-clause-fits
-returns-clause-fits c = rw (c.tell.ensures.told, ← c.of.ensures) c.report_rounds-told.ensures.fits
+pub returns-clause-rounds : goal.returns-clause-rounds
+returns-clause-rounds c = rw (c.tell.ensures.told, ← c.of.ensures) c.report_rounds-told.ensures.rounds
 
 pub returns-clause-fitted : goal.returns-clause-fitted
 returns-clause-fitted c = λ scheme makes one.

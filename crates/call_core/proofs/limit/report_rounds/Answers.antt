@@ -2,7 +2,7 @@ use Rattle.std.proofs.Common.{◌≡◌, ◌≤◌, Some, ap, sym}
 use Rattle.std.specs.Prelude.{false}
 use Rattle.crypt_core.specs.MadeSettings.{rounds_of}
 use Rattle.crypt_core.specs.Policies.{fitted}
-use Rattle.crypt_core.specs.Replacements.{is_replaced_by}
+use Rattle.crypt_core.specs.OutdatedSchemes.{is_outdated_by}
 use Rattle.call_core.specs.Arguments.{IsSchemeMade, TakesNewRounds}
 use Rattle.call_core.specs.Limits.{limit_bytes, new_cost}
 use Rattle.call_core.specs.declared.report.Report.{Report}
@@ -23,7 +23,7 @@ returns-in-Some-clause-fitted c = λ scheme makes positive.
     let rounds : c.of_rounds.result.rounds ≡ rounds_of own = cc (ap (λ (r : Report). r.rounds) c.of_rounds.ensures, c.rounds.ensures) in
     let price : c.of_rounds.result.cost ≡ new_cost own len = cc (ap (λ (r : Report). r.cost) c.of_rounds.ensures, c.new_cost.ensures.cost) in
     let within : new_cost own len ≤ limit_bytes c.args.limit scheme = rw (c.bytes.ensures, one) at c.in-Some.ensures.within in
-    let fewer : is_replaced_by scheme own ≡ false = rw one at c.in-Some.ensures.kept in
+    let fewer : is_outdated_by scheme own ≡ false = rw one at c.in-Some.ensures.kept in
     record {
       own = own;
       makes = rw rounds made;

@@ -6,12 +6,12 @@ pub returns-in_err-read-clause-below : goal.returns-in_err-read-clause-below
 returns-in_err-read-clause-below c = λ kept spelled.
     absurd (spelled_not_refused c.args.stored.now kept spelled _ c.in_err-read.ensures.refused)
 
-pub returns-in_err-fits-clause-below : goal.returns-in_err-fits-clause-below
-returns-in_err-fits-clause-below c = λ kept spelled.
+pub returns-in_err-matches-clause-below : goal.returns-in_err-matches-clause-below
+returns-in_err-matches-clause-below c = λ kept spelled.
     let one = setting_unique c.args.stored.now _ _ c.in_ok-read.ensures.spelled.spells spelled in
-    rw (← one) c.fits.ensures.metered.below
+    rw (← one) c.matches.ensures.metered.below
 
 pub returns-clause-below : goal.returns-clause-below
 returns-clause-below c = λ kept spelled.
     let one = setting_unique c.args.stored.now _ _ c.in_ok-read.ensures.spelled.spells spelled in
-    rw (← one) c.fits.ensures.metered.below
+    rw (← one) c.matches.ensures.metered.below

@@ -12,8 +12,8 @@ use Rattle.run_core.specs.declared.answer.Outcome.TheVariants.{Rehashed}
 use Rattle.run_core.proofs.LineOutcomes.{would_check}
 use Rattle.run_core.proofs.answer.check_within_budget.Goals as goal
 
-pub returns-in_err-fits-clause-settles : goal.returns-in_err-fits-clause-settles
-returns-in_err-fits-clause-settles g c =
+pub returns-in_err-matches-clause-settles : goal.returns-in_err-matches-clause-settles
+returns-in_err-matches-clause-settles g c =
     let job = c.args.job.now in
     let password = c.args.password.now in
     let stored = c.args.stored.now in
@@ -26,7 +26,7 @@ returns-in_err-fits-clause-settles g c =
       would.outcome,
       hashing password stored.setting stream ∷ would.more,
       would.checked,
-      ([], hashing password stored.setting stream, would.more, refl, c.in_err-fits.ensures.metered.refused, refl),
+      ([], hashing password stored.setting stream, would.more, refl, c.in_err-matches.ensures.metered.refused, refl),
     )
 
 pub returns-in_err-make_hash-clause-settles : goal.returns-in_err-make_hash-clause-settles
@@ -37,9 +37,9 @@ returns-in_err-make_hash-clause-settles g c =
     let stream = g.R.Rng.stream c.args.rng.now in
     let within : ¬ IsAbove job.budget (field_cost job (Some (Hash stored)) (length password)) = search rules in
     let p = err_from_is_err_and c.from_residual-in_err-make_hash.result c.from_residual-in_err-make_hash.ensures.1 in
-    let same : crypt password stored.setting ≡ stored.text = c.in_ok-fits.ensures.verdict.0 c.if-not-branch.false in
-    let outdated : is_outdated job stored.setting ≡ true = sym c.renews-is_outdated.ensures ∙ c.if-not-is_outdated.false in
-    let refused = subst (λ (counts : Work). IsAfterRefusedGrowth counts (next_setting job.maker stream).scheme c.make_hash.new.meter) c.in_ok-fits.ensures.metered.count c.in_err-make_hash.ensures.refused in
+    let same : crypt password stored.setting ≡ stored.text = c.in_ok-matches.ensures.verdict.0 c.if-not-branch.false in
+    let outdated : is_outdated job stored.setting ≡ true = sym c.is_outdated-is_outdated.ensures ∙ c.if-not-is_outdated.false in
+    let refused = subst (λ (counts : Work). IsAfterRefusedGrowth counts (next_setting job.maker stream).scheme c.make_hash.new.meter) c.in_ok-matches.ensures.metered.count c.in_err-make_hash.ensures.refused in
     rw p.1 (
       within,
       Rehashed (new_hash job password stream),

@@ -1,13 +1,13 @@
 //! The schemes of crypt(5) that mkpasswd doesn't hash. An audit names them by their form alone and doesn't judge them.
 ghost use Rattle.std.specs.Prelude.{◌≡◌, ◌↔◌, IsTrue, IfNone, IfSome};
-ghost use Rattle.run_core.specs.OtherSchemes.{IsOf, other_scheme_name};
-ghost use Rattle.run_core.specs.declared.other_scheme.OtherScheme.{OtherScheme as Other};
+ghost use Rattle.crypt_core.specs.OtherSchemes.{IsOf, other_scheme_numbered, other_scheme_row};
+ghost use Rattle.crypt_core.specs.declared.other_scheme.OtherScheme.{OtherScheme as Other};
 
-use crypt_core::setting::in_alphabet;
+use crate::setting::in_alphabet;
 
 /// A scheme of crypt(5) that mkpasswd doesn't hash.
-#[derive(Clone, Copy)]
-pub(crate) enum OtherScheme {
+#[derive(Clone, Copy, Debug, PartialEq, Eq)]
+pub enum OtherScheme {
     /// `$y$`.
     Yescrypt,
     /// `$gy$`.
@@ -40,7 +40,7 @@ const OTHER_SCHEMES: [OtherScheme; 8] = [
 
 impl OtherScheme {
     /// Returns the scheme of a field by its form, or `None` if it has that of no other scheme.
-    pub(crate) fn of(field: &[u8]) -> Option<OtherScheme>
+    pub fn of(field: &[u8]) -> Option<OtherScheme>
         ensures found { IfSome result (λ other. IsOf other field.now) }
         ensures none { IfNone result ((other : Other) → ¬ IsOf other field.now) }
     {
@@ -70,9 +70,35 @@ impl OtherScheme {
         }
     }
 
+    /// Returns the scheme with this number, or `None` if none has it.
+    pub fn numbered(number: u32) -> Option<OtherScheme>
+        ensures { result ≡ other_scheme_numbered number }
+    {
+        OTHER_SCHEMES
+            .iter()
+            .copied()
+            .find(|scheme| number == scheme.number())
+    }
+
+    /// Returns the number of the scheme in the calls for C. No [`Method`](crate::method::Method) has it.
+    pub fn number(self) -> u32
+        ensures { result ≡ (other_scheme_row self).0 }
+    {
+        match self {
+            OtherScheme::Yescrypt => 101,
+            OtherScheme::GostYescrypt => 102,
+            OtherScheme::Bcrypt => 103,
+            OtherScheme::Nt => 104,
+            OtherScheme::Sha1crypt => 105,
+            OtherScheme::SunMd5 => 106,
+            OtherScheme::Bsdicrypt => 107,
+            OtherScheme::Descrypt => 108,
+        }
+    }
+
     /// Returns the scheme's name in crypt(5).
-    pub(crate) fn name(self) -> &'static [u8]
-        ensures { result.now ≡ other_scheme_name self }
+    pub fn name(self) -> &'static [u8]
+        ensures { result.now ≡ (other_scheme_row self).1 }
     {
         match self {
             OtherScheme::Yescrypt => b"yescrypt",

@@ -5,7 +5,7 @@ use Rattle.crypt_core.specs.Crypt.{crypt}
 use Rattle.crypt_core.specs.Fits.{Fits}
 use Rattle.crypt_core.specs.Settings.{SettingValue}
 use Rattle.crypt_core.proofs.OneSetting.{setting_unique}
-use Rattle.crypt_core.proofs.stored.StoredHash.fits.Goals as goal
+use Rattle.crypt_core.proofs.stored.StoredHash.matches.Goals as goal
 
 -- A text spells one setting at most, so the hash that was compared is the only one that could be the text.
 pub returns-clause-fits : goal.returns-clause-fits

@@ -1,0 +1,15 @@
+-- The names of schemes, by their numbers: those of methods, and of the other schemes of crypt(5).
+use Rattle.std.specs.Prelude.{◌≡◌, ℕ, ℤ, pos, List, codes, MatchOption}
+use Rattle.crypt_core.specs.Methods.{method_numbered, method_row}
+use Rattle.crypt_core.specs.OtherSchemes.{other_scheme_numbered, other_scheme_row}
+use Rattle.call_core.specs.Reports.{PutsWhole, put}
+
+-- The effect of mkpasswd_scheme_name and web_scheme_name: the name in crypt(5) of the scheme with this number; or that no scheme has
+-- it.
+abbrev pub PutsSchemeName : ℕ → List ℕ → ℤ → List ℕ → Type 0
+PutsSchemeName number old result new =
+    MatchOption (method_numbered number)
+    (MatchOption (other_scheme_numbered number)
+    ((new ≡ put (codes "unknown scheme") old) × (result ≡ pos 0))
+    (λ other. PutsWhole (other_scheme_row other).1 old result new))
+    (λ method. PutsWhole (method_row method).name old result new)

@@ -1,0 +1,22 @@
+//! The names of schemes, by the numbers that an audit reports.
+ghost use Rattle.call_core.specs.Names.{PutsSchemeName};
+
+use crate::report::{put, put_whole};
+use crypt_core::method::Method;
+use crypt_core::other_scheme::OtherScheme;
+
+/// Writes the name in crypt(5) of the scheme with this number and a byte 0 to `out`, cut to its capacity.
+///
+/// It returns 1, or 0 if the name is cut or no scheme has the number.
+pub fn put_scheme_name(number: u32, out: &mut [u8]) -> i32
+    ensures { PutsSchemeName number out.old result out.new }
+{
+    if let Some(method) = Method::numbered(number) {
+        return put_whole(out, method.name());
+    }
+    if let Some(other) = OtherScheme::numbered(number) {
+        return put_whole(out, other.name());
+    }
+    put(out, b"unknown scheme");
+    0
+}
