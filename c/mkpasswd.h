@@ -86,28 +86,34 @@ extern "C" {
 #define MKPASSWD_PASSWORD_LIMIT 1024
 
 /* The budget of mkpasswd_login() and mkpasswd_new() that needs no number: twice what a new hash with the same method and rounds
- * costs for a password of 64 bytes, and at least MKPASSWD_BUDGET. Nobody who logs in can raise it. A longer password whose new
- * hash would cost more is refused at once, whatever is stored; mkpasswd_limit() reports its length. With a large enough
- * budget of your own all MKPASSWD_PASSWORD_LIMIT bytes work; one of -1 is the greatest, and protects against nothing.
+ * costs for a password of 64 bytes, and at least some 1.5 seconds of sha256crypt. Nobody who logs in can raise it. A longer
+ * password whose new hash would cost more is refused at once, whatever is stored; mkpasswd_limit() reports its length, and the
+ * number of bytes that this budget stands for. With a large enough budget of your own all MKPASSWD_PASSWORD_LIMIT bytes work;
+ * one of -1 is the greatest, and protects against nothing.
  *
  * Only scrypt needs memory: each concurrent call 64 MiB for a new hash by default, and never more than half as many bytes as
  * the budget. */
 #ifdef __cplusplus
 #define MKPASSWD_TWICE static_cast<uint64_t>(0)
-#define MKPASSWD_BUDGET static_cast<uint64_t>(150000000)
 #else
 #define MKPASSWD_TWICE ((uint64_t)0)
-#define MKPASSWD_BUDGET ((uint64_t)150000000) /* the budget of programs for 1.3.0 */
 #endif
-
-/* The rounds of SHA-crypt that 0 stands for in every call. For scrypt it stands for 7. */
-#define MKPASSWD_ROUNDS 656000
 
 /* Methods, numbered as in their prefixes. */
 #define MKPASSWD_MD5CRYPT 1
 #define MKPASSWD_SHA256CRYPT 5
 #define MKPASSWD_SHA512CRYPT 6
 #define MKPASSWD_SCRYPT 7
+
+/* Other schemes of crypt(5), which mkpasswd_audit() knows by their form alone. */
+#define MKPASSWD_YESCRYPT 101
+#define MKPASSWD_GOST_YESCRYPT 102
+#define MKPASSWD_BCRYPT 103
+#define MKPASSWD_NT 104
+#define MKPASSWD_SHA1CRYPT 105
+#define MKPASSWD_SUNMD5 106
+#define MKPASSWD_BSDICRYPT 107
+#define MKPASSWD_DESCRYPT 108
 
 /* Reasons. The call returned 1 exactly if the reason is above 0; a reason is never 0. Each comment begins with the message
  * of mkpasswd_words(), up to its colon. mkpasswd_hash(), mkpasswd_bound() and mkpasswd_needs_rehash() take a setting, and
@@ -137,6 +143,9 @@ extern "C" {
 #define MKPASSWD_NO_HASH (-21)                   /* no hash: the field is empty */
 #define MKPASSWD_DEAD (-22)                      /* dead: no password matches the hash; mkpasswd_login() and mkpasswd_audit() */
 #define MKPASSWD_REPLACED (-23)                  /* outdated: a new hash would replace it; mkpasswd_audit() alone */
+#define MKPASSWD_REFUSED_SALT_LENGTH (-24)       /* salt length: it is empty, or longer than the method keeps */
+#define MKPASSWD_REFUSED_SALT_CHARACTER (-25)    /* salt character: one that is none of ./0-9A-Za-z */
+#define MKPASSWD_NO_SCHEME (-26)                 /* no scheme: a password, or a damaged hash; mkpasswd_audit() alone */
 
 /* The work of a hash. Each count is below 2^41. */
 struct mkpasswd_work {
@@ -158,15 +167,20 @@ struct mkpasswd_report {
                                   of the stored hash, of mkpasswd_audit() that for MKPASSWD_PASSWORD_LIMIT bytes, of
                                   mkpasswd_limit() the limit, and of mkpasswd_rounds() that of a hash with these rounds. */
     struct mkpasswd_work work; /* what the call did, all 0 if it neither hashed nor allocated; of mkpasswd_bound() the bound */
-    uint32_t rounds;           /* of mkpasswd_limit() and mkpasswd_rounds() the rounds of new hashes, else 0 */
-    uint32_t reserved;         /* 0 */
+    uint32_t rounds;           /* of mkpasswd_limit() and mkpasswd_rounds() the rounds of new hashes, of mkpasswd_audit() those
+                                  of the stored hash, but 0 for scrypt; else 0 */
+    uint32_t scheme;           /* of mkpasswd_audit() the method of the stored hash, or another scheme; else 0 */
+    uint64_t n;                /* of mkpasswd_audit() scrypt's N, */
+    uint32_t r;                /* its r, */
+    uint32_t p;                /* and its p; else 0 */
 };
 
-typedef char mkpasswd_report_has_64_bytes[sizeof(struct mkpasswd_report) == 64 ? 1 : -1];
-typedef char mkpasswd_report_has_fields_at_0_4_8_16_56_60[offsetof(struct mkpasswd_report, reason) == 0
+typedef char mkpasswd_report_has_80_bytes[sizeof(struct mkpasswd_report) == 80 ? 1 : -1];
+typedef char mkpasswd_report_has_fields_at_0_4_8_16_56_60_64_72_76[offsetof(struct mkpasswd_report, reason) == 0
     && offsetof(struct mkpasswd_report, length) == 4 && offsetof(struct mkpasswd_report, cost) == 8
     && offsetof(struct mkpasswd_report, work) == 16 && offsetof(struct mkpasswd_report, rounds) == 56
-    && offsetof(struct mkpasswd_report, reserved) == 60 ? 1 : -1];
+    && offsetof(struct mkpasswd_report, scheme) == 60 && offsetof(struct mkpasswd_report, n) == 64
+    && offsetof(struct mkpasswd_report, r) == 72 && offsetof(struct mkpasswd_report, p) == 76 ? 1 : -1];
 typedef char mkpasswd_work_has_fields_at_0_8_16_24_32[offsetof(struct mkpasswd_work, digests) == 0
     && offsetof(struct mkpasswd_work, bytes) == 8 && offsetof(struct mkpasswd_work, mixes) == 16
     && offsetof(struct mkpasswd_work, table) == 24 && offsetof(struct mkpasswd_work, scratch) == 32 ? 1 : -1];
@@ -219,14 +233,17 @@ MKPASSWD_EXPORT MKPASSWD_CHECKED MKPASSWD_NONNULL(5) int32_t mkpasswd_needs_reha
  * is a whole hash, as mkpasswd_hash() writes one, no password costs more than `budget`, and a new hash with this method and
  * these rounds would not replace it. If method and rounds are valid, a 0 has the first of these reasons:
  *
- * - MKPASSWD_LOCKED, MKPASSWD_NO_HASH, or what is wrong with the setting;
+ * - MKPASSWD_LOCKED, MKPASSWD_NO_HASH;
+ * - of a field that begins with "$", what is wrong with the setting;
+ * - MKPASSWD_REFUSED_UNKNOWN_SCHEME: it is of another scheme, whose number is in `scheme`, or 0 if none is known by its form;
+ * - MKPASSWD_NO_SCHEME: it is of none, and so a password, say, or a damaged hash;
  * - MKPASSWD_OVER_BUDGET: some password can cost more than `budget`, or with a budget of 0 each too much for a login;
  * - MKPASSWD_DEAD: it is not a whole hash, so mkpasswd_verify() and mkpasswd_login() return 0 for every password. It was cut,
  *   there is more behind it, a character of it is in no digest, its salt is too long, or its rounds are out of range;
  * - MKPASSWD_REPLACED: mkpasswd_needs_rehash() returns 1.
  *
  * `method` and `rounds` are those that the service gives mkpasswd_new(). A budget of 0 stands here for the most that such a
- * hash can cost, and at least for 1297572512, the most that MKPASSWD_ROUNDS of sha512crypt can. By it a hash is over budget
+ * hash can cost, and at least for 1297572512, the most that the recommended rounds of sha512crypt can. By it a hash is over budget
  * also if mkpasswd_login() by the same method, rounds and MKPASSWD_TWICE would refuse even the empty password as such. */
 MKPASSWD_EXPORT MKPASSWD_CHECKED MKPASSWD_NONNULL(6) int32_t mkpasswd_audit(const uint8_t *stored, size_t stored_len,
     uint32_t method, uint32_t rounds, uint64_t budget, struct mkpasswd_report *report) MKPASSWD_READS(stored, 1, 2);
@@ -266,10 +283,22 @@ MKPASSWD_EXPORT MKPASSWD_CHECKED MKPASSWD_NONNULL(6) MKPASSWD_NONNULL(8) MKPASSW
 int32_t mkpasswd_setting(uint32_t method, uint32_t rounds, uint64_t first, uint64_t second, uint64_t third, uint8_t *out,
     size_t out_len, struct mkpasswd_report *report);
 
+/* The same with a given salt, of one character at least, and at most 8 for md5crypt, 16 for SHA-crypt and 86 for scrypt, each of
+ * them one of ./0-9A-Za-z. Of several refusals those of the salt come before that of the rounds. It is for tests and for moving
+ * from other programs: two passwords with one salt can be guessed together. */
+MKPASSWD_EXPORT MKPASSWD_CHECKED MKPASSWD_NONNULL(5) MKPASSWD_NONNULL(7) MKPASSWD_WRITES(5, 6)
+int32_t mkpasswd_setting_with_salt(uint32_t method, uint32_t rounds, const uint8_t *salt, size_t salt_len, uint8_t *out,
+    size_t out_len, struct mkpasswd_report *report) MKPASSWD_READS(salt, 3, 4);
+
 /* Puts the message for a reason and a zero byte into `out`, and returns 1. For any other number it puts "unknown reason" and
  * returns 0. If `out` is too small, it puts as much as fits, with the zero byte, and returns 0. So whatever it returns, `out`
  * holds a string, unless it has no room at all. */
 MKPASSWD_EXPORT MKPASSWD_NONNULL(2) MKPASSWD_WRITES(2, 3) int32_t mkpasswd_words(int32_t reason, uint8_t *out,
+    size_t out_len);
+
+/* Puts the name in crypt(5) of a scheme that mkpasswd_audit() reports, and a zero byte, into `out`, and returns 1; for any other
+ * number "unknown scheme", and returns 0. If `out` is too small, it does what mkpasswd_words() does. */
+MKPASSWD_EXPORT MKPASSWD_NONNULL(2) MKPASSWD_WRITES(2, 3) int32_t mkpasswd_scheme_name(uint32_t scheme, uint8_t *out,
     size_t out_len);
 
 /* MKPASSWD_VERSION of the library that is linked. */

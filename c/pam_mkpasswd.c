@@ -36,14 +36,16 @@ static int is_same(const struct stat *one, const struct stat *other)
     return one->st_dev == other->st_dev && one->st_ino == other->st_ino;
 }
 
-/* Reads the arguments. Returns 0 and logs it if one is invalid, or if the budget doesn't admit a new hash of 64 bytes, without
- * which an unknown name would cost nothing. Having no room for that hash is the last refusal before it is made. */
+/* The budget must admit a new hash of a password of so many bytes: an unknown name costs nothing for a longer one. */
+#define USUAL_LENGTH 64
+
+/* Reads the arguments. Returns 0 and logs it if one is invalid, or the budget too small. */
 static int read_options(pam_handle_t *pam, int count, const char **given, struct options *options)
 {
     static const char *const methods[] = {[MKPASSWD_MD5CRYPT] = "method=md5crypt", [MKPASSWD_SHA256CRYPT] = "method=sha256crypt",
         [MKPASSWD_SHA512CRYPT] = "method=sha512crypt", [MKPASSWD_SCRYPT] = "method=scrypt"};
     struct mkpasswd_report report;
-    char message[MKPASSWD_TEXT_SIZE], password[65] = "";
+    char message[MKPASSWD_TEXT_SIZE];
     struct stat file, shadow;
 
     *options = (struct options){NULL, MKPASSWD_SHA512CRYPT, 0, MKPASSWD_TWICE, 0, 0, 0};
@@ -73,11 +75,12 @@ static int read_options(pam_handle_t *pam, int count, const char **given, struct
         return pam_syslog(pam, LOG_ERR, "invalid argument: renew, without file="), 0;
     if (options->is_renewing && stat(options->file, &file) == 0 && stat("/etc/shadow", &shadow) == 0 && is_same(&file, &shadow))
         return pam_syslog(pam, LOG_ERR, "invalid argument: renew, of /etc/shadow"), 0;
-    memset(password, 'x', sizeof password - 1);
-    if (mkpasswd_new_str(password, options->method, options->rounds, options->budget, NULL, 0, &report)
-        || report.reason == MKPASSWD_REFUSED_TOO_FEW_BYTES)
-        return options->limit = options->budget ? options->budget
-            : report.cost > MKPASSWD_BUDGET / 2 ? 2 * report.cost : MKPASSWD_BUDGET, 1;
+    if (mkpasswd_limit(options->method, options->rounds, options->budget, &report) == 1) {
+        options->limit = report.cost;
+        if (report.length >= USUAL_LENGTH)
+            return 1;
+        report.reason = MKPASSWD_OVER_BUDGET;
+    }
     mkpasswd_words_str(report.reason, message, sizeof message);
     return pam_syslog(pam, LOG_ERR, "invalid arguments: %s", message), 0;
 }
@@ -185,21 +188,23 @@ static void renew(pam_handle_t *pam, const char *file, const char *name, const c
 
 /* Logs why no password can match the field; what an administrator may want so, only for debugging. It asks for the empty
  * password with the least budget: nothing is hashed, and the log says nothing of the given password. Returns 1 if pam_unix may
- * know the field: one of the system, of bsdicrypt, descrypt, or $ and what begins none of our own. No other module reads a file. */
+ * know the field: one of the system, of another scheme. No other module reads a file. */
 static int is_for_pam_unix(pam_handle_t *pam, const struct options *options, const struct field *field)
 {
-    struct mkpasswd_report report;
+    struct mkpasswd_report report, audited;
+    int is_known = mkpasswd_audit(field->bytes, field->len, options->method, options->rounds, UINT64_MAX, &audited)
+        || audited.reason != MKPASSWD_REFUSED_UNKNOWN_SCHEME;
     char message[MKPASSWD_TEXT_SIZE];
     int is_foreign = !mkpasswd_login(field->bytes, 0, field->bytes, field->len, options->method, options->rounds, 1, &report)
-        && report.reason == MKPASSWD_REFUSED_UNKNOWN_SCHEME && !options->file
-        && (field->bytes[0] == '$' ? !strchr("1567", field->bytes[1]) : field->len == (field->bytes[0] == '_' ? 20 : 13));
+        && report.reason == MKPASSWD_REFUSED_UNKNOWN_SCHEME && !options->file && !is_known;
     int is_usual = is_foreign || report.reason == MKPASSWD_NO_HASH || report.reason == MKPASSWD_LOCKED;
 
     if ((is_usual && !options->is_debugging)
         || (report.reason == MKPASSWD_OVER_BUDGET && report.cost <= options->limit
-            && (mkpasswd_audit(field->bytes, field->len, options->method, options->rounds, UINT64_MAX, &report)
-                || report.reason != MKPASSWD_DEAD)))
+            && audited.reason != MKPASSWD_DEAD))
         return is_foreign;
+    if (report.reason == MKPASSWD_OVER_BUDGET && report.cost <= options->limit)
+        report.reason = audited.reason;
     mkpasswd_words_str(report.reason, message, sizeof message);
     options->file ? pam_syslog(pam, is_usual ? LOG_DEBUG : LOG_WARNING, "%s: line %lu: %s", options->file, field->line, message)
                   : pam_syslog(pam, is_usual ? LOG_DEBUG : LOG_WARNING, "shadow: %s", message);

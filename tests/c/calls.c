@@ -56,7 +56,7 @@ struct input {
 struct arguments {
     struct input password, text; /* which is called stored, field or setting */
     const char *password_str, *text_str;
-    uint32_t method, rounds;
+    uint32_t method, rounds, scheme;
     uint64_t budget, first, second, third;
     size_t password_len, out_len;
     int32_t reason;
@@ -122,7 +122,7 @@ static void read_input(struct input *input, const char *value, int is_str)
 
 static const char *text_of(const char *row)
 {
-    static const char *const names[] = {"stored", "field", "setting"};
+    static const char *const names[] = {"stored", "field", "setting", "salt"};
     const char *value = NULL;
     size_t place;
 
@@ -142,6 +142,7 @@ static void read_row(struct arguments *given, const char *row)
     given->text_str = (const char *)given->text.bytes;
     given->method = (uint32_t)number_of(row, "method");
     given->rounds = (uint32_t)number_of(row, "rounds");
+    given->scheme = (uint32_t)number_of(row, "scheme");
     given->budget = number_of(row, "budget");
     given->first = number_of(row, "first");
     given->second = number_of(row, "second");
@@ -310,6 +311,19 @@ static int32_t setting_str(const struct call *call)
         given->third, call->out_str, given->out_len, call->report);
 }
 
+static int32_t setting_with_salt(const struct call *call)
+{
+    const struct arguments *given = &call->given;
+
+    return mkpasswd_setting_with_salt(given->method, given->rounds, given->text.bytes,
+        given->text.len, call->out, given->out_len, call->report);
+}
+
+static int32_t scheme_name(const struct call *call)
+{
+    return mkpasswd_scheme_name(call->given.scheme, call->out, call->given.out_len);
+}
+
 static int32_t words(const struct call *call)
 {
     return mkpasswd_words(call->given.reason, call->out, call->given.out_len);
@@ -352,6 +366,8 @@ static const struct kind kinds[] = {
     {"hash_str", hash_str, 1, 1},
     {"setting", setting, 1, 0},
     {"setting_str", setting_str, 1, 1},
+    {"setting_with_salt", setting_with_salt, 1, 0},
+    {"scheme_name", scheme_name, 0, 0},
     {"words", words, 0, 0},
     {"words_str", words_str, 0, 1},
     {"version", version, 0, 0},
@@ -404,10 +420,11 @@ static void print_answer(struct job *job, int32_t result)
     (void)snprintf(job->line, sizeof job->line,
         "result=%" PRId32 " reason=%" PRId32 " length=%" PRIu32 " cost=%" PRIu64 " digests=%" PRIu64
         " bytes=%" PRIu64 " mixes=%" PRIu64 " table=%" PRIu64 " scratch=%" PRIu64 " rounds=%" PRIu32
-        " reserved=%" PRIu32 " allocations=%ld kept=%ld drawn=%ld out=%s%s%s",
+        " scheme=%" PRIu32 " n=%" PRIu64 " r=%" PRIu32 " p=%" PRIu32
+        " allocations=%ld kept=%ld drawn=%ld out=%s%s%s",
         result, report->reason, report->length, report->cost, work->digests, work->bytes,
-        work->mixes, work->table, work->scratch, report->rounds, report->reserved, allocations,
-        blocks_kept, bytes_drawn, quote, left, quote);
+        work->mixes, work->table, work->scratch, report->rounds, report->scheme, report->n,
+        report->r, report->p, allocations, blocks_kept, bytes_drawn, quote, left, quote);
 }
 
 /* Makes the call of a job. The report is full of a byte before, or isn't given. */

@@ -1,11 +1,9 @@
-/* What a compiler can say of mkpasswd.h without running anything: the budgets have these values in
- * C and in C++, where the header has a text of its own for them, and for clang++ no call throws.
- * BUDGET is the number that the test wants. g++ doesn't count the attribute nothrow here. */
+/* What a compiler can say of mkpasswd.h without running anything: MKPASSWD_TWICE is 0 in C and in
+ * C++, where the header has a text of its own for it, and for clang++ no call throws. g++ doesn't
+ * count the attribute nothrow here. */
 #include <mkpasswd.h>
 
-#ifdef BUDGET
-typedef char has_the_budgets[MKPASSWD_BUDGET == BUDGET && MKPASSWD_TWICE == 0 ? 1 : -1];
-#endif
+typedef char has_the_budget[MKPASSWD_TWICE == 0 ? 1 : -1];
 
 #if defined __clang__ && defined __cplusplus && __cplusplus >= 201103L
 extern const uint8_t *bytes; /* none of them is used */
@@ -25,6 +23,9 @@ static_assert(noexcept(mkpasswd_bound(bytes, 1, 1, report)), "bound throws nothi
 static_assert(
     noexcept(mkpasswd_hash(bytes, 1, bytes, 1, 1, out, 1, report)), "hash throws nothing");
 static_assert(noexcept(mkpasswd_setting(6, 0, 1, 2, 3, out, 1, report)), "setting throws nothing");
+static_assert(noexcept(mkpasswd_setting_with_salt(6, 0, bytes, 1, out, 1, report)),
+    "setting_with_salt throws nothing");
 static_assert(noexcept(mkpasswd_words(1, out, 1)), "words throws nothing");
+static_assert(noexcept(mkpasswd_scheme_name(1, out, 1)), "scheme_name throws nothing");
 static_assert(noexcept(mkpasswd_version()), "version throws nothing");
 #endif

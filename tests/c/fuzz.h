@@ -41,8 +41,8 @@ static int checked(int32_t result, const uint8_t *out, size_t room, const char *
 {
     size_t len = room ? strlen((const char *)out) : 0, place;
 
-    MUST(result == (report.reason > 0) && report.reason && report.reason >= -23
-        && report.reason <= 3 && !report.rounds && !report.reserved);
+    MUST(result == (report.reason > 0) && report.reason && report.reason >= -26
+        && report.reason <= 3);
     MUST(result ? len == report.length : report.length == 0);
     MUST(result || room == 0 || !token
         || (len == (room < 3 ? room - 1 : 2) && memcmp(out, token, len) == 0));

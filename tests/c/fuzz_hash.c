@@ -18,25 +18,26 @@ static int is_dead(const uint8_t *field, size_t field_len, const uint32_t *of, u
     MUST(!report.work.digests && !report.work.scratch && report.cost == (is_refused ? 0 : bound.cost));
     MUST(is_current <= (has_setting && !is_outdated) && (report.reason == MKPASSWD_REPLACED) <= is_outdated);
     MUST(has_setting || is_refused || report.reason == bound.reason || report.reason == MKPASSWD_LOCKED
-        || report.reason == MKPASSWD_NO_HASH);
+        || report.reason == MKPASSWD_NO_HASH || report.reason == MKPASSWD_NO_SCHEME
+        || (report.reason == MKPASSWD_REFUSED_UNKNOWN_SCHEME && report.scheme != 0));
+    MUST(has_setting || is_refused || (!report.rounds && !report.n && !report.r && !report.p));
+    MUST(!has_setting || is_refused || (report.scheme == field[1] - (uint32_t)'0' && !report.rounds == (report.n > 0)));
     MUST(is_refused || !budget || (report.reason == MKPASSWD_OVER_BUDGET) == (bound.cost > budget));
     is_current = mkpasswd_audit(field, field_len, 1, 0, (uint64_t)-1, &report);
     return !is_current && report.reason == MKPASSWD_DEAD;
 }
 
-/* What a login with this budget may cost: by 0 twice what a new hash of 64 bytes does, or nothing if that of this password
- * costs more. A new salt is as long as this one. */
+/* What a login with this budget may cost: what mkpasswd_limit reports, but with MKPASSWD_TWICE nothing if a new hash of this
+ * password costs more. */
 static uint64_t limit_of(const uint32_t *of, size_t len, uint64_t budget)
 {
-    char made[MKPASSWD_TEXT_SIZE];
-    struct mkpasswd_report half, own;
-    uint64_t limit = 150000000;
+    struct mkpasswd_report limit;
+    int has_limit = mkpasswd_limit(of[0], of[1], budget, &limit);
 
-    if (budget || !mkpasswd_setting_str(of[0], of[1], 0, 0, 0, made, sizeof made, NULL))
+    MUST(!has_limit || !budget || limit.cost == budget);
+    if (budget)
         return budget;
-    MUST(mkpasswd_bound_str(made, 64, &half));
-    limit = 2 * half.cost > limit ? 2 * half.cost : limit;
-    return mkpasswd_bound_str(made, len, &own) && own.cost <= limit ? limit : 0;
+    return has_limit && len <= limit.length ? limit.cost : 0;
 }
 
 /* A login does what mkpasswd_verify, mkpasswd_needs_rehash and mkpasswd_audit say, and hashes if it is not refused: within the

@@ -16,5 +16,5 @@ int main(void)
         return 1;
     if (mkpasswd_words_str(-1, NULL, 0))
         return 1;
-    return mkpasswd_verify_str("", "", MKPASSWD_BUDGET, &report);
+    return mkpasswd_verify_str("", "", 150000000, &report);
 }

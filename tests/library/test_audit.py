@@ -7,7 +7,7 @@ from dataclasses import dataclass
 import pytest
 from support.driver import Driver
 from support.model.audits import is_whole
-from support.model.calls import GREATEST, Audit, Reason, with_strings
+from support.model.calls import GREATEST, Audit, Reason, audited_refusal, with_strings
 from support.model.methods import ALPHABET, SHA512CRYPT
 from support.model.settings import Refused, ScryptCost, read_setting, recommended_setting
 from support.model.work import LONGEST_PASSWORD, cost
@@ -124,8 +124,9 @@ def test_strings_are_judged_alike(driver: Driver, stored: StoredHash) -> None:
 
 @pytest.mark.parametrize("field", WITHOUT_SETTING, ids=str)
 def test_a_field_without_a_setting_has_its_reason(driver: Driver, field: Field) -> None:
+    reason = audited_refusal(field.text, field.reason)
     for call in with_strings(Audit(field.text, 6, 5000)):
-        driver.assert_answer(call, result=0, reason=field.reason, cost=0)
+        driver.assert_answer(call, result=0, reason=reason, cost=0)
     driver.assert_by_the_rules(audits_by_each_policy([field.text]))
     driver.assert_by_the_rules(audits_by_budgets([field.text]))
 
@@ -165,3 +166,50 @@ def test_a_null_string_is_an_empty_field(driver: Driver) -> None:
 def test_calls_in_eight_threads_answer_as_in_one(driver: Driver) -> None:
     fields = [field for stored in HASHES[:3] for field in altered(stored.text)]
     driver.assert_by_the_rules(audits_by_each_policy(fields), threads=8)
+
+
+@pytest.mark.parametrize(
+    ("field", "scheme"),
+    [
+        pytest.param(b"$y$j9T$abc$def", 101, id="yescrypt"),
+        pytest.param(b"$gy$j9T$abc$def", 102, id="gost-yescrypt"),
+        pytest.param(b"$2a$10$abc", 103, id="bcrypt of 2a"),
+        pytest.param(b"$2b$10$abc", 103, id="bcrypt of 2b"),
+        pytest.param(b"$2y$10$abc", 103, id="bcrypt of 2y"),
+        pytest.param(b"$3$$8846f7eaee8fb117ad06bdd830b7586c", 104, id="NT"),
+        pytest.param(b"$sha1$40000$abc$def", 105, id="sha1crypt"),
+        pytest.param(b"$md5,rounds=904$abc$def", 106, id="SunMD5"),
+        pytest.param(b"_J9..XXXXlR3Ph8hjuLU", 107, id="bsdicrypt"),
+        pytest.param(b"abJnggxhB/yWI", 108, id="descrypt"),
+        pytest.param(b"$argon2id$v=19$m=65536", 0, id="a scheme that crypt(5) has not"),
+    ],
+)
+def test_another_scheme_is_told_by_its_number(driver: Driver, field: bytes, scheme: int) -> None:
+    for call in with_strings(Audit(field)):
+        driver.assert_answer(call, result=0, reason=Reason.UNKNOWN_SCHEME, scheme=scheme)
+
+
+@pytest.mark.parametrize(
+    ("setting", "expected"),
+    [
+        pytest.param(b"$1$salt", {"scheme": 1, "rounds": 1000}, id="md5crypt"),
+        pytest.param(b"$5$salt", {"scheme": 5, "rounds": 5000}, id="sha256crypt"),
+        pytest.param(b"$6$rounds=1234$salt", {"scheme": 6, "rounds": 1234}, id="sha512crypt"),
+        pytest.param(
+            b"$7$C6..../....salt",
+            {"scheme": 7, "rounds": 0, "n": 16384, "r": 8, "p": 1},
+            id="scrypt",
+        ),
+    ],
+)
+def test_a_hash_has_its_scheme_and_rounds(
+    driver: Driver, setting: bytes, expected: dict[str, int]
+) -> None:
+    for call in with_strings(Audit(made_up(setting))):
+        driver.assert_answer(call, **expected)
+
+
+@pytest.mark.parametrize("field", [b"secret", b"abJnggxhB/yW", b"abJnggxhB/yWI."])
+def test_a_password_is_of_no_scheme(driver: Driver, field: bytes) -> None:
+    for call in with_strings(Audit(field)):
+        driver.assert_answer(call, result=0, reason=Reason.NO_SCHEME, scheme=0)

@@ -11,7 +11,7 @@ import pytest
 from support.careless_logins import calls_of_each_kind
 from support.driver import COUNTS_SHARED, COUNTS_STATIC, SOURCE, Driver
 from support.library import SOURCES, WARNINGS, Installed
-from support.model.calls import BUDGET, System
+from support.model.calls import System
 from support.needs import built
 from support.process import Word, assert_result, run
 
@@ -95,7 +95,7 @@ def assert_makes_all_calls(driver: Driver) -> None:
 def test_a_compiler_takes_the_header_without_a_word(
     installed: Installed, compiler: Compiler, standard: str, name: str
 ) -> None:
-    words = [f"-std={standard}", f"-DBUDGET={BUDGET}", f"-I{installed.include}", "-fsyntax-only"]
+    words = [f"-std={standard}", f"-I{installed.include}", "-fsyntax-only"]
     assert_result(run(*compiler.words, *words, SOURCES / name))
 
 

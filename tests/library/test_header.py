@@ -6,7 +6,16 @@ import struct
 
 import pytest
 from support.library import SOURCES, Builder, Installed
-from support.model.calls import BUDGET, Call, Hash, Limit, Reason, System, length_of_hash
+from support.model.calls import (
+    NUMBERS_OF_OTHERS,
+    Audit,
+    Call,
+    Hash,
+    Limit,
+    Reason,
+    System,
+    length_of_hash,
+)
 from support.model.settings import read_setting
 from support.model.work import LONGEST_PASSWORD
 from support.process import run
@@ -18,16 +27,18 @@ REASON = re.compile(
     re.MULTILINE,
 )
 # The fields of struct mkpasswd_report in their order: a number of 32 bits with a sign, one without,
-# six of 64 bits, two of 32 bits; little-endian.
-REPORT = struct.Struct("<iI6QII")
+# six of 64 bits, two of 32 bits, one of 64, two of 32; little-endian.
+REPORT = struct.Struct("<iI6QIIQII")
 FIELDS = (
     *("reason", "length", "cost", "digests", "bytes"),
-    *("mixes", "table", "scratch", "rounds", "reserved"),
+    *("mixes", "table", "scratch", "rounds", "scheme"),
+    *("n", "r", "p"),
 )
 # The calls of tests/c/report.c.
 REPORTED: tuple[Call, ...] = (
     Hash(b"password", b"$7$46..../....SodiumChloride"),
     Limit(6, 0),
+    Audit(b"$7$C6..../....SodiumChloride$" + b"." * 43),
 )
 
 
@@ -45,13 +56,17 @@ def test_the_reasons_have_their_numbers_and_messages(installed: Installed) -> No
         pytest.param("SHA256CRYPT", 5, id="the number of sha256crypt"),
         pytest.param("SHA512CRYPT", 6, id="the number of sha512crypt"),
         pytest.param("SCRYPT", 7, id="the number of scrypt"),
+        *(
+            pytest.param(re.sub(r"\W", "_", name).upper(), number, id=f"the number of {name}")
+            for name, number in NUMBERS_OF_OTHERS.items()
+            if name is not None
+        ),
         pytest.param("PASSWORD_LIMIT", LONGEST_PASSWORD, id="the longest password"),
         pytest.param(
             "TEXT_SIZE",
             length_of_hash(read_setting(SCRYPT_WITH_LONGEST_SALT)) + 1,
             id="the room for the longest hash",
         ),
-        pytest.param("BUDGET", BUDGET, id="the budget"),
     ],
 )
 def test_a_number_is_what_the_formats_say(installed: Installed, name: str, number: int) -> None:
@@ -68,7 +83,7 @@ def test_each_field_of_a_report_is_at_its_place(builder: Builder) -> None:
         assert found == {name: getattr(expected, name) for name in FIELDS}
 
 
-def test_no_two_fields_are_alike_in_both_reports() -> None:
+def test_no_two_fields_are_alike_in_all_reports() -> None:
     """So that the test before this one sees fields that are exchanged."""
     reports = [call.expected(System()) for call in REPORTED]
     values = [tuple(getattr(report, name) for report in reports) for name in FIELDS]

@@ -1,4 +1,4 @@
-"""The limit of a policy, which a budget of 0 stands for, and the rounds that rounds of 0 stand for.
+"""The limit of a policy, which a budget of 0 stands for.
 
 docs/FORMATS.md has a table of limits and of the longest passwords that they allow.
 """
@@ -9,8 +9,7 @@ import re
 import pytest
 from support import ROOT
 from support.driver import Driver
-from support.library import Installed
-from support.model.calls import METHODS, Call, Limit, Login, MakeSetting, New, Reason, System
+from support.model.calls import METHODS, Call, Limit, Login, New, Reason, System
 from support.model.work import cost, login_limit
 from support.model.settings import recommended_setting
 from support.model.methods import SHA512CRYPT
@@ -125,30 +124,3 @@ def test_no_smaller_budget_admits_every_password(driver: Driver) -> None:
 
 def test_1297572512_is_what_the_longest_password_can_cost() -> None:
     assert cost(recommended_setting(SHA512CRYPT, 0, b"a" * 16), 1024) == 1_297_572_512
-
-
-@pytest.mark.parametrize(
-    ("path", "pattern"),
-    [
-        pytest.param("c/mkpasswd.h", r"^#define MKPASSWD_ROUNDS (\d+)$", id="C"),
-        pytest.param(
-            "python/src/mkpasswd/*.py",
-            r"\b(?:RECOMMENDED_ROUNDS|rounds: Optional\[int\]) = (\d[\d_]*)",
-            id="Python",
-        ),
-        pytest.param("web/calls.js", r"\[ROUNDS, \w+\] = \[(\d+)", id="JavaScript"),
-    ],
-)
-def test_the_recommended_rounds_are_those_of_the_library(
-    driver: Driver, path: str, pattern: str
-) -> None:
-    made = driver.answers([MakeSetting(6, 0, 1, 2, 3)])[0].out
-    files = [file.read_text(encoding="utf-8") for file in ROOT.glob(path)]
-    found = [rounds for text in files for rounds in re.findall(pattern, text, re.MULTILINE)]
-    assert found, f"{path} says no rounds"
-    expected = [f'"$6$rounds={rounds.replace("_", "")}$' for rounds in found]
-    assert [made[: len(start)] for start in expected] == expected
-
-
-def test_the_installed_header_has_these_rounds(installed: Installed) -> None:
-    assert installed.defined("ROUNDS") == SHA512CRYPT.recommended

@@ -9,22 +9,32 @@ from __future__ import annotations
 import dataclasses
 import enum
 import functools
+import re
 from abc import ABC, abstractmethod
 from dataclasses import dataclass
 from typing import ClassVar, TypeVar
 
-from .audits import audit_policy, is_locked, is_whole, state_of
+from .audits import audit_policy, is_locked, is_whole, other_scheme, rounds_text, state_of
 from .hashes import hash_of
 from .methods import (
     ALPHABET,
     BITS_OF_DIGIT,
+    DIGIT,
     MD5CRYPT,
     SCRYPT,
     SHA256CRYPT,
     SHA512CRYPT,
     Method,
 )
-from .settings import LEAST_ROUNDS, MOST_ROUNDS, Refused, Setting, read_setting, recommended_setting
+from .settings import (
+    LEAST_ROUNDS,
+    MOST_ROUNDS,
+    Refused,
+    ScryptCost,
+    Setting,
+    read_setting,
+    recommended_setting,
+)
 from .work import (
     HIGHEST_BYTE,
     LONGEST_PASSWORD,
@@ -37,7 +47,7 @@ from .work import (
 )
 
 TEXT_SIZE = 145  # bytes, for any hash, setting or message
-BUDGET = 150_000_000  # MKPASSWD_BUDGET
+BUDGET = 150_000_000  # some budget, which admits the hashes of these tests
 GREATEST = 2**64 - 1  # number of 64 bits
 DRAWN = 24  # bytes that mkpasswd_new asks the system for
 WORD = 8  # bytes
@@ -80,6 +90,9 @@ class Reason(enum.IntEnum):
     NO_HASH = -21, "no hash"
     DEAD = -22, "dead"
     REPLACED = -23, "outdated"
+    SALT_LENGTH = -24, "salt length"
+    SALT_CHARACTER = -25, "salt character"
+    NO_SCHEME = -26, "no scheme"
 
 
 OF_A_SETTING = {reason.message: reason for reason in Reason if -10 <= reason <= -3}
@@ -92,6 +105,17 @@ REASONS_OF_AUDITS = {
     "current": Reason.DONE,
 }
 AnyCall = TypeVar("AnyCall", bound="Call")
+# The numbers in the header of other schemes of crypt(5), by their names.
+NUMBERS_OF_OTHERS: dict[str | None, int] = {
+    "yescrypt": 101,
+    "gost-yescrypt": 102,
+    "bcrypt": 103,
+    "NT": 104,
+    "sha1crypt": 105,
+    "SunMD5": 106,
+    "bsdicrypt": 107,
+    "descrypt": 108,
+}
 METHODS = {1: MD5CRYPT, 5: SHA256CRYPT, 6: SHA512CRYPT, 7: SCRYPT}
 
 
@@ -137,7 +161,10 @@ class Answer:
     table: int = 0
     scratch: int = 0
     rounds: int = 0
-    reserved: int = 0
+    scheme: int = 0
+    n: int = 0
+    r: int = 0
+    p: int = 0
     allocations: int = 0
     kept: int = 0  # allocations that were not freed
     drawn: int = 0  # bytes
@@ -156,6 +183,8 @@ class Report:
     drawn: int = 0
     length: int = 0
     rounds: int = 0
+    scheme: int = 0
+    scrypt: ScryptCost | None = None
     result_text: bytes = b""  # for `out`
 
     def give(self, text: bytes) -> None:
@@ -207,6 +236,10 @@ class Report:
             table=self.work.memory,
             scratch=self.scratch,
             rounds=self.rounds,
+            scheme=self.scheme,
+            n=1 << self.scrypt.log_n if self.scrypt else 0,
+            r=self.scrypt.r if self.scrypt else 0,
+            p=self.scrypt.p if self.scrypt else 0,
             allocations=self.allocations,
             drawn=self.drawn,
             out=out,
@@ -474,6 +507,15 @@ class NeedsRehash(Call):
         return Reason.OUTDATED
 
 
+def audited_refusal(stored: bytes, reason: Reason) -> Reason:
+    """The reason of an audit of a field that has no setting for this one."""
+    if reason in (Reason.NO_HASH, Reason.LOCKED):
+        return reason
+    if stored.startswith(b"$"):
+        return reason if other_scheme(stored) is None else Reason.UNKNOWN_SCHEME
+    return Reason.NO_SCHEME if other_scheme(stored) is None else Reason.UNKNOWN_SCHEME
+
+
 @dataclass(frozen=True)
 class Audit(Call):
     """mkpasswd_audit."""
@@ -488,9 +530,19 @@ class Audit(Call):
     def judged(self, report: Report) -> Reason:
         method = method_of(self.method, self.rounds, are_clamped=False)
         policy = audit_policy(method, self.rounds, self.budget)
-        setting = setting_of_field(self.stored)
+        stored = self.stored or b""
+        try:
+            setting = setting_of_field(stored)
+        except CallRefused as refusal:
+            name = None if is_locked(stored) else other_scheme(stored)
+            report.scheme = NUMBERS_OF_OTHERS.get(name, 0)
+            return audited_refusal(stored, refusal.reason)
         report.cost = cost(setting, LONGEST_PASSWORD)
-        return REASONS_OF_AUDITS[state_of(policy, setting, self.stored or b"")]
+        report.scheme = int(setting.text[1:2])
+        report.scrypt = setting.scrypt
+        if setting.scrypt is None:
+            report.rounds = int(rounds_text(setting))
+        return REASONS_OF_AUDITS[state_of(policy, setting, stored)]
 
 
 @functools.cache
@@ -617,6 +669,55 @@ class MakeSetting(CallWithOut):
         self.require_room(len(text))
         report.give(text)
         return Reason.DONE
+
+
+@dataclass(frozen=True)
+class MakeSettingWithSalt(CallWithOut):
+    """mkpasswd_setting_with_salt, which has no call for strings."""
+
+    name = "setting_with_salt"
+    method: int
+    rounds: int
+    salt: bytes
+    out_len: int | None = TEXT_SIZE
+    is_str: bool = False
+
+    def judged(self, report: Report) -> Reason:
+        method = METHODS.get(self.method)
+        if method is None:
+            raise CallRefused(Reason.UNKNOWN_METHOD)
+        if not 1 <= len(self.salt) <= method.longest_salt:
+            raise CallRefused(Reason.SALT_LENGTH)
+        if not re.fullmatch(rb"%b*" % DIGIT, self.salt):
+            raise CallRefused(Reason.SALT_CHARACTER)
+        method_of(self.method, self.rounds, are_clamped=False)
+        text = recommended_setting(method, self.rounds, self.salt).text
+        self.require_room(len(text))
+        report.give(text)
+        return Reason.DONE
+
+
+@dataclass(frozen=True)
+class SchemeName(Call):
+    """mkpasswd_scheme_name, which has no report and no call for strings."""
+
+    name = "scheme_name"
+    scheme: int
+    out_len: int | None = TEXT_SIZE
+    is_str: bool = False
+
+    def judged(self, report: Report) -> Reason:
+        raise NotImplementedError
+
+    def expected(self, system: System) -> Answer:
+        known = {number: method.name for number, method in METHODS.items()}
+        known.update({number: name for name, number in NUMBERS_OF_OTHERS.items() if name})
+        text = known.get(self.scheme, "unknown scheme").encode()
+        if not self.out_len:
+            return Answer(0)
+        has_room = self.out_len > len(text)
+        is_known = self.scheme in known
+        return Answer(int(is_known and has_room), out=quoted(text[: self.out_len - 1]))
 
 
 @dataclass(frozen=True)
