@@ -23,7 +23,6 @@ import ctypes
 import functools
 import inspect
 import logging
-import re
 import sys
 from dataclasses import dataclass
 from typing import TYPE_CHECKING, Any, Callable, Dict, Iterator, Literal, NamedTuple, Optional, Tuple, TypeVar, cast, final
@@ -59,9 +58,7 @@ _JUDGED: Dict[int, State] = {
     Reason.OVER_BUDGET.value: "over budget",
 }
 _STATES: Dict[int, State] = {Reason.LOCKED.value: "locked", Reason.NO_HASH.value: "none"}
-
-# A hash of bsdicrypt or descrypt, the schemes whose hashes begin with no "$".
-_OLD_SCHEME = re.compile(rb"_|[./0-9A-Za-z]{13}\Z")
+_OTHERS: Dict[int, State] = {Reason.NO_SCHEME.value: "no scheme", Reason.UNKNOWN_SCHEME.value: "unknown"}
 
 _LOG = logging.getLogger("mkpasswd")
 
@@ -158,8 +155,8 @@ class Policy:
     the recommended policy that is 253,921,472, about 2.5 seconds on one core of 2.7 GHz; it admits passwords of up to
     168 bytes, and 1,300,000,000 all of them.
 
-    Raises TypeError, also for a float or a bool; ValueError for other rounds of SHA-crypt and a budget below 1; Refused
-    for an unknown method or rounds that scrypt does not take.
+    Raises TypeError, also for a float or a bool; ValueError for a budget below 1; Refused, which is a ValueError, for an
+    unknown method or rounds that it does not take.
     """
 
     method: str = "sha512crypt"
@@ -168,7 +165,7 @@ class Policy:
 
     def __post_init__(self) -> None:
         # This refuses what is no policy.
-        _calls.limit_of(self._made, self.budget)
+        self._admitted
 
     # The one that dataclass makes would call hash() of this module.
     def __hash__(self) -> int:
@@ -304,17 +301,11 @@ class Policy:
         text = b"" if field is None else _calls.text_bytes(field, "field")
         report = self._audited(text)
         if report.reason in _JUDGED:
-            # The setting begins with "$", the method's number and "$".
-            names = {number: name for name, number in _calls.NUMBERS.items()}
-            return Description(names[int(text[1:2])], report.cost, _JUDGED[report.reason], None)
-        if report.reason in _STATES:
-            return Description(None, None, _STATES[report.reason], None)
+            return Description(_calls.scheme_name(report.scheme), report.cost, _JUDGED[report.reason], None)
+        if report.reason in _STATES or report.reason in _OTHERS:
+            return Description(None, None, {**_STATES, **_OTHERS}[report.reason], None)
         if report.reason not in _calls.NO_SETTING:
             raise _calls.failure(report)
-        if not text.startswith(b"$"):
-            return Description(None, None, "unknown" if _OLD_SCHEME.match(text) else "no scheme", None)
-        if report.reason == Reason.UNKNOWN_SCHEME.value:
-            return Description(None, None, "unknown", None)
         return Description(None, None, "malformed", Reason(report.reason))
 
     @property
@@ -322,8 +313,12 @@ class Policy:
         return _calls.made_by(self.method, self.rounds)
 
     @property
+    def _admitted(self) -> Report:
+        return _calls.admitted(self._made, self.budget)
+
+    @property
     def _limit(self) -> int:
-        return _calls.limit_of(self._made, self.budget)
+        return self._admitted.cost
 
     def _admits(self, password: Text) -> bool:
         """Whether hash() takes it, if there is memory."""
@@ -331,7 +326,7 @@ class Policy:
             length = len(_calls.password_bytes(password))
         except ValueError:
             return False
-        return _calls.bound(_calls.setting_of(self._made).encode("ascii"), length) <= self._limit
+        return length <= self._admitted.length and self._admitted.reason == Reason.DONE.value
 
     def _new(self, word: bytes) -> str:
         report = Report()

@@ -1,4 +1,4 @@
-"""What stands between the package's calls and the library's: errors, arguments, settings and limits."""
+"""What stands between the package's calls and the library's: errors, arguments and settings."""
 import ctypes
 import operator
 import os
@@ -9,12 +9,6 @@ from ._library import PASSWORD_LIMIT, TEXT_SIZE, Reason, Report, lib
 
 Text = Union[str, bytes]
 
-# The rounds of SHA-crypt that the library takes for 0. It has its own for scrypt, 7.
-RECOMMENDED_ROUNDS = 656_000
-
-# Without a budget a hash may cost twice what a new one does with a password of this length, and at least so much.
-USUAL_LENGTH, LEAST_LIMIT = 64, 150_000_000
-
 # The library takes this as no limit: every cost is below 2^42.
 NO_LIMIT = 2**64 - 1
 
@@ -23,30 +17,29 @@ NUMBERS = {"md5crypt": 1, "sha256crypt": 5, "sha512crypt": 6, "scrypt": 7}
 # What a text that is no setting of ours is refused for.
 NO_SETTING = range(Reason.BAD_SALT.value, Reason.SETTING_TOO_LONG.value + 1)
 
-# The library's messages for these, "unknown method" and "cost", name no argument.
-_ARGUMENTS = {
-    Reason.UNKNOWN_METHOD: "method must be %s or %s" % (", ".join(list(NUMBERS)[:-1]), list(NUMBERS)[-1]),
-    Reason.COST: "rounds must be 6 to 11, or 0 for 7",
-}
+# What is said of a refused method and refused rounds: the library's messages, "unknown method" and "cost", name no argument.
+_METHODS = "method must be %s or %s" % (", ".join(list(NUMBERS)[:-1]), list(NUMBERS)[-1])
+_ROUNDS = {"md5crypt": "0 to 4294967295", "sha256crypt": "1000 to 999999999", "sha512crypt": "1000 to 999999999", "scrypt": "6 to 11"}
 
 # UTF-8 of U+D800 to U+DFFF.
 _SURROGATE = re.compile(b"\xed[\xa0-\xbf]")
 
 
 class Refused(ValueError):
-    """A stored hash without one of these methods or a valid setting, an unknown method, or rounds that scrypt does not take.
+    """A stored hash without one of these methods or a valid setting, an unknown method, or rounds that it does not take.
 
     `reason` is a Reason.
     """
 
     __module__ = "mkpasswd"
 
-    def __init__(self, reason: Reason) -> None:
+    def __init__(self, reason: Reason, message: Optional[str] = None) -> None:
         super().__init__(reason)
         self.reason = reason
+        self._message = message
 
     def __str__(self) -> str:
-        return _ARGUMENTS.get(self.reason) or self.reason.words
+        return self._message or self.reason.words
 
 
 class TooCostly(Refused):
@@ -101,13 +94,18 @@ def made_by(method: str, rounds: Optional[int]) -> Tuple[int, int]:
         raise TypeError("method must be str, not %s" % type(method).__name__)
     method = str.__str__(method)
     number = 0 if rounds is None else integer(rounds, "rounds")
-    # Some calls of the library clamp these, so that `rounds=12` would make a weak hash.
-    if method in ("sha256crypt", "sha512crypt") and number != 0 and not 1000 <= number <= 999_999_999:
-        raise ValueError("rounds must be 1000 to 999999999, or 0 for %d" % RECOMMENDED_ROUNDS)
+    if method not in NUMBERS:
+        raise Refused(Reason.UNKNOWN_METHOD, _METHODS)
+    # ctypes takes a number modulo 2^32.
     if not 0 <= number < 2**32:
-        raise ValueError("rounds out of the range 0 to 4294967295")
-    # The library knows no method 0.
-    return NUMBERS.get(method, 0), number
+        raise ValueError(_allowed_rounds(method))
+    return NUMBERS[method], number
+
+
+def _allowed_rounds(method: str) -> str:
+    if method == "md5crypt":
+        return "rounds must be %s" % _ROUNDS[method]
+    return "rounds must be %s, or 0 for %d" % (_ROUNDS[method], recommended_rounds(method))
 
 
 def budget_of(budget: Optional[int]) -> int:
@@ -145,9 +143,30 @@ def bound(field: bytes, password_len: int) -> int:
     return report.cost
 
 
-def limit_of(made: Tuple[int, int], budget: Optional[int]) -> int:
-    """What a hash may cost by a policy, as mkpasswd_login() computes it for a budget of 0."""
-    return budget_of(budget) or max(LEAST_LIMIT, 2 * bound(setting_of(made).encode("ascii"), USUAL_LENGTH))
+def admitted(made: Tuple[int, int], budget: Optional[int]) -> Report:
+    """What a policy admits: `cost` is the most that a hash may cost, `length` that of the longest password with such a new hash.
+
+    The length is 0, and the reason OVER_BUDGET, if no new hash is within the limit. `rounds` are those of new hashes.
+    """
+    report = Report()
+    done = lib.mkpasswd_limit(*made, budget_of(budget), report)
+    if done == 1 or report.reason == Reason.OVER_BUDGET.value:
+        return report
+    if report.reason == Reason.COST.value:
+        names = {number: name for name, number in NUMBERS.items()}
+        raise Refused(Reason.COST, _allowed_rounds(names[made[0]]))
+    raise failure(report)
+
+
+def recommended_rounds(method: str) -> int:
+    return admitted((NUMBERS[method], 0), None).rounds
+
+
+def scheme_name(number: int) -> str:
+    """The name of a scheme that an audit reports."""
+    out = ctypes.create_string_buffer(TEXT_SIZE)
+    lib.mkpasswd_scheme_name(number, out, len(out))
+    return out.value.decode("ascii")
 
 
 def failure(report: Report, limit: int = NO_LIMIT) -> Exception:
@@ -163,6 +182,8 @@ def failure(report: Report, limit: int = NO_LIMIT) -> Exception:
         return MemoryError(reason.words)
     if reason is Reason.NO_RANDOM_WORDS:
         return OSError(reason.words)
-    if reason.value in NO_SETTING or reason in (Reason.UNKNOWN_METHOD, Reason.COST):
+    if reason is Reason.UNKNOWN_METHOD:
+        return Refused(reason, _METHODS)
+    if reason.value in NO_SETTING or reason is Reason.COST:
         return Refused(reason)
     return RuntimeError("the library reports %r, an unexpected reason" % reason.words)

@@ -42,6 +42,9 @@ class Reason(enum.Enum):
     NO_HASH = -21
     DEAD = -22
     REPLACED = -23
+    SALT_LENGTH = -24
+    SALT_CHARACTER = -25
+    NO_SCHEME = -26
 
     @property
     def words(self) -> str:
@@ -64,6 +67,10 @@ class Report(ctypes.Structure):
     cost: int
     work: CWork
     rounds: int
+    scheme: int
+    n: int
+    r: int
+    p: int
 
     _fields_ = [
         ("reason", ctypes.c_int32),
@@ -71,7 +78,10 @@ class Report(ctypes.Structure):
         ("cost", ctypes.c_uint64),
         ("work", CWork),
         ("rounds", ctypes.c_uint32),
-        ("reserved", ctypes.c_uint32),
+        ("scheme", ctypes.c_uint32),
+        ("n", ctypes.c_uint64),
+        ("r", ctypes.c_uint32),
+        ("p", ctypes.c_uint32),
     ]
 
 
@@ -90,10 +100,12 @@ def _load() -> ctypes.CDLL:
             ("new", text + made + budget + text + report),
             ("needs_rehash", text + made + report),
             ("audit", text + made + budget + report),
+            ("limit", made + budget + report),
             ("bound", text + [ctypes.c_size_t] + report),
             ("hash", text + text + budget + text + report),
             ("setting", made + [ctypes.c_uint64] * 3 + text + report),
             ("words", [ctypes.c_int32] + text),
+            ("scheme_name", [ctypes.c_uint32] + text),
         ):
             function = getattr(library, "mkpasswd_" + call)
             function.argtypes, function.restype = arguments, ctypes.c_int32

@@ -50,14 +50,19 @@ def mksalt(method: Optional[_Method] = None, *, rounds: Optional[int] = None) ->
     if not isinstance(method, _Method):
         raise TypeError("method must be one of crypt.methods, not %s" % type(method).__name__)
     if method in (METHOD_BLOWFISH, METHOD_CRYPT):
-        raise _calls.Refused(Reason.UNKNOWN_METHOD)
-    if rounds is not None:
-        rounds = _calls.integer(rounds, "rounds")
-        if method == METHOD_MD5:
-            raise ValueError("%r doesn't support the rounds argument" % (method,))
-        if not 1000 <= rounds <= 999_999_999:
-            raise ValueError("rounds out of the range 1000 to 999_999_999")
-    return _calls.new_setting((int(method.ident), rounds or 0))
+        raise _calls.Refused(Reason.UNKNOWN_METHOD, "method must be one of crypt.methods")
+    if rounds is not None and method == METHOD_MD5:
+        raise ValueError("%r doesn't support the rounds argument" % (method,))
+    name = {"1": "md5crypt", "5": "sha256crypt", "6": "sha512crypt"}[method.ident]
+    try:
+        if rounds == 0 and not isinstance(rounds, bool):
+            raise ValueError
+        made = _calls.made_by(name, rounds)
+        _calls.admitted(made, None)
+    except ValueError:
+        # As the standard library says it.
+        raise ValueError("rounds out of the range 1000 to 999_999_999") from None
+    return _calls.new_setting(made)
 
 
 def crypt(word: Text, salt: Union[Text, _Method, None] = None, *, budget: Optional[int] = None) -> str:
@@ -76,7 +81,7 @@ def crypt(word: Text, salt: Union[Text, _Method, None] = None, *, budget: Option
     if salt is None or isinstance(salt, _Method):
         salt = mksalt(salt)
     secret, setting = _calls.password_bytes(word), _calls.text_bytes(salt, "salt")
-    limit = _calls.limit_of((_calls.NUMBERS["sha512crypt"], 0), budget)
+    limit = _calls.admitted((_calls.NUMBERS["sha512crypt"], 0), budget).cost
     report = Report()
     out = ctypes.create_string_buffer(TEXT_SIZE)
     done = lib.mkpasswd_hash(secret, len(secret), setting, len(setting), limit, out, len(out), report)

@@ -99,7 +99,7 @@ class MkpasswdPasswordHasher(BasePasswordHasher):
                     return  # verify() has done all of the work
                 decoded = self.decode(encoded)
                 if decoded["method"] == self.method and self.method.startswith("sha"):
-                    rounds = max((rounds or _calls.RECOMMENDED_ROUNDS) - decoded["rounds"], 1000)
+                    rounds = max(self._policy._admitted.rounds - decoded["rounds"], 1000)
             Policy(self.method, rounds, limit).hash(password)
 
     def decode(self, encoded: str) -> Dict[str, Any]:
@@ -150,10 +150,7 @@ class PasswordValidator:
             raise ValidationError(self.get_help_text(), code="password_too_long")
 
     def get_help_text(self) -> str:
-        longest = 0
-        for power in range(10, -1, -1):
-            longest += 2**power if self._policy._admits("x" * (longest + 2**power)) else 0
-        return "Your password can have at most %d bytes." % longest
+        return "Your password can have at most %d bytes." % self._policy._admitted.length
 
     @property
     def _policy(self) -> Policy:

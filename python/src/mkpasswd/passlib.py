@@ -23,7 +23,7 @@ from passlib.registry import register_crypt_handler
 from passlib.utils import to_native_str
 
 from . import Policy, TooCostly
-from ._calls import RECOMMENDED_ROUNDS, password_bytes
+from ._calls import password_bytes, recommended_rounds
 from .crypt import crypt
 
 __all__ = ["md5_crypt", "sha256_crypt", "sha512_crypt"]
@@ -92,7 +92,7 @@ class _Crypt:
 
 
 class _Rounds(_Crypt):
-    default_rounds: int = RECOMMENDED_ROUNDS
+    default_rounds: int = recommended_rounds("sha512crypt")
     min_desired_rounds: Optional[int]
     vary_rounds: Any
     rounds: int
