@@ -1,7 +1,8 @@
 """The command line of pwhash: its options, and how a run ends."""
 import argparse, errno, gc, os, re, signal, sys
-import engine, memory
+import engine, memory, policy
 from lines import Stop, clear, named, on_terminal, quoted, readable, say, write
+from policy import METHODS
 from prompt import SIGNALS
 from tasks import PLACES, SERVICES, audit, check, file, one
 
@@ -11,9 +12,6 @@ USAGE = """
   pwhash audit /etc/shadow           what is wrong with stored hashes
 
 Hashes are sha512crypt with 656000 rounds. file, check, audit have own --help."""
-TWICE = {"sha512crypt": 253921472, "sha256crypt": 211937408, "md5crypt": 0, "scrypt": 268491592}     # for 64 bytes
-ROUNDS = dict.fromkeys(TWICE, (1000, 656000, 999999999)) | {"scrypt": (6, 7, 11)}
-
 def number(text):
     found = re.fullmatch("([0-9]{1,20})([kM]?)", text)
     if not found:
@@ -22,7 +20,7 @@ def number(text):
 
 FLAG, NUMBER = {"action": "store_true"}, {"type": number, "metavar": "NUMBER"}
 OPTIONS = {      # the words, what argparse has to know, and the help
-    "method": ("-m --method", {"default": "sha512crypt", "metavar": "TYPE", "choices": [*ROUNDS]}, ", ".join(ROUNDS)),
+    "method": ("-m --method", {"default": "sha512crypt", "metavar": "TYPE", "choices": [*METHODS]}, ", ".join(METHODS)),
     "rounds": ("-R --rounds", NUMBER, "from 1000, by default 656k; with scrypt 6 to 11, by default 7"),
     "budget": ("--budget", NUMBER, "what a line may cost in bytes; by default a login's limit, in audits any new hash"),
     "salt": ("-S --salt", {}, "up to 16 (md5crypt 8, scrypt 86) of a-zA-Z0-9./, in place of new ones"),
@@ -91,16 +89,16 @@ def arguments(words):
     if options.out and os.path.lexists(options.out):
         way_out = ", or remove it" if os.path.isfile(options.out) else ""
         error(f"{named(options.out)} already exists: name another file after -o{way_out}")
-    least, usual, most = ROUNDS[options.method]
-    rounds = usual if options.rounds is None else options.rounds
-    if not least <= rounds <= most:
-        error(f"-R {rounds} with -m {options.method} isn't from {least} to {most}, by default {usual}")
-    options.memory = 1 << rounds + 19 if options.method == "scrypt" else 0      # bytes of the table of a new hash
+    try:
+        admitted = policy.admitted(options.method, options.rounds, options.budget)
+    except policy.RefusedRounds as refused:
+        error(str(refused))
+    options.longest = admitted.longest
+    options.memory = 1 << admitted.rounds + 19 if options.method == "scrypt" else 0      # bytes of the table of a new hash
     if command != "audit":      # what mkpasswd takes by itself are fewer rounds, and no budget
-        limit = TWICE[options.method] * (2.0 ** (rounds - usual) if most == 11 else rounds / usual)
-        options.rounds = rounds
+        options.rounds = admitted.rounds
         if options.budget is None:
-            options.budget = max(150000000, int(limit)) << bool(options.rehash)
+            options.budget = admitted.limit << bool(options.rehash)
     given = ((each, getattr(options, each)) for each in ("method", "rounds", "salt", "budget"))
     options.words = ["--rehash"] * bool(options.rehash) + [f"--{each}={how}" for each, how in given if how is not None]
     return options

@@ -25,7 +25,6 @@ ERRORS = re.compile(      # what spreadsheets show in place of a value, in some 
     rb"ZAHL|NOMBRE|NUL|VALEUR|NULO|VALOR|NULLO|RIF|VALORE)!)|(?:Err|Fehler):[0-9]{3}")
 CHANGED = re.compile(rb"#{3,}|[+-]?[0-9](?:[.,][0-9]+)?E[+-]?[0-9]+|TRUE|FALSE|WAHR|FALSCH")      # and what they save in a table
 APART = "letters and accents apart (not Unicode NFC), as few keyboards send them"
-LONGEST_SURE = 64      # bytes of a password that no hash by -m and -R is too costly for
 
 def free(options):
     """An engine that hashes nothing: what it would hash is over its budget of 0."""
@@ -76,7 +75,7 @@ def one(options):
     refuse_password(password, os.isatty(0))
     [block] = engine.answers([(1, b"x:" + password)])
     if block.refusals == {0: "over budget"}:
-        raise Stop("over budget (by default 168 bytes; sha256crypt: 150). Give --budget 1300000000 (high -R: more).", 2)
+        raise Stop(f"over budget: with these rounds a password may have at most {options.longest} bytes.", 2)
     if block.refusals:
         raise Stop(f"{block.refusals[0]}. Give a password of at most 1,024 bytes, none of them 0.", 2)
     values = {"name": options.name, "hash": block.answers[0][2:].decode(), "day": int(time.time() // 86400)}
@@ -211,12 +210,12 @@ def show(fd, block, new=False):
         write(2, filter(None, block.answers[place:place + 1]))
         begin = place + 1
 
-def untried(number, line, reason):
+def untried(number, line, reason, longest):
     """Why a password of a list isn't tried for an account: for all the same sentence where it's the password, or the hash."""
     name, field, password = line.split(b":", 2)
     if reason in OF_PASSWORDS:
         return f"line {number} isn't tried: {reason}"
-    if reason == "over budget" and len(password) > LONGEST_SURE:
+    if reason == "over budget" and len(password) > (longest or 0):
         return f"line {number} isn't tried for every name: {reason}"
     return f"{readable(name)} isn't checked: {reason}"
 
@@ -228,7 +227,7 @@ def check(options):
         for block in progress(engine.answers(source.lines(), source.total), "checking", source.total):
             for place, reason in block.refusals.items() if options.shadow else ():      # once for all words
                 line, number = block.lines[place], block.numbers[place]
-                about = f"line {number}: {reason}" if line == b"" else untried(number, line, reason)
+                about = f"line {number}: {reason}" if line == b"" else untried(number, line, reason, options.longest)
                 block.answers[place] = b"" if about in told else f"pwhash: {about}".encode()
                 told.add(about)
             if options.out:
