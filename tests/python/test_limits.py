@@ -1,0 +1,62 @@
+"""What a policy admits, as the package uses it, for 100,000 policies by formulas of documents."""
+from __future__ import annotations
+
+import pytest
+from support.package import kind_raised, tried_package
+from support.policy_limits import (
+    LONGEST_PASSWORD,
+    MD5CRYPT,
+    METHODS,
+    SCRYPT,
+    SHA256CRYPT,
+    SHA512CRYPT,
+    Policy,
+    new_cost,
+    random_policies,
+)
+
+with tried_package():
+    import mkpasswd
+    from mkpasswd import _calls
+
+POLICIES = 100_000
+NAMES = {
+    MD5CRYPT: "md5crypt",
+    SHA256CRYPT: "sha256crypt",
+    SHA512CRYPT: "sha512crypt",
+    SCRYPT: "scrypt",
+}
+
+
+def longest_within(policy: Policy) -> int | None:
+    """The length of the longest password whose new hash is within the limit, or None."""
+    shortest, longest = -1, LONGEST_PASSWORD
+    while shortest < longest:
+        middle = (shortest + longest + 1) // 2
+        if new_cost(policy.method, policy.chosen_rounds, middle) <= policy.limit:
+            shortest = middle
+        else:
+            longest = middle - 1
+    return None if shortest < 0 else shortest
+
+
+def test_the_limit_and_the_longest_password_are_those_of_the_formulas() -> None:
+    for policy in random_policies(7, POLICIES):
+        if policy.method not in METHODS or policy.refusal:
+            continue
+        admitted = _calls.admitted((policy.method, policy.rounds), policy.budget or None)
+        longest = longest_within(policy)
+        assert (admitted.cost, admitted.length) == (policy.limit, longest or 0), policy
+        assert (admitted.reason > 0) == (longest is not None), policy
+
+
+@pytest.mark.parametrize("seed", range(3))
+def test_a_policy_refuses_exactly_the_rounds_that_no_new_hash_has(seed: int) -> None:
+    for policy in random_policies(seed, 1000):
+        if policy.method not in METHODS:
+            continue
+        made = (NAMES[policy.method], policy.rounds)
+        if policy.refusal:
+            assert kind_raised(mkpasswd.Policy, *made) is mkpasswd.Refused, policy
+        else:
+            assert mkpasswd.Policy(*made).rounds == policy.rounds
