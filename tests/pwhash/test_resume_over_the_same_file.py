@@ -11,6 +11,7 @@ import shutil
 import signal
 import subprocess
 from collections.abc import Callable
+from pathlib import Path
 
 import pytest
 from support.pwhash_runs import (
@@ -35,6 +36,14 @@ SETTING = "$6$rounds=20000$saltsalt"
 WORDS = ("file", *SLOW, "passwords", "-o", "hashes")
 OLD = (1e9, 1e9)
 OLDER = (9e8, 9e8)
+
+
+@pytest.fixture(autouse=True, name="passwords")
+def fixture_passwords(folder: Path) -> None:
+    """An old list in the scratch folder."""
+    save("passwords", users(COUNT))
+    os.utime("passwords", OLD)
+    assert (folder / "passwords").is_file()
 
 
 def interrupted(
