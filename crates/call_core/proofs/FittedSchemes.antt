@@ -1,7 +1,7 @@
 -- The rounds of a scheme make it again, those of a fitted scheme too.
 use Rattle.std.proofs.Common.{◌≡◌, ◌==◌, ◌<◌, ◌≤◌, ◌∙◌, ℕ, Bool, Some, None, true, false, nat_le, if◌then◌else◌, inl, inr, refl, ap, sym, arith}
 use Rattle.crypt_core.specs.MadeSettings.{made_params, made_rounds, made_scheme, rounds_of}
-use Rattle.crypt_core.specs.Policies.{chosen_rounds, fewer_rounds, fitted, new_cost}
+use Rattle.crypt_core.specs.Policies.{chosen_rounds, fewer_rounds, fitted, new_cost, recommended_rounds}
 use Rattle.crypt_core.specs.Rounds.{clamped}
 use Rattle.crypt_core.specs.declared.method.Method.TheVariants as methods
 use Rattle.crypt_core.specs.declared.scheme.Scheme.{Scheme}
@@ -24,8 +24,8 @@ count_made n = go (clamped n) (omega arith) (omega arith) where
 pub new_rounds : (rounds : ℕ) → made_rounds (chosen_rounds methods.Sha512crypt rounds)
     ≡ record { count = clamped (chosen_rounds methods.Sha512crypt rounds); is_written = true }
 new_rounds rounds = go (rounds == 0) refl where
-  go : (default : Bool) → (rounds == 0) ≡ default → made_rounds (if default then 656000 else rounds)
-      ≡ record { count = clamped (if default then 656000 else rounds); is_written = true }
+  go : (default : Bool) → (rounds == 0) ≡ default → made_rounds (if default then recommended_rounds methods.Sha512crypt else rounds)
+      ≡ record { count = clamped (if default then recommended_rounds methods.Sha512crypt else rounds); is_written = true }
   go true e = refl
   go false e = rw e refl
 
