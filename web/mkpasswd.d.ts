@@ -36,6 +36,14 @@ export interface Description {
     toString(): string;
 }
 
+/** What a policy admits. */
+export interface Limit {
+    /** The most that a login and a new hash may cost, as `cost` counts it. */
+    readonly bytes: number;
+    /** The bytes of the longest password whose new hash is within it, or null if the budget is too small for any. */
+    readonly passwordLength: number | null;
+}
+
 /** Thrown for a hash, a password or a policy that is refused. Nothing was hashed. */
 export class Refused extends Error {
     /** The name that mkpasswd.h has for it, such as MKPASSWD_REFUSED_BAD_ROUNDS. */
@@ -50,8 +58,8 @@ export class TooCostly extends Refused {}
  *
  * `rounds` is 1000 to 999999999; undefined, null and 0 stand for 656000. md5crypt ignores it. `budget` is the most that a
  * hash may cost, as `cost` counts it: the bytes that are digested. Without one that is twice what a new hash costs with a
- * password of 64 bytes, and at least 150,000,000; for the recommended policy it is 253,921,472, which admits passwords of up
- * to 168 bytes, and 1,300,000,000 admits all of them.
+ * password of 64 bytes, and at least 150,000,000. `limit` tells what it comes to: by the recommended policy 253,921,472,
+ * which admits passwords of up to 168 bytes. A budget of 1,300,000,000 admits all of them there.
  *
  * Throws Refused for an unknown method or other rounds, RangeError for a budget below 1, and TypeError for all else.
  *
@@ -61,6 +69,8 @@ export class Policy {
     readonly method: Method;
     readonly rounds: number;
     readonly budget: number | null;
+    /** What the policy admits: a form can refuse longer passwords before they are hashed. */
+    readonly limit: Limit;
 
     constructor(policy?: { method?: Method; rounds?: number | null; budget?: number | null });
 

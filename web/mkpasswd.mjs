@@ -110,16 +110,20 @@ const MESSAGES = {
     MKPASSWD_REFUSED_PASSWORD_TOO_LONG: 'password too long: it may have 1024 bytes',
     MKPASSWD_REFUSED_OUT_OF_MEMORY: 'scrypt is not supported here: only sha512crypt, sha256crypt and md5crypt are',
     MKPASSWD_REFUSED_UNKNOWN_METHOD: 'method must be sha512crypt, sha256crypt or md5crypt',
-    MKPASSWD_REFUSED_COST: `rounds must be 1000 to 999999999, or 0 for ${ROUNDS}`,
+    MKPASSWD_REFUSED_COST: 'rounds must be 1000 to 999999999, or 0 for the recommended ones',
 };
-function failure({ reason, message }, limit) {
+// The error for a refusal. `why` says what is too costly where it is over budget.
+function failure({ reason, message }, why) {
     if (!reason) return new Error(message);
     if (reason !== 'MKPASSWD_OVER_BUDGET') return new Refused(reason, MESSAGES[reason] ?? message);
-    return new TooCostly(reason, `${message}: the hash can cost more than ${limit}`);
+    return new TooCostly(reason, `${message}: ${why}`);
 }
+const tooCostly = (budget) => `the hash can cost more than ${budget}`;
+const tooLong = ({ bytes, passwordLength }) => (passwordLength === null ? `every new hash can cost more than ${bytes}`
+    : `a password may have at most ${passwordLength} bytes with these rounds`);
 // Makes a call in this thread.
-function inThread(name, given, limit) {
-    try { return calls[name](...given); } catch (error) { throw error.reason ? failure(error, limit) : error; }
+function inThread(name, given, why) {
+    try { return calls[name](...given); } catch (error) { throw error.reason ? failure(error, why) : error; }
 }
 
 // ---- Arguments
@@ -155,9 +159,8 @@ const ABSENT = { __proto__: null, value: undefined };
 const STATES = {
     __proto__: null, MKPASSWD_DONE: 'current', MKPASSWD_REPLACED: 'outdated', MKPASSWD_DEAD: 'dead',
     MKPASSWD_OVER_BUDGET: 'over budget', MKPASSWD_LOCKED: 'locked', MKPASSWD_NO_HASH: 'none',
+    MKPASSWD_NO_SCHEME: 'no scheme', MKPASSWD_REFUSED_UNKNOWN_SCHEME: 'unknown',
 };
-// A hash of bsdicrypt or descrypt, the schemes whose hashes begin with no "$".
-const OLD_SCHEME = /^(_|[./0-9A-Za-z]{13}$)/;
 
 class Description {
     #message;
@@ -185,24 +188,27 @@ export class Policy {
         if (integer(budget ?? 1, 'budget', 'an integer (2 ** 42 for no limit)') < 1) {
             throw new RangeError('budget must be above 0, or null for twice what a new hash costs');
         }
-        Object.assign(this, { method, rounds: rounds || ROUNDS, budget: budget ?? null });
+        const recommended = inThread('limit', [method, rounds ?? 0]);
+        Object.assign(this, { method, rounds: rounds || recommended.rounds, budget: budget ?? null });
         for (const name of CALLS) Object.defineProperty(this, name, { __proto__: null, value: this[name].bind(this) });
         Object.freeze(this);
-        const fixed = inThread('setting', [method, this.rounds, [0n, 0n, 0n]]);
-        this.#limit = this.budget ?? Math.max(150000000, 2 * calls.cost(fixed, 64));
+        const { bytes, passwordLength } = this.budget ? calls.limit(method, this.rounds, this.budget) : recommended;
+        this.#limit = Object.freeze({ bytes, passwordLength });
     }
 
+    get limit() { return this.#limit; }
+
     hash(...given) {
-        return inThread('newHash', this.#toHash(given), this.#limit);
+        return inThread('newHash', this.#toHash(given), tooLong(this.#limit));
     }
     async hashAsync(...given) {
         const { result, fault } = await inWorker('newHash', this.#toHash(given));
-        if (fault) throw failure(fault, this.#limit);
+        if (fault) throw failure(fault, tooLong(this.#limit));
         return result;
     }
     #toHash(given) {
         const [password] = taken('hash(password)', given);
-        return [passwordBytes(password), this.method, this.rounds, this.#limit];
+        return [passwordBytes(password), this.method, this.rounds, this.#limit.bytes];
     }
 
     login(...given) {
@@ -219,12 +225,13 @@ export class Policy {
     }
     #toLogin(given) {
         const [password, field] = taken('login(password, field)', given);
-        return [typedBytes(password), fieldBytes(field), this.method, this.rounds, this.budget ?? 0, this.#limit];
+        return [typedBytes(password), fieldBytes(field), this.method, this.rounds, this.budget ?? 0, this.#limit.bytes];
     }
 
     verify(...given) {
         const [password, field] = taken('verify(password, field)', given);
-        try { return inThread('verify', [password, bytesOf(field, 'field'), this.#limit], this.#limit); } catch (error) {
+        const { bytes } = this.#limit;
+        try { return inThread('verify', [password, bytesOf(field, 'field'), bytes], tooCostly(bytes)); } catch (error) {
             if (['MKPASSWD_LOCKED', 'MKPASSWD_NO_HASH'].includes(error.reason)) return false;
             throw error;
         }
@@ -237,24 +244,22 @@ export class Policy {
 
     describe(...given) {
         const bytes = fieldBytes(...taken('describe(field)', given));
-        const { message, reason, cost } = calls.audit(bytes, this.method, this.rounds, this.budget ?? 0);
-        const [text, state] = [new TextDecoder('latin1').decode(bytes), STATES[reason]];
-        const method = { 1: 'md5crypt', 5: 'sha256crypt', 6: 'sha512crypt', 7: 'scrypt' }[text[1]];
-        if (cost > 0 && method === 'scrypt') return new Description(method, null, 'unknown');    // no login takes it
-        if (state) return cost > 0 ? new Description(method, cost, state) : new Description(null, null, state);
-        if (!text.startsWith('$')) return new Description(null, null, OLD_SCHEME.test(text) ? 'unknown' : 'no scheme');
-        if (reason === 'MKPASSWD_REFUSED_UNKNOWN_SCHEME') return new Description(null, null, 'unknown');
-        return new Description(null, null, 'malformed', reason, message);
+        const { message, reason, scheme, cost } = calls.audit(bytes, this.method, this.rounds, this.budget ?? 0);
+        const state = STATES[reason];
+        if (scheme === 'scrypt') return new Description(scheme, null, 'unknown');    // no login takes it
+        if (!state) return new Description(null, null, 'malformed', reason, message);
+        return cost > 0 ? new Description(scheme, cost, state) : new Description(null, null, state);
     }
 }
 
-export const { hash, hashAsync, login, loginAsync, verify, needsRehash, describe } = new Policy();
+const recommended = new Policy();
+export const { hash, hashAsync, login, loginAsync, verify, needsRehash, describe } = recommended;
 
 export function cost(stored, passwordLength) {
     if (integer(passwordLength, 'passwordLength') < 0) throw new RangeError('passwordLength must be 0 or more');
     return inThread('cost', [bytesOf(stored, 'stored'), passwordLength]);
 }
 export const setting = (method = 'sha512crypt', rounds = 0) => inThread('setting', [method, integer(rounds, 'rounds')]);
-export const crypt = (password, by, budget = BUDGET) =>
-    inThread('hash', [password, bytesOf(by), integer(budget, 'budget', 'an integer (2 ** 42 for no limit)')], budget);
+export const crypt = (password, by, budget = recommended.limit.bytes) =>
+    inThread('hash', [password, bytesOf(by), integer(budget, 'budget', 'an integer (2 ** 42 for no limit)')], tooCostly(budget));
 export const version = '@VERSION@';

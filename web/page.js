@@ -5,19 +5,17 @@ const SENTENCES = {
     MKPASSWD_REFUSED_SETTING_TOO_LONG: 'This is longer than any hash. Copy the hash alone, or its whole line.',
     MKPASSWD_REFUSED_BAD_CHARACTER: 'This has a character that is in no hash. Copy the hash again.',
     MKPASSWD_REFUSED_BAD_ROUNDS: 'No valid number follows rounds= in this hash. Copy it again.',
+    MKPASSWD_REFUSED_BAD_COST: 'This hash of scrypt has no valid cost. Copy it again.',
+    MKPASSWD_REFUSED_SCRYPT_RANGE: 'This hash of scrypt has no valid cost. Copy it again.',
+    MKPASSWD_REFUSED_ABOVE_CEILING: 'This hash of scrypt takes too much memory for any login. Set a new password.',
+    MKPASSWD_REFUSED_BAD_SALT: 'This hash of scrypt has no valid salt. Copy it again.',
+    MKPASSWD_REFUSED_COST: 'Give 1000 to 999999999 rounds.',
     MKPASSWD_LOCKED: 'This account is locked, so no password matches. To check the hash behind ! or *, remove that.',
     MKPASSWD_NO_HASH: 'This account has no hash. Set a password, or lock it.',
 };
 const NAME_RULE = 'A name begins with a letter (A to Z) or _, and has only letters, digits and _.@- (at most 64).';
 const OUTDATED = 'matches, but the hash is outdated (few rounds, or not sha512crypt): replace it with a new one';
-const METHODS = { 1: 'md5crypt', 5: 'sha256crypt', 6: 'sha512crypt' };    // by their prefixes
-const LENGTHS = { 1: 22, 5: 43, 6: 86 };    // of what is behind the salt
-// Schemes that can't be checked here, by their prefixes.
-const OTHERS = {
-    $y$: 'yescrypt', $gy$: 'gost-yescrypt', $2a$: 'bcrypt', $2b$: 'bcrypt', $2x$: 'bcrypt', $2y$: 'bcrypt', $7$: 'scrypt',
-    $argon2i$: 'Argon2', $argon2id$: 'Argon2', $apr1$: 'Apache’s MD5', $sha1$: 'sha1crypt', $md5$: 'SunMD5', $3$: 'NT',
-    '{SHA}': 'SHA-1 without a salt',
-};
+const LENGTHS = { 1: 22, 5: 43, 6: 86 };    // of what is behind the salt, by the methods' prefixes
 const CHARACTERS = 'ABCDEFGHIJKLMNOPQRSTUVWXYZabcdefghijklmnopqrstuvwxyz0123456789';
 
 const element = (id) => document.getElementById(id);
@@ -53,7 +51,7 @@ function tellEstimate() {
     const isFixed = method === 'md5crypt';
     if (rounds.disabled !== isFixed) [rounds.value, otherRounds, rounds.disabled] = [otherRounds, rounds.value, isFixed];
     const time = rates[method] && rates[method].time * rounds.value / 5000;
-    const warning = !rounds.validity.valid ? 'Give 1000 to 999999999 rounds.'
+    const warning = !rounds.validity.valid ? SENTENCES.MKPASSWD_REFUSED_COST
         : isFixed ? 'md5crypt is weak. Take it only where nothing else works.' : '';
     const textContent = warning || (time ? `Takes ${about(time)}.` : '\u00a0');
     if (element('estimate').textContent === textContent) return;    // it is announced
@@ -143,10 +141,10 @@ function start(form) {
                 : 'Type the password again, or show it.', 'refused');
         }
     }
-    running = { form, method: values.method ?? METHODS[values.stored[1]], stored: values.stored };
-    running.worker = work(form.id, values, ({ cost, isLast, ...result }) => {
-        if (isLast) return tellResult(result);
-        running.cost = cost;
+    running = { form, stored: values.stored };
+    running.worker = work(form.id, values, ({ isLast, ...told }) => {
+        if (isLast) return tellResult(told);
+        Object.assign(running, told);    // the method and the cost
         return showProgress(running);
     });
 }
@@ -159,25 +157,31 @@ function flaw(stored) {
     return length > LENGTHS[method] ? `too long: ${length} characters in place of ${LENGTHS[method]}` : 'damaged';
 }
 
-// What a field is that has the prefix of no method here.
-function otherScheme(stored) {
-    const [, dollars, id, braces] = stored.match(/^(\$(\w+)[$,])|^({[\w-]+})/) ?? [];
-    const prefix = braces ?? (dollars && `$${id}$`);
-    const name = OTHERS[prefix] ?? (/^[./0-9A-Za-z]{13}$/.test(stored) ? 'descrypt' : prefix && 'another scheme');
+// What a field is that is of no scheme.
+function noHash(stored) {
     const begin = stored.length > 20 ? `${stored.slice(0, 20)}…` : stored;
-    if (!name) return `“${begin}” is not a hash. Paste a hash, or its whole line.`;
-    return `${prefix ?? 'This'} is ${name}, which can’t be checked here. `
-        + (name === 'scrypt' ? 'Give a line name:hash:password to pwhash check.' : 'Log in on the system that stored it.');
+    return `“${begin}” is not a hash of crypt(5). Paste one, or its whole line.`;
+}
+
+// What a hash is that can't be checked here.
+function otherScheme(scheme) {
+    return `This is ${scheme ?? 'another scheme'}, which can’t be checked here. `
+        + (scheme === 'scrypt' ? 'Give a line name:hash:password to pwhash check.' : 'Log in on the system that stored it.');
+}
+
+// What a hash is that can cost more than the budget.
+function tooCostly() {
+    const time = expected(running);
+    return `Checking this hash can take ${time ? about(time) : 'long'}, so it was refused. `
+        + `If you trust it, raise the budget to ${running.cost}.`;
 }
 
 // Why a password was neither hashed nor checked, and what to do next.
-function refusal({ reason, message }) {
-    const { cost, stored } = running;
-    if (stored && !/^\$[156]\$/.test(stored) && /REFUSED_(?!PASSWORD)/.test(reason)) return otherScheme(stored);
-    if (reason !== 'MKPASSWD_OVER_BUDGET') return SENTENCES[reason] ?? `${message[0].toUpperCase()}${message.slice(1)}.`;
-    const time = expected(running);
-    return `Checking this hash can take ${time ? about(time) : 'long'}, so it was refused. `
-        + `If you trust it, raise the budget to ${cost}.`;
+function refusal({ reason, message, scheme }) {
+    if (scheme || reason === 'MKPASSWD_REFUSED_UNKNOWN_SCHEME') return otherScheme(scheme);
+    if (reason === 'MKPASSWD_NO_SCHEME') return noHash(running.stored);
+    if (reason === 'MKPASSWD_OVER_BUDGET') return tooCostly();
+    return SENTENCES[reason] ?? `${message[0].toUpperCase()}${message.slice(1)}.`;
 }
 
 // Shows what a job has come to: a hash, whether a password matches, or why neither.
@@ -281,11 +285,21 @@ function showForms(refused) {
 // Measures methods, one after another.
 function measure([method, ...others]) {
     work('measure', { method }, (rate) => {
-        showForms(rate.message);
         if (!rate.cost) return;
         rates[method] = rate;
         tellEstimate();
         if (others.length) measure(others);
+    });
+}
+
+// Shows the forms with the rounds and the budget that the module recommends, and then measures.
+function begin() {
+    work('recommend', {}, ({ message, rounds, bytes }) => {
+        showForms(message);
+        if (message) return;
+        element('rounds').defaultValue = rounds;
+        element('budget').defaultValue = bytes;
+        measure(['sha512crypt', 'sha256crypt', 'md5crypt']);
     });
 }
 // The documents are beside the page only where it is installed.
@@ -293,4 +307,4 @@ if (!location.pathname.includes('/doc/mkpasswd/')) {
     for (const link of document.querySelectorAll('[href^="html/"]')) link.replaceWith(link.textContent);
 }
 element('unsupported').hidden = true;
-try { measure(['sha512crypt', 'sha256crypt', 'md5crypt']); } catch ({ message }) { showForms(message); }
+try { begin(); } catch ({ message }) { showForms(message); }

@@ -11,10 +11,12 @@ WebAssembly.Instance = function (compiled) {
     const memory = Buffer.from(exports.memory.buffer);
     memories.push({ memory, initial: Buffer.from(memory) });
     const counting = (call) => (...words) => {
-        call(...words);
+        const result = call(...words);
         digests += new DataView(exports.memory.buffer, Number(words.at(-1))).getBigUint64(16, true);
+        return result;
     };
-    const calls = Object.entries(exports).filter(([, value]) => typeof value === 'function');
+    const hasReport = ([name, value]) => typeof value === 'function' && name !== 'web_scheme_name';
+    const calls = Object.entries(exports).filter(hasReport);
     return { exports: { ...exports, ...Object.fromEntries(calls.map(([name, call]) => [name, counting(call)])) } };
 };
 const { Policy } = await import('mkpasswd');

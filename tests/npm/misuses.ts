@@ -50,6 +50,8 @@ new Policy('md5crypt');
 // @ts-expect-error
 new Policy().rounds = 5;
 // @ts-expect-error
+new Policy().limit.bytes = 5;
+// @ts-expect-error
 needsRehash(null);
 // @ts-expect-error
 describe(5);

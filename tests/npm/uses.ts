@@ -3,7 +3,7 @@ import {
     Policy, Refused, TooCostly, cost, crypt, describe, hash, hashAsync, login, loginAsync, needsRehash, setting, verify,
     version,
 } from 'mkpasswd';
-import type { Description, Match, Method, State, Text, Verdict } from 'mkpasswd';
+import type { Description, Limit, Match, Method, State, Text, Verdict } from 'mkpasswd';
 
 export async function enter(name: string, password: Text, users: Map<string, string>): Promise<string | undefined> {
     const result: Verdict = await loginAsync(password, users.get(name));
@@ -27,13 +27,14 @@ const policies = [new Policy(), new Policy({ method, rounds: 5000, budget: 2 ** 
 
 export async function callAll(policy = policies[0]): Promise<string[]> {
     const limit: number | null = policy.budget;
+    const admitted: Limit = policy.limit;
     const settings: string[] = [setting(), setting('md5crypt'), setting(policy.method, policy.rounds)];
     const made: string[] = [hash('x'), policy.hash('x'), await hashAsync(new Uint8Array(1)), await policy.hashAsync('x')];
     const again: string[] = [crypt('x', made[0]), crypt('x', settings[0], limit ?? 5), version];
     const found: Description = describe(undefined);
     const state: State = policy.describe(null).state;
     const answers: boolean[] = [verify('x', made[0]), policy.verify('x', 'x'), needsRehash('x'), policy.needsRehash('x')];
-    const costs: number[] = [cost('x', 8), found.cost ?? 0];
+    const costs: number[] = [cost('x', 8), found.cost ?? 0, admitted.bytes, admitted.passwordLength ?? 0];
     try {
         policy.login('x', undefined);
         await policy.loginAsync('x', null);

@@ -18,7 +18,7 @@ const audited = JSON.parse(audits).map(([stored, ...policy]) => why(() => {
 const [most, long] = ['x'.repeat(168), 'x'.repeat(169)];
 const standard = hash(most);
 const defaults = [standard.slice(0, 17), setting('sha512crypt', 0).slice(0, 17), verify(most, standard), why(() => hash(long)),
-    why(() => verify(long, standard)), String(2 * cost(setting('sha512crypt', 0), 64))];
+    why(() => verify(long, standard))];
 const made = ['sha512crypt', 'sha256crypt', 'md5crypt'].map((method) => new Policy({ method, rounds: 1234 }).hash('password'));
 
 let posted;
@@ -29,7 +29,7 @@ function workerOn(password, stored) {
     onmessage({ data: { job: 'check', password, stored, budget: Infinity } });
     return posted;
 }
-const costs = [workerOn('password', costly)[0].cost, cost(costly, 8)];
+const costs = [workerOn('password', made[2])[0].cost, cost(costly, 8)];
 const anyCost = new Policy({ budget: NO_LIMIT });
 const check = (password, stored) => [workerOn(password, stored).at(-1).fits, anyCost.verify(password, stored)];
 const checked = readFileSync(0, 'utf8').trimEnd().split('\n').map((line) => {

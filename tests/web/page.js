@@ -80,7 +80,8 @@ async function visit() {
     await until(() => isShown(element('unsupported')) || element('estimate').textContent.trim());
     if (isShown(element('unsupported'))) return { unable: element('unsupported').textContent, forms: [...document.forms].filter(isShown).length, links: document.links.length };
     if (document.title === 'slow') return slow();
-    const told = { made: [], dead: [], refused: [], lines: [], left: false, estimate: element('estimate').textContent, links: document.links.length };
+    const told = { made: [], dead: [], refused: [], lines: [], rounds: [], left: false, estimate: element('estimate').textContent, links: document.links.length };
+    told.recommended = [element('rounds').value, element('budget').value];
     const password = 'K\u00e4se \u{1f40e}';
     for (const method of ['sha512crypt', 'sha256crypt', 'md5crypt']) {
         set({ password, repeat: password, method });
@@ -112,6 +113,8 @@ async function visit() {
     told.hidden = !element('more').open;
     for (const [stored, guess] of @ROWS@) told.refused.push(await ended('check', { stored: stored || ' ', guess }));    // an empty field isn't sent
     told.hidden &&= element('more').open;
+    for (const rounds of [999, 1000000000, 4294972296]) told.rounds.push(await ended('make', { password, repeat: password, method: 'sha512crypt', rounds }));
+    set({ rounds: 1234 });
     told.mistyped = [await ended('make', { repeat: '' }), await ended('make', { repeat: 'K\u00e4se' }), isShown(element('made'))];
     start('make', { password, repeat: password, method: 'sha512crypt', rounds: 999999999 });
     const stop = element('make').querySelector('[data-stop]');

@@ -18,6 +18,7 @@ from support.libxcrypt import LONGEST_PASSWORD, crypt
 from support.model.hashes import hash_of
 from support.model.settings import read_setting
 from support.model.work import cost
+from support.other_hashes import OTHER_HASHES
 from support.process import run
 from support.reports import Report, report_of_node
 
@@ -97,6 +98,8 @@ REFUSALS = [
 OLD_HASH = crypt(b"password", b"$1$xxxxxxxx").decode()
 NEW_HASH = crypt(b"password", b"$6$rounds=656000$saltsaltsaltsalt").decode()
 SCRYPT_HASH = "$7$CU..../....LzFEGmON4JIztNMS/Q/mbZ$jf5lUIMYwzPnralpdXTIZjbsGtiybQ9Ao3j4131xzaC"
+# Rounds whose lowest 32 bits are the number 5000.
+WRAPPED_ROUNDS = 2**32 + 5000
 
 
 @dataclass(frozen=True)
@@ -136,16 +139,42 @@ AUDITS = [
     Audit("a hash with a character more", "md5crypt:1927022:dead", f"{OLD_HASH}."),
     Audit("a locked hash", "locked", f"!{OLD_HASH}"),
     Audit("an empty field", "none", ""),
-    Audit("bcrypt", "unknown", "$2b$05$x"),
-    Audit("descrypt", "unknown", "abJnggxhB/yWI"),
+    *(Audit(str(other), "unknown", other.text) for other in OTHER_HASHES),
+    Audit("a part of a hash of bcrypt", "unknown", "$2b$05$x"),
+    Audit("Argon2", "unknown", "$argon2id$v=19$x"),
     Audit("scrypt", "scrypt:unknown", SCRYPT_HASH),
+    Audit("scrypt without a cost", "malformed:bad cost", "$7$x"),
     Audit("a word", "no scheme", "hello"),
+    Audit("a word of thirteen letters, as descrypt has", "unknown", "battery.horse"),
+    Audit("two words", "no scheme", "correct horse"),
+    Audit("5000 letters", "no scheme", "x" * 5000),
+    Audit("a hash without its prefix", "no scheme", OLD_HASH[3:]),
     Audit("rounds without a number", "malformed:bad rounds", "$5$rounds=$x"),
+    Audit("a hash with its line feed", "malformed:bad character", f"{OLD_HASH}\n"),
+    Audit("5000 characters after a prefix", "malformed:setting too long", "$6$" + "x" * 5000),
     Audit(
         "rounds that sha512crypt doesn't have",
         "MKPASSWD_REFUSED_COST",
         NEW_HASH,
         policy=("sha512crypt", 12),
+    ),
+    Audit(
+        "rounds that sha512crypt has in their lowest 32 bits",
+        "MKPASSWD_REFUSED_COST",
+        NEW_HASH,
+        policy=("sha512crypt", WRAPPED_ROUNDS),
+    ),
+    Audit(
+        "rounds below 0",
+        "MKPASSWD_REFUSED_COST",
+        NEW_HASH,
+        policy=("sha512crypt", -(2**32)),
+    ),
+    Audit(
+        "rounds of md5crypt, which has none",
+        "md5crypt:1927022:current",
+        OLD_HASH,
+        policy=("md5crypt", 12),
     ),
     Audit(
         "a method that new hashes don't have",
@@ -322,26 +351,18 @@ def test_budget_refuses_a_password_of_169_bytes(report: Report, place: int) -> N
     assert report["defaults"][place] == "MKPASSWD_OVER_BUDGET"
 
 
-def test_budget_of_the_page_is_twice_what_a_recommended_hash_costs(
-    report: Report, web_build: Path
-) -> None:
-    page = (web_build / "mkpasswd.html").read_text(encoding="utf-8")
-    budget = re.search(r'id="budget"[^>]* value="(\d+)"', page)
-    expected = 2 * cost(read_setting(b"$6$rounds=656000$saltsaltsaltsalt"), 64)
-    assert budget and budget[1] == str(expected)
-    assert report["defaults"][5] == str(expected)
-
-
 # ---- Costs and audits
 
 
-@pytest.mark.parametrize(
-    "place", [pytest.param(0, id="the page's worker"), pytest.param(1, id="the module")]
-)
-def test_cost_is_read_from_the_report(report: Report, place: int) -> None:
+def test_cost_is_read_from_the_report(report: Report) -> None:
     """It is scrypt's, since there each other field of the report has another value."""
     expected = cost(read_setting(SCRYPT_SETTING.encode()), 8)
-    assert report["costs"][place] == expected
+    assert report["costs"][1] == expected
+
+
+def test_worker_of_the_page_tells_what_a_check_can_cost(report: Report) -> None:
+    expected = cost(read_setting(b"$1$xxxxxxxx"), len("password"))
+    assert report["costs"][0] == expected
 
 
 @pytest.mark.parametrize("row", AUDITS, ids=[row.title for row in AUDITS])

@@ -15,8 +15,10 @@ import pytest
 from support import ROOT
 from support.browsers import Browser
 from support.libxcrypt import crypt
+from support.model.methods import SHA512CRYPT
 from support.model.settings import read_setting
-from support.model.work import cost
+from support.model.work import cost, login_limit
+from support.other_hashes import OTHER_HASHES
 from support.reports import Report, read_report
 from support.web_server import WebServer
 
@@ -57,7 +59,7 @@ SHA512_HASH = "$6$s$" + "." * 86
 DEAR_HASH = SHA512_HASH.replace("$6$", "$6$rounds=999999999$")
 COST_OF_DEAR_HASH = cost(read_setting(DEAR_HASH.encode()), len("x"))
 ELSEWHERE = "which can\u2019t be checked here. Log in on the system that stored it."
-NOT_A_HASH = "is not a hash. Paste a hash, or its whole line."
+NOT_A_HASH = "is not a hash of crypt(5). Paste one, or its whole line."
 UNCHECKED = [
     Unchecked(
         "a password of 1025 bytes",
@@ -121,49 +123,52 @@ UNCHECKED = [
         password="x",
         answer=f"This hash is cut: 1 of 86 characters. {HOPELESS}",
     ),
-    Unchecked("bcrypt", stored="$2b$05$x", password="x", answer=f"$2b$ is bcrypt, {ELSEWHERE}"),
+    *(
+        Unchecked(str(other), other.text, "x", answer=f"This is {other.scheme}, {ELSEWHERE}")
+        for other in OTHER_HASHES
+    ),
     Unchecked(
         "yescrypt in a line of the shadow file",
         stored="ann:$y$j9T$x$y:19000::::::",
         password="x",
-        answer=f"$y$ is yescrypt, {ELSEWHERE}",
+        answer=f"This is yescrypt, {ELSEWHERE}",
     ),
     Unchecked(
         "scrypt",
         stored="$7$46..../....s",
         password="x",
-        answer="$7$ is scrypt, which can\u2019t be checked here. "
+        answer="This is scrypt, which can\u2019t be checked here. "
         "Give a line name:hash:password to pwhash check.",
+    ),
+    Unchecked(
+        "scrypt without a cost",
+        stored="$7$x",
+        password="x",
+        answer="This hash of scrypt has no valid cost. Copy it again.",
+    ),
+    Unchecked(
+        "scrypt above its ceiling",
+        stored="$7$M0..../....s",
+        password="x",
+        answer="This hash of scrypt takes too much memory for any login. Set a new password.",
     ),
     Unchecked(
         "the MD5 of Apache",
         stored="$apr1$s$x",
         password="x",
-        answer=f"$apr1$ is Apache\u2019s MD5, {ELSEWHERE}",
+        answer=f"This is another scheme, {ELSEWHERE}",
     ),
     Unchecked(
         "Argon2",
         stored="$argon2id$v=19$x",
         password="x",
-        answer=f"$argon2id$ is Argon2, {ELSEWHERE}",
+        answer=f"This is another scheme, {ELSEWHERE}",
     ),
     Unchecked(
         "SHA-1 in a line of an htpasswd file",
         stored="ann:{SHA}x=",
         password="x",
-        answer=f"{{SHA}} is SHA-1 without a salt, {ELSEWHERE}",
-    ),
-    Unchecked(
-        "an unknown scheme",
-        stored="$new$x",
-        password="x",
-        answer=f"$new$ is another scheme, {ELSEWHERE}",
-    ),
-    Unchecked(
-        "descrypt",
-        stored="abJnggxhB/yWI",
-        password="x",
-        answer=f"This is descrypt, {ELSEWHERE}",
+        answer=f"\u201c{{SHA}}x=\u201d {NOT_A_HASH}",
     ),
     Unchecked(
         "a word",
@@ -369,6 +374,23 @@ def test_page_says_how_long_a_hash_took(page: Report, method: str) -> None:
 def test_page_says_how_long_a_hash_will_take(page: Report) -> None:
     form = r"Takes (a moment|about (a|a quarter of a|half a|\d+) seconds?)\."
     assert re.fullmatch(form, page["estimate"])
+
+
+def test_fields_have_the_recommended_rounds_and_their_budget(page: Report) -> None:
+    limit = login_limit(SHA512CRYPT, None, 0)
+    assert page["recommended"] == [str(SHA512CRYPT.recommended), str(limit)]
+
+
+@pytest.mark.parametrize(
+    "place",
+    [
+        pytest.param(0, id="999"),
+        pytest.param(1, id="1000000000"),
+        pytest.param(2, id="5000 in the lowest 32 bits"),
+    ],
+)
+def test_rounds_that_no_hash_has_are_refused(page: Report, place: int) -> None:
+    assert page["rounds"][place] == "Give 1000 to 999999999 rounds."
 
 
 def test_rounds_of_md5crypt_are_fixed_and_the_page_warns_of_it(page: Report) -> None:

@@ -1,0 +1,135 @@
+"""What policies admit, as mkpasswd.mjs reports it in node, for policies that a generator makes.
+
+The limits and the lengths are those of the formulas in docs/FORMATS.md, which the model has.
+"""
+from __future__ import annotations
+
+import json
+import random
+from bisect import bisect_right
+from dataclasses import dataclass
+from pathlib import Path
+
+import pytest
+from support import ROOT
+from support.model.methods import MD5CRYPT, SHA256CRYPT, SHA512CRYPT, Method
+from support.model.settings import LEAST_ROUNDS, MOST_ROUNDS, Setting, recommended_setting
+from support.model.work import LONGEST_PASSWORD, cost, login_limit
+from support.reports import Report, report_of_node
+
+# One worker of pytest-xdist runs limits.mjs.
+pytestmark = pytest.mark.xdist_group("node")
+
+POLICIES = 2000
+HASHING_POLICIES = 100
+METHODS = (MD5CRYPT, SHA256CRYPT, SHA512CRYPT)
+
+
+@dataclass(frozen=True)
+class Policy:
+    """A policy: rounds of 0 are the recommended ones, and no budget is the policy's own limit."""
+
+    method: Method
+    rounds: int
+    budget: int | None
+
+    @property
+    def setting(self) -> Setting:
+        """The setting of new hashes."""
+        return recommended_setting(self.method, self.rounds)
+
+    @property
+    def limit(self) -> int:
+        """The most that a login and a new hash may cost."""
+        if self.budget is not None:
+            return self.budget
+        return login_limit(self.method, self.rounds, 0)
+
+    @property
+    def longest_password(self) -> int | None:
+        """The length of the longest password whose new hash is within the limit, or None."""
+        lengths = range(LONGEST_PASSWORD + 1)
+        count = bisect_right(lengths, self.limit, key=lambda length: cost(self.setting, length))
+        return count - 1 if count else None
+
+    @property
+    def expected(self) -> dict[str, int | None]:
+        """What limits.mjs has to report."""
+        return {
+            "rounds": self.rounds or self.method.recommended,
+            "bytes": self.limit,
+            "passwordLength": self.longest_password,
+        }
+
+
+def random_policy(generator: random.Random, most_rounds: int) -> Policy:
+    """A policy whose budget is often just above or below what some password costs."""
+    method = generator.choice(METHODS)
+    rounds = generator.choice((0, LEAST_ROUNDS, most_rounds, *[-1] * 9))
+    if rounds == -1:
+        rounds = int(LEAST_ROUNDS * (most_rounds / LEAST_ROUNDS) ** generator.random())
+    setting = recommended_setting(method, rounds)
+    price = cost(setting, generator.randint(0, LONGEST_PASSWORD))
+    budgets = (None, price - 1, price, price + 1, int(10 ** generator.uniform(0, 13)))
+    return Policy(method, rounds, generator.choice(budgets))
+
+
+def reports_of(node: str, web_build: Path, policies: list[Policy], *, is_hashed: bool) -> Report:
+    """What limits.mjs reports of policies."""
+    given = [[policy.method.name, policy.rounds, policy.budget, is_hashed] for policy in policies]
+    script = ROOT / "tests/web/limits.mjs"
+    module = web_build / "mkpasswd.mjs"
+    return report_of_node(node, script, module, stdin=json.dumps(given).encode())
+
+
+def test_limits_of_random_policies(node: str, web_build: Path, seed: int) -> None:
+    generator = random.Random(seed)
+    policies = [random_policy(generator, MOST_ROUNDS) for _ in range(POLICIES)]
+    report = reports_of(node, web_build, policies, is_hashed=False)
+    assert len(report.value) == POLICIES
+    wrong = [
+        f"expected {policy.expected}, got {got}: {policy}"
+        for policy, got in zip(policies, report.value)
+        if got != policy.expected
+    ]
+    assert wrong == [], f"SEED={seed}"
+
+
+def refusal_of_longer_password(length: int) -> str:
+    """What a policy says to a password of a byte more than it admits."""
+    if length == LONGEST_PASSWORD:
+        return "Refused: password too long: it may have 1024 bytes"
+    return f"TooCostly: over budget: a password may have at most {length} bytes with these rounds"
+
+
+def test_longest_password_is_hashed_and_a_longer_one_is_refused(
+    node: str, web_build: Path, seed: int
+) -> None:
+    generator = random.Random(seed)
+    drawn = (random_policy(generator, 2 * LEAST_ROUNDS) for _ in range(HASHING_POLICIES))
+    policies = [policy for policy in drawn if policy.rounds and policy.longest_password is not None]
+    report = reports_of(node, web_build, policies, is_hashed=True)
+    assert len(report.value) == len(policies) > 0
+    wrong = [
+        f"got {got}: {policy}"
+        for policy, got in zip(policies, report.value)
+        if got["hashed"] != [True, refusal_of_longer_password(policy.longest_password or 0)]
+    ]
+    assert wrong == [], f"SEED={seed}"
+
+
+@pytest.mark.parametrize(
+    ("method", "limit", "longest_password"),
+    [
+        pytest.param("sha512crypt", 253_921_472, 168, id="sha512crypt"),
+        pytest.param("sha256crypt", 211_937_408, 150, id="sha256crypt"),
+        pytest.param("md5crypt", 150_000_000, 1024, id="md5crypt"),
+    ],
+)
+def test_limit_of_the_recommended_policy_is_the_documented_one(
+    node: str, web_build: Path, method: str, limit: int, longest_password: int
+) -> None:
+    policy = Policy(next(known for known in METHODS if known.name == method), 0, None)
+    report = reports_of(node, web_build, [policy], is_hashed=False)
+    assert report.value[0]["bytes"] == limit
+    assert report.value[0]["passwordLength"] == longest_password
