@@ -372,7 +372,8 @@ def test_page_says_how_long_a_hash_took(page: Report, method: str) -> None:
 
 
 def test_page_says_how_long_a_hash_will_take(page: Report) -> None:
-    form = r"Takes (a moment|about (a|a quarter of a|half a|\d+) seconds?)\."
+    some_seconds = r"(a|a quarter of a|half a|\d+) seconds?"
+    form = rf"Takes (a moment|about ({some_seconds}|\d+ (minutes|hours)))\."  # on a busy machine
     assert re.fullmatch(form, page["estimate"])
 
 
