@@ -1,4 +1,4 @@
-"""What a policy admits, as the library of proved calls reports it: nothing of that is computed here."""
+"""What a policy admits, as the proved calls of the library report it: nothing is computed here."""
 import ctypes
 import os
 from typing import NamedTuple, Optional
@@ -70,6 +70,7 @@ def admitted(method: str, rounds: Optional[int], budget: Optional[int]) -> Admit
 
 
 def refused_rounds(method: str, rounds: Optional[int]) -> RefusedRounds:
+    """What is said of rounds that new hashes of a method can't have."""
     usual = admitted(method, None, None).rounds
     message = f"-R {rounds} with -m {method} isn't from {ROUNDS[method]}, by default {usual}"
     return RefusedRounds(message)

@@ -3,6 +3,7 @@ from __future__ import annotations
 
 import re
 from dataclasses import dataclass
+from typing import Any
 
 import pytest
 from support.driver import Driver
@@ -203,7 +204,7 @@ def test_another_scheme_is_told_by_its_number(driver: Driver, field: bytes, sche
     ],
 )
 def test_a_hash_has_its_scheme_and_rounds(
-    driver: Driver, setting: bytes, expected: dict[str, int]
+    driver: Driver, setting: bytes, expected: dict[str, Any]
 ) -> None:
     for call in with_strings(Audit(made_up(setting))):
         driver.assert_answer(call, **expected)

@@ -56,7 +56,7 @@ def test_a_message_asks_the_system_for_nothing(driver: Driver) -> None:
 @pytest.mark.parametrize(
     ("number", "name"),
     [
-        *(pytest.param(number, method.name, id=method.name) for number, method in METHODS.items()),
+        *(pytest.param(number, own.name, id=own.name) for number, own in METHODS.items()),
         *(pytest.param(number, name, id=name) for name, number in NUMBERS_OF_OTHERS.items()),
     ],
 )
