@@ -13,10 +13,12 @@ GREATEST_ROUNDS, GREATEST_BUDGET = 2**32 - 1, 2**64 - 1
 # What each method takes as rounds, in words.
 ROUNDS = {**dict.fromkeys(METHODS, "1000 to 999999999"), "scrypt": "6 to 11"}
 
-# Where tools/install puts the library; in the folder of the sources make does.
+# Where the library is: tools/install fills in an absolute path, and tools/pack one seen from here. In
+# the sources it is where make puts it.
 LIBRARY = "@LIBDIR@/libmkpasswd.so.2"
 if LIBRARY.startswith("@"):
-    LIBRARY = os.path.join(os.path.dirname(os.path.realpath(__file__)), "../../libmkpasswd.so.2")
+    LIBRARY = "../../libmkpasswd.so.2"
+LIBRARY = os.path.realpath(os.path.join(os.path.dirname(os.path.realpath(__file__)), LIBRARY))
 
 
 class RefusedRounds(Exception):
