@@ -16,6 +16,8 @@ LATER_VERSIONS = {
     "mkpasswd_audit": "MKPASSWD_2.2",
     "mkpasswd_limit": "MKPASSWD_2.3",
     "mkpasswd_rounds": "MKPASSWD_2.3",
+    "mkpasswd_scheme_name": "MKPASSWD_2.3",
+    "mkpasswd_setting_with_salt": "MKPASSWD_2.3",
 }
 # A line of `objdump -T`: an address, flags, a section, and the size, version and name.
 SYMBOL = re.compile(r"^[0-9a-f]{16} (.*) (MKPASSWD_[\d.]+) +(mkpasswd_\w+)$", re.MULTILINE)

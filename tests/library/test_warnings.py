@@ -121,11 +121,12 @@ def test_gcc_warns_of_an_out_that_is_too_small(
 
 
 def test_each_call_with_a_reason_is_ignored_in_that_file(installed: Installed) -> None:
-    """mkpasswd_words and mkpasswd_version have none, so their results may be ignored."""
+    """The calls that only give a text or a number have none: their results may be ignored."""
     text = IGNORED_RESULTS.path.read_text(encoding="ascii")
     ignored = re.findall(rf"(mkpasswd_\w+)\(.*{re.escape(MARK)}", text)
     calls = {*installed.declared(), *installed.inline()}
-    may_be_ignored = {"mkpasswd_words", "mkpasswd_words_str", "mkpasswd_version"}
+    names = ("words", "words_str", "scheme_name", "version")
+    may_be_ignored = {f"mkpasswd_{name}" for name in names}
     assert sorted(ignored) == sorted(calls - may_be_ignored)
 
 

@@ -118,33 +118,11 @@ def test_a_password_too_long_for_a_login_is_refused(words: tuple[str, ...], long
     assert (done.status, done.out) == (2, b""), done
 
 
-OVER_BUDGET = pytest.mark.parametrize(
-    ("words", "named_length"),
-    [
-        pytest.param((), rb"(\d+) bytes", id="sha512crypt"),
-        pytest.param(("-m", "sha256crypt"), rb"sha256crypt: (\d+)", id="sha256crypt"),
-    ],
-)
-
-
-@OVER_BUDGET
-def test_the_budget_that_a_refusal_names_is_enough(
-    words: tuple[str, ...], named_length: bytes
-) -> None:
+@pytest.mark.parametrize("words", [(), ("-m", "sha256crypt")], ids=["sha512crypt", "sha256crypt"])
+def test_the_length_that_a_refusal_names_is_short_enough(words: tuple[str, ...]) -> None:
     refused = pwhash(*words, stdin=b"x" * LONGEST)
-    budget = re.search(rb"--budget (\d+)", refused.err)
-    assert (refused.status, refused.out) == (2, b"") and budget and named_length, refused
-    done = pwhash(*words, "--budget", budget[1].decode(), stdin=b"x" * LONGEST)
-    assert done.status == 0, done
-
-
-@OVER_BUDGET
-def test_the_length_that_a_refusal_names_is_short_enough(
-    words: tuple[str, ...], named_length: bytes
-) -> None:
-    refused = pwhash(*words, stdin=b"x" * LONGEST)
-    length = re.search(named_length, refused.err)
-    assert length, refused
+    length = re.search(rb"at most (\d+) bytes", refused.err)
+    assert (refused.status, refused.out) == (2, b"") and length, refused
     done = pwhash(*words, stdin=b"x" * int(length[1]))
     assert done.status == 0, done
 

@@ -33,7 +33,7 @@ def test_the_sizes_are_the_headers() -> None:
 
 
 def test_the_recommended_rounds_are_those_of_new_salts() -> None:
-    assert mkpasswd.crypt.mksalt().split("$")[2] == f"rounds={_calls.RECOMMENDED_ROUNDS}"
+    assert mkpasswd.crypt.mksalt().split("$")[2] == f"rounds={_calls.recommended_rounds('sha512crypt')}"
 
 
 def test_the_reasons_are_the_headers() -> None:

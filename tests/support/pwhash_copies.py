@@ -11,6 +11,8 @@ from pathlib import Path
 from .process import Changes, Result, Word, run
 from .pwhash_runs import PWHASH
 
+SONAME = "libmkpasswd.so.2"
+
 # Stands in for the engine: the version is one's own, and the rest a script, in which `real` is
 # mkpasswd.
 FORM_OF_ENGINE = """\
@@ -23,7 +25,7 @@ real() {{ '{real}' "$@"; }}
 
 @dataclass(frozen=True)
 class Copy:
-    """A folder with bin/pwhash, bin/mkpasswd and share/pwhash, which everybody can read."""
+    """A folder with pwhash, its modules, its engine and its library, which everybody can read."""
 
     folder: Path
 
@@ -67,6 +69,7 @@ def copied(program: Path) -> Iterator[Copy]:
         tree = Path(PWHASH).resolve().parents[1]
         ignored = shutil.ignore_patterns("__pycache__")
         shutil.copytree(tree / "share/pwhash", copy.folder / "share/pwhash", ignore=ignored)
+        shutil.copy(tree / SONAME, copy.folder / SONAME)
         shutil.copy(PWHASH, copy.pwhash)
         shutil.copy(program, copy.engine)
         yield copy
