@@ -20,10 +20,12 @@ OF_PASSWORDS = ("line too long", "password too long", "password has a zero byte"
 STORED = re.compile(      # what stands behind a name in /etc/shadow, /etc/passwd and htpasswd
     rb"(?s)\$(?:[0-9][a-z]?|g?y|apr1|sha1|md5|argon2[a-z]*|scrypt|pbkdf2[a-z0-9-]*)[$,].{8,}|"
     rb"[!*]+(?:\$.*)?(?::[0-9]*)*|[^:]*(?::[0-9]*){7}|[^:]*:[0-9]+:[0-9]+:[^:]*:[^:]*:[^:]*|\{[A-Z0-9.-]+\}.{8,}")
-ERRORS = re.compile(      # what spreadsheets show in place of a value, in some languages
-    rb"#(?:\xc2[\xa1\xbf])?(?:N/A|N/D|NV|(?:NAME|NOM|NOME|NOMBRE)\?|(?:CALC|DIV/0|NULL|NUM|REF|SPILL|VALUE|BEZUG|KALK|WERT|"
-    rb"ZAHL|NOMBRE|NUL|VALEUR|NULO|VALOR|NULLO|RIF|VALORE)!)|(?:Err|Fehler):[0-9]{3}")
-CHANGED = re.compile(rb"#{3,}|[+-]?[0-9](?:[.,][0-9]+)?E[+-]?[0-9]+|TRUE|FALSE|WAHR|FALSCH")      # and what they save in a table
+# What spreadsheets show in place of a value. The language is the spreadsheet's: #NAME?, #NAAM?, #DIV/0!, #DEEL/0!.
+ERROR = re.compile(r"#[\u00a1\u00bf]?([^\W\d_][\w/]+)[!?]")
+ERRORS_WITHOUT_MARK = re.compile(r"#(?:N/A|N/D|N/B|NV|I/T|\u041d/\u0414|YOK|HI\u00c1NYZIK|GETTING_DATA)|(?:Err|Fehler):[0-9]{3}")
+TRUTHS = frozenset("""TRUE FALSE WAHR FALSCH VRAI FAUX VERDADERO FALSO VERDADEIRO VERO WAAR ONWAAR PRAWDA FAŁSZ ИСТИНА ЛОЖЬ
+    SANT FALSKT SAND FALSK SANN USANN TOSI EPÄTOSI NEPRAVDA IGAZ HAMIS DOĞRU YANLIŞ""".split())
+CHANGED = re.compile(r"#{3,}|[+-]?[0-9](?:[.,][0-9]+)?E[+-]?[0-9]+")      # and what they save in a table
 APART = "letters and accents apart (not Unicode NFC), as few keyboards send them"
 
 def free(options):
@@ -95,6 +97,9 @@ def doubts(number, line, names, options):
         "an invisible character": not is_visible(text),
         APART: not unicodedata.is_normalized("NFC", text),
         "a heading, and no user": name.decode(errors="replace").strip().casefold() in HEADINGS,
+        "a heading, and no password": password.decode(errors="replace").strip().casefold() in PASSWORD_WORDS,
+        "a comma, semicolon or tab in the name: is it a table? See --csv": not options.csv and re.search(rb"[,;\t]", name),
+        "quotes around name or password, as spreadsheets export them: save commas between columns, and see --csv": not options.csv and any(map(is_quoted, (line, name, password))),
         "an error or a rounded value of a spreadsheet": is_damaged(name, options.csv) or is_damaged(password, options.csv),
         "a stored hash or field, and no password": STORED.fullmatch(password),
         "the service takes the name for another, or skips it": not re.fullmatch(SERVICES[options.service], name),
@@ -105,8 +110,17 @@ def doubts(number, line, names, options):
         found.append(f"the name again, after line {first}{' (doubtful too, so neither is sure)' if is_doubtful else ''}")
     return found
 
+def is_quoted(field):
+    """Whether it begins with a quote and ends with another."""
+    field = field.removesuffix(b"\r")
+    return len(field) > 1 and field.startswith(b'"') and field.endswith(b'"')
+
 def is_damaged(field, is_of_table):
-    return bool(ERRORS.fullmatch(field) or is_of_table and CHANGED.fullmatch(field))
+    text = field.decode(errors="replace")
+    error = ERROR.fullmatch(text)
+    if ERRORS_WITHOUT_MARK.fullmatch(text) or error and error[1].isupper():
+        return True
+    return is_of_table and bool(text in TRUTHS or CHANGED.fullmatch(text))
 
 def problems(source, options, engine, names):
     """Gives number, line and reason of refused and doubtful lines, and if it's a doubt."""

@@ -1,0 +1,113 @@
+"""pwhash and fields that a spreadsheet damaged, quoted or headed: lines that are no account.
+
+Each test sees only what a user sees: the command, its outputs, files and status.
+"""
+
+from __future__ import annotations
+
+import pathlib
+
+import pytest
+
+from pwhash_runs import MD5CRYPT, hashed, lines_named_in, pwhash, read, save
+
+BOB = b"bob:" + hashed(b"pw2") + b"\n"
+
+
+@pytest.fixture(autouse=True)
+def folder(tmp_path: pathlib.Path, monkeypatch: pytest.MonkeyPatch) -> pathlib.Path:
+    """A scratch folder, which is the current one."""
+    monkeypatch.chdir(tmp_path)
+    monkeypatch.setenv("LC_ALL", "C.UTF-8")
+    return tmp_path
+
+
+def hash_first_of_two(line: str, *options: str) -> None:
+    """Expects that this line is doubtful, and the one behind it isn't."""
+    lines = line.encode() + (b"\nbob,pw2\n" if options else b"\nbob:pw2\n")
+    words = ("file", *MD5CRYPT, *options, save("list", lines), "-o", "hashes", "--skip-doubtful")
+    done = pwhash(*words)
+    assert (done.status, read("hashes"), {*lines_named_in(done.err)}) == (1, BOB, {1}), done
+
+
+ERRORS = [
+    *("#ERROR!", "#NAAM?", "#WAARDE!", "#NAZWA?", "#ARG!", "#ИМЯ?", "#ЗНАЧ!", "#NAMN?", "#NÚM!"),
+    *("#BLOCKED!", "#DEEL/0!", "#DIV/0!", "#¡REF!", "#DĚLENÍ_NULOU!", "#Н/Д", "#N/A"),
+]
+
+
+@pytest.mark.parametrize("error", ERRORS)
+def test_an_error_of_a_spreadsheet_is_no_password_in_any_language(error: str) -> None:
+    hash_first_of_two(f"ann:{error}")
+
+
+TRUTHS = [
+    *("VRAI", "FAUX", "VERDADERO", "FALSO", "VERO", "WAAR", "ONWAAR", "PRAWDA", "FAŁSZ"),
+    *("ИСТИНА", "ЛОЖЬ", "SANT", "FALSKT"),
+]
+
+
+@pytest.mark.parametrize("truth", TRUTHS)
+def test_true_and_false_are_no_passwords_of_a_table_in_any_language(truth: str) -> None:
+    hash_first_of_two(f"ann,{truth}", "--csv", "--columns", "1,2")
+
+
+@pytest.mark.parametrize("password", ["#Fan!", "#2024!", "#ERROR", "ERROR!", "VRAI", "#NAAM?x"])
+def test_a_password_that_is_like_an_error_is_hashed(password: str) -> None:
+    done = pwhash("file", *MD5CRYPT, stdin=f"ann:{password}\n".encode())
+    assert (done.status, done.out) == (0, b"ann:" + hashed(password.encode()) + b"\n"), done
+
+
+@pytest.mark.parametrize(
+    "line",
+    [
+        pytest.param('ann:"Tr:7""x"', id="around the password"),
+        pytest.param('"ann":secret', id="around the name"),
+        pytest.param('"ann":"secret"', id="around both"),
+        pytest.param('"ann:secret"', id="around the line"),
+    ],
+)
+def test_quotes_in_a_list_are_doubtful(line: str) -> None:
+    hash_first_of_two(line)
+
+
+@pytest.mark.parametrize("password", ['"', 'a"b"', '"a'])
+def test_quotes_that_enclose_nothing_are_hashed(password: str) -> None:
+    done = pwhash("file", *MD5CRYPT, stdin=f"ann:{password}\n".encode())
+    assert (done.status, done.out) == (0, b"ann:" + hashed(password.encode()) + b"\n"), done
+
+
+def test_quotes_in_the_value_of_a_table_are_part_of_the_password() -> None:
+    table = b'name,password\nann,"""secret"""\n'
+    done = pwhash("file", *MD5CRYPT, "--csv", save("table", table))
+    assert (done.status, done.out) == (0, b"ann:" + hashed(b'"secret"') + b"\n"), done
+
+
+@pytest.mark.parametrize(
+    "heading",
+    [
+        *("email:password", "E-Mail:Passwort", "mail:pw", "Mitarbeiter:Kennwort"),
+        *("staff number: Password", "who:mot de passe"),
+    ],
+)
+def test_a_heading_in_a_list_is_no_account(heading: str) -> None:
+    hash_first_of_two(heading)
+
+
+@pytest.mark.parametrize("heading", ["E-Mail,Password", "Mitarbeiter,Kennwort"])
+def test_a_heading_of_a_table_with_numbered_columns_is_no_account(heading: str) -> None:
+    hash_first_of_two(heading, "--csv", "--columns", "1,2")
+
+
+@pytest.mark.parametrize(
+    "row",
+    [
+        pytest.param("ann,secret,https://x.org/a", id="commas"),
+        pytest.param("ann;secret;https://x.org/a", id="semicolons"),
+        pytest.param("ann\tsecret\thttps://x.org/a", id="tabs"),
+    ],
+)
+def test_a_row_of_a_table_is_no_line_of_a_list(row: str) -> None:
+    hash_first_of_two(row)
+    done = pwhash("file", *MD5CRYPT, save("rows", row.encode()))
+    assert done.status == 1 and b"--csv" in done.err, done
