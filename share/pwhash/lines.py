@@ -16,12 +16,12 @@ WAIT_FOR_WRITER = 3      # seconds until somebody writes a pipe with a name
 shown = False      # whether the terminal shows the progress
 
 class Refused(bytes):
-    """In place of a row that pwhash refuses: a line that mkpasswd refuses too, and the reason."""
-    reason = ""
+    """In place of a row that pwhash refuses: a line that mkpasswd refuses too, the reason, and the name in the row."""
+    reason, name = "", b""
 
-def refused(reason):
+def refused(reason, name=""):
     line = Refused()
-    line.reason = reason
+    line.reason, line.name = reason, name.encode("latin-1")
     return line
 
 class Source:
@@ -194,18 +194,18 @@ class Source:
 
     def line_of(self, row, wanted, width):
         """A row as a line `name:password`."""
+        name = cell(row, wanted[0])
         if len(row) > width:
-            return refused(f"{len(row)} fields, where the first row has {width}: a separator in a field needs quotes")
+            return refused(f"{len(row)} fields, where the first row has {width}: a separator in a field needs quotes", name)
         if any("\n" in field for field in row):      # in any other field too, since a stray quote hides the lines up to the next
-            return refused("a line feed in a field")
+            return refused("a line feed in a field", name)
         if wanted[1] >= len(row):
-            return refused("no password field")
-        if wanted[0] >= len(row) or not row[wanted[0]]:
+            return refused("no password field", name)
+        if not name:
             return refused("no name")
-        name, password = (row[place] for place in wanted)
         if ":" in name:
             return refused("a colon in the name")
-        return f"{name}:{password}".encode("latin-1")
+        return f"{name}:{row[wanted[1]]}".encode("latin-1")
 
     def paired(self, pairs):
         """Lines `name:password` as `name:field:password`, with the first field of a name; without a name, with each."""

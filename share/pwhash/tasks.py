@@ -1,7 +1,7 @@
 """What pwhash does: it hashes a password or a file of them, checks passwords, and audits stored hashes."""
 import collections, contextlib, itertools, json, os, re, string, time, unicodedata
 from engine import HASH, Engine
-from lines import MARK, NAME_WORDS, PASSWORD_WORDS, Source, Stop, is_visible, named, on_terminal, progress, readable, say, write
+from lines import MARK, NAME_WORDS, PASSWORD_WORDS, Refused, Source, Stop, is_visible, named, on_terminal, progress, readable, say, write
 from parts import keep, output, refuse_changed
 from prompt import ask_password
 
@@ -84,7 +84,7 @@ def one(options):
     write(1, [PLACES[options.place].format(**values).encode()])
 
 def doubts(number, line, names, options):
-    """What mkpasswd hashes as it is, and hardly anybody wants. `names` has the first line of each name, and if it is doubtful."""
+    """What mkpasswd hashes as it is, and hardly anybody wants. `names` has the first line of each name, and why it is unsure."""
     name, _, password = line.partition(b":")
     text = line.decode(errors="replace").replace("\r", "").replace("\ufeff", "")
     found = [reason for reason, is_so in {
@@ -105,10 +105,16 @@ def doubts(number, line, names, options):
         "the service takes the name for another, or skips it": not re.fullmatch(SERVICES[options.service], name),
         "not UTF-8; if FILE is all Windows-1252: umask 077; iconv -f WINDOWS-1252 -t UTF-8 FILE > NEW": "\ufffd" in text,
     }.items() if is_so]
-    first, is_doubtful = names.setdefault(name, (number, bool(found)))
+    first, unsure = names.setdefault(name, (number, "doubtful too" if found else ""))
     if first != number:
-        found.append(f"the name again, after line {first}{' (doubtful too, so neither is sure)' if is_doubtful else ''}")
+        found.append(f"the name again, after line {first}{f', which is {unsure}: neither is sure' if unsure else ''}")
     return found
+
+def note_refused(number, line, names):
+    """Of a name whose first line is refused no later one is sure: it may be an old one."""
+    name, colon, _ = (line.name + b":" if isinstance(line, Refused) else line).partition(b":")
+    if name and colon:
+        names.setdefault(name, (number, "refused"))
 
 def is_quoted(field):
     """Whether it begins with a quote and ends with another."""
@@ -129,6 +135,7 @@ def problems(source, options, engine, names):
         for place, reason in block.refusals.items():
             number, line = block.numbers[place], block.lines[place]
             if reason != "over budget":
+                note_refused(number, line, names)
                 yield number, line, reason, False
             else:
                 yield from ((number, line, doubt, True) for doubt in doubts(number, line, names, options))
@@ -205,7 +212,9 @@ def file(options):
             keep(fd, options, source)
         for block in progress(engine.answers(pairs, source.total), "hashing", source.total):
             for place, (number, line) in enumerate(zip(block.numbers, block.lines) if doubted else ()):
-                if place not in block.refusals and (found := doubts(number, line, names, options)):
+                if place in block.refusals:
+                    note_refused(number, line, names)
+                elif found := doubts(number, line, names, options):
                     engine.bad, block.refusals[place] = True, found[0]
                     block.answers[place] = f"pwhash: line {number}: {found[0]}".encode()
             refuse_changed(options, source)      # what was hashed may be old by now

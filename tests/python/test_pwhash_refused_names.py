@@ -1,0 +1,67 @@
+"""pwhash and a name whose first line is refused: a later line of it may be an old one.
+
+Each test sees only what a user sees: the command, its outputs, files and status.
+"""
+
+from __future__ import annotations
+
+import pathlib
+import re
+
+import pytest
+
+from pwhash_runs import MD5CRYPT, hashed, pwhash, read, save
+
+BOB = b"bob:" + hashed(b"pw2") + b"\n"
+
+
+@pytest.fixture(autouse=True)
+def folder(tmp_path: pathlib.Path, monkeypatch: pytest.MonkeyPatch) -> pathlib.Path:
+    """A scratch folder, which is the current one."""
+    monkeypatch.chdir(tmp_path)
+    monkeypatch.setenv("LC_ALL", "C.UTF-8")
+    return tmp_path
+
+
+LISTS = [
+    pytest.param(b"ann:" + b"x" * 2000 + b"\nbob:pw2\nann:old\n", (), id="too long"),
+    pytest.param(b"ann:x\0y\nbob:pw2\nann:old\n", (), id="a zero byte"),
+    pytest.param(
+        b"name,password\nann,x,y\nbob,pw2\nann,old\n", ("--csv",), id="too many fields in a row"
+    ),
+    pytest.param(
+        b'name,password\nann,"x\ny"\nbob,pw2\nann,old\n', ("--csv",), id="a line feed in a row"
+    ),
+    pytest.param(b"name,password\nann\nbob,pw2\nann,old\n", ("--csv",), id="no password field"),
+]
+
+
+@pytest.mark.parametrize(("lines", "options"), LISTS)
+def test_no_line_of_a_name_is_hashed_whose_first_is_refused(
+    lines: bytes, options: tuple[str, ...]
+) -> None:
+    words = ("-o", "hashes", "--skip-refused", "--skip-doubtful")
+    done = pwhash("file", *MD5CRYPT, *options, save("list", lines), *words)
+    assert (done.status, read("hashes")) == (1, BOB), done
+    again = re.search(rb"\(ann\): the name again, after line [0-9]+(.*)", done.err)
+    assert again and b"refused" in again[1], done
+
+
+@pytest.mark.parametrize(("lines", "options"), LISTS)
+def test_a_pipe_gives_no_line_of_a_name_whose_first_is_refused(
+    lines: bytes, options: tuple[str, ...]
+) -> None:
+    done = pwhash("file", *MD5CRYPT, *options, stdin=lines)
+    assert (done.status, done.out) == (1, BOB), done
+
+
+def test_leaving_out_refused_lines_alone_hashes_nothing_of_an_unsure_name() -> None:
+    lines = save("list", b"ann:x\0y\nbob:pw2\nann:old\n")
+    done = pwhash("file", *MD5CRYPT, lines, "--skip-refused")
+    assert (done.status, done.out) == (1, b""), done
+
+
+def test_a_line_without_a_name_makes_no_name_unsure() -> None:
+    lines = save("list", b"ann\n:x\nbob:pw2\n")
+    done = pwhash("file", *MD5CRYPT, lines, "--skip-refused")
+    assert (done.status, done.out) == (1, BOB), done
