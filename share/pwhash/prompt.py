@@ -1,8 +1,10 @@
 """Asks at the terminal for a password, as bytes, since nothing says which encoding it has."""
+import errno
 import os
 import select
 import signal
 import termios
+import time
 from typing import Any
 
 from lines import Stop, open_terminal
@@ -45,6 +47,7 @@ def ask_password() -> bytes:
 
 
 def ask_hidden(fd: int) -> bytes:
+    wait_for_foreground(fd)
     try:
         before = termios.tcgetattr(fd)
     except termios.error:
@@ -54,7 +57,7 @@ def ask_hidden(fd: int) -> bytes:
     try:
         hide(fd, before)
         # A shell shows keys while the program is stopped.
-        signal.signal(signal.SIGCONT, lambda *_: hide(fd, before))
+        signal.signal(signal.SIGCONT, lambda *_: hide_again(fd, before, waiting))
         password = ask(fd, b"Password: ", waiting)
         if ask(fd, b"Again: ", waiting) != password:
             raise Stop("the two passwords differ. Start again.", 2)
@@ -63,6 +66,39 @@ def ask_hidden(fd: int) -> bytes:
         signal.signal(signal.SIGCONT, signal.SIG_DFL)
         restore(fd, before)
         signal.pthread_sigmask(signal.SIG_UNBLOCK, waiting)  # one that came ends the run here
+
+
+def is_in_background(fd: int) -> bool:
+    try:
+        return os.tcgetpgrp(fd) != os.getpgrp()
+    except OSError:  # it isn't the terminal of this session, and stops nobody
+        return False
+
+
+def wait_for_foreground(fd: int) -> None:
+    """In the background the system stops the process here, where a signal can still end it.
+
+    Wherever it changes the terminal, it would be stopped too, but there signals wait.
+    """
+    while is_in_background(fd):
+        try:
+            termios.tcdrain(fd)  # of all that stops the process, the call that changes nothing
+            return  # something ignores SIGTTOU
+        except termios.error as error:
+            if error.args[0] != errno.EINTR:
+                raise cant_hide() from None
+
+
+def hide_again(fd: int, before: list[Any], waiting: set[signal.Signals]) -> None:
+    """After the process was stopped.
+
+    If it goes on in the background, to change the terminal would stop it while signals wait.
+    """
+    while is_in_background(fd):
+        if signal.sigpending().intersection(waiting):
+            return  # read_line ends the run
+        time.sleep(0.01)
+    hide(fd, before)
 
 
 def hide(fd: int, before: list[Any]) -> None:
@@ -87,7 +123,12 @@ def cant_hide() -> Stop:
 
 
 def restore(fd: int, before: list[Any]) -> None:
-    """Nothing that was typed and not read is left for the shell, either."""
+    """Nothing that was typed and not read is left for the shell, either.
+
+    In the background the terminal is another's, who has set it.
+    """
+    if is_in_background(fd):
+        return
     try:
         termios.tcsetattr(fd, termios.TCSAFLUSH, before)
     except termios.error:  # the terminal is gone
