@@ -1,6 +1,7 @@
 """The command line of pwhash: its options, and how a run ends."""
 import argparse, errno, gc, os, re, signal, sys
 import engine, memory, policy
+from interrupts import interrupt, stop_if_one_came
 from lines import Stop, clear, named, on_terminal, quoted, readable, say, write
 from policy import METHODS
 from prompt import SIGNALS
@@ -103,9 +104,6 @@ def arguments(words):
     options.words = ["--rehash"] * bool(options.rehash) + [f"--{each}={how}" for each, how in given if how is not None]
     return options
 
-def interrupt(number, frame):
-    raise Stop(f"{signal.Signals(number).name} ended the run.", -number)
-
 def end(options, text, status=3):
     """Says why the run ended early and how to go on, on the terminal too if standard error goes elsewhere."""
     for process in engine.processes:
@@ -154,8 +152,14 @@ def unforeseen(error):
     where = f" at {os.path.basename(place.tb_frame.f_code.co_filename)}:{place.tb_lineno}" if place else ""
     return f"{type(error).__name__}{where}"
 
+def ignored(failure):
+    """Of what Python can't raise, such as an error within a __del__. By itself it would show the data, too."""
+    if not isinstance(failure.exc_value, Stop):
+        say(f"{unforeseen(failure.exc_value)}, which ends nothing.")
+
 def main(options=None):
     memory.never_dump()
+    sys.unraisablehook = ignored
     while os.open("/", os.O_PATH) < 3:      # nothing else gets a descriptor that was closed
         pass
     gc.set_threshold(1 << 20)      # it would visit all the lines again and again
@@ -167,7 +171,9 @@ def main(options=None):
                 if signal.getsignal(each) != signal.SIG_IGN:
                     signal.signal(each, interrupt)
             options = arguments(sys.argv[1:])
-            return int(bool(options.run(options)))
+            is_bad = bool(options.run(options))
+            stop_if_one_came()
+            return int(is_bad)
         finally:      # a signal that comes even here is caught below
             for each in SIGNALS:
                 signal.signal(each, signal.SIG_IGN)

@@ -1,5 +1,6 @@
 """Runs mkpasswd over blocks of lines in memory, and takes for each line only an answer with its name or its number."""
 import collections, fcntl, functools, itertools, os, re, signal, subprocess, types
+from interrupts import stop_if_one_came
 from limits import free_memory, processors
 from lines import Refused, Stop, readable
 from memory import end_with
@@ -92,6 +93,7 @@ class Engine:
 
     def wait_for_one(self, options=0):
         """Waits until a mkpasswd has ended, in whatever order, or with WNOHANG asks for one. Returns whether there was one."""
+        stop_if_one_came()
         number, status, used = os.wait4(-1, options) if self.running else (0, 0, None)
         block = self.running.pop(number, None)      # of a program that became pwhash there can be other children
         if block:

@@ -16,6 +16,7 @@ import stat
 from collections.abc import Iterator
 from typing import NamedTuple, Optional
 
+from interrupts import stop_if_one_came
 from lines import Source, Stop, named, quoted, say
 from prompt import SIGNALS
 
@@ -53,6 +54,7 @@ def output(options: argparse.Namespace, source: Source) -> Iterator[int]:
     try:
         yield fd
         os.fsync(fd)
+        stop_if_one_came()
         refuse_changed(options, source)
         become(fd, options)
     except BaseException as error:

@@ -1,0 +1,22 @@
+"""The signal that ends a run.
+
+Its handler raises Stop wherever the run is. But what is raised while Python calls a __del__ ends
+nothing, so a run also asks, again and again, whether a signal came.
+"""
+import signal
+from types import FrameType
+from typing import Optional
+
+from lines import Stop
+
+came: list[int] = []
+
+
+def interrupt(number: int, _frame: Optional[FrameType]) -> None:
+    came.append(number)
+    stop_if_one_came()
+
+
+def stop_if_one_came() -> None:
+    if came:
+        raise Stop(f"{signal.Signals(came[0]).name} ended the run.", -came[0])
