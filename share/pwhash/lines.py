@@ -5,7 +5,9 @@ MARK = b"\xef\xbb\xbf"
 LONGEST_ROW = 1 << 17      # bytes of a line of a table, and of a field; csv takes no longer ones
 NAME_WORDS = frozenset("""name user username login account benutzer benutzername usuario utilisateur nom vorname nachname nutzer
     nutzername anmeldename kennung nombre prénom identifiant nome utente gebruiker gebruikersnaam имя логин
-    email e-mail mail""".split())
+    email e-mail mail emailadresse e-mail-adresse correo courriel userid user_name mitarbeiter mitarbeiterin employee teilnehmer
+    schüler mitglied""".split())
+NAME_WORDS |= {"email address", "e-mail address", "user id"}
 NAME_WORDS |= {"user name", "login name", "first name", "last name", "nom d'utilisateur", "nombre de usuario", "nome utente"}
 PASSWORD_WORDS = frozenset("password passwd passwort kennwort contraseña clave senha motdepasse wachtwoord hasło пароль".split())
 PASSWORD_WORDS |= {"mot de passe", "mot_de_passe"}

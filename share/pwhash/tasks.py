@@ -11,6 +11,7 @@ PLACES = {      # what --for prints for one hash; those with a name need --name
     "cloud-init": "#cloud-config\nusers:\n  - name: \"{name}\"\n    lock_passwd: false\n    hashed_passwd: {hash}",
     "ansible": 'password: "{hash}"', "htpasswd": "{name}:{hash}", "shadow": "{name}:{hash}:{day}:0:99999:7:::"}
 HEADINGS = NAME_WORDS | PASSWORD_WORDS
+LOGIN_NAME = re.compile(rb"[a-z_][a-z0-9_.-]*")
 SERVICES = {    # the names that each service reads as they are
     None: rb"(?s).*", **dict.fromkeys(("apache", "nginx"), rb"[^#\s\0-\x1f\x7f][^\0-\x1f\x7f]*"),
     "dovecot": rb"[a-z0-9_.@-]+", "ldap": rb"[a-z0-9_-]+"}
@@ -97,7 +98,7 @@ def doubts(number, line, names, options):
         "an invisible character": not is_visible(text),
         APART: not unicodedata.is_normalized("NFC", text),
         "a heading, and no user": name.decode(errors="replace").strip().casefold() in HEADINGS,
-        "a heading, and no password": password.decode(errors="replace").strip().casefold() in PASSWORD_WORDS,
+        "a heading, and no password": is_password_heading(name, password),
         "a comma, semicolon or tab in the name: is it a table? See --csv": not options.csv and re.search(rb"[,;\t]", name),
         "quotes around name or password, as spreadsheets export them: save commas between columns, and see --csv": not options.csv and any(map(is_quoted, (line, name, password))),
         "an error or a rounded value of a spreadsheet": is_damaged(name, options.csv) or is_damaged(password, options.csv),
@@ -115,6 +116,12 @@ def note_refused(number, line, names):
     name, colon, _ = (line.name + b":" if isinstance(line, Refused) else line).partition(b":")
     if name and colon:
         names.setdefault(name, (number, "refused"))
+
+def is_password_heading(name, password):
+    """Whether the password is a heading's word. Only `password` behind a login name may be an account's."""
+    if password == b"password" and LOGIN_NAME.fullmatch(name):
+        return False
+    return password.decode(errors="replace").strip().casefold() in PASSWORD_WORDS
 
 def is_quoted(field):
     """Whether it begins with a quote and ends with another."""

@@ -86,12 +86,17 @@ def test_quotes_in_the_value_of_a_table_are_part_of_the_password() -> None:
 @pytest.mark.parametrize(
     "heading",
     [
-        *("email:password", "E-Mail:Passwort", "mail:pw", "Mitarbeiter:Kennwort"),
-        *("staff number: Password", "who:mot de passe"),
+        *("email:password", "E-Mail:Passwort", "mail:pw", "mitarbeiter:password"),
+        *("Mitarbeiter:password", "staff number: Password", "staff:Password", "who:mot de passe"),
     ],
 )
 def test_a_heading_in_a_list_is_no_account(heading: str) -> None:
     hash_first_of_two(heading)
+
+
+def test_a_login_name_with_the_password_of_every_example_is_hashed() -> None:
+    done = pwhash("file", *MD5CRYPT, stdin=b"ann:password\n")
+    assert (done.status, done.out) == (0, b"ann:" + hashed(b"password") + b"\n"), done
 
 
 @pytest.mark.parametrize("heading", ["E-Mail,Password", "Mitarbeiter,Kennwort"])
