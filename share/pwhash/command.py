@@ -80,6 +80,7 @@ def arguments(words):
         if getattr(options, option) and not getattr(options, needed):
             error(f"--{option} needs --{needed}")
     options.can_resume = "resume" in names.split()
+    options.run_reads_twice = command == "file" and (options.out or options.look)
     for option in "out", "shadow", "columns":      # as of a variable of a script that isn't set
         if getattr(options, option) == "":
             error(f"--{option} is empty")
@@ -189,7 +190,7 @@ def main(options=None):
     except OSError as error:
         path = error.filename or options and options.part
         about = f"{named(path)}: " if path else ""
-        limit = " (ulimit -n)" if error.errno == errno.EMFILE else ""
+        limit = {errno.EMFILE: " (ulimit -n)", errno.EFBIG: " (ulimit -f)"}.get(error.errno, "")
         return end(options, f"{about}{error.strerror or unforeseen(error)}{limit}.")
     except BaseException as error:
         return end(options, f"{unforeseen(error)}.")

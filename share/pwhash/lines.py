@@ -14,6 +14,7 @@ PASSWORD_WORDS |= {"mot de passe", "mot_de_passe"}
 # Python takes these for printable, but they show nothing: fillers, selectors of a variant, an empty pattern of Braille.
 SHOWS_NOTHING = re.compile("[\u034f\u115f\u1160\u17b4\u17b5\u180b-\u180f\u2800\u3164\ufe00-\ufe0f\uffa0\U000e0100-\U000e01ef]")
 SEPARATORS = {",": "a comma", ";": "a semicolon", "\t": "a tab"}
+READ_TWICE = "-o and --look need a file, which can be read twice. Give its name, or leave them out."
 WAIT_FOR_WRITER = 3      # seconds until somebody writes a pipe with a name
 shown = False      # whether the terminal shows the progress
 
@@ -33,7 +34,7 @@ class Source:
         is_stdin = options.file == "-"
         self.name, self.fd = "standard input", 0
         if not is_stdin:
-            self.name, self.fd = named(options.file), os.open(options.file, os.O_RDONLY)
+            self.name, self.fd = named(options.file), self.open_file()
         self.begun = os.fstat(self.fd)
         self.regular = stat.S_ISREG(self.begun.st_mode)
         if stat.S_ISDIR(self.begun.st_mode):
@@ -44,6 +45,12 @@ class Source:
         self.start = self.regular and os.lseek(self.fd, 0, os.SEEK_CUR)
         if self.regular and not options.quiet:
             self.total = sum(piece.count(b"\n") for piece in iter(lambda: os.read(self.fd, 1 << 19), b""))
+
+    def open_file(self):
+        is_pipe = stat.S_ISFIFO(os.stat(self.options.file).st_mode)
+        if is_pipe and self.options.run_reads_twice:
+            raise Stop(READ_TWICE, 2)
+        return open_in_time(self.options.file) if is_pipe else os.open(self.options.file, os.O_RDONLY)
 
     def change(self):
         """What changed of the file since it was opened, or nothing. Its ctime isn't asked: reading and chmod change it."""
@@ -112,8 +119,11 @@ class Source:
         while begin[-1] == "\n":
             begin.append(next(texts, ""))
         columns, has_names = self.columns()
-        if has_names and "\0" in begin[-1]:      # as in UTF-16
+        is_utf16 = begin[-1].startswith(("\xff\xfe", "\xfe\xff"))
+        if is_utf16 or has_names and "\0" in begin[-1]:
             raise self.no_columns()
+        if not begin[-1]:
+            raise Stop(f"{self.name} has no rows.", 2)
         between = self.separator(begin[-1], columns, has_names)
         rows = csv.reader(self.limited(itertools.chain(begin, texts)), delimiter=between, strict=True)
         first = self.next_row(rows)

@@ -1,7 +1,7 @@
 """What pwhash does: it hashes a password or a file of them, checks passwords, and audits stored hashes."""
 import collections, contextlib, itertools, json, os, re, string, time, unicodedata
 from engine import HASH, Engine
-from lines import MARK, NAME_WORDS, PASSWORD_WORDS, Refused, Source, Stop, is_visible, named, on_terminal, progress, readable, say, write
+from lines import MARK, NAME_WORDS, PASSWORD_WORDS, READ_TWICE, Refused, Source, Stop, is_visible, named, on_terminal, progress, readable, say, write
 from parts import keep, output, refuse_changed
 from prompt import ask_password
 
@@ -90,8 +90,8 @@ def doubts(number, line, names, options):
     text = line.decode(errors="replace").replace("\r", "").replace("\ufeff", "")
     found = [reason for reason, is_so in {
         "an empty password: Return alone logs in": password in (b"", b"\r"),
-        "a carriage return ends the password; --windows leaves it out": password.endswith(b"\r"),
-        "a carriage return inside": b"\r" in line[:-1],
+        "a carriage return ends the password; --windows leaves it out": password.endswith(b"\r") and not options.windows,
+        "a carriage return inside": b"\r" in (line if options.windows else line[:-1]),
         "a byte order mark begins the line; --windows leaves it out": line.startswith(MARK),
         "a byte order mark inside": MARK in line[1:],
         "a blank at an end of name or password": any(each != each.strip() for each in text.split(":", 1)),
@@ -204,7 +204,7 @@ def file(options):
     """Hashes lines name:password. A file is read twice, first to look for problems."""
     source, engine = Source(options), Engine("--batch", options.words, options.memory)
     if (options.out or options.look) and not source.regular:
-        raise Stop("-o and --look need a file, which can be read twice. Give its name, or leave them out.", 2)
+        raise Stop(READ_TWICE, 2)
     names, doubted = {}, not source.regular and not options.accept_doubtful      # a pipe can't be looked at first
     left_out = look(source, options, engine, names) if source.regular else ()
     if source.regular:
