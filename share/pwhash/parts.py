@@ -28,6 +28,7 @@ KEPT_BEGIN = b"pwhash file --resume needs this.\n"
 KEPT = re.compile(
     re.escape(KEPT_BEGIN)
     + rb"FILE has ([0-9]+ bytes, time -?[0-9]+, inode [0-9]+)\n"
+    + rb"lines by (--budget=[0-9]+[a-z =-]*)\n"
     + rb"(?s:options (|--windows|--csv --columns=.*)\n)"
 )
 AT_FDCWD, RENAME_NOREPLACE = -100, 1
@@ -37,10 +38,11 @@ class Kept(NamedTuple):
     """What OUT.part.options tells of OUT.part."""
 
     file: bytes  # its size, time and inode, and never a digest, since that is one of passwords
+    choice: bytes  # the options by which lines are left out
     options: bytes  # those that change a line before it is hashed
 
 
-CUT = Kept(b"", b"")  # of a run that ended while it wrote this
+CUT = Kept(b"", b"", b"")  # of a run that ended while it wrote this
 
 
 @contextlib.contextmanager
@@ -143,7 +145,7 @@ def refuse_another_file(
     kept, now = read_kept(path), kept_of(options, source)
     if kept is None:  # of GNU parallel, say: nothing but the times tells anything
         refuse_newer(part, status, source)
-        kept = Kept(now.file, b"")
+        kept = Kept(now.file, now.choice, b"")
     if kept == CUT:
         raise Stop(f"{named(path)} was cut. Remove {both}, and start again.", 2)
     if kept.file != now.file:
@@ -156,6 +158,12 @@ def refuse_another_file(
         raise Stop(
             f"{named(part)} was begun with other --windows, --csv or --columns. "
             f"Give those, or remove {both}, and start again.",
+            2,
+        )
+    if options.resume and kept.choice != now.choice:
+        raise Stop(
+            f"{named(part)} was begun with {kept.choice.decode()}, so other lines were left out. "
+            f"Give just those options of their kind, or remove {both}, and start again.",
             2,
         )
 
@@ -175,11 +183,19 @@ def options_of_lines(options: argparse.Namespace) -> bytes:
     return b"--windows" if options.windows else b""
 
 
+def options_of_choice(options: argparse.Namespace) -> bytes:
+    """The options by which lines are left out."""
+    flags = ("skip_refused", "skip_doubtful", "accept_doubtful")
+    given = [f"--{flag.replace('_', '-')}" for flag in flags if getattr(options, flag)]
+    service = [f"--for={options.service}"] if options.service else []
+    return " ".join([f"--budget={options.budget}", *given, *service]).encode()
+
+
 def kept_of(options: argparse.Namespace, source: Source) -> Kept:
     """What this run keeps. Reading and chmod change the ctime, so it isn't kept."""
     begun = source.begun
     file = f"{begun.st_size} bytes, time {begun.st_mtime_ns}, inode {begun.st_ino}"
-    return Kept(file.encode(), options_of_lines(options))
+    return Kept(file.encode(), options_of_choice(options), options_of_lines(options))
 
 
 def keep(fd: int, options: argparse.Namespace, source: Source) -> None:
@@ -193,7 +209,7 @@ def keep(fd: int, options: argparse.Namespace, source: Source) -> None:
     if kept:
         os.unlink(path)  # of a run whose part was removed
     now = kept_of(options, source)
-    write_kept(path, KEPT_BEGIN + b"FILE has %b\noptions %b\n" % now)
+    write_kept(path, KEPT_BEGIN + b"FILE has %b\nlines by %b\noptions %b\n" % now)
 
 
 def write_kept(path: str, data: bytes) -> None:
@@ -223,7 +239,7 @@ def read_kept(path: str) -> Optional[Kept]:
     if not fault:
         found = KEPT.fullmatch(data)
         if found:
-            return Kept(found[1], found[2])
+            return Kept(*found.groups())
         if not data or data.startswith(KEPT_BEGIN):
             return CUT
         fault = "it is of no run"

@@ -1,0 +1,66 @@
+"""pwhash goes on with a part only with the options by which its run left lines out.
+
+Each test sees only what a user sees: the command, its outputs, files and status.
+"""
+
+from __future__ import annotations
+
+import os
+import pathlib
+import signal
+import subprocess
+
+import pytest
+
+from pwhash_runs import SLOW, ended, has_begun, pwhash, read, save, started, users, wait_for
+
+COUNT = 400
+WORDS = ("file", *SLOW, "list", "-o", "hashes")
+
+
+@pytest.fixture(autouse=True)
+def folder(tmp_path: pathlib.Path, monkeypatch: pytest.MonkeyPatch) -> pathlib.Path:
+    """A scratch folder, which is the current one, with a list that has two lines to leave out."""
+    monkeypatch.chdir(tmp_path)
+    monkeypatch.setenv("LC_ALL", "C.UTF-8")
+    save("list", users(COUNT) + b"no colon\ndan: x\n")
+    return tmp_path
+
+
+def interrupt(*choice: str) -> None:
+    """A run that a signal ends in its midst. One that was quicker is repeated."""
+    for _ in range(20):
+        process = started(*WORDS, *choice, stdin=subprocess.DEVNULL)
+        wait_for(lambda: process.poll() is not None or has_begun())
+        process.send_signal(signal.SIGTERM)
+        done = ended(process)
+        if os.path.exists("hashes.part"):
+            break
+        os.remove("hashes")
+    assert done.status == -signal.SIGTERM, done
+
+
+SKIPPED = ("--skip-refused", "--skip-doubtful")
+
+
+@pytest.mark.parametrize(
+    "choice",
+    [
+        pytest.param(("--skip-refused", "--accept-doubtful"), id="doubtful lines accepted"),
+        pytest.param((*SKIPPED, "--budget", "1300000000"), id="another budget"),
+        pytest.param((*SKIPPED, "--for", "dovecot"), id="a service"),
+    ],
+)
+def test_other_options_do_not_go_on_with_a_part(choice: tuple[str, ...]) -> None:
+    interrupt(*SKIPPED)
+    part = read("hashes.part")
+    done = pwhash(*WORDS, *choice, "--resume")
+    assert (done.status, read("hashes.part")) == (2, part), done
+    assert b"--skip-refused --skip-doubtful" in done.err and not os.path.exists("hashes"), done
+
+
+def test_the_same_options_go_on_with_a_part() -> None:
+    interrupt(*SKIPPED)
+    done = pwhash(*WORDS, *reversed(SKIPPED), "--resume")
+    assert done.status == 1 and read("hashes").count(b"\n") == COUNT, done
+    assert sorted(os.listdir()) == ["hashes", "list"], done
