@@ -41,8 +41,17 @@ def new_password(options):
             raise Stop("--generate shows the password on the terminal, and there is none.")
         return password.encode()
     if not os.isatty(0):
-        return next((pair[1] for pair in Source(options).lines() if pair), b"")
+        return first_line(Source(options))
     return ask_password()
+
+def first_line(source):
+    """The password on standard input. Further lines are named if they are there by now, but nobody waits for them."""
+    pairs = source.lines()
+    first = next((line for _, line in filter(None, pairs)), b"")
+    further = next(pairs, None)
+    if further and further[1]:
+        say("only the first line was hashed; pwhash file hashes lines name:password.")
+    return first
 
 def refuse_password(password, is_typed):
     """What nobody can mean to type at a login."""
@@ -53,6 +62,8 @@ def refuse_password(password, is_typed):
     if MARK in password:
         raise Stop("the password has a byte order mark in it, as files of Windows begin with one. Save it without.", 2)
     text = password.decode(errors="replace")
+    if text != text.strip(" "):
+        say("the password begins or ends with a blank, which is hashed too.")
     if not is_visible(text.replace("\0", "")):      # mkpasswd refuses zero bytes
         raise Stop("the password has a control character or an invisible one in it: a tab, an arrow key, something pasted? "
                    "Give it without, or name:password to pwhash file --accept-doubtful.", 2)
@@ -86,7 +97,7 @@ def one(options):
 
 def doubts(number, line, names, options):
     """What mkpasswd hashes as it is, and hardly anybody wants. `names` has the first line of each name, and why it is unsure."""
-    name, _, password = line.partition(b":")
+    (name, _, password), is_list = line.partition(b":"), not options.csv
     text = line.decode(errors="replace").replace("\r", "").replace("\ufeff", "")
     found = [reason for reason, is_so in {
         "an empty password: Return alone logs in": password in (b"", b"\r"),
@@ -99,8 +110,9 @@ def doubts(number, line, names, options):
         APART: not unicodedata.is_normalized("NFC", text),
         "a heading, and no user": name.decode(errors="replace").strip().casefold() in HEADINGS,
         "a heading, and no password": is_password_heading(name, password),
-        "a comma, semicolon or tab in the name: is it a table? See --csv": not options.csv and re.search(rb"[,;\t]", name),
-        "quotes around name or password, as spreadsheets export them: save commas between columns, and see --csv": not options.csv and any(map(is_quoted, (line, name, password))),
+        "a comma, semicolon or tab in the name: is it a table? See --csv": is_list and re.search(rb"[,;\t]", name),
+        "quotes around it, as in a table: save that with commas, and see --csv":
+            is_list and any(map(is_quoted, (line, name, password))),
         "an error or a rounded value of a spreadsheet": is_damaged(name, options.csv) or is_damaged(password, options.csv),
         "a stored hash or field, and no password": STORED.fullmatch(password),
         "the service takes the name for another, or skips it": not re.fullmatch(SERVICES[options.service], name),

@@ -1,0 +1,53 @@
+"""pwhash and the one password on standard input: what of it may be a mistake is named.
+
+Each test sees only what a user sees: the command, its outputs, files and status.
+"""
+
+from __future__ import annotations
+
+import pathlib
+
+import pytest
+
+from pwhash_runs import MD5CRYPT, hashed, pwhash, save, shell
+
+
+@pytest.fixture(autouse=True)
+def folder(tmp_path: pathlib.Path, monkeypatch: pytest.MonkeyPatch) -> pathlib.Path:
+    """A scratch folder, which is the current one."""
+    monkeypatch.chdir(tmp_path)
+    monkeypatch.setenv("LC_ALL", "C.UTF-8")
+    return tmp_path
+
+
+@pytest.mark.parametrize("script", ['exec "$@" < list', 'cat list | "$@"'], ids=["file", "pipe"])
+def test_further_lines_are_named(script: str) -> None:
+    save("list", b"secret\nother\n")
+    done = shell(script, *MD5CRYPT)
+    assert (done.status, done.out) == (0, hashed(b"secret") + b"\n"), done
+    assert b"only the first line" in done.err and b"secret" not in done.err, done
+
+
+@pytest.mark.parametrize("end", [b"", b"\n", b"\n\n"], ids=["no line feed", "one", "a blank line"])
+def test_one_line_alone_is_hashed_without_a_message(end: bytes) -> None:
+    done = pwhash(*MD5CRYPT, stdin=b"secret" + end)
+    assert (done.status, done.out, done.err) == (0, hashed(b"secret") + b"\n", b""), done
+
+
+def test_nobody_waits_for_further_lines() -> None:
+    """The reader of the hash ends the writer of the password."""
+    script = '{ echo secret; read -r end < pipe; } | { "$@"; echo end > pipe; }'
+    done = shell(f"mkfifo pipe; {script}", *MD5CRYPT)
+    assert (done.status, done.out, done.err) == (0, hashed(b"secret") + b"\n", b""), done
+
+
+@pytest.mark.parametrize("password", [b"secret ", b" secret"], ids=["behind", "before"])
+def test_a_blank_at_an_end_is_named_and_hashed(password: bytes) -> None:
+    done = pwhash(*MD5CRYPT, stdin=password + b"\n")
+    assert (done.status, done.out) == (0, hashed(password) + b"\n"), done
+    assert b"blank" in done.err and b"secret" not in done.err, done
+
+
+def test_a_blank_inside_is_hashed_without_a_message() -> None:
+    done = pwhash(*MD5CRYPT, stdin=b"sec ret\n")
+    assert (done.status, done.out, done.err) == (0, hashed(b"sec ret") + b"\n", b""), done
