@@ -11,7 +11,7 @@ PLACES = {      # what --for prints for one hash; those with a name need --name
     "cloud-init": "#cloud-config\nusers:\n  - name: \"{name}\"\n    lock_passwd: false\n    hashed_passwd: {hash}",
     "ansible": 'password: "{hash}"', "htpasswd": "{name}:{hash}", "shadow": "{name}:{hash}:{day}:0:99999:7:::"}
 HEADINGS = NAME_WORDS | PASSWORD_WORDS
-LOGIN_NAME = re.compile(rb"[a-z_][a-z0-9_.-]*")
+LOGIN_NAME = re.compile(rb"[a-z_\x80-\xff][a-z0-9_.\x80-\xff-]*")
 SERVICES = {    # the names that each service reads as they are
     None: rb"(?s).*", **dict.fromkeys(("apache", "nginx"), rb"[^#\s\0-\x1f\x7f][^\0-\x1f\x7f]*"),
     "dovecot": rb"[a-z0-9_.@-]+", "ldap": rb"[a-z0-9_-]+"}

@@ -94,9 +94,10 @@ def test_a_heading_in_a_list_is_no_account(heading: str) -> None:
     hash_first_of_two(heading)
 
 
-def test_a_login_name_with_the_password_of_every_example_is_hashed() -> None:
-    done = pwhash("file", *MD5CRYPT, stdin=b"ann:password\n")
-    assert (done.status, done.out) == (0, b"ann:" + hashed(b"password") + b"\n"), done
+@pytest.mark.parametrize("name", ["ann", "ann.lee-2", "zoë", "Яна"])
+def test_a_login_name_with_the_password_of_every_example_is_hashed(name: str) -> None:
+    done = pwhash("file", *MD5CRYPT, stdin=f"{name}:password\n".encode())
+    assert (done.status, done.out) == (0, name.encode() + b":" + hashed(b"password") + b"\n"), done
 
 
 @pytest.mark.parametrize("heading", ["E-Mail,Password", "Mitarbeiter,Kennwort"])
