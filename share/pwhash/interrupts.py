@@ -13,10 +13,12 @@ came: list[int] = []
 
 
 def interrupt(number: int, _frame: Optional[FrameType]) -> None:
+    """Handles one of the signals that end a run with a sentence."""
     came.append(number)
     stop_if_one_came()
 
 
 def stop_if_one_came() -> None:
+    """Ends the run if a signal has come, even one that was lost when it did."""
     if came:
         raise Stop(f"{signal.Signals(came[0]).name} ended the run.", -came[0])

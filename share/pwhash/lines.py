@@ -1,5 +1,5 @@
 """Lines that come in and go out, as bytes, since names and passwords have no encoding, and what the terminal shows."""
-import contextlib, csv, errno, itertools, os, re, select, shlex, signal, stat, time
+import contextlib, csv, errno, fcntl, itertools, os, re, select, shlex, signal, stat, time
 
 MARK = b"\xef\xbb\xbf"
 LONGEST_ROW = 1 << 17      # bytes of a line of a table, and of a field; csv takes no longer ones
@@ -327,6 +327,22 @@ def write(fd, lines):
                 return
             error.filename = "standard output" if fd == 1 else None
             raise
+
+def end_last_line(fd):
+    """Ends the last line of a file to which the shell's >> adds, so that what is printed begins a line."""
+    status = os.fstat(fd)
+    is_added_to = stat.S_ISREG(status.st_mode) and fcntl.fcntl(fd, fcntl.F_GETFL) & os.O_APPEND
+    if is_added_to and status.st_size > 0 and last_byte(fd) != b"\n":
+        write(fd, [b""])
+
+def last_byte(fd):
+    """The last byte of a file that is open for writing, or a line feed if it can't be read."""
+    try:
+        with open(f"/proc/self/fd/{fd}", "rb") as file:
+            file.seek(-1, os.SEEK_END)
+            return file.read()
+    except OSError:
+        return b"\n"
 
 def say(sentence):
     write(2, [f"pwhash: {readable(sentence.encode('utf-8', 'surrogateescape'))}".encode()])

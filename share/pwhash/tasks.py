@@ -1,7 +1,8 @@
 """What pwhash does: it hashes a password or a file of them, checks passwords, and audits stored hashes."""
 import collections, contextlib, itertools, json, os, re, string, time, unicodedata
 from engine import HASH, Engine
-from lines import MARK, NAME_WORDS, PASSWORD_WORDS, READ_TWICE, Refused, Source, Stop, is_visible, named, on_terminal, progress, readable, say, write
+from lines import (MARK, NAME_WORDS, PASSWORD_WORDS, READ_TWICE, Refused, Source, Stop,
+                   end_last_line, is_visible, named, on_terminal, progress, readable, say, write)
 from parts import keep, output, refuse_changed
 from prompt import ask_password
 
@@ -93,6 +94,7 @@ def one(options):
     if block.refusals:
         raise Stop(f"{block.refusals[0]}. Give a password of at most 1,024 bytes, none of them 0.", 2)
     values = {"name": options.name, "hash": block.answers[0][2:].decode(), "day": int(time.time() // 86400)}
+    end_last_line(1)
     write(1, [PLACES[options.place].format(**values).encode()])
 
 def doubts(number, line, names, options):
@@ -229,6 +231,8 @@ def file(options):
             skip(fd, pairs, options, source.name)
         if options.out:
             keep(fd, options, source)
+        else:
+            end_last_line(fd)
         for block in progress(engine.answers(pairs, source.total), "hashing", source.total):
             for place, (number, line) in enumerate(zip(block.numbers, block.lines) if doubted else ()):
                 if place in block.refusals:

@@ -9,6 +9,7 @@ import os
 import pathlib
 import shutil
 import signal
+from typing import Any
 
 import pexpect
 import pytest
@@ -46,7 +47,13 @@ def folder(tmp_path: pathlib.Path, monkeypatch: pytest.MonkeyPatch) -> pathlib.P
     return tmp_path
 
 
-def in_background(script: str) -> pexpect.spawn:
+def number_behind(child: Any, words: bytes) -> int:
+    """Waits for these words of a script."""
+    child.expect(words + rb" ([0-9]+)")
+    return int(child.match[1])
+
+
+def in_background(script: str) -> Any:
     """Runs a script of bash on a terminal, once pwhash is stopped in its background."""
     if not shutil.which("bash"):
         missing("bash is missing")
@@ -58,8 +65,7 @@ def in_background(script: str) -> pexpect.spawn:
 def test_a_signal_ends_it_before_it_asks(name: str) -> None:
     """As `timeout` sends it, which then lets the stopped process go on."""
     child = in_background(f"kill -{name} $job; kill -CONT $job; end_of_job")
-    child.expect(rb"status ([0-9]+)")
-    assert int(child.match[1]) == 128 + getattr(signal, f"SIG{name}")
+    assert number_behind(child, b"status") == 128 + getattr(signal, f"SIG{name}")
 
 
 def test_in_the_foreground_again_it_asks() -> None:
@@ -79,9 +85,7 @@ def test_a_signal_ends_it_in_the_background_after_it_has_asked() -> None:
         kill -TERM $job; end_of_job
     """
     child = in_background(script)
-    child.expect(rb"job ([0-9]+)")
-    job = int(child.match[1])
+    job = number_behind(child, b"job")
     child.expect(rb"Password: ")
     os.kill(job, signal.SIGSTOP)
-    child.expect(rb"status ([0-9]+)")
-    assert int(child.match[1]) == 128 + signal.SIGTERM
+    assert number_behind(child, b"status") == 128 + signal.SIGTERM

@@ -12,7 +12,7 @@ import subprocess
 
 import pytest
 
-from pwhash_runs import SLOW, ended, has_begun, pwhash, read, save, started, users, wait_for
+from pwhash_runs import SLOW, Ended, ended, has_begun, pwhash, read, save, started, users, wait_for
 
 COUNT = 400
 WORDS = ("file", *SLOW, "list", "-o", "hashes")
@@ -27,13 +27,17 @@ def folder(tmp_path: pathlib.Path, monkeypatch: pytest.MonkeyPatch) -> pathlib.P
     return tmp_path
 
 
+def terminated(process: subprocess.Popen[bytes]) -> Ended:
+    """Ends a run by a signal once its part has lines, unless it has ended by then."""
+    wait_for(lambda: process.poll() is not None or has_begun())
+    process.send_signal(signal.SIGTERM)
+    return ended(process)
+
+
 def interrupt(*choice: str) -> None:
     """A run that a signal ends in its midst. One that was quicker is repeated."""
     for _ in range(20):
-        process = started(*WORDS, *choice, stdin=subprocess.DEVNULL)
-        wait_for(lambda: process.poll() is not None or has_begun())
-        process.send_signal(signal.SIGTERM)
-        done = ended(process)
+        done = terminated(started(*WORDS, *choice, stdin=subprocess.DEVNULL))
         if os.path.exists("hashes.part"):
             break
         os.remove("hashes")
