@@ -7,7 +7,6 @@ from __future__ import annotations
 
 import os
 import pathlib
-import shutil
 import signal
 from typing import Any
 
@@ -15,7 +14,6 @@ import pexpect
 import pytest
 
 from pwhash_runs import MD5CRYPT, PWHASH, hashed, type_secret
-from support import missing
 
 # Runs pwhash as a job, until the system has stopped it.
 JOB = """
@@ -55,8 +53,6 @@ def number_behind(child: Any, words: bytes) -> int:
 
 def in_background(script: str) -> Any:
     """Runs a script of bash on a terminal, once pwhash is stopped in its background."""
-    if not shutil.which("bash"):
-        missing("bash is missing")
     words = ["-c", JOB + script, "bash", PWHASH, *MD5CRYPT]
     return pexpect.spawn("/bin/bash", words, timeout=60, echo=False)
 
