@@ -2,24 +2,13 @@
 
 Each test sees only what a user sees: the command, its outputs, files and status.
 """
-
 from __future__ import annotations
 
-import pathlib
 
 import pytest
-
-from pwhash_runs import MD5CRYPT, hashed, lines_named_in, pwhash, read, save
+from support.pwhash_runs import MD5CRYPT, hashed, lines_named_in, pwhash, read, save
 
 BOB = b"bob:" + hashed(b"pw2") + b"\n"
-
-
-@pytest.fixture(autouse=True)
-def folder(tmp_path: pathlib.Path, monkeypatch: pytest.MonkeyPatch) -> pathlib.Path:
-    """A scratch folder, which is the current one."""
-    monkeypatch.chdir(tmp_path)
-    monkeypatch.setenv("LC_ALL", "C.UTF-8")
-    return tmp_path
 
 
 def hash_first_of_two(line: str, *options: str) -> None:

@@ -2,18 +2,19 @@
 
 Each test sees only what a user sees: the command, its outputs, files and status.
 """
-
 from __future__ import annotations
 
 import os
-import pathlib
 import signal
 from typing import Any
 
-import pexpect
 import pytest
+from support.needs import needed
+from support.pwhash_runs import MD5CRYPT, PWHASH, hashed, type_secret
 
-from pwhash_runs import MD5CRYPT, PWHASH, hashed, type_secret
+with needed("python3-pexpect"):
+    import pexpect
+
 
 # Runs pwhash as a job, until the system has stopped it.
 JOB = """
@@ -35,14 +36,6 @@ end_of_job() {
     echo "status $?"
 }
 """
-
-
-@pytest.fixture(autouse=True)
-def folder(tmp_path: pathlib.Path, monkeypatch: pytest.MonkeyPatch) -> pathlib.Path:
-    """A scratch folder, which is the current one."""
-    monkeypatch.chdir(tmp_path)
-    monkeypatch.setenv("LC_ALL", "C.UTF-8")
-    return tmp_path
 
 
 def number_behind(child: Any, words: bytes) -> int:

@@ -1,15 +1,12 @@
 """pwhash and a signal whose exception Python can't raise: it comes while an object is destroyed."""
-
 from __future__ import annotations
 
 import os
-import pathlib
 import signal
 
 import pytest
-
-from pwhash_runs import MD5CRYPT, ended, save, started_program, users
 from support import ROOT
+from support.pwhash_runs import MD5CRYPT, ended, save, started_program, users
 
 # Runs pwhash, which gets a signal while Python calls the __del__ of a process that has ended.
 RUN = f"""
@@ -20,14 +17,6 @@ subprocess.Popen.__del__ = lambda self: os.kill(os.getpid(), int(number))
 number = sys.argv.pop(1)
 os._exit(command.main())
 """
-
-
-@pytest.fixture(autouse=True)
-def folder(tmp_path: pathlib.Path, monkeypatch: pytest.MonkeyPatch) -> pathlib.Path:
-    """A scratch folder, which is the current one."""
-    monkeypatch.chdir(tmp_path)
-    monkeypatch.setenv("LC_ALL", "C.UTF-8")
-    return tmp_path
 
 
 @pytest.mark.parametrize("number", [signal.SIGTERM, signal.SIGINT, signal.SIGHUP])

@@ -2,23 +2,12 @@
 
 Each test sees only what a user sees: the command, its outputs, files and status.
 """
-
 from __future__ import annotations
 
 import os
-import pathlib
 
 import pytest
-
-from pwhash_runs import MD5CRYPT, pwhash, read, save, shell
-
-
-@pytest.fixture(autouse=True)
-def folder(tmp_path: pathlib.Path, monkeypatch: pytest.MonkeyPatch) -> pathlib.Path:
-    """A scratch folder, which is the current one."""
-    monkeypatch.chdir(tmp_path)
-    monkeypatch.setenv("LC_ALL", "C.UTF-8")
-    return tmp_path
+from support.pwhash_runs import MD5CRYPT, pwhash, read, save, shell
 
 
 TABLE = ("file", *MD5CRYPT, "--csv")

@@ -2,29 +2,36 @@
 
 Each test sees only what a user sees: the command, its outputs, files and status.
 """
-
 from __future__ import annotations
 
 import os
-import pathlib
+from pathlib import Path
 import signal
 import subprocess
 
 import pytest
-
-from pwhash_runs import SLOW, Ended, ended, has_begun, pwhash, read, save, started, users, wait_for
+from support.pwhash_runs import (
+    SLOW,
+    Ended,
+    ended,
+    has_begun,
+    pwhash,
+    read,
+    save,
+    started,
+    users,
+    wait_for,
+)
 
 COUNT = 400
 WORDS = ("file", *SLOW, "list", "-o", "hashes")
 
 
-@pytest.fixture(autouse=True)
-def folder(tmp_path: pathlib.Path, monkeypatch: pytest.MonkeyPatch) -> pathlib.Path:
-    """A scratch folder, which is the current one, with a list that has two lines to leave out."""
-    monkeypatch.chdir(tmp_path)
-    monkeypatch.setenv("LC_ALL", "C.UTF-8")
+@pytest.fixture(autouse=True, name="saved_list")
+def fixture_saved_list(folder: Path) -> None:
+    """A list in the scratch folder that has two lines to leave out."""
+    del folder  # the current one
     save("list", users(COUNT) + b"no colon\ndan: x\n")
-    return tmp_path
 
 
 def terminated(process: subprocess.Popen[bytes]) -> Ended:
