@@ -33,7 +33,8 @@ def test_the_sizes_are_the_headers() -> None:
 
 
 def test_the_recommended_rounds_are_those_of_new_salts() -> None:
-    assert mkpasswd.crypt.mksalt().split("$")[2] == f"rounds={_calls.recommended_rounds('sha512crypt')}"
+    rounds = _calls.recommended_rounds("sha512crypt")
+    assert mkpasswd.crypt.mksalt().split("$")[2] == f"rounds={rounds}"
 
 
 def test_the_reasons_are_the_headers() -> None:
