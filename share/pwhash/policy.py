@@ -13,7 +13,7 @@ GREATEST_ROUNDS, GREATEST_BUDGET = 2**32 - 1, 2**64 - 1
 # What each method takes as rounds, in words.
 ROUNDS = {**dict.fromkeys(METHODS, "1000 to 999999999"), "scrypt": "6 to 11"}
 
-# Where the library is: tools/install fills in an absolute path, and tools/pack one that is seen from
+# Where the library is: tools/install fills in an absolute path, tools/pack one that is seen from
 # here. In the sources it is where make puts it.
 LIBRARY = "@LIBDIR@/libmkpasswd.so.2"
 if LIBRARY.startswith("@"):
