@@ -64,6 +64,8 @@ INVALID = [
     invalid_together("rounds=1000 budget=100000", "over budget"),
     invalid_together("rounds=999", "cost"),
     InvalidArguments("renew", Answer.BROKEN, "invalid argument: renew, without file="),
+    InvalidArguments("file=passwords", Answer.BROKEN, "invalid argument: file=passwords"),
+    InvalidArguments("file=", Answer.BROKEN, "invalid argument: file="),
     invalid("budget="),
     invalid("budget=-1"),
     invalid("budget=+1"),
@@ -76,9 +78,9 @@ INVALID = [
     invalid("renew=1"),
     invalid("budge=1"),
     invalid("nullok"),
-    invalid("file=passwords"),
+    invalid("file=passwords"),  # for the second time
     invalid("file="),
-    invalid(f"file={FILE}"),  # for the second time
+    invalid(f"file={FILE}"),
     renewing_shadow("/etc/shadow"),
     renewing_shadow("/srv/shadow"),
     renewing_shadow("/etc/other"),
