@@ -11,7 +11,7 @@ import pytest
 from support import ROOT
 from support.elsewhere import HOUR, assert_passes_the_tests_of_the_program, wrapper
 from support.needs import built, missing
-from support.process import Word, assert_result, run
+from support.process import Word, run
 from support.release import processor_of_build
 
 pytestmark = [pytest.mark.xdist_group("nested"), pytest.mark.slow]
