@@ -15,6 +15,7 @@ from support.debian import (
     change_package,
     layer_over,
     make_root,
+    need_layers,
     need_packages,
     release,
 )
@@ -65,6 +66,7 @@ def fixture_base(
     request: pytest.FixtureRequest, packages: Packages, tmp_path_factory: pytest.TempPathFactory
 ) -> Iterator[Path]:
     """A root of a release, with the packages in /debs, and changed ones in /changed."""
+    need_layers(tmp_path_factory.mktemp("layers"))
     folder = tmp_path_factory.mktemp("root") / request.param
     make_root(request.param, folder)
     shutil.copytree(packages.folder, folder / "debs")
@@ -81,7 +83,5 @@ def fixture_base(
 @pytest.fixture(name="root")
 def fixture_root(base: Path, tmp_path: Path) -> Iterator[Root]:
     """A root of this test alone, in which none of ours is installed."""
-    folder = tmp_path / "root"
-    folder.mkdir()
-    with layer_over(base, folder=folder) as root:
+    with layer_over(base, folder=tmp_path / "root") as root:
         yield root

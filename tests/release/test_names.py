@@ -88,9 +88,7 @@ def fixture_copy_of(tmp_path: Path) -> Iterator[CopyOf]:
     with ExitStack() as layers:
 
         def copy_of(root: Root) -> Root:
-            folder = tmp_path / "root"
-            folder.mkdir()
-            return layers.enter_context(above(root, folder))
+            return layers.enter_context(above(root, tmp_path / "root"))
 
         yield copy_of
 

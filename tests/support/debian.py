@@ -52,9 +52,11 @@ LONGEST_BUILD = 900  # seconds
 LONGEST_SCRIPT = 1200  # seconds, in a root
 LONGEST_BOOTSTRAP = 1800  # seconds
 LAST_LINES = 60  # of a script that failed
-# GNU parallel needs /dev/pts and /sys, without which it warns or counts no processors.
-ENTER = """
+LAYER = """
 mount -t overlay overlay -o "lowerdir=$0,upperdir=$1/changes,workdir=$1/work" "$1/root"
+"""
+# GNU parallel needs /dev/pts and /sys, without which it warns or counts no processors.
+ENTER = f"""{LAYER}
 mount -t proc proc "$1/root/proc"
 mount --rbind /sys "$1/root/sys"
 mount --bind /dev/pts "$1/root/dev/pts"
@@ -150,8 +152,12 @@ def make_root(suite: str, folder: Path) -> None:
     command = ("mmdebstrap", *options, suite, folder, *source)
     result = run(*command, timeout=LONGEST_BOOTSTRAP)
     if result.status != 0:
-        last_line = result.stderr.decode(errors="replace").strip().rpartition("\n")[2]
-        missing(f"a root of {suite}", f"mmdebstrap says: {last_line}")
+        missing(f"a root of {suite}", f"mmdebstrap says: {last_error(result)}")
+
+
+def last_error(result: Result) -> str:
+    """The last line on the standard error of a command."""
+    return result.stderr.decode(errors="replace").strip().rpartition("\n")[2]
 
 
 @dataclass(frozen=True)
@@ -182,11 +188,21 @@ class Root:
         return set(self.output_of(f"find / \\( {pruned} \\) -prune -o -print").splitlines())
 
 
+def need_layers(folder: Path) -> None:
+    """Ends the test where no layer can be put over a folder. An empty one is for the attempt."""
+    lower = folder / "lower"
+    lower.mkdir()
+    with layer_over(lower, folder=folder / "attempt") as root:
+        result = run(*UNSHARE, "sh", "-euc", LAYER, root.lower[0], root.layer)
+    if result.status != 0:
+        missing("overlayfs", last_error(result))
+
+
 @contextlib.contextmanager
 def layer_over(*lower: Path, folder: Path) -> Iterator[Root]:
-    """A root that can be changed, in an empty folder, until the end of the block."""
+    """A root that can be changed, in an empty or new folder, until the end of the block."""
     for name in ("changes", "work", "root"):
-        (folder / name).mkdir()
+        (folder / name).mkdir(parents=True)
     (folder / "changes").chmod(0o755)  # which is the mode of / in the root
     try:
         yield Root(lower, folder)
