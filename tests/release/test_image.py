@@ -2,6 +2,7 @@
 from __future__ import annotations
 
 import re
+import tempfile
 from collections.abc import Iterator
 from dataclasses import dataclass
 from pathlib import Path
@@ -61,12 +62,16 @@ class Podman:
 
 
 @pytest.fixture(scope="module", name="podman")
-def fixture_podman(image: Path, tmp_path_factory: pytest.TempPathFactory) -> Iterator[Podman]:
-    """Podman with the image, until the tests with it are done."""
-    podman = Podman(tmp_path_factory.mktemp("podman"))
-    podman.run("load", "-i", image).required()
-    yield podman
-    podman.run("image", "unmount", "--all")
+def fixture_podman(image: Path) -> Iterator[Podman]:
+    """Podman with the image, until the tests with it are done.
+
+    It takes no path of more than 50 characters for its state, and pytest's are longer.
+    """
+    with tempfile.TemporaryDirectory() as folder:
+        podman = Podman(Path(folder))
+        podman.run("load", "-i", image).required()
+        yield podman
+        podman.run("image", "unmount", "--all")
 
 
 @pytest.mark.needs("podman")
