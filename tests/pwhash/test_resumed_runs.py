@@ -171,6 +171,7 @@ def test_a_part_of_the_same_run_is_gone_on_with(part: bytes) -> None:
     [
         pytest.param(SECOND, id="another line first"),
         pytest.param(b"ann:$1$xxxxxxxx$wrong\n", id="another hash"),
+        pytest.param(FIRST + b"bob:" + hashed(b"other") + b"\n", id="another password last"),
         pytest.param(WHOLE + b"\nx", id="more than the run makes"),
         pytest.param(b"Welcome!\n", id="no hash"),
     ],
