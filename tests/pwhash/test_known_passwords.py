@@ -70,6 +70,12 @@ def test_a_name_without_a_stored_hash_is_named_by_its_line() -> None:
     assert done.err.endswith(b" (the first 20): [4].\n"), done
 
 
+def test_the_first_20_names_without_a_stored_hash_are_named_by_their_lines() -> None:
+    save("shadow", SHADOW)
+    done = pwhash("check", "--shadow", "shadow", stdin=b"nobody:x\n" * 21)
+    assert done.err.endswith(f" (the first 20): {[*range(1, 21)]}.\n".encode()), done
+
+
 def test_a_password_that_fits_gets_a_new_hash() -> None:
     save("shadow", SHADOW)
     words = ("--rehash", "-m", "sha256crypt", "-R", "2000", "-S", "ab")

@@ -6,7 +6,7 @@ import os
 import time
 
 import pytest
-from support.pwhash_runs import MD5CRYPT, ended, lines_named_in, pwhash, save, shell, started
+from support.pwhash_runs import MD5, MD5CRYPT, ended, lines_named_in, pwhash, save, shell, started
 
 LONG = b"x" * 140000
 
@@ -35,6 +35,14 @@ def test_a_row_above_128_kib_ends_the_run_and_is_named(
     from_file = pwhash(*words, "--budget", "1", save("table", table), "-o", "hashes")
     assert from_file.status == 3 and not os.path.exists("hashes"), from_file.err[-300:]
     assert f"line {number}:".encode() in from_file.err, from_file.err[-300:]
+
+
+def test_a_row_of_128_kib_is_hashed() -> None:
+    begin = b"ann,password,"
+    row = begin + b"x" * ((1 << 17) - len(begin))
+    save("table", b"name,password,third\n" + row + b"\n")
+    done = pwhash("file", "--csv", *MD5CRYPT, "table")
+    assert (done.status, done.out) == (0, f"ann:{MD5}\n".encode()), done
 
 
 @pytest.mark.parametrize("kept", [131070, 131071, 131072])
