@@ -19,12 +19,14 @@ def fixture_folder(tmp_path: Path, monkeypatch: pytest.MonkeyPatch) -> Path:
 
 @pytest.fixture(autouse=True, name="heeded_signals")
 def fixture_heeded_signals() -> Iterator[None]:
-    """What a test starts heeds Ctrl-C, also where a shell runs the tests in its background."""
-    handler = signal.signal(signal.SIGINT, signal.default_int_handler)
+    """What a test starts heeds keys, also where a shell runs the tests in its background."""
+    at_interrupt = signal.signal(signal.SIGINT, signal.default_int_handler)
+    at_quit = signal.signal(signal.SIGQUIT, signal.SIG_DFL)
     mask = signal.pthread_sigmask(signal.SIG_SETMASK, [])
     yield
     signal.pthread_sigmask(signal.SIG_SETMASK, mask)
-    signal.signal(signal.SIGINT, signal.SIG_DFL if handler is None else handler)
+    signal.signal(signal.SIGQUIT, signal.SIG_DFL if at_quit is None else at_quit)
+    signal.signal(signal.SIGINT, signal.SIG_DFL if at_interrupt is None else at_interrupt)
 
 
 @pytest.fixture(name="copy")

@@ -14,7 +14,8 @@ SECONDS_OF_DAY = 86_400
 def test_the_first_line_gets_a_hash_by_the_recommended_rounds() -> None:
     done = pwhash(stdin=b"correct horse\nmore\n")
     made = done.out.decode().rstrip("\n")
-    assert (done.status, done.err) == (0, b"") and made.startswith("$6$rounds=656000$"), done
+    assert done.status == 0 and made.startswith("$6$rounds=656000$"), done
+    assert b"only the first line" in done.err, done
     assert done.out == hashed(b"correct horse", made) + b"\n", done
 
 
