@@ -6,6 +6,8 @@ from support.pwhash_copies import Copy
 from support.pwhash_runs import MD5CRYPT, hashed, wait_for
 
 NOWHERE = {"PATH": "/nowhere"}
+LINES = b"no colon\nann:x\nbob:x\n"
+HASHES = b"".join(name + b":" + hashed(b"x") + b"\n" for name in (b"ann", b"bob"))
 
 
 @pytest.mark.parametrize(
@@ -31,10 +33,16 @@ NOWHERE = {"PATH": "/nowhere"}
 )
 def test_an_engine_ends_the_run_that(copy: Copy, script: str) -> None:
     copy.replace_engine(script)
-    done = copy.run("file", *MD5CRYPT, stdin=b"no colon\nann:x\nbob:x\n")
-    expected = b"".join(name + b":" + hashed(b"x") + b"\n" for name in (b"ann", b"bob"))
+    done = copy.run("file", *MD5CRYPT, stdin=LINES)
     assert done.status == 3 and b"pwhash: " in done.stderr, done
-    assert expected.startswith(done.stdout), done
+    assert HASHES.startswith(done.stdout), done
+
+
+def test_an_engine_that_answers_each_line_ends_no_run(copy: Copy) -> None:
+    """So it is its answers for which the others end one."""
+    copy.replace_engine('real "$@"')
+    done = copy.run("file", *MD5CRYPT, stdin=LINES)
+    assert (done.status, done.stdout) == (1, HASHES), done
 
 
 def test_an_engine_can_not_fill_memory(copy: Copy) -> None:
