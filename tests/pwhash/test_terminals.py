@@ -202,6 +202,18 @@ def test_what_is_typed_after_ctrl_z_is_hidden() -> None:
     assert b"secret" not in shown and shown.split()[-1] == hashed(b"secret"), shown
 
 
+def test_what_is_typed_too_often_is_not_left_for_the_shell() -> None:
+    save("script", f'{PWHASH} {shlex.join(MD5CRYPT)}\nread -r line\necho "[$line]"\n'.encode())
+    child = pexpect.spawn("/bin/sh", ["script"], timeout=60)
+    child.expect(rb"Password: ")
+    child.send(b"secret\r" * 3)
+    child.expect_exact(hashed(b"secret"))
+    child.send(b"typed later\r")
+    child.expect(rb"\[(.*)\]")
+    child.close()
+    assert child.match[1] == b"typed later", child.match
+
+
 def test_a_generated_password_is_shown_with_its_hash() -> None:
     terminal = at_terminal(("--generate", *MD5CRYPT), [])
     password, made = terminal.shown.split()[-2:]
