@@ -41,6 +41,8 @@ TASKS = {
     "longest": f"it is {{{{ fresh | {VERIFY}(fresh_hash) }}}}",
     "longest_kept": f"it is {{{{ (fresh | {HASH}(current=fresh_hash)) == fresh_hash }}}}",
     "too_long": f"{{{{ ('x' * 169) | {HASH} }}}}",
+    "hash_within": f"{{{{ 'password' | {HASH}(budget=1) }}}}",
+    "verify_within": f"{{{{ 'password' | {VERIFY}(stored, budget=1) }}}}",
 }
 LONGEST = "x" * 168
 
@@ -128,6 +130,8 @@ def test_the_longest_password_of_the_recommended_policy_is_taken(
     ("task", "reason"),
     [
         pytest.param("too_long", "more than 253921472", id="a password that costs too much"),
+        pytest.param("hash_within", "can cost more than 1", id="a new hash above a budget"),
+        pytest.param("verify_within", "can cost more than 1", id="a stored hash above a budget"),
         pytest.param("weak", "rounds must be 1000 to 999999999, or 0 for 656000", id="few rounds"),
         pytest.param("refused", "password has a zero byte", id="a zero byte"),
         pytest.param("number", "must be str or bytes, not int", id="a number as the password"),
