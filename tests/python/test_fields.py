@@ -53,6 +53,10 @@ def test_an_empty_or_locked_field_is_described(field: str, form: Any) -> None:
     assert describe(form(field)) == (None, None, "locked" if field else "none", None)
 
 
+def test_a_name_without_a_field_is_described_as_one_without_a_hash() -> None:
+    assert describe(None) == (None, None, "none", None)
+
+
 @FORMS
 @EACH_LOCKED
 def test_an_empty_or_locked_field_has_no_cost(field: str, form: Any) -> None:
