@@ -100,7 +100,7 @@ def test_a_hash_of_md5crypt_has_the_size_of_its_method() -> None:
 
 
 @NAMES
-@pytest.mark.parametrize("rounds", [999, 10**9, -1, 1.5, "1000", True], ids=repr)
+@pytest.mark.parametrize("rounds", [0, 999, 10**9, -1, 1.5, "1000", True], ids=repr)
 def test_rounds_that_they_refuse_are_refused(theirs: Any, name: str, rounds: object) -> None:
     for module in theirs, crypt:
         with pytest.raises((ValueError, TypeError)):
