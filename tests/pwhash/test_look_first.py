@@ -5,7 +5,7 @@ import os
 import stat
 
 import pytest
-from support.pwhash_runs import MD5CRYPT, Ended, pwhash, read, save
+from support.pwhash_runs import MD5CRYPT, Ended, lines_named_in, pwhash, read, save
 
 WORDS = ("file", "-m", "sha512crypt", "-R", "20k", "-S", "saltsalt", "--budget", "3000000")
 TO_OUT = (*WORDS, "lines", "-o", "out")
@@ -52,6 +52,13 @@ def test_each_such_line_is_named_with_its_reason(number: int, name: str, reason:
     said = looked_at().err.decode().split("\n")
     is_named = any(f"line {number}" in line and name in line and reason in line for line in said)
     assert is_named, said
+
+
+def test_20_lines_with_the_same_problem_are_named() -> None:
+    save("lines", b"nameless secret\n" * 21)
+    done = pwhash(*TO_OUT)
+    assert done.status == 1 and lines_named_in(done.err) == [*range(1, 21)], done
+    assert b"21 with --skip-refused" in done.err, done
 
 
 def test_no_password_is_shown() -> None:
