@@ -2,6 +2,7 @@
 from __future__ import annotations
 
 import contextlib
+import glob
 import os
 import random
 import signal
@@ -59,6 +60,9 @@ class Interrupted:
         if os.path.exists("out"):
             assert read("out") == self.expected, done
             os.remove("out")
+            if number == signal.SIGKILL:  # it can come before the part has lost its name
+                for left in glob.glob(f"{PART}*"):
+                    os.remove(left)
             self.command = FIRST
             self.finished += 1
             return
