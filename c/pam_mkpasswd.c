@@ -188,12 +188,12 @@ static void renew(pam_handle_t *pam, const char *file, const char *name, const c
 
 /* Logs why no password can match the field; what an administrator may want so, only for debugging. It asks for the empty
  * password with the least budget: nothing is hashed, and the log says nothing of the given password. Returns 1 if pam_unix may
- * know the field: one of the system, of another scheme. No other module reads a file. */
+ * know the field: one of the system, of another scheme, or $ and what begins none of our own. No other module reads a file. */
 static int is_for_pam_unix(pam_handle_t *pam, const struct options *options, const struct field *field)
 {
     struct mkpasswd_report report, audited;
     int is_known = mkpasswd_audit(field->bytes, field->len, options->method, options->rounds, UINT64_MAX, &audited)
-        || audited.reason != MKPASSWD_REFUSED_UNKNOWN_SCHEME;
+        || audited.reason != MKPASSWD_REFUSED_UNKNOWN_SCHEME || (field->bytes[0] == '$' && strchr("1567", field->bytes[1]));
     char message[MKPASSWD_TEXT_SIZE];
     int is_foreign = !mkpasswd_login(field->bytes, 0, field->bytes, field->len, options->method, options->rounds, 1, &report)
         && report.reason == MKPASSWD_REFUSED_UNKNOWN_SCHEME && !options->file && !is_known;

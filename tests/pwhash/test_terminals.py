@@ -209,9 +209,8 @@ def test_what_is_typed_too_often_is_not_left_for_the_shell() -> None:
     child.send(b"secret\r" * 3)
     child.expect_exact(hashed(b"secret"))
     child.send(b"typed later\r")
-    child.expect(rb"\[(.*)\]")
+    child.expect_exact(b"[typed later]")
     child.close()
-    assert child.match[1] == b"typed later", child.match
 
 
 def test_a_generated_password_is_shown_with_its_hash() -> None:
