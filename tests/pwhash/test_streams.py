@@ -5,7 +5,7 @@ import os
 import subprocess
 import time
 
-from support.pwhash_runs import MD5, MD5CRYPT, PWHASH, started
+from support.pwhash_runs import MD5, MD5CRYPT, PWHASH, save, started
 
 GREATEST = 1 << 26  # more than pipes and blocks hold
 SECONDS_OF_SILENCE = 2
@@ -45,3 +45,14 @@ def test_nothing_is_read_while_nobody_takes_answers() -> None:
         finally:
             process.kill()
             process.communicate()
+
+
+def test_an_output_that_does_not_block_gets_every_answer() -> None:
+    """Another program may have left it so; it is full until somebody reads."""
+    save("lines", b"ann:!:x\n" * 100_000)
+    reader, writer = os.pipe()
+    os.set_blocking(writer, False)
+    with started("check", "lines", stdout=writer) as process, open(reader, "rb") as answers:
+        os.close(writer)
+        assert answers.read() == b"ann:locked\n" * 100_000
+        assert process.wait() == 0
