@@ -119,6 +119,13 @@ def test_an_object_of_json_has(name: str, member: str, value: object) -> None:
     assert [each[member] for each in found if each["name"] == name] == [value], found
 
 
+@pytest.mark.parametrize("lock", ["!", "!!", "*", "*!"])
+def test_a_hash_behind_a_lock_is_judged_if_that_is_asked_for(lock: str) -> None:
+    save("locked", f"ann:{lock}{MD5}:1:::\n".encode())
+    done = pwhash("audit", "--locked", "--json", "locked")
+    assert done.status == 1 and json.loads(done.out)["finding"] == "outdated", done
+
+
 @pytest.mark.needs("root")
 def test_the_systems_own_accounts_are_audited() -> None:
     assert pwhash("audit", "--only-problems", "/etc/shadow").status in (0, 1)
