@@ -9,16 +9,17 @@ from typing import Optional
 
 from lines import Stop
 
-came: list[int] = []
+signals_that_came: list[int] = []
 
 
 def interrupt(number: int, _frame: Optional[FrameType]) -> None:
     """Handles one of the signals that end a run with a sentence."""
-    came.append(number)
+    signals_that_came.append(number)
     stop_if_one_came()
 
 
 def stop_if_one_came() -> None:
-    """Ends the run if a signal has come, even one that was lost when it did."""
-    if came:
-        raise Stop(f"{signal.Signals(came[0]).name} ended the run.", -came[0])
+    """Ends the run if a signal has come, even where the Stop that its handler raised was lost."""
+    if signals_that_came:
+        number = signals_that_came[0]
+        raise Stop(f"{signal.Signals(number).name} ended the run.", -number)

@@ -7,18 +7,20 @@ from lines import Stop
 
 # As in mkpasswd.h.
 METHODS = {"sha512crypt": 6, "sha256crypt": 5, "md5crypt": 1, "scrypt": 7}
-REFUSED_ROUNDS, OVER_BUDGET = -14, -16
+REFUSED_COST, OVER_BUDGET = -14, -16
 GREATEST_ROUNDS, GREATEST_BUDGET = 2**32 - 1, 2**64 - 1
 
-# What each method takes as rounds, in words.
-ROUNDS = {**dict.fromkeys(METHODS, "1000 to 999999999"), "scrypt": "6 to 11"}
+# What a method takes as rounds, in words; md5crypt has none to choose.
+ROUNDS = {
+    "sha512crypt": "1000 to 999999999",
+    "sha256crypt": "1000 to 999999999",
+    "scrypt": "6 to 11",
+}
 
-# Where the library is: tools/install fills in an absolute path, tools/pack one that is seen from
-# here. In the sources it is where make puts it.
-LIBRARY = "@LIBDIR@/libmkpasswd.so.2"
-if LIBRARY.startswith("@"):
-    LIBRARY = "../../libmkpasswd.so.2"
-LIBRARY = os.path.realpath(os.path.join(os.path.dirname(os.path.realpath(__file__)), LIBRARY))
+# Where the library is, seen from this folder: tools/install fills in an absolute path, tools/pack one
+# that holds wherever the archive is unpacked. In the sources it is where make puts it.
+INSTALLED = "@LIBDIR@/libmkpasswd.so.2"
+BUILT = "../../libmkpasswd.so.2"
 
 
 class RefusedRounds(Exception):
@@ -55,35 +57,46 @@ class Admitted(NamedTuple):
 
 
 def admitted(method: str, rounds: Optional[int], budget: Optional[int]) -> Admitted:
-    """What new hashes of a method admit; without rounds or a budget by the recommended ones.
-
-    A budget of 0, which admits nothing, has to be looked at before.
-    """
-    report = Report()
-    if rounds == 0 or (rounds or 0) > GREATEST_ROUNDS:
+    """What new hashes of a method admit; without rounds or a budget by the recommended ones."""
+    # The library would take 0 for the recommended rounds.
+    if rounds is not None and not 1 <= rounds <= GREATEST_ROUNDS:
         raise refused_rounds(method, rounds)
+    report = Report()
     numbers = METHODS[method], rounds or 0, min(budget or 0, GREATEST_BUDGET)
     is_admitted = library().mkpasswd_limit(*numbers, ctypes.byref(report))
-    if report.reason == REFUSED_ROUNDS:
+    if report.reason == REFUSED_COST and rounds is not None:
         raise refused_rounds(method, rounds)
     if not is_admitted and report.reason != OVER_BUDGET:
-        raise Stop(f"{LIBRARY} reports {report.reason}: it isn't of this version.")
+        raise Stop(f"{library_path()} reports {report.reason}: it isn't of this version.")
+    if budget == 0:  # which the library takes for none, and mkpasswd for one that admits nothing
+        return Admitted(0, None, report.rounds)
     return Admitted(report.cost, report.length if is_admitted else None, report.rounds)
 
 
-def refused_rounds(method: str, rounds: Optional[int]) -> RefusedRounds:
+def refused_rounds(method: str, rounds: int) -> RefusedRounds:
     """What is said of rounds that new hashes of a method can't have."""
+    if method not in ROUNDS:
+        return RefusedRounds(f"-R {rounds}: leave it out, since {method} has no rounds to choose")
     usual = admitted(method, None, None).rounds
-    message = f"-R {rounds} with -m {method} isn't from {ROUNDS[method]}, by default {usual}"
-    return RefusedRounds(message)
+    return RefusedRounds(
+        f"-R {rounds} with -m {method} isn't from {ROUNDS[method]}, by default {usual}"
+    )
+
+
+def library_path() -> str:
+    """The path of the library, absolute."""
+    path = BUILT if INSTALLED.startswith("@") else INSTALLED
+    return os.path.realpath(os.path.join(os.path.dirname(os.path.realpath(__file__)), path))
 
 
 def library() -> ctypes.CDLL:
     """The library, with what its call takes."""
+    path = library_path()
     try:
-        loaded = ctypes.CDLL(LIBRARY)
+        loaded = ctypes.CDLL(path)
         number, budget, report = ctypes.c_uint32, ctypes.c_uint64, ctypes.POINTER(Report)
         loaded.mkpasswd_limit.argtypes = (number, number, budget, report)
     except (OSError, AttributeError):
-        raise Stop(f"{LIBRARY} is missing, or isn't of this version or processor.") from None
+        way_out = "run make lib, or install it"
+        raise Stop(f"{path} is missing, or isn't of this version or processor: {way_out}.") from None
     return loaded

@@ -79,6 +79,12 @@ def refuse_password(password, is_typed):
                    "To hash its bytes as they are, give name:password to pwhash file --accept-doubtful.", 2)
     say("the password isn't UTF-8: the terminal has another encoding, or half a character was erased. Its bytes are hashed.")
 
+def how_long(options):
+    """What a password that is over the budget is told."""
+    if options.longest is None:
+        return "with these rounds even the empty password costs more"
+    return f"with these rounds and this budget a password may have at most {options.longest} bytes"
+
 def one(options):
     """Hashes one password: asks for it, or reads the first line of standard input."""
     if bool(options.name) != ("{name}" in PLACES[options.place]):
@@ -90,7 +96,7 @@ def one(options):
     refuse_password(password, os.isatty(0))
     [block] = engine.answers([(1, b"x:" + password)])
     if block.refusals == {0: "over budget"}:
-        raise Stop(f"over budget: with these rounds a password may have at most {options.longest} bytes.", 2)
+        raise Stop(f"over budget: {how_long(options)}.", 2)
     if block.refusals:
         raise Stop(f"{block.refusals[0]}. Give a password of at most 1,024 bytes, none of them 0.", 2)
     values = {"name": options.name, "hash": block.answers[0][2:].decode(), "day": int(time.time() // 86400)}
@@ -165,7 +171,8 @@ def problems(source, options, engine, names):
         [block] = engine.answers([(1, same[0][1])])
         if not block.refusals:
             break
-        yield from ((number, line, f"{block.refusals[0]} (see --budget)", False) for number, line in same)
+        reason = f"{block.refusals[0]}: {how_long(options)}"
+        yield from ((number, line, reason, False) for number, line in same)
 
 def look(source, options, engine, names):
     """Shows the problems of a file, and returns the numbers of the lines to leave out."""
