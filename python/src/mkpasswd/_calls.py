@@ -98,7 +98,7 @@ def made_by(method: str, rounds: Optional[int]) -> Tuple[int, int]:
         raise Refused(Reason.UNKNOWN_METHOD, _METHODS)
     # ctypes takes a number modulo 2^32.
     if not 0 <= number < 2**32:
-        raise ValueError(_allowed_rounds(method))
+        raise Refused(Reason.COST, _allowed_rounds(method))
     return NUMBERS[method], number
 
 
