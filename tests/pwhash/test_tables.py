@@ -106,8 +106,8 @@ def test_a_row_without_a_name_or_password_is_tried_for_nobody(row: bytes) -> Non
     assert (done.status, done.out, lines_named_in(done.err)) == (1, b"ann:ok\n", [3]), done
 
 
-def test_a_stray_quote_in_another_column_loses_no_user() -> None:
-    """It hides the lines up to the next quote, so that row is refused, and no user is left out."""
+def test_rows_joined_by_a_stray_quote_are_refused() -> None:
+    """It joins the lines up to the next quote, so no file is made without these users."""
     table = b'name,password,note\nann,password,"\nbob,password,"\ncid,password,\n'
     done = pwhash("file", "--csv", *MD5CRYPT, stdin=table)
     assert done.status == 1 and lines_named_in(done.err) == [3], done

@@ -49,7 +49,8 @@ def fixture_door(site_with_module: Site, folder: Path) -> Iterator[Door]:
     site = site_with_module
     site.add_accounts()
     site.load_hashes("pam_unix")
-    stack = stacks_of_manual().of_accounts.replace("try_first_pass", "nodelay", 1)
+    # By default pam_unix waits about two seconds after a wrong password.
+    stack = stacks_of_manual().of_accounts.replace("pam_unix.so try", "pam_unix.so nodelay try")
     site.machine.write("/etc/pam.d/sshd", f"{stack}session required pam_permit.so\n")
     site.machine.make_folder("/run/sshd")
     site.run("ssh-keygen", "-q", "-t", "ed25519", "-N", "", "-f", f"{folder}/key").required()

@@ -185,4 +185,5 @@ def namespaces() -> Iterator[Namespaces]:
         try:
             yield inside
         finally:
-            os.kill(inside.holder, signal.SIGKILL)
+            with contextlib.suppress(ProcessLookupError):  # it has ended, and the block said why
+                os.kill(inside.holder, signal.SIGKILL)

@@ -13,6 +13,7 @@ from __future__ import annotations
 import contextlib
 import ctypes
 import os
+import re
 import runpy
 import sys
 from collections.abc import Callable, Iterator
@@ -88,9 +89,9 @@ def crypt(password: str | bytes, setting: str) -> str:
 def recipe_under(heading: str) -> str:
     """The first block in Python below a heading of docs/PYTHON.md."""
     text = (ROOT / "docs/PYTHON.md").read_text(encoding="utf-8")
-    for section in text.split("\n#")[1:]:
+    for section in re.split(r"\n#{2,} ", text)[1:]:
         title, _, rest = section.partition("\n")
-        if title.lstrip("# ") == heading:
+        if title == heading:
             return rest.split("```python\n")[1].split("```")[0]
     raise AssertionError(f"docs/PYTHON.md has no heading {heading!r}")
 

@@ -27,8 +27,9 @@ PWHASH = os.environ.get("PWHASH", str(ROOT / "bin/pwhash"))
 MD5 = "$1$xxxxxxxx$UYCIxa628.9qXjpQCjM4a."  # by libxcrypt, of "password" with MD5CRYPT's salt
 MD5CRYPT = ("-m", "md5crypt", "-S", "xxxxxxxx")
 MARK = b"\xef\xbb\xbf"  # which Windows puts before UTF-8
-ESCAPE = "\x1b[2J"  # commands a terminal
+ESCAPE = "\x1b[2J"  # clears the screen of a terminal
 BY_NUMBER = ("--columns", "1,2")
+SECONDS_OF_A_RUN = 900  # what takes longer hangs
 SLOW = ("-m", "sha512crypt", "-R", "20000", "-S", "saltsalt")
 
 
@@ -262,7 +263,9 @@ def load_of(process: subprocess.Popen[bytes]) -> Load:
     """Watches a command until it ends."""
     working: list[int] = []
     memory = 0
+    hangs_at = time.monotonic() + SECONDS_OF_A_RUN
     while process.poll() is None:
+        assert time.monotonic() < hangs_at, f"{process.args!r} hangs"
         processes = tree(process.pid)
         count = sum(working_threads(each, process.pid) for each in processes)
         if count:
