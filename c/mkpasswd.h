@@ -8,12 +8,12 @@
  * cost is reported, or `out` has what was asked for. A 0 covers everything else: a wrong password, a locked account, an empty
  * or malformed field, another scheme, a hash that costs too much, no memory. The report says which (`reason`). Every call that
  * has a report writes all of it, also over the reason of an earlier call. If several refusals apply, the first one in this
- * order is reported: password, setting, method, rounds, budget, room in `out`, random words, memory; by mkpasswd_login() and
+ * order is reported: password, setting, method, salt, rounds, budget, room in `out`, random words, memory; by mkpasswd_login() and
  * mkpasswd_audit() password, method, rounds, field, budget, memory. Test the result, not the reason: a reason is never 0, so
  * `if (report.reason)` lets everybody in.
  *
- * After a 0, mkpasswd_new(), mkpasswd_hash() and mkpasswd_setting() leave the string "*0" in `out` ("*1" if the given
- * setting begins with "*0"), cut to fit. No password matches it, so with 3 bytes of room or more a caller who stores it
+ * After a 0, mkpasswd_new(), mkpasswd_hash() and the calls that make a setting leave the string "*0" in `out` ("*1" if the
+ * given setting begins with "*0"), cut to fit. No password matches it, so with 3 bytes of room or more a caller who stores it
  * unchecked locks the account. Bytes after its zero byte are unchanged.
  *
  * Input is a pointer and a number of bytes; it may hold any bytes, and needs no zero byte at its end. The calls that end in
@@ -79,7 +79,7 @@ extern "C" {
 /* The version: 10000 * major + 100 * minor + patch. */
 #define MKPASSWD_VERSION 20001
 
-/* The size of a buffer for any hash, setting or message, with its zero byte. */
+/* The size of a buffer for any hash, setting, message or name of a scheme, with its zero byte. */
 #define MKPASSWD_TEXT_SIZE 145
 
 /* The longest password, in bytes. */
@@ -163,12 +163,12 @@ struct mkpasswd_report {
     uint64_t cost;             /* the greatest cost of a hash with this setting, for a password of this length: the bytes it
                                   digests and mixes. It is below 2^42. If password and setting (or method and rounds) are
                                   valid it is reported even if the call returns 0; otherwise, and by
-                                  mkpasswd_needs_rehash() and mkpasswd_setting(), it is 0. Of mkpasswd_login() it is that
+                                  mkpasswd_needs_rehash() and the calls that make a setting, it is 0. Of mkpasswd_login() it is that
                                   of the stored hash, of mkpasswd_audit() that for MKPASSWD_PASSWORD_LIMIT bytes, of
                                   mkpasswd_limit() the limit, and of mkpasswd_rounds() that of a hash with these rounds. */
     struct mkpasswd_work work; /* what the call did, all 0 if it neither hashed nor allocated; of mkpasswd_bound() the bound */
-    uint32_t rounds;           /* of mkpasswd_limit() and mkpasswd_rounds() the rounds of new hashes, of mkpasswd_audit() those
-                                  of the stored hash, but 0 for scrypt; else 0 */
+    uint32_t rounds;           /* of mkpasswd_limit() and mkpasswd_rounds() the rounds of new hashes (0 for md5crypt), of
+                                  mkpasswd_audit() those of the stored hash (1000 for md5crypt, 0 for scrypt); else 0 */
     uint32_t scheme;           /* of mkpasswd_audit() the method of the stored hash, or another scheme; else 0 */
     uint64_t n;                /* of mkpasswd_audit() scrypt's N, */
     uint32_t r;                /* its r, */
@@ -284,8 +284,7 @@ int32_t mkpasswd_setting(uint32_t method, uint32_t rounds, uint64_t first, uint6
     size_t out_len, struct mkpasswd_report *report);
 
 /* The same with a given salt, of one character at least, and at most 8 for md5crypt, 16 for SHA-crypt and 86 for scrypt, each of
- * them one of ./0-9A-Za-z. Of several refusals those of the salt come before that of the rounds. It is for tests and for moving
- * from other programs: two passwords with one salt can be guessed together. */
+ * them one of ./0-9A-Za-z. It is for tests and for moving from other programs: two passwords with one salt can be guessed together. */
 MKPASSWD_EXPORT MKPASSWD_CHECKED MKPASSWD_NONNULL(5) MKPASSWD_NONNULL(7) MKPASSWD_WRITES(5, 6)
 int32_t mkpasswd_setting_with_salt(uint32_t method, uint32_t rounds, const uint8_t *salt, size_t salt_len, uint8_t *out,
     size_t out_len, struct mkpasswd_report *report) MKPASSWD_READS(salt, 3, 4);

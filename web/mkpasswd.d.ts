@@ -56,7 +56,7 @@ export class TooCostly extends Refused {}
 /**
  * The method and rounds of a service's new hashes, and what a hash may cost. The functions below are those of `new Policy()`.
  *
- * `rounds` is 1000 to 999999999; undefined, null and 0 stand for 656000. md5crypt ignores it. `budget` is the most that a
+ * `rounds` is 1000 to 999999999; undefined, null and 0 stand for 656000. md5crypt ignores it (0). `budget` is the most that a
  * hash may cost, as `cost` counts it: the bytes that are digested. Without one that is twice what a new hash costs with a
  * password of 64 bytes, and at least 150,000,000. `limit` tells what it comes to: by the recommended policy 253,921,472,
  * which admits passwords of up to 168 bytes. A budget of 1,300,000,000 admits all of them there.
