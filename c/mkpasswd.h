@@ -86,7 +86,7 @@ extern "C" {
 #define MKPASSWD_PASSWORD_LIMIT 1024
 
 /* The budget of mkpasswd_login() and mkpasswd_new() that needs no number: twice what a new hash with the same method and rounds
- * costs for a password of 64 bytes, and at least some 1.5 seconds of sha256crypt. Nobody who logs in can raise it. A longer
+ * costs for a password of 64 bytes, and at least 150000000. Nobody who logs in can raise it. A longer
  * password whose new hash would cost more is refused at once, whatever is stored; mkpasswd_limit() reports its length, and the
  * number of bytes that this budget stands for. With a large enough budget of your own all MKPASSWD_PASSWORD_LIMIT bytes work;
  * one of -1 is the greatest, and protects against nothing.
@@ -303,7 +303,7 @@ MKPASSWD_EXPORT MKPASSWD_NONNULL(2) MKPASSWD_WRITES(2, 3) int32_t mkpasswd_schem
 /* MKPASSWD_VERSION of the library that is linked. */
 MKPASSWD_EXPORT uint32_t mkpasswd_version(void);
 
-/* The same for strings. The report may be null. So may every other pointer: a null password is refused as one with a zero
+/* Most calls once more, for strings. The report may be null. So may every other pointer: a null password is refused as one with a zero
  * byte, any other null string is an empty one, and a null `out` has no room. */
 #ifdef __cplusplus
 #define MKPASSWD_BYTES(text) reinterpret_cast<const uint8_t *>(text)

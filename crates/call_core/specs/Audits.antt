@@ -2,6 +2,7 @@
 use Rattle.std.specs.Prelude.{◌≡◌, ◌≢◌, ℕ, List, []}
 use Rattle.prims_core.specs.Work.{no_work}
 use Rattle.crypt_core.specs.Findings.{Finds}
+use Rattle.crypt_core.specs.Messages.{md5crypt_rounds}
 use Rattle.crypt_core.specs.Methods.{method_row}
 use Rattle.crypt_core.specs.OtherSchemes.{other_scheme_row}
 use Rattle.crypt_core.specs.Schemes.{row_count, sha_method}
@@ -22,37 +23,39 @@ use Rattle.call_core.specs.Reasons.{reason_row}
 use Rattle.call_core.specs.Reports.{refused, reported}
 use Rattle.call_core.specs.declared.reason.Reason.{Reason}
 use Rattle.call_core.specs.declared.reason.Reason.TheVariants.{Done, Refused}
-use Rattle.call_core.specs.declared.reason.Refusal.TheVariants as Refusals
-use Rattle.call_core.specs.declared.reason.Refusal.TheVariants.{Dead, OverBudget, Outdated}
+use Rattle.call_core.specs.declared.reason.Refusal.TheVariants as refusals
 use Rattle.call_core.specs.declared.report.Report.{Report}
 
 -- The reason for each standing.
 abbrev pub standing_reason : Standing → Reason
-standing_reason standings.OverBudget = Refused OverBudget
-standing_reason standings.Dead = Refused Dead
-standing_reason standings.Outdated = Refused Outdated
+standing_reason standings.OverBudget = Refused refusals.OverBudget
+standing_reason standings.Dead = Refused refusals.Dead
+standing_reason standings.Outdated = Refused refusals.Outdated
 standing_reason standings.Current = Done
 
 -- with_scheme scheme report: the report, with a scheme's number and its rounds, or N, r and p.
 abbrev pub with_scheme : Scheme → Report → Report
-with_scheme Md5crypt report = record report { scheme = (method_row methods.Md5crypt).number; rounds = 1000 }
+with_scheme Md5crypt report = record report { scheme = (method_row methods.Md5crypt).number; rounds = md5crypt_rounds }
 with_scheme (Shacrypt sha rounds) report = record report { scheme = (method_row (sha_method sha)).number; rounds = rounds.count }
 with_scheme (Scrypt params) report =
     record report { scheme = (method_row methods.Scrypt).number; n = row_count params; r = params.r; p = params.p }
 
 -- audit_report finding: the report of a finding.
 --   Hash       the reason for its standing, the greatest cost of a hash with its setting, and its scheme
+--   NoHash     that there is none
+--   Locked     that it is locked
 --   Malformed  what is wrong with the setting
 --   Other      an unknown scheme, with its number
 --   Unknown    an unknown scheme
+--   NoScheme   that it is of no scheme
 abbrev pub audit_report : Finding → Report
 audit_report (Hash scheme most standing) = with_scheme scheme (reported (standing_reason standing) 0 most no_work)
-audit_report NoHash = refused Refusals.NoHash 0
-audit_report Locked = refused Refusals.Locked 0
-audit_report (Malformed fault) = refused (Refusals.Setting fault) 0
-audit_report (Other other) = record (refused (Refusals.Setting UnknownScheme) 0) { scheme = (other_scheme_row other).0 }
-audit_report Unknown = refused (Refusals.Setting UnknownScheme) 0
-audit_report NoScheme = refused Refusals.NoScheme 0
+audit_report NoHash = refused refusals.NoHash 0
+audit_report Locked = refused refusals.Locked 0
+audit_report (Malformed fault) = refused (refusals.Setting fault) 0
+audit_report (Other other) = record (refused (refusals.Setting UnknownScheme) 0) { scheme = (other_scheme_row other).0 }
+audit_report Unknown = refused (refusals.Setting UnknownScheme) 0
+audit_report NoScheme = refused refusals.NoScheme 0
 
 -- The report of mkpasswd_audit and web_audit: what an audit finds in the field; or the refusal of the method or the rounds. A
 -- budget of 0 stands for the audit's own.

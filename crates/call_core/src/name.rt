@@ -5,7 +5,8 @@ use crate::report::{put, put_whole};
 use crypt_core::method::Method;
 use crypt_core::other_scheme::OtherScheme;
 
-/// Writes the name in crypt(5) of the scheme with this number and a byte 0 to `out`, cut to its capacity.
+/// Writes the name in crypt(5) of the scheme with this number and a byte 0 to `out`, cut to its capacity, or `unknown scheme` if none
+/// has the number.
 ///
 /// It returns 1, or 0 if the name is cut or no scheme has the number.
 pub fn put_scheme_name(number: u32, out: &mut [u8]) -> i32

@@ -1,4 +1,5 @@
-//! The scheme that a method's number and the rounds make, and the hash in a stored field, or the first refusal.
+//! The scheme that a method's number and the rounds make, the setting that they make with a given salt, and the hash in a stored
+//! field, or the first refusal.
 ghost use Rattle.std.specs.Prelude.{◌≡◌, ◌↔◌, ◌<ℤ◌, pos, length, IfOk, IfErr, IsOk, IsOkAnd, IsTrue};
 ghost use Rattle.prims_core.specs.Work.{no_work};
 ghost use Rattle.crypt_core.specs.MadeSettings.{TakesRounds};
@@ -74,7 +75,7 @@ pub(crate) fn given_setting(number: u32, rounds: u32, salt: &[u8]) -> Result<Set
     Ok(setting)
 }
 
-// Returns whether a scheme that was made with these rounds has others of SHA-crypt. 0 are the recommended ones.
+// Returns whether the rounds were clamped when this scheme was made of them. 0 are the recommended ones, which never are.
 fn is_clamped(scheme: &Scheme, rounds: u32) -> bool
     ensures { IsTrue result ↔ IsClamped scheme.now rounds }
 {

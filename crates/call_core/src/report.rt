@@ -27,18 +27,22 @@ pub struct Report {
     /// The number of bytes written to `out`, without the byte 0, if the call returned 1. In the report of a limit it is that of
     /// the longest password.
     pub length: u32,
-    /// The greatest cost of a hash with this setting and a password of this length, once both are known to be valid.
+    /// The greatest cost of a hash with this setting and a password of this length, once both are known to be valid: of an audit
+    /// for the longest password. In the report of a limit it is the limit.
     pub cost: u64,
     /// All the work that was done. In the report of a bound it is the greatest work.
     pub work: Work,
-    /// The rounds of new hashes, in the report of a limit or of rounds; in that of an audit those of the stored hash, unless it
-    /// is of scrypt; or else 0.
+    /// The rounds of new hashes, in the report of a limit or of rounds, as [`Scheme::made`](crypt_core::scheme::Scheme::made) takes
+    /// them: 0 for md5crypt. In the report of an audit, those of the stored hash: 1000 for md5crypt, and 0 for scrypt. Otherwise 0.
     pub rounds: u32,
-    /// The number of the stored hash's scheme, in the report of an audit, or else 0. 0 also stands for an unknown scheme.
+    /// In the report of an audit, the number of the stored hash's scheme, or of the other scheme whose form the field has.
+    /// Otherwise 0.
     pub scheme: u32,
-    /// scrypt's N, r and p, in the report of an audit, or else 0.
+    /// scrypt's N, in the report of an audit, or else 0.
     pub n: u64,
+    /// scrypt's r, in the report of an audit, or else 0.
     pub r: u32,
+    /// scrypt's p, in the report of an audit, or else 0.
     pub p: u32,
 }
 

@@ -227,9 +227,9 @@ pub extern "C" fn mkpasswd_needs_rehash(
 ///
 /// Rounds of 0 are the recommended ones, 656000 and for scrypt 7. A budget of 0 is the greatest cost of a hash with the
 /// method and the rounds, and at least that of sha512crypt with 656000 rounds; above it is also a hash for which a login by
-/// them and the limit of the policy refuses even the empty password. The report has the number of the field's scheme, and of a
-/// hash its rounds, or scrypt's N, r and p, and the greatest cost of a hash with its setting, for a password of 1,024 bytes. The
-/// call hashes and allocates nothing.
+/// them and the limit of the policy refuses even the empty password. The report has of a valid hash the
+/// scheme, its rounds, or scrypt's N, r and p, and the greatest cost of a hash with its setting, for a password of 1,024 bytes; of
+/// another scheme (`UnknownScheme`) its number, or 0 if none is known by the field's form. The call hashes and allocates nothing.
 ///
 /// # Errors
 ///
@@ -410,7 +410,7 @@ pub extern "C" fn mkpasswd_setting_with_salt(
     tell(report, told)
 }
 
-/// Writes the message for a reason and a byte 0 to `out`, cut to the capacity of `out`.
+/// Writes the message for a reason and a byte 0 to `out`, cut to the capacity of `out`, or `unknown reason` if none has the number.
 ///
 /// It returns 1, or 0 if the message is cut or no reason has the number.
 #[unsafe(no_mangle)]
@@ -428,7 +428,8 @@ pub extern "C" fn mkpasswd_words(reason: i32, out: &mut [u8]) -> i32
     put_whole(out, reason.message().as_bytes())
 }
 
-/// Writes the name in crypt(5) of the scheme with this number and a byte 0 to `out`, cut to the capacity of `out`.
+/// Writes the name in crypt(5) of the scheme with this number and a byte 0 to `out`, cut to the capacity of `out`, or `unknown scheme`
+/// if none has the number.
 ///
 /// It returns 1, or 0 if the name is cut or no scheme has the number.
 #[unsafe(no_mangle)]

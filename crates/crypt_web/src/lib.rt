@@ -233,8 +233,9 @@ pub extern "C" fn web_setting(
 /// Audits the stored hash in a field, as `mkpasswd_audit` does for C. Returns 1 if it is current: some digest makes it, no
 /// hash with its setting costs more than the budget, and a new hash with the method and the rounds would not replace it.
 ///
-/// It hashes nothing. Rounds of 0 are the recommended ones, and a budget of 0 is that of an audit. The report has the number of
-/// the field's scheme, and of a hash its rounds, or scrypt's N, r and p, and its greatest cost.
+/// It hashes nothing. Rounds of 0 are the recommended ones, and a budget of 0 is that of an audit. The report has of a
+/// valid hash the scheme, its rounds, or scrypt's N, r and p, and its greatest cost; of another scheme (`UnknownScheme`) its number,
+/// or 0 if none is known by the field's form.
 ///
 /// # Errors
 ///
@@ -331,7 +332,8 @@ pub extern "C" fn web_cost(setting: &[u8], password_len: usize, report: &mut Rep
     tell(report, report_bound(password_len, setting))
 }
 
-/// Writes the name in crypt(5) of the scheme with this number and a byte 0 to `out`, cut to the capacity of `out`.
+/// Writes the name in crypt(5) of the scheme with this number and a byte 0 to `out`, cut to the capacity of `out`, or `unknown scheme`
+/// if none has the number.
 ///
 /// It returns 1, or 0 if the name is cut or no scheme has the number.
 #[unsafe(no_mangle)]
