@@ -17,8 +17,8 @@ ROUNDS = {
     "scrypt": "6 to 11",
 }
 
-# Where the library is, seen from this folder: tools/install fills in an absolute path, tools/pack one
-# that holds wherever the archive is unpacked. In the sources it is where make puts it.
+# Where the library is, seen from this folder: tools/install fills in an absolute path, tools/pack
+# one that holds wherever the archive is unpacked. In the sources it is where make puts it.
 INSTALLED = "@LIBDIR@/libmkpasswd.so.2"
 BUILT = "../../libmkpasswd.so.2"
 
@@ -98,5 +98,7 @@ def library() -> ctypes.CDLL:
         loaded.mkpasswd_limit.argtypes = (number, number, budget, report)
     except (OSError, AttributeError):
         way_out = "run make lib, or install it"
-        raise Stop(f"{path} is missing, or isn't of this version or processor: {way_out}.") from None
+        raise Stop(
+            f"{path} is missing, or isn't of this version or processor: {way_out}."
+        ) from None
     return loaded
