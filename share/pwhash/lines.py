@@ -200,7 +200,8 @@ class Source:
         if headings and [name, password] == [headings[place] for place in wanted]:
             return True
         is_swapped = name in PASSWORD_WORDS and password in NAME_WORDS
-        if is_swapped or {name, password} <= set(headings) - {""}:
+        is_moved = headings and {headings[place] for place in wanted} <= set(fields)
+        if is_swapped or is_moved or {name, password} <= set(headings) - {""}:
             raise Stop(f"{self.name}, line {self.row_begin}: another table begins, with other columns. Hash each by itself.", 2)
         return False
 

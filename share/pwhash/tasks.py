@@ -21,13 +21,16 @@ KEPT_HASH = re.compile(rb"(\$1\$|\$[56]\$(?:rounds=[0-9]+\$)?|\$7\$[./0-9A-Za-z]
 OF_PASSWORDS = ("line too long", "password too long", "password has a zero byte")      # refusals, whatever the account
 STORED = re.compile(      # what stands behind a name in /etc/shadow, /etc/passwd and htpasswd
     rb"(?s)\$(?:[0-9][a-z]?|g?y|apr1|sha1|md5|argon2[a-z]*|scrypt|pbkdf2[a-z0-9-]*)[$,].{8,}|"
-    rb"[!*]+(?:\$.*)?(?::[0-9]*)*|[^:]*(?::[0-9]*){7}|[^:]*:[0-9]+:[0-9]+:[^:]*:[^:]*:[^:]*|\{[A-Z0-9.-]+\}.{8,}")
+    rb"[!*]+(?:\$.*)?(?::[0-9]*)*|[^:]*(?::[0-9]*){7}|[^:]*:[^:/]*:[^:/]*:[^:]*(?::(?:/[^:]*)?){2}|\{[A-Z0-9.-]+\}.{8,}")
 # What spreadsheets show in place of a value. The language is the spreadsheet's: #NAME?, #NAAM?, #DIV/0!, #DEEL/0!.
 ERROR = re.compile(r"#[\u00a1\u00bf]?([^\W\d_][\w/]+)[!?]")
 ERRORS_WITHOUT_MARK = re.compile(r"#(?:N/A|N/D|N/B|NV|I/T|\u041d/\u0414|YOK|HI\u00c1NYZIK|GETTING_DATA)|(?:Err|Fehler):[0-9]{3}")
 TRUTHS = frozenset("""TRUE FALSE WAHR FALSCH VRAI FAUX VERDADERO FALSO VERDADEIRO VERO WAAR ONWAAR PRAWDA FAŁSZ ИСТИНА ЛОЖЬ
     SANT FALSKT SAND FALSK SANN USANN TOSI EPÄTOSI NEPRAVDA IGAZ HAMIS DOĞRU YANLIŞ""".split())
-CHANGED = re.compile(r"#{3,}|[+-]?[0-9](?:[.,][0-9]+)?E[+-]?[0-9]+")      # and what they save in a table
+CHANGED = re.compile(      # and what they save in a table, or exports for them
+    r"#{3,}|[+-]?[0-9](?:[.,][0-9]+)?E[+-]?[0-9]+|=\"[^\"]*\"|'[=+@-].*|null|None|na[nN]|NaN")
+NOTHING = frozenset(("NULL", "\\N", "(null)"))      # what databases export in place of nothing
+SEPARATOR = re.compile(rb"[,;\t| ]")
 APART = "letters and accents apart (not Unicode NFC), as few keyboards send them"
 
 def free(options):
@@ -118,10 +121,11 @@ def doubts(number, line, names, options):
         APART: not unicodedata.is_normalized("NFC", text),
         "a heading, and no user": name.decode(errors="replace").strip().casefold() in HEADINGS,
         "a heading, and no password": is_password_heading(name, password),
-        "a comma, semicolon or tab in the name: is it a table? See --csv": is_list and re.search(rb"[,;\t]", name),
+        "a separator of tables in the name: is it a table? See --csv": is_list and SEPARATOR.search(name.strip()),
         "quotes around it, as in a table: save that with commas, and see --csv":
             is_list and any(map(is_quoted, (line, name, password))),
-        "an error or a rounded value of a spreadsheet": is_damaged(name, options.csv) or is_damaged(password, options.csv),
+        "an error, a mark or a changed value of an export": is_damaged(name, options.csv) or is_damaged(password, options.csv),
+        "UTF-8 that was read as Windows-1252, and saved so": is_misread(text),
         "a stored hash or field, and no password": STORED.fullmatch(password),
         "the service takes the name for another, or skips it": not re.fullmatch(SERVICES[options.service], name),
         "not UTF-8; if FILE is all Windows-1252: umask 077; iconv -f WINDOWS-1252 -t UTF-8 FILE > NEW": "\ufffd" in text,
@@ -148,10 +152,17 @@ def is_quoted(field):
     field = field.removesuffix(b"\r")
     return len(field) > 1 and field.startswith(b'"') and field.endswith(b'"')
 
+def is_misread(text):
+    """Whether a program took UTF-8 for Windows-1252, as Excel does with a file that has no byte order mark."""
+    try:
+        return text.encode("cp1252").decode() != text
+    except UnicodeError:
+        return False
+
 def is_damaged(field, is_of_table):
     text = field.decode(errors="replace")
     error = ERROR.fullmatch(text)
-    if ERRORS_WITHOUT_MARK.fullmatch(text) or error and error[1].isupper():
+    if ERRORS_WITHOUT_MARK.fullmatch(text) or text in NOTHING or error and error[1].isupper():
         return True
     return is_of_table and bool(text in TRUTHS or CHANGED.fullmatch(text))
 
@@ -180,7 +191,7 @@ def look(source, options, engine, names):
     for number, line, reason, is_doubt in problems(source, options, engine, names):
         (doubtful if is_doubt else refused).add(number)
         times[alike := reason.partition(", after line")[0]] += 1
-        name = f" ({readable(line.partition(b':')[0][:64])})" if b":" in line[1:] else ""      # else a password, maybe
+        name = f" ({named_in(line, options)})" if b":" in line[1:] else ""      # else a password, maybe
         if times[alike] <= 20:
             say(f"{source.name}, line {number}{name}: {reason}")
     if refused and not options.skip_refused or doubtful and not (options.accept_doubtful or options.skip_doubtful):
@@ -190,6 +201,11 @@ def look(source, options, engine, names):
     if left_out:
         say(f"lines left out: {len(left_out):,}; all others can be hashed.")
     return left_out
+
+def named_in(line, options):
+    """The name in a line. Behind a separator of tables may stand a password."""
+    name = line.partition(b":")[0]
+    return readable((name if options.csv else SEPARATOR.split(name)[0])[:64])
 
 def common(hashed, has_given_salt):
     """What all hashes of a run have in common: method and cost, the lengths of salt and digest, and the salt if one was given."""
