@@ -20,7 +20,7 @@ from support.reports import Report, report_of_node
 # One worker of pytest-xdist runs limits.mjs.
 pytestmark = pytest.mark.xdist_group("node")
 
-POLICIES = 2000
+POLICIES = 100_000
 HASHING_POLICIES = 100
 METHODS = (MD5CRYPT, SHA256CRYPT, SHA512CRYPT)
 
