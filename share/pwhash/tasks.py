@@ -124,7 +124,7 @@ def doubts(number, line, names, options):
         "a separator of tables in the name: is it a table? See --csv": is_list and SEPARATOR.search(name.strip()),
         "quotes around it, as in a table: save that with commas, and see --csv":
             is_list and any(map(is_quoted, (line, name, password))),
-        "an error, a mark or a changed value of an export": is_damaged(name, options.csv) or is_damaged(password, options.csv),
+        "an error or a changed value of a spreadsheet or another export": is_damaged(name, options.csv) or is_damaged(password, options.csv),
         "UTF-8 that was read as Windows-1252, and saved so": is_misread(text),
         "a stored hash or field, and no password": STORED.fullmatch(password),
         "the service takes the name for another, or skips it": not re.fullmatch(SERVICES[options.service], name),
@@ -205,7 +205,7 @@ def look(source, options, engine, names):
 def named_in(line, options):
     """The name in a line. Behind a separator of tables may stand a password."""
     name = line.partition(b":")[0]
-    return readable((name if options.csv else SEPARATOR.split(name)[0])[:64])
+    return readable((name if options.csv else SEPARATOR.split(name.strip())[0])[:64])
 
 def common(hashed, has_given_salt):
     """What all hashes of a run have in common: method and cost, the lengths of salt and digest, and the salt if one was given."""
