@@ -190,7 +190,7 @@ def look(source, options, engine, names):
     refused, doubtful, times = set(), set(), collections.Counter()
     for number, line, reason, is_doubt in problems(source, options, engine, names):
         (doubtful if is_doubt else refused).add(number)
-        times[alike := reason.partition(", after line")[0]] += 1
+        times[alike := re.sub("[0-9]+", "", reason)] += 1
         name = f" ({named_in(line, options)})" if b":" in line[1:] else ""      # else a password, maybe
         if times[alike] <= 20:
             say(f"{source.name}, line {number}{name}: {reason}")

@@ -65,6 +65,13 @@ def test_such_a_password_of_a_list_is_one(password: str) -> None:
     assert (done.status, read("hashes").count(b"\n")) == (0, 1), done
 
 
+def test_rows_that_two_stray_quotes_join_are_named_by_the_first_line_too() -> None:
+    table = b'name,password\nann,"abc\nbob,x1\ncarl,x2\neve,def"\nfay,x3\n'
+    done = pwhash("file", "--csv", *MD5CRYPT, save("table", table), "-o", "hashes")
+    assert done.status == REFUSED and b"line 5: " in done.err, done
+    assert b"begins in line 2" in done.err, done
+
+
 @pytest.mark.parametrize(
     "tables",
     [
