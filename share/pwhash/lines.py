@@ -211,7 +211,7 @@ class Source:
         if len(row) > width:
             return refused(f"{len(row)} fields, where the first row has {width}: a separator in a field needs quotes", name)
         if any("\n" in field for field in row):      # in any other field too, since a stray quote hides the lines up to the next
-            return refused(f"a line feed in a field, in a row that begins in line {self.row_begin}", name)
+            return refused(f"a line feed in a field: lines {self.row_begin} to here are one row", name)
         if wanted[1] >= len(row):
             return refused("no password field", name)
         if not name:

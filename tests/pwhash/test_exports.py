@@ -69,7 +69,7 @@ def test_rows_that_two_stray_quotes_join_are_named_by_the_first_line_too() -> No
     table = b'name,password\nann,"abc\nbob,x1\ncarl,x2\neve,def"\nfay,x3\n'
     done = pwhash("file", "--csv", *MD5CRYPT, save("table", table), "-o", "hashes")
     assert done.status == REFUSED and b"line 5: " in done.err, done
-    assert b"begins in line 2" in done.err, done
+    assert b"lines 2 to here" in done.err, done
 
 
 @pytest.mark.parametrize(
