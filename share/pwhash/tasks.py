@@ -20,7 +20,7 @@ SERVICES = {    # the names that each service reads as they are
 KEPT_HASH = re.compile(rb"(\$1\$|\$[56]\$(?:rounds=[0-9]+\$)?|\$7\$[./0-9A-Za-z]{11})([./0-9A-Za-z]+)\$([./0-9A-Za-z]+)")
 OF_PASSWORDS = ("line too long", "password too long", "password has a zero byte")      # refusals, whatever the account
 STORED = re.compile(      # what stands behind a name in /etc/shadow, /etc/passwd and htpasswd
-    rb"(?s)\$(?:[0-9][a-z]?|g?y|apr1|sha1|md5|argon2[a-z]*|scrypt|pbkdf2[a-z0-9-]*)[$,].{8,}|"
+    rb"(?s)\$(?:[A-Za-z0-9]{1,2}|[A-Za-z-]*[0-9][A-Za-z0-9-]*)[$,].{8,}|"      # a scheme's short name, or one with a digit
     rb"[!*]+(?:\$.*)?(?::[0-9]*)*|[^:]*(?::[0-9]*){7}|[^:]*:[^:/]*:[^:/]*:[^:]*(?::(?:/[^:]*)?){2}|\{[A-Z0-9.-]+\}.{8,}")
 # What spreadsheets show in place of a value. The language is the spreadsheet's: #NAME?, #NAAM?, #DIV/0!, #DEEL/0!.
 ERROR = re.compile(r"#[\u00a1\u00bf]?([^\W\d_][\w/]+)[!?]")

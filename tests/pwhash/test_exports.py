@@ -44,6 +44,20 @@ def test_a_line_of_newusers_is_no_password(field: bytes) -> None:
 
 
 @pytest.mark.parametrize(
+    "stored",
+    [
+        pytest.param(b"$P$B7oKyTyx.uXoLHJvPRpqfy6NrmmLaG0", id="phpass"),
+        pytest.param(b"$S$DxVn7wubSRzoK9X2pkGx4njeDRkLEgdqPphc2ZXkkb8Viy8JEGf3", id="Drupal"),
+        pytest.param(b"$wp$2y$10$abcdefghijklmnopqrstuu", id="WordPress"),
+        pytest.param(b"$argon2id$v=19$m=65536,t=3,p=4$c2FsdA$aGFzaA", id="Argon2"),
+        pytest.param(b"$y$j9T$abcdefgh$abcdefghijklmnop", id="yescrypt"),
+    ],
+)
+def test_a_stored_hash_of_any_program_is_no_password(stored: bytes) -> None:
+    assert_doubtful(b"ann:pw\nbob:" + stored + b"\n", 2)
+
+
+@pytest.mark.parametrize(
     "cell",
     [
         pytest.param(b'"=""00123"""', id="a formula that keeps zeros"),
@@ -58,7 +72,9 @@ def test_a_cell_that_an_export_changed_is_doubtful(cell: bytes) -> None:
     assert_doubtful(b"name,password\nann,pw\nbob," + cell + b"\n", 3, "--csv")
 
 
-@pytest.mark.parametrize("password", ["null", "Grün", "a b:c", "a:b:c:d:e:f", "'=x", "Ã", "x|y"])
+@pytest.mark.parametrize(
+    "password", ["null", "Grün", "a b:c", "a:b:c:d:e:f", "'=x", "Ã", "x|y", "$a$123"]
+)
 def test_such_a_password_of_a_list_is_one(password: str) -> None:
     lines = f"ann:{password}\n".encode()
     done = pwhash("file", *MD5CRYPT, save("list", lines), "-o", "hashes")
