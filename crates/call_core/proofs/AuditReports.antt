@@ -1,7 +1,6 @@
 -- The report of a finding has the reason of that finding. So an audit passes exactly the current hashes, and one that it does not
 -- call over its own budget is checked by a login.
 use Rattle.std.proofs.Common.{◌≡◌, ◌≢◌, ◌≤◌, ◌<◌, ◌<ℤ◌, ◌∙◌, ℕ, pos, List, [], inr, refl, subst, sym, ap, rules, true≢false, arith}
-use Rattle.prims_core.specs.Work.{no_work}
 use Rattle.crypt_core.specs.Findings.{Finds, JudgesHash}
 use Rattle.crypt_core.specs.Settings.{SettingValue, Spells}
 use Rattle.crypt_core.specs.Standings.{HasStanding, IsOverBudget}
@@ -68,20 +67,6 @@ reason_told (findings.Malformed fault) = refl
 reason_told (findings.Other other) = refl
 reason_told findings.Unknown = refl
 reason_told findings.NoScheme = refl
-
-work_stays : (scheme : Scheme) (report : Report) → (with_scheme scheme report).work ≡ report.work
-work_stays Md5crypt report = refl
-work_stays (Shacrypt sha rounds) report = refl
-work_stays (Scrypt params) report = refl
-
-pub works_none : (finding : Finding) → (audit_report finding).work ≡ no_work
-works_none (findings.Hash scheme most standing) = work_stays scheme _
-works_none findings.NoHash = refl
-works_none findings.Locked = refl
-works_none (findings.Malformed fault) = refl
-works_none (findings.Other other) = refl
-works_none findings.Unknown = refl
-works_none findings.NoScheme = refl
 
 -- ---- what an audit passes
 
