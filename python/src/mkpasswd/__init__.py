@@ -165,7 +165,7 @@ class Policy:
 
     def __post_init__(self) -> None:
         # This refuses what is no policy.
-        self._admitted
+        _calls.admitted(self._made, self.budget)
 
     # The one that dataclass makes would call hash() of this module.
     def __hash__(self) -> int:

@@ -54,14 +54,15 @@ def mksalt(method: Optional[_Method] = None, *, rounds: Optional[int] = None) ->
     if rounds is not None and method == METHOD_MD5:
         raise ValueError("%r doesn't support the rounds argument" % (method,))
     name = {"1": "md5crypt", "5": "sha256crypt", "6": "sha512crypt"}[method.ident]
+    # As the standard library says it.
+    fault = ValueError("rounds out of the range 1000 to 999_999_999")
     try:
-        if rounds == 0 and not isinstance(rounds, bool):
-            raise ValueError
         made = _calls.made_by(name, rounds)
         _calls.admitted(made, None)
-    except ValueError:
-        # As the standard library says it.
-        raise ValueError("rounds out of the range 1000 to 999_999_999") from None
+    except _calls.Refused:
+        raise fault from None
+    if rounds == 0:  # the library would take the recommended ones
+        raise fault
     return _calls.new_setting(made)
 
 
