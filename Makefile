@@ -44,12 +44,13 @@ NPM = $(addprefix build/npm/,package.json README.md mkpasswd.mjs mkpasswd.d.ts)
 # So is the PAM module where PAM's headers are.
 PAM := $(if $(wildcard /usr/include/security/pam_modules.h),pam_mkpasswd.so)
 COMPLETIONS = build/completions/mkpasswd.bash
-BUILT = mkpasswd $(COMPLETIONS) lib build/x86-64-v3/libmkpasswd.so.2 $(WEB) \
+REASONS = python/src/mkpasswd/_reasons.py
+BUILT = mkpasswd $(COMPLETIONS) lib build/x86-64-v3/libmkpasswd.so.3 $(WEB) \
 	build/SPECIFICATION.md $(SITE)
-PACKED = $(addprefix build/$(FOR)/,mkpasswd libmkpasswd.a libmkpasswd.so.2) $(COMPLETIONS) $(WEB) \
+PACKED = $(addprefix build/$(FOR)/,mkpasswd libmkpasswd.a libmkpasswd.so.3) $(COMPLETIONS) $(WEB) \
 	build/SPECIFICATION.md \
-	$(if $(TARGET),,$(addprefix build/$(FOR)/,$(PAM)) build/x86-64-v3/libmkpasswd.so.2)
-ARM = $(addprefix build/aarch64/,mkpasswd libmkpasswd.a libmkpasswd.so.2)
+	$(if $(TARGET),,$(addprefix build/$(FOR)/,$(PAM)) build/x86-64-v3/libmkpasswd.so.3) $(REASONS)
+ARM = $(addprefix build/aarch64/,mkpasswd libmkpasswd.a libmkpasswd.so.3)
 HAS_ARM = $(findstring /,$(shell aarch64-linux-gnu-gcc -print-file-name=libc.a 2> /dev/null))
 TRIED = $(BUILT) $(PACKED) $(if $(WEB),$(NPM)) $(if $(HAS_ARM),$(ARM))
 # The scripts take these from the environment, whatever characters they have.
@@ -104,9 +105,13 @@ run: mkpasswd
 
 static: build/$(FOR)/mkpasswd
 
-lib: libmkpasswd.a libmkpasswd.so.2 $(PAM)
+lib: libmkpasswd.a libmkpasswd.so.3 $(PAM) $(REASONS)
 
-libmkpasswd.a libmkpasswd.so.2 pam_mkpasswd.so: %: $(OWN)/% build/cpu
+# The errors for Python, from the header's list.
+$(REASONS): c/mkpasswd.h tools/reasons
+	tools/reasons python > $@
+
+libmkpasswd.a libmkpasswd.so.3 pam_mkpasswd.so: %: $(OWN)/% build/cpu
 	cp $< $@
 
 # One object of the proved calls, and the few lines of C that draw a salt, allocate and wipe. It
@@ -121,7 +126,7 @@ build/%/libmkpasswd.a: build/%/mkpasswd.o
 	rm -f $@
 	$(TOOLS)ar rcsD $@ $<
 
-build/%/libmkpasswd.so.2: build/%/mkpasswd.o c/libmkpasswd.map
+build/%/libmkpasswd.so.3: build/%/mkpasswd.o c/libmkpasswd.map
 	$(COMPILE) -shared -Wl,-soname,$(@F) -Wl,--version-script=c/libmkpasswd.map \
 		-Wl,--no-undefined-version -Wl,-z,defs $(LINKED) $<
 
@@ -182,7 +187,8 @@ test: $(TRIED)
 check: lint layers gate $(TRIED)
 	tools/test
 
-lint:
+lint: $(REASONS)
+	tools/reasons check
 	tools/lint
 
 layers: specification
@@ -231,7 +237,7 @@ dist:
 	$(MAKE) $(PACKED) build/site/index.html
 	tools/pack $(FOR)
 
-wheel: build/$(FOR)/libmkpasswd.so.2
+wheel: build/$(FOR)/libmkpasswd.so.3 $(REASONS)
 	tools/wheel --check
 	tools/wheel $< .
 
@@ -245,5 +251,5 @@ deb:
 	tools/deb .
 
 clean:
-	rm -rf mkpasswd libmkpasswd.a libmkpasswd.so.2 pam_mkpasswd.so build crates/*/out \
+	rm -rf mkpasswd libmkpasswd.a libmkpasswd.so.3 pam_mkpasswd.so build crates/*/out $(REASONS) \
 		mkpasswd-*-linux.tar.gz mkpasswd-*-image.tar mkpasswd-*.whl *.deb

@@ -1,72 +1,100 @@
-/* The calls of mkpasswd.h that hash. Each calls the proved function mkpasswd_proved_* of its name, and wipes the stack that it
- * used: there lay the password, and what was computed from it. heap.c wipes memory. What the proved function returned and wrote
- * is what the call returns and leaves.
+/* The exported functions that hash. Each calls the proved function of its name, and then wipes the
+ * stack that this used: the password lay there, and what was computed from it. heap.c wipes memory.
+ * The functions that hash nothing are exported by the proved code itself (crates/crypt_c).
  *
- * mkpasswd_new also draws three words of the system, since a proved call of the library has no device to draw from. Without
- * words mkpasswd_proved_new_from reports the first refusal that comes before them, or that there are none. A trial without
- * words therefore tells whether to draw any. It writes to memory of its own: the one call that writes to the caller's comes
- * last, so a password in `out` is hashed before it is written over. Words are little-endian, as the processor's. */
+ * mkpasswd_new_bytes() also draws the random numbers of a salt, since the proved code has no device
+ * to draw them from. */
 #define _DEFAULT_SOURCE /* for getentropy */
 #include <mkpasswd.h>
 #include <unistd.h>
 
 /* More bytes of stack than a proved function uses. */
-#define REACH (24 * 1024)
+#define STACK_BYTES ((size_t)24 * 1024)
 
-__typeof__(mkpasswd_verify) mkpasswd_proved_verify;
-__typeof__(mkpasswd_login) mkpasswd_proved_login;
-__typeof__(mkpasswd_hash) mkpasswd_proved_hash;
-int32_t mkpasswd_proved_new_from(const uint8_t *password, size_t password_len, uint32_t method, uint32_t rounds,
-    uint64_t budget, const uint64_t *words, size_t words_len, uint8_t *out, size_t out_len, struct mkpasswd_report *report);
+/* A salt is made of so many random numbers. */
+#define NUMBERS_OF_A_SALT 3
 
-/* Returns the result, and wipes the stack below its caller's frame, where the frames of the proved function were, and the
- * registers that a call may change; compilers before gcc 11 and clang 15 warn, and leave the registers. It calls nothing: the
- * dynamic linker leaves registers on the stack when it resolves a name. */
-__attribute__((noinline, zero_call_used_regs("all"))) static int32_t wiped(int32_t result)
+/* The proved functions (crates/crypt_c/src/lib.rt). */
+int32_t mkpasswd_proved_verify(const uint8_t *password, size_t password_length,
+    const uint8_t *stored, size_t stored_length, uint64_t budget, struct mkpasswd_report *report);
+int32_t mkpasswd_proved_login(const uint8_t *password, size_t password_length, const uint8_t *field,
+    size_t field_length, uint32_t method, uint32_t rounds, uint64_t budget,
+    struct mkpasswd_report *report);
+int32_t mkpasswd_proved_hash(const uint8_t *password, size_t password_length,
+    const uint8_t *setting, size_t setting_length, uint64_t budget, uint8_t *out, size_t out_size,
+    struct mkpasswd_report *report);
+int32_t mkpasswd_proved_new_from(const uint8_t *password, size_t password_length, uint32_t method,
+    uint32_t rounds, uint64_t budget, const uint64_t *numbers, size_t numbers_count, uint8_t *out,
+    size_t out_size, struct mkpasswd_report *report);
+
+/* Returns the result, and wipes the stack below its caller's frame, where the frames of the proved
+ * function were, and the registers that a call may change; compilers before gcc 11 and clang 15
+ * warn, and leave the registers. It calls nothing: the dynamic linker leaves registers on the stack
+ * when it resolves a name. */
+__attribute__((noinline, zero_call_used_regs("all"))) static int32_t wipe_stack(int32_t result)
 {
-    volatile uint64_t stack[REACH / sizeof(uint64_t)];
+    volatile uint64_t stack[STACK_BYTES / sizeof(uint64_t)];
 
     for (size_t place = 0; place < sizeof stack / sizeof *stack; place++)
         stack[place] = 0;
     return result;
 }
 
-int32_t mkpasswd_verify(const uint8_t *password, size_t password_len, const uint8_t *stored, size_t stored_len,
-    uint64_t budget, struct mkpasswd_report *report)
+int32_t mkpasswd_verify_bytes(const uint8_t *password, size_t password_length,
+    const uint8_t *stored, size_t stored_length, uint64_t budget, struct mkpasswd_report *report)
 {
-    return wiped(mkpasswd_proved_verify(password, password_len, stored, stored_len, budget, report));
+    int32_t result = mkpasswd_proved_verify(
+        password, password_length, stored, stored_length, budget, report);
+
+    return wipe_stack(result);
 }
 
-int32_t mkpasswd_login(const uint8_t *password, size_t password_len, const uint8_t *field, size_t field_len,
-    uint32_t method, uint32_t rounds, uint64_t budget, struct mkpasswd_report *report)
+int32_t mkpasswd_login_bytes(const uint8_t *password, size_t password_length, const uint8_t *field,
+    size_t field_length, uint32_t method, uint32_t rounds, uint64_t budget,
+    struct mkpasswd_report *report)
 {
-    return wiped(mkpasswd_proved_login(password, password_len, field, field_len, method, rounds, budget, report));
+    int32_t result = mkpasswd_proved_login(
+        password, password_length, field, field_length, method, rounds, budget, report);
+
+    return wipe_stack(result);
 }
 
-int32_t mkpasswd_hash(const uint8_t *password, size_t password_len, const uint8_t *setting, size_t setting_len,
-    uint64_t budget, uint8_t *out, size_t out_len, struct mkpasswd_report *report)
+int32_t mkpasswd_hash_bytes(const uint8_t *password, size_t password_length, const uint8_t *setting,
+    size_t setting_length, uint64_t budget, uint8_t *out, size_t out_size,
+    struct mkpasswd_report *report)
 {
-    return wiped(mkpasswd_proved_hash(password, password_len, setting, setting_len, budget, out, out_len, report));
+    int32_t result = mkpasswd_proved_hash(
+        password, password_length, setting, setting_length, budget, out, out_size, report);
+
+    return wipe_stack(result);
 }
 
-/* Calls the proved function without words, and then with three of the system. */
-__attribute__((noinline)) static int32_t hash_anew(const uint8_t *password, size_t password_len, uint32_t method,
-    uint32_t rounds, uint64_t budget, uint8_t *out, size_t out_len, struct mkpasswd_report *report)
+/* Hashes without random numbers first: the report then has the first error that comes before them,
+ * or that they are missing. Only then are they drawn. The trial writes to memory of its own, since
+ * `out` may hold the password, and so the call that writes to `out` comes last. */
+__attribute__((noinline)) static int32_t hash_anew(const uint8_t *password, size_t password_length,
+    uint32_t method, uint32_t rounds, uint64_t budget, uint8_t *out, size_t out_size,
+    struct mkpasswd_report *report)
 {
-    uint64_t words[3] = {0, 0, 0};
-    uint8_t tried[MKPASSWD_TEXT_SIZE];
+    uint64_t numbers[NUMBERS_OF_A_SALT] = {0};
+    uint8_t unread[MKPASSWD_TEXT_SIZE];
+    size_t unread_size = out_size < sizeof unread ? out_size : sizeof unread;
     struct mkpasswd_report trial;
-    size_t count = 0;
+    size_t numbers_count = 0;
 
-    mkpasswd_proved_new_from(password, password_len, method, rounds, budget, words, 0, tried,
-        out_len < sizeof tried ? out_len : sizeof tried, &trial);
-    if (trial.reason == MKPASSWD_NO_RANDOM_WORDS && getentropy(words, sizeof words) == 0)
-        count = 3;
-    return mkpasswd_proved_new_from(password, password_len, method, rounds, budget, words, count, out, out_len, report);
+    mkpasswd_proved_new_from(
+        password, password_length, method, rounds, budget, numbers, 0, unread, unread_size, &trial);
+    if (trial.error == MKPASSWD_ERROR_NO_RANDOM_NUMBERS && getentropy(numbers, sizeof numbers) == 0)
+        numbers_count = NUMBERS_OF_A_SALT;
+    return mkpasswd_proved_new_from(password, password_length, method, rounds, budget, numbers,
+        numbers_count, out, out_size, report);
 }
 
-int32_t mkpasswd_new(const uint8_t *password, size_t password_len, uint32_t method, uint32_t rounds, uint64_t budget,
-    uint8_t *out, size_t out_len, struct mkpasswd_report *report)
+int32_t mkpasswd_new_bytes(const uint8_t *password, size_t password_length, uint32_t method,
+    uint32_t rounds, uint64_t budget, uint8_t *out, size_t out_size, struct mkpasswd_report *report)
 {
-    return wiped(hash_anew(password, password_len, method, rounds, budget, out, out_len, report));
+    int32_t result = hash_anew(
+        password, password_length, method, rounds, budget, out, out_size, report);
+
+    return wipe_stack(result);
 }

@@ -11,7 +11,7 @@ from setuptools.dist import Distribution
 from wheel.bdist_wheel import bdist_wheel
 
 HERE = os.path.dirname(os.path.abspath(__file__))
-LIBRARY = os.path.join(HERE, "src", "mkpasswd", "libmkpasswd.so.2")
+LIBRARY = os.path.join(HERE, "src", "mkpasswd", "libmkpasswd.so.3")
 
 
 def output_of(*command):

@@ -19,8 +19,8 @@ ROUNDS = {
 
 # Where the library is, seen from this folder: tools/install fills in an absolute path, tools/pack
 # one that holds wherever the archive is unpacked. In the sources it is where make puts it.
-INSTALLED = "@LIBDIR@/libmkpasswd.so.2"
-BUILT = "../../libmkpasswd.so.2"
+INSTALLED = "@LIBDIR@/libmkpasswd.so.3"
+BUILT = "../../libmkpasswd.so.3"
 
 
 class RefusedRounds(Exception):

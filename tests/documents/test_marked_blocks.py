@@ -34,7 +34,7 @@ RECOMMENDED = "$6$rounds=656000$"
 @pytest.fixture(name="login")
 def fixture_login() -> Block:
     """The block, where the library is built that it loads."""
-    built("libmkpasswd.so.2", "lib")
+    built("libmkpasswd.so.3", "lib")
     return marked("login in Python", "python")
 
 

@@ -77,14 +77,14 @@ def test_the_shared_library_has_its_name_and_needs_the_c_library_alone(
 ) -> None:
     result = run("objdump", "-p", installed.libraries / "libmkpasswd.so").required()
     found = re.findall(r"(SONAME|NEEDED) +(\S+)", result.stdout.decode())
-    assert sorted(found) == [("NEEDED", "libc.so.6"), ("SONAME", "libmkpasswd.so.2")]
+    assert sorted(found) == [("NEEDED", "libc.so.6"), ("SONAME", "libmkpasswd.so.3")]
 
 
 # ---- Processors
 
 
 @pytest.mark.needs("readelf")
-@pytest.mark.parametrize("name", ["libmkpasswd.so.2", "libmkpasswd.a"])
+@pytest.mark.parametrize("name", ["libmkpasswd.so.3", "libmkpasswd.a"])
 def test_a_library_says_what_processor_it_needs(installed: Installed, name: str) -> None:
     result = run("readelf", "-n", installed.libraries / name).required()
     assert re.search(r"x86 ISA needed: .*x86-64-v2", result.stdout.decode()), str(result)

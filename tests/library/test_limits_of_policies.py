@@ -50,7 +50,7 @@ class Answer:
 @pytest.fixture(scope="module", name="library")
 def fixture_library() -> ctypes.CDLL:
     """The built library."""
-    library = ctypes.CDLL(str(built("libmkpasswd.so.2", "lib")))
+    library = ctypes.CDLL(str(built("libmkpasswd.so.3", "lib")))
     number, wide, report = ctypes.c_uint32, ctypes.c_uint64, ctypes.c_char_p
     library.mkpasswd_limit.argtypes = (number, number, wide, report)
     library.mkpasswd_limit.restype = ctypes.c_int32

@@ -25,7 +25,7 @@ pytestmark = pytest.mark.needs("objdump", "cc")
 
 @pytest.fixture(scope="module", name="newer_library")
 def fixture_newer_library(tmp_path_factory: pytest.TempPathFactory) -> Path:
-    """A libmkpasswd.so.2 whose logins answer as the environment says."""
+    """A libmkpasswd.so.3 whose logins answer as the environment says."""
     folder = tmp_path_factory.mktemp("newer")
     older, library = folder / "older.a", folder / SONAME
     of_tree = built("libmkpasswd.a", "lib")

@@ -94,7 +94,7 @@ def test_a_login_goes_on_with_too_little_memory(field: str | None, answer: bytes
 # ---- A library that is none
 
 ANOTHER_LIBRARY = "import _ctypes; print(_ctypes.__file__)"
-MESSAGE = b"ImportError: mkpasswd needs its C library, libmkpasswd.so.2, and could not load it: "
+MESSAGE = b"ImportError: mkpasswd needs its C library, libmkpasswd.so.3, and could not load it: "
 
 
 @pytest.mark.parametrize("kind", ["an empty file", "garbage", "another library"])

@@ -95,7 +95,7 @@ def test_the_commands_of_the_document_install_it(wheel: Path, tmp_path: Path) ->
     assert made.startswith("$6$") and mkpasswd.verify("x", field=made)
     place_of_library = printed(run("v/bin/python", "-c", TRY, cwd=tmp_path, env=ELSEWHERE))
     assert place_of_library.startswith(str(tmp_path / "v/lib"))
-    assert place_of_library.endswith("site-packages/mkpasswd/libmkpasswd.so.2")
+    assert place_of_library.endswith("site-packages/mkpasswd/libmkpasswd.so.3")
 
 
 def interpreters() -> Iterator[tuple[str, str]]:
@@ -120,4 +120,4 @@ def test_each_python_takes_it(wheel: Path, python: str, tmp_path: Path) -> None:
     result.required()
     environment: dict[str, str | None] = {**ELSEWHERE, "PYTHONPATH": str(place)}
     place_of_library = printed(run(python, "-W", "error", "-c", TRY, cwd=tmp_path, env=environment))
-    assert place_of_library == str(place / "mkpasswd/libmkpasswd.so.2")
+    assert place_of_library == str(place / "mkpasswd/libmkpasswd.so.3")

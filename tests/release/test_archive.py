@@ -23,7 +23,7 @@ from support.release import (
 
 pytestmark = pytest.mark.xdist_group("archive")  # so that it is packed once
 
-LIBRARY = "lib/libmkpasswd.so.2"
+LIBRARY = "lib/libmkpasswd.so.3"
 MODULE = "lib/security/pam_mkpasswd.so"
 # The command of README.md that installs it, up to the next command.
 UNPACKS = r"(tar -?xzf mkpasswd-[^`\n]*-linux\.tar\.gz [^`&\n]*/usr/local\b[^`&\n]*)"
@@ -78,7 +78,7 @@ def test_everybody_may_read_each_file_and_run_each_command(archive: Archive) -> 
 
 def test_links_lead_to_the_library_and_the_program(archive: Archive) -> None:
     links = {member.linkname for member in members(archive) if not member.isfile()}
-    assert links == {"libmkpasswd.so.2", "mkpasswd"}
+    assert links == {"libmkpasswd.so.3", "mkpasswd"}
 
 
 def test_it_has_the_program_that_was_built(archive: Archive) -> None:

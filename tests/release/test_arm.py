@@ -16,7 +16,7 @@ from support.release import Archive, oldest_glibc, packed
 pytestmark = [pytest.mark.needs("aarch64-linux-gnu-gcc"), pytest.mark.xdist_group("arm")]
 
 PROCESSOR = "aarch64"
-LIBRARY = "libmkpasswd.so.2"
+LIBRARY = "libmkpasswd.so.3"
 
 
 @pytest.fixture(scope="module", name="archive")

@@ -17,7 +17,7 @@ FIELD = "$1$xxxxxxxx$UYCIxa628.9qXjpQCjM4a."  # of `password`, as libxcrypt hash
 SOURCE = SOURCES / "login_of_words.c"
 IN_PYTHON = "import sys, mkpasswd; sys.exit(not mkpasswd.login(sys.argv[1], field=sys.argv[2]))"
 STRICT = ("-Wall", "-Wextra", "-Werror")
-SHARED = "libmkpasswd.so.2"
+SHARED = "libmkpasswd.so.3"
 NEWER = "glibc-hwcaps/x86-64-v3"  # where glibc looks first on such a processor
 WITHOUT_AVX2 = "glibc.cpu.hwcaps=-AVX2"
 PASSWORDS = [

@@ -28,7 +28,7 @@ pytestmark = [
     pytest.mark.xdist_group(RELEASES[OLDEST]),  # whose worker has the packages
 ]
 
-NEWER_LIBRARY = "build/x86-64-v3/libmkpasswd.so.2"
+NEWER_LIBRARY = "build/x86-64-v3/libmkpasswd.so.3"
 LIBRARIES = "usr/lib/x86_64-linux-gnu"
 LEAST_CODE = 10_000  # bytes; with less, the sections are not found
 OWN_TESTS = ("program", "library", "python", "pam", "default")
@@ -132,13 +132,13 @@ def code_of(file: Path, scratch: Path) -> bytes:
     [
         pytest.param("mkpasswd", "mkpasswd/usr/bin/mkpasswd.proved", id="the program"),
         pytest.param(
-            "libmkpasswd.so.2",
-            f"libmkpasswd2/{LIBRARIES}/libmkpasswd.so.2",
+            "libmkpasswd.so.3",
+            f"libmkpasswd2/{LIBRARIES}/libmkpasswd.so.3",
             id="the library",
         ),
         pytest.param(
             NEWER_LIBRARY,
-            f"libmkpasswd2/{LIBRARIES}/glibc-hwcaps/x86-64-v3/libmkpasswd.so.2",
+            f"libmkpasswd2/{LIBRARIES}/glibc-hwcaps/x86-64-v3/libmkpasswd.so.3",
             id="the library for x86-64-v3",
         ),
     ],

@@ -87,7 +87,7 @@ def need_packages() -> None:
     """Ends the test where no packages can be built, or nobody asked for tests that take long."""
     if "1" not in (os.environ.get("DEB"), os.environ.get("STRICT")):
         missing("DEB=1", "tests of the packages take ten minutes and 3 GB")
-    for path in ("libmkpasswd.so.2", "build/x86-64-v3/libmkpasswd.so.2"):
+    for path in ("libmkpasswd.so.3", "build/x86-64-v3/libmkpasswd.so.3"):
         built(path, "deb")
     built("build/site", "site")
     built("build/mkpasswd.mjs", "web")

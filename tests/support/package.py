@@ -6,7 +6,7 @@ A module of tests imports the package so, and then knows its types:
         import mkpasswd
 
 PACKAGE names another folder than python/src in which a package mkpasswd is, and LIBRARY another
-file of the name libmkpasswd.so.2. What a test starts gets both by environment_of().
+file of the name libmkpasswd.so.3. What a test starts gets both by environment_of().
 """
 from __future__ import annotations
 
@@ -26,7 +26,7 @@ from . import ROOT, libxcrypt
 from .needs import missing
 from .process import Changes, Result, run
 
-SONAME = "libmkpasswd.so.2"
+SONAME = "libmkpasswd.so.3"
 LIBRARY = Path(os.environ.get("LIBRARY", ROOT / SONAME)).absolute()
 PACKAGE = Path(os.environ.get("PACKAGE", ROOT / "python/src")).absolute()
 

@@ -11,7 +11,7 @@ from pathlib import Path
 from .process import Changes, Result, Word, run
 from .pwhash_runs import PWHASH
 
-SONAME = "libmkpasswd.so.2"
+SONAME = "libmkpasswd.so.3"
 
 # Stands in for the engine: the version is one's own, and the rest a script, in which `real` is
 # mkpasswd.

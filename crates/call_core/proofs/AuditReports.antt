@@ -1,33 +1,31 @@
--- The report of a finding has the reason of that finding. So an audit passes exactly the current hashes, and one that it does not
+-- The report of a finding says which it is. So an audit passes exactly the current hashes, and one that it does not
 -- call over its own budget is checked by a login.
-use Rattle.std.proofs.Common.{◌≡◌, ◌≢◌, ◌≤◌, ◌<◌, ◌<ℤ◌, ◌∙◌, ℕ, pos, List, [], inr, refl, subst, sym, ap, rules, true≢false, arith}
+use Rattle.std.proofs.Common.{◌≡◌, ◌≢◌, ◌⊎◌, ◌≤◌, ◌<◌, ◌∙◌, ℕ, List, [], inl, inr, refl, subst, sym, ap, true≢false, arith}
+use Rattle.prims_core.specs.Work.{no_work}
 use Rattle.crypt_core.specs.Findings.{Finds, JudgesHash}
 use Rattle.crypt_core.specs.Settings.{SettingValue, Spells}
 use Rattle.crypt_core.specs.Standings.{HasStanding, IsOverBudget}
 use Rattle.crypt_core.specs.Work.{cost}
 use Rattle.crypt_core.specs.declared.finding.Finding.{Finding}
 use Rattle.crypt_core.specs.declared.finding.Finding.TheVariants as findings
-use Rattle.crypt_core.specs.declared.password.PasswordFault.TheVariants as password
 use Rattle.crypt_core.specs.declared.scheme.Scheme.{Scheme}
 use Rattle.crypt_core.specs.declared.scheme.Scheme.TheVariants.{Md5crypt, Shacrypt, Scrypt}
-use Rattle.crypt_core.specs.declared.setting.fault.SettingFault.TheVariants as faults
-use Rattle.crypt_core.specs.declared.setting.fault.SettingFault.TheVariants.{UnknownScheme}
 use Rattle.crypt_core.specs.declared.standing.Standing.{Standing}
 use Rattle.crypt_core.specs.declared.standing.Standing.TheVariants as standings
 use Rattle.call_core.specs.Arguments.{IsSchemeMade, TakesNewRounds}
-use Rattle.call_core.specs.Audits.{ForeseesLogins, IsCurrent, audit_report, standing_reason, with_scheme}
+use Rattle.call_core.specs.Audits.{ForeseesLogins, IsCurrent, Passes, audit_report, standing_report, with_scheme}
 use Rattle.call_core.specs.Limits.{limit_of, policy_limit, twice}
 use Rattle.call_core.specs.declared.limit.Limit.TheVariants.{Policy}
 use Rattle.call_core.specs.Logins.{IsUncheckable}
-use Rattle.call_core.specs.Reasons.{reason_row}
+use Rattle.call_core.specs.Reasons.{reason_row, setting_reason}
+use Rattle.call_core.specs.Reports.{refused}
 use Rattle.call_core.specs.declared.reason.Reason.{Reason}
-use Rattle.call_core.specs.declared.reason.Reason.TheVariants.{Refused}
-use Rattle.call_core.specs.declared.reason.Refusal.{Refusal}
-use Rattle.call_core.specs.declared.reason.Refusal.TheVariants as refusals
+use Rattle.call_core.specs.declared.reason.Reason.TheVariants as reasons
 use Rattle.call_core.specs.declared.report.Report.{Report}
+use Rattle.call_core.proofs.LoginReports.{setting_other}
 use Rattle.call_core.proofs.MadeSchemes.{made_once}
 use Rattle.call_core.proofs.PolicyLimits.{admitting, empty_admitted, limit_made}
-use Rattle.call_core.proofs.ReasonNumbers.{reason_once}
+use Rattle.call_core.proofs.ReasonNumbers.{never_zero, reason_once}
 
 pub only_current : (new : Scheme) (budget : ℕ) (text : List ℕ) (kept : SettingValue) (standing : Standing)
     → HasStanding new budget text kept standings.Current → HasStanding new budget text kept standing → standing ≡ standings.Current
@@ -36,101 +34,67 @@ only_current new budget text kept standings.Dead is has = absurd (has.1 is.1)
 only_current new budget text kept standings.Outdated is has = absurd (true≢false (sym has.2 ∙ is.2))
 only_current new budget text kept standings.Current is has = refl
 
--- no other standing has the reason of `OverBudget`
-none_over : (standing : Standing) → standing ≢ standings.OverBudget → standing_reason standings.OverBudget ≡ standing_reason standing → ⊥
-none_over standings.OverBudget other same = other refl
-none_over standings.Dead other same = cc
-none_over standings.Outdated other same = cc
-none_over standings.Current other same = cc
+-- ---- the error in the report of a finding
 
--- ---- the reason of a finding
+scheme_stays : (scheme : Scheme) (report : Report) → ((with_scheme scheme report).error ≡ report.error) × ((with_scheme scheme report).outdated ≡ report.outdated)
+scheme_stays Md5crypt report = (refl, refl)
+scheme_stays (Shacrypt sha rounds) report = (refl, refl)
+scheme_stays (Scrypt params) report = (refl, refl)
 
-abbrev finding_reason : Finding → Reason
-finding_reason (findings.Hash scheme most standing) = standing_reason standing
-finding_reason findings.NoHash = Refused refusals.NoHash
-finding_reason findings.Locked = Refused refusals.Locked
-finding_reason (findings.Malformed fault) = Refused (refusals.Setting fault)
-finding_reason (findings.Other other) = Refused (refusals.Setting UnknownScheme)
-finding_reason findings.Unknown = Refused (refusals.Setting UnknownScheme)
-finding_reason findings.NoScheme = Refused refusals.NoScheme
+-- the report of a finding other than a hash says why there is none
+no_hash : (reason : Reason) → (refused reason 0).error ≡ 0 → ⊥
+no_hash reason e = never_zero reason e
 
-reason_stays : (scheme : Scheme) (report : Report) → (with_scheme scheme report).reason ≡ report.reason
-reason_stays Md5crypt report = refl
-reason_stays (Shacrypt sha rounds) report = refl
-reason_stays (Scrypt params) report = refl
+-- ---- the work of an audit
 
-reason_told : (finding : Finding) → (audit_report finding).reason ≡ (reason_row (finding_reason finding)).0
-reason_told (findings.Hash scheme most standing) = reason_stays scheme _
-reason_told findings.NoHash = refl
-reason_told findings.Locked = refl
-reason_told (findings.Malformed fault) = refl
-reason_told (findings.Other other) = refl
-reason_told findings.Unknown = refl
-reason_told findings.NoScheme = refl
+pub scheme_idle : (scheme : Scheme) (report : Report) → (with_scheme scheme report).work ≡ report.work
+scheme_idle Md5crypt report = refl
+scheme_idle (Shacrypt sha rounds) report = refl
+scheme_idle (Scrypt params) report = refl
+
+pub standing_idle : (standing : Standing) (most : ℕ) → (standing_report standing most).work ≡ no_work
+standing_idle standings.OverBudget most = refl
+standing_idle standings.Dead most = refl
+standing_idle standings.Outdated most = refl
+standing_idle standings.Current most = refl
 
 -- ---- what an audit passes
 
--- no refusal has a number above 0
-refused_below : (refusal : Refusal) → ¬ (pos 0 <ℤ (reason_row (Refused refusal)).0)
-refused_below (refusals.Password password.TooLong) = search rules
-refused_below (refusals.Password password.HasNul) = search rules
-refused_below (refusals.Setting faults.TooLong) = search rules
-refused_below (refusals.Setting faults.BadCharacter) = search rules
-refused_below (refusals.Setting faults.UnknownScheme) = search rules
-refused_below (refusals.Setting faults.BadRounds) = search rules
-refused_below (refusals.Setting faults.BadCost) = search rules
-refused_below (refusals.Setting faults.ScryptRange) = search rules
-refused_below (refusals.Setting faults.AboveCeiling) = search rules
-refused_below (refusals.Setting faults.BadSalt) = search rules
-refused_below refusals.OutOfMemory = search rules
-refused_below refusals.TooFewBytes = search rules
-refused_below refusals.UnknownMethod = search rules
-refused_below refusals.Rounds = search rules
-refused_below refusals.OverBudget = search rules
-refused_below refusals.Differs = search rules
-refused_below refusals.Current = search rules
-refused_below refusals.NoRandomNumbers = search rules
-refused_below refusals.Locked = search rules
-refused_below refusals.NoHash = search rules
-refused_below refusals.Dead = search rules
-refused_below refusals.Outdated = search rules
-refused_below refusals.SaltLength = search rules
-refused_below refusals.SaltCharacter = search rules
-refused_below refusals.NoScheme = search rules
+passing_standing : (standing : Standing) (most : ℕ) → Passes (standing_report standing most) → standing ≡ standings.Current
+passing_standing standings.OverBudget most passes = absurd (never_zero reasons.OverBudget passes.0)
+passing_standing standings.Dead most passes = absurd (never_zero reasons.Dead passes.0)
+passing_standing standings.Outdated most passes = absurd cc
+passing_standing standings.Current most passes = refl
 
-passing : (finding : Finding) → pos 0 <ℤ (reason_row (finding_reason finding)).0
-    → (scheme : Scheme) × (most : ℕ) × (finding ≡ findings.Hash scheme most standings.Current)
-passing (findings.Hash scheme most standings.Current) above = (scheme, most, refl)
-passing (findings.Hash scheme most standings.OverBudget) above = absurd (refused_below refusals.OverBudget above)
-passing (findings.Hash scheme most standings.Dead) above = absurd (refused_below refusals.Dead above)
-passing (findings.Hash scheme most standings.Outdated) above = absurd (refused_below refusals.Outdated above)
-passing findings.NoHash above = absurd (refused_below refusals.NoHash above)
-passing findings.Locked above = absurd (refused_below refusals.Locked above)
-passing (findings.Malformed fault) above = absurd (refused_below (refusals.Setting fault) above)
-passing (findings.Other other) above = absurd (refused_below (refusals.Setting UnknownScheme) above)
-passing findings.Unknown above = absurd (refused_below (refusals.Setting UnknownScheme) above)
-passing findings.NoScheme above = absurd (refused_below refusals.NoScheme above)
+passing : (finding : Finding) → Passes (audit_report finding) → (scheme : Scheme) × (most : ℕ) × (finding ≡ findings.Hash scheme most standings.Current)
+passing (findings.Hash scheme most standing) passes =
+    let stays = scheme_stays scheme (standing_report standing most) in
+    let is = passing_standing standing most (sym stays.0 ∙ passes.0, sym stays.1 ∙ passes.1) in
+    (scheme, most, ap (findings.Hash scheme most) is)
+passing findings.NoHash passes = absurd (no_hash reasons.NoHash passes.0)
+passing findings.Locked passes = absurd (no_hash reasons.Locked passes.0)
+passing (findings.Malformed fault) passes = absurd (no_hash (setting_reason fault) passes.0)
+passing (findings.Other other) passes = absurd (no_hash reasons.UnknownScheme passes.0)
+passing findings.Unknown passes = absurd (no_hash reasons.UnknownScheme passes.0)
+passing findings.NoScheme passes = absurd (no_hash reasons.NoScheme passes.0)
 
 pub passed : (number rounds budget : ℕ) (new : Scheme) (field : List ℕ) (finding : Finding) → IsSchemeMade TakesNewRounds number rounds new
-    → Finds new budget field finding → pos 0 <ℤ (audit_report finding).reason → IsCurrent field number rounds budget
-passed number rounds budget new field finding makes finds above =
-    let (scheme, most, is) = passing finding (subst (λ n. pos 0 <ℤ n) (reason_told finding) above) in
+    → Finds new budget field finding → Passes (audit_report finding) → IsCurrent field number rounds budget
+passed number rounds budget new field finding makes finds passes =
+    let (scheme, most, is) = passing finding passes in
     let (kept, spells, same, cost_is, has) = subst (Finds new budget field) is finds in
     (kept, new, spells, makes, has)
 
 pub passes : (number rounds budget : ℕ) (new : Scheme) (field : List ℕ) (finding : Finding) → IsSchemeMade TakesNewRounds number rounds new
     → ((kept : SettingValue) → Spells field kept → JudgesHash new budget field kept finding) → IsCurrent field number rounds budget
-    → pos 0 <ℤ (audit_report finding).reason
+    → Passes (audit_report finding)
 passes number rounds budget new field finding makes judges (kept, scheme, spells, made, current) =
     let one : scheme ≡ new = (made_once TakesNewRounds TakesNewRounds number rounds scheme new made makes) in
     let (standing, has, is) = judges kept spells in
     let there : HasStanding new budget field kept standings.Current =
     subst (λ (own : Scheme). HasStanding own budget field kept standings.Current) one current in
     let same : standing ≡ standings.Current = only_current new budget field kept standing there has in
-    let told : (audit_report finding).reason ≡ pos 3 =
-    ap (λ (found : Finding). (audit_report found).reason) is ∙ reason_stays kept.scheme _
-    ∙ ap (λ (stands : Standing). (reason_row (standing_reason stands)).0) same in
-    rw told (search rules)
+    rw (is, same) (scheme_stays kept.scheme _)
 
 -- the limit of the policy is that of a login with the empty password
 policy_made : (number rounds : ℕ) (scheme : Scheme) → IsSchemeMade TakesNewRounds number rounds scheme
@@ -147,34 +111,31 @@ checkable field kept number rounds scheme spells makes within un =
 
 -- ---- what an audit foresees
 
--- no other finding has the reason of a standing
-stands : (finding : Finding) (standing : Standing) → finding_reason finding ≡ standing_reason standing
-    → (scheme : Scheme) × (most : ℕ) × (told : Standing) × (finding ≡ findings.Hash scheme most told) × (standing_reason told ≡ standing_reason standing)
-stands (findings.Hash scheme most told) standing same = (scheme, most, told, refl, same)
-stands findings.NoHash standings.OverBudget same = absurd cc
-stands findings.NoHash standings.Dead same = absurd cc
-stands findings.NoHash standings.Outdated same = absurd cc
-stands findings.NoHash standings.Current same = absurd cc
-stands findings.Locked standings.OverBudget same = absurd cc
-stands findings.Locked standings.Dead same = absurd cc
-stands findings.Locked standings.Outdated same = absurd cc
-stands findings.Locked standings.Current same = absurd cc
-stands (findings.Malformed fault) standings.OverBudget same = absurd cc
-stands (findings.Malformed fault) standings.Dead same = absurd cc
-stands (findings.Malformed fault) standings.Outdated same = absurd cc
-stands (findings.Malformed fault) standings.Current same = absurd cc
-stands (findings.Other other) standings.OverBudget same = absurd cc
-stands (findings.Other other) standings.Dead same = absurd cc
-stands (findings.Other other) standings.Outdated same = absurd cc
-stands (findings.Other other) standings.Current same = absurd cc
-stands findings.Unknown standings.OverBudget same = absurd cc
-stands findings.Unknown standings.Dead same = absurd cc
-stands findings.Unknown standings.Outdated same = absurd cc
-stands findings.Unknown standings.Current same = absurd cc
-stands findings.NoScheme standings.OverBudget same = absurd cc
-stands findings.NoScheme standings.Dead same = absurd cc
-stands findings.NoScheme standings.Outdated same = absurd cc
-stands findings.NoScheme standings.Current same = absurd cc
+-- a report without an error, or of a dead hash, is that of a hash that is not over the budget
+abbrev IsJudged : Report → Type 0
+IsJudged report = (report.error ≡ 0) ⊎ (report.error ≡ (reason_row reasons.Dead).0)
+
+other_reason : (reason : Reason) (most : ℕ) → reason ≢ reasons.Dead → IsJudged (refused reason most) → ⊥
+other_reason reason most other (inl none) = never_zero reason none
+other_reason reason most other (inr dead) = other (reason_once reason reasons.Dead dead)
+
+never_over : (standing : Standing) (most : ℕ) → IsJudged (standing_report standing most) → standing ≢ standings.OverBudget
+never_over standings.OverBudget most judged = absurd (other_reason reasons.OverBudget most (λ is. absurd (cc is)) judged)
+never_over standings.Dead most judged = λ is. absurd (cc is)
+never_over standings.Outdated most judged = λ is. absurd (cc is)
+never_over standings.Current most judged = λ is. absurd (cc is)
+
+stands : (finding : Finding) → IsJudged (audit_report finding)
+    → (scheme : Scheme) × (most : ℕ) × (standing : Standing) × (finding ≡ findings.Hash scheme most standing) × (standing ≢ standings.OverBudget)
+stands (findings.Hash scheme most standing) judged =
+    let stays = scheme_stays scheme (standing_report standing most) in
+    (scheme, most, standing, refl, never_over standing most (rw stays.0 at judged))
+stands findings.NoHash judged = absurd (other_reason reasons.NoHash 0 (λ is. absurd (cc is)) judged)
+stands findings.Locked judged = absurd (other_reason reasons.Locked 0 (λ is. absurd (cc is)) judged)
+stands (findings.Malformed fault) judged = absurd (other_reason (setting_reason fault) 0 (setting_other fault) judged)
+stands (findings.Other other) judged = absurd (other_reason reasons.UnknownScheme 0 (λ is. absurd (cc is)) judged)
+stands findings.Unknown judged = absurd (other_reason reasons.UnknownScheme 0 (λ is. absurd (cc is)) judged)
+stands findings.NoScheme judged = absurd (other_reason reasons.NoScheme 0 (λ is. absurd (cc is)) judged)
 
 -- a hash that is not over the audit's own budget is within the limit of the policy, with the empty password
 not_over : (new : Scheme) (field : List ℕ) (kept : SettingValue) (told : Standing) → HasStanding new 0 field kept told → told ≢ standings.OverBudget
@@ -189,11 +150,8 @@ within_limit new kept within = omega (arith, λ (above : policy_limit new < cost
 
 pub foreseen : (number rounds budget : ℕ) (new : Scheme) (field : List ℕ) (finding : Finding) → IsSchemeMade TakesNewRounds number rounds new
     → Finds new budget field finding → ForeseesLogins field number rounds budget (audit_report finding)
-foreseen number rounds budget new field finding makes finds standing other is default =
-    let same : finding_reason finding ≡ standing_reason standing =
-    reason_once (finding_reason finding) (standing_reason standing) (sym (reason_told finding) ∙ is) in
-    let (scheme, most, told, found, alike) = stands finding standing same in
-    let (kept, spells, scheme_is, most_is, has) = subst (Finds new budget field) found finds in
-    let not : told ≢ standings.OverBudget = λ (over : told ≡ standings.OverBudget). none_over standing other (ap standing_reason (sym over) ∙ alike) in
-    let zero : HasStanding new 0 field kept told = subst (λ (own : ℕ). HasStanding new own field kept told) default has in
-    checkable field kept number rounds new spells makes (within_limit new kept (not_over new field kept told zero not))
+foreseen number rounds budget new field finding makes finds judged default =
+    let (scheme, most, standing, is, not) = stands finding judged in
+    let (kept, spells, scheme_is, most_is, has) = subst (Finds new budget field) is finds in
+    let zero : HasStanding new 0 field kept standing = subst (λ (own : ℕ). HasStanding new own field kept standing) default has in
+    checkable field kept number rounds new spells makes (within_limit new kept (not_over new field kept standing zero not))

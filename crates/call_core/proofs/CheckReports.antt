@@ -8,8 +8,7 @@ use Rattle.crypt_core.proofs.WholeHashes.{fits_whole}
 use Rattle.call_core.specs.Checks.{Compares, IsDead, Verifies}
 use Rattle.call_core.specs.Private.Checks.{IsCheckRefused}
 use Rattle.call_core.specs.Reports.{refused}
-use Rattle.call_core.specs.declared.reason.Reason.TheVariants.{Matches}
-use Rattle.call_core.specs.declared.reason.Refusal.TheVariants.{Differs, OverBudget}
+use Rattle.call_core.specs.declared.reason.Reason.TheVariants.{OverBudget, WrongPassword}
 use Rattle.call_core.specs.declared.report.Report.{Report}
 
 -- no password has a dead hash
@@ -30,12 +29,12 @@ over password stored budget kept report is spells above e =
     inl (is, inl (kept, spells, rw test e))
 
 pub compared : (password stored : List ℕ) (budget : ℕ) (kept : SettingValue) (report : Report) → IsPassword password → Spells stored kept
-    → cost kept (length password) ≤ budget → Compares password kept stored Matches Differs report → Verifies password stored budget report
+    → cost kept (length password) ≤ budget → Compares password kept stored 0 WrongPassword report → Verifies password stored budget report
 compared password stored budget kept report is spells low compares =
     let test : nat_lt budget (cost kept (length password)) ≡ false = grind arith in
     inl (is, inl (kept, spells, rw test compares))
 
 pub declined : (password stored : List ℕ) (budget : ℕ) (report : Report) → IsPassword password → IsCheckRefused password stored budget report
     → Verifies password stored budget report
-declined password stored budget report is (inl (refusal, refused, e)) = inl (is, inr (refusal, refused, e))
+declined password stored budget report is (inl (reason, refused, e)) = inl (is, inr (reason, refused, e))
 declined password stored budget report is (inr (kept, spells, above, e)) = over password stored budget kept report is spells above e

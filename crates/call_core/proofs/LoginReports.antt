@@ -13,20 +13,20 @@ use Rattle.crypt_core.specs.declared.password.PasswordFault.{PasswordFault}
 use Rattle.crypt_core.specs.declared.password.PasswordFault.TheVariants.{TooLong, HasNul}
 use Rattle.crypt_core.specs.declared.scheme.Scheme.{Scheme}
 use Rattle.crypt_core.specs.declared.scheme.Scheme.TheVariants.{Md5crypt, Shacrypt, Scrypt}
+use Rattle.crypt_core.specs.declared.setting.fault.SettingFault.{SettingFault}
+use Rattle.crypt_core.specs.declared.setting.fault.SettingFault.TheVariants as settings
 use Rattle.crypt_core.proofs.BytesWithinCost.{bytes_within}
 use Rattle.call_core.specs.Arguments.{IsFieldRefusal, IsSchemeMade, IsSchemeReading, TakesNewRounds}
 use Rattle.call_core.specs.Checks.{Compares, IsDead, Verifies}
 use Rattle.call_core.specs.Private.Checks.{IsCheckRefused}
 use Rattle.call_core.specs.Private.Hashes.{IsRequestRefused}
-use Rattle.call_core.specs.Reasons.{reason_row}
-use Rattle.call_core.specs.Reports.{LacksMemory, refused, reported}
+use Rattle.call_core.specs.Reasons.{password_reason, reason_row, setting_reason}
+use Rattle.call_core.specs.Reports.{LacksMemory, failed, found, refused}
 use Rattle.call_core.specs.declared.reason.Reason.{Reason}
-use Rattle.call_core.specs.declared.reason.Reason.TheVariants.{Matches, Outdated, Refused}
-use Rattle.call_core.specs.declared.reason.Refusal.{Refusal}
-use Rattle.call_core.specs.declared.reason.Refusal.TheVariants.{Dead, Differs, OutOfMemory, OverBudget, Password, Rounds, UnknownMethod}
+use Rattle.call_core.specs.declared.reason.Reason.TheVariants.{Dead, Locked, NoHash, OutOfMemory, OverBudget, Rounds, UnknownMethod, WrongPassword}
 use Rattle.call_core.specs.declared.report.Report.{Report}
 use Rattle.call_core.proofs.MadeSchemes.{made_once, never_refused}
-use Rattle.call_core.proofs.ReasonNumbers.{reason_once}
+use Rattle.call_core.proofs.ReasonNumbers.{never_zero, reason_once}
 use Rattle.call_core.specs.Logins.{Agrees, Declines, IsHashWork, IsLoginWork, IsMiss, IsUncheckable, LogsIn, decoy, spent}
 
 -- ---- The report, by the branches of a login
@@ -46,64 +46,58 @@ declined password field number rounds budget scheme refusal report is makes (inr
     let test : nat_lt budget (cost kept (length password)) ≡ true = grind arith in
     inl (is, inl (scheme, makes, inl (kept, spells, rw test (rw e at declines))))
 
-pub compared : (password field : List ℕ) (number rounds budget : ℕ) (scheme : Scheme) (kept : SettingValue) (misses : Refusal) (report : Report)
+pub compared : (password field : List ℕ) (number rounds budget : ℕ) (scheme : Scheme) (kept : SettingValue) (misses : Reason) (report : Report)
     → IsPassword password → IsSchemeMade TakesNewRounds number rounds scheme → Spells field kept → cost kept (length password) ≤ budget
-    → IsMiss field kept misses → Compares password kept field (if is_outdated_by kept.scheme scheme then Outdated else Matches) misses report
+    → IsMiss field kept misses → Compares password kept field (if is_outdated_by kept.scheme scheme then 1 else 0) misses report
     → LogsIn password field number rounds budget report
 compared password field number rounds budget scheme kept misses report is makes spells low miss compares =
     let test : nat_lt budget (cost kept (length password)) ≡ false = grind arith in
     inl (is, inl (scheme, makes, inl (kept, spells, rw test (misses, miss, compares))))
 
-pub outdated_fits : (kept other : SettingValue) (scheme also : Scheme) (reason : Reason)
-    → reason ≡ (if is_outdated_by kept.scheme scheme then Outdated else Matches) → kept ≡ other → scheme ≡ also
-    → IsTrue (is_outdated_by other.scheme also) → reason ≡ Outdated
-outdated_fits kept other scheme also reason e same made is =
-    let replaced : is_outdated_by other.scheme also ≡ true = is in
-    let told = rw (same, made) at e in
-    rw replaced at told
+pub outdated_is : (kept other : SettingValue) (scheme also : Scheme) → kept ≡ other → scheme ≡ also → IsTrue (is_outdated_by other.scheme also)
+    → is_outdated_by kept.scheme scheme ≡ true
+outdated_is kept other scheme also same made is = rw (same, made) is
 
 -- ---- It agrees with mkpasswd_verify
 
 declined_agrees : (password : List ℕ) (scheme : Scheme) (budget : ℕ) (refusal report : Report)
     → Declines password scheme budget refusal report → Agrees report refusal
 declined_agrees password scheme budget refusal report declines =
-    (ap (λ (r : Report). r.cost) declines.0, inl (ap (λ (r : Report). r.reason) declines.0))
+    (ap (λ (r : Report). r.cost) declines.0, inl (ap (λ (r : Report). r.error) declines.0))
 
-pub miss_is : (field : List ℕ) (kept : SettingValue) (misses : Refusal) → IsMiss field kept misses → (misses ≡ Differs) ⊎ (misses ≡ Dead)
-miss_is field kept Differs miss = inl refl
-miss_is field kept Dead miss = inr refl
-miss_is field kept misses miss = absurd miss
+pub miss_is : (field : List ℕ) (kept : SettingValue) (misses : Reason) → IsMiss field kept misses → (misses ≡ WrongPassword) ⊎ (misses ≡ Dead)
+miss_is field kept misses (inl (wrong, whole)) = inl wrong
+miss_is field kept misses (inr (dead, cut)) = inr dead
 
-told_agrees : (equal replaced : Bool) (misses : Refusal) (most : ℕ) (counts : Work) (report : Report) → (misses ≡ Differs) ⊎ (misses ≡ Dead)
-    → report ≡ reported (if equal then (if replaced then Outdated else Matches) else Refused misses) 0 most counts
-    → Agrees report (reported (if equal then Matches else Refused Differs) 0 most counts)
-told_agrees false replaced misses most counts report (inl differs) e = rw (e, differs) (refl, inl refl)
-told_agrees false replaced misses most counts report (inr dead) e = rw (e, dead) (refl, inr (inr (refl, refl)))
-told_agrees true false misses most counts report miss e = rw e (refl, inl refl)
-told_agrees true true misses most counts report miss e = rw e (refl, inr (inl (refl, refl)))
+told_agrees : (equal : Bool) (outdated : ℕ) (misses : Reason) (most : ℕ) (counts : Work) (report : Report) → (misses ≡ WrongPassword) ⊎ (misses ≡ Dead)
+    → report ≡ (if equal then found outdated most counts else failed misses most counts)
+    → Agrees report (if equal then found 0 most counts else failed WrongPassword most counts)
+told_agrees false outdated misses most counts report (inl wrong) e = rw (e, wrong) (refl, inl refl)
+told_agrees false outdated misses most counts report (inr dead) e = rw (e, dead) (refl, inr (refl, refl))
+told_agrees true outdated misses most counts report miss e = rw e (refl, inl refl)
 
-checked_agrees : (over equal replaced : Bool) (password field : List ℕ) (budget most : ℕ) (scheme : Scheme) (kept : SettingValue) (report : Report)
+checked_agrees : (over equal : Bool) (outdated : ℕ) (password field : List ℕ) (budget most : ℕ) (scheme : Scheme) (kept : SettingValue) (report : Report)
     → MatchBool over (Declines password scheme budget (refused OverBudget most) report)
-    ((misses : Refusal) × IsMiss field kept misses
-    × ((report ≡ reported (if equal then (if replaced then Outdated else Matches) else Refused misses) 0 most (work password kept))
+    ((misses : Reason) × IsMiss field kept misses
+    × ((report ≡ (if equal then found outdated most (work password kept) else failed misses most (work password kept)))
     ⊎ LacksMemory kept most report))
     → (verified : Report) × MatchBool over (verified ≡ refused OverBudget most)
-    ((verified ≡ reported (if equal then Matches else Refused Differs) 0 most (work password kept)) ⊎ LacksMemory kept most verified)
+    ((verified ≡ (if equal then found 0 most (work password kept) else failed WrongPassword most (work password kept))) ⊎ LacksMemory kept most verified)
     × Agrees report verified
-checked_agrees true equal replaced password field budget most scheme kept report declines =
+checked_agrees true equal outdated password field budget most scheme kept report declines =
     (refused OverBudget most, refl, declined_agrees password scheme budget (refused OverBudget most) report declines)
-checked_agrees false equal replaced password field budget most scheme kept report (misses, miss, inl told) = (
-  reported (if equal then Matches else Refused Differs) 0 most (work password kept),
+checked_agrees false equal outdated password field budget most scheme kept report (misses, miss, inl told) = (
+  (if equal then found 0 most (work password kept) else failed WrongPassword most (work password kept)),
   inl refl,
-  told_agrees equal replaced misses most (work password kept) report (miss_is field kept misses miss) told,
+  told_agrees equal outdated misses most (work password kept) report (miss_is field kept misses miss) told,
 )
-checked_agrees false equal replaced password field budget most scheme kept report (misses, miss, inr lacks) = (report, inr lacks, (refl, inl refl))
+checked_agrees false equal outdated password field budget most scheme kept report (misses, miss, inr lacks) = (report, inr lacks, (refl, inl refl))
 
 pub agrees : (password field : List ℕ) (number rounds budget : ℕ) (scheme : Scheme) (report : Report)
     → IsSchemeMade TakesNewRounds number rounds scheme → LogsIn password field number rounds budget report
     → (verified : Report) × Verifies password field budget verified × Agrees report verified
 agrees password field number rounds budget scheme report makes (inr (fault, is, e)) =
-    (refused (Password fault) 0, inr (fault, is, refl), rw e (refl, inl refl))
+    (refused (password_reason fault) 0, inr (fault, is, refl), rw e (refl, inl refl))
 agrees password field number rounds budget scheme report makes (inl (is, inr (inl (none, e)))) = absurd (cc (none, makes.1))
 agrees password field number rounds budget scheme report makes (inl (is, inr (inr (method, named, never, e)))) =
     never_refused number rounds scheme _ makes method named never
@@ -111,7 +105,7 @@ agrees password field number rounds budget scheme report makes (inl (is, inl (ot
     (refused fault 0, inl (is, inr (fault, broken, refl)), declined_agrees password other budget (refused fault 0) report declines)
 agrees password field number rounds budget scheme report makes (inl (is, inl (other, also, inl (kept, spells, checked)))) =
     let most = cost kept (length password) in
-    let agree = checked_agrees (nat_lt budget most) (bytes_eq (crypt password kept) field) (is_outdated_by kept.scheme other)
+    let agree = checked_agrees (nat_lt budget most) (bytes_eq (crypt password kept) field) (if is_outdated_by kept.scheme other then 1 else 0)
     password field budget most other kept report checked in
     (agree.0, inl (is, inl (kept, spells, agree.1)), agree.2)
 
@@ -149,16 +143,23 @@ spent_within password kept budget done hashed = go (nat_lt budget (cost kept (le
       rw is (omega (arith, work_spent kept.scheme password kept.salt, low))
   go false e (inr refused) = rw (refused_spent kept.scheme done refused) (omega arith)
 
-checked_work : (above : Bool) (password field : List ℕ) (budget : ℕ) (scheme : Scheme) (kept : SettingValue) (reason : Reason) (report : Report)
+compared_work : (equal : Bool) (outdated most : ℕ) (misses : Reason) (counts : Work)
+    → (if equal then found outdated most counts else failed misses most counts).work ≡ counts
+compared_work true outdated most misses counts = refl
+compared_work false outdated most misses counts = refl
+
+checked_work : (above : Bool) (password field : List ℕ) (budget : ℕ) (scheme : Scheme) (kept : SettingValue) (outdated : ℕ) (report : Report)
     → nat_lt budget (cost kept (length password)) ≡ above
     → MatchBool above (Declines password scheme budget (refused OverBudget (cost kept (length password))) report)
-    ((misses : Refusal) × IsMiss field kept misses × Compares password kept field reason misses report)
+    ((misses : Reason) × IsMiss field kept misses × Compares password kept field outdated misses report)
     → IsHashWork password (decoy scheme) budget report.work ⊎ IsHashWork password kept budget report.work
-checked_work true password field budget scheme kept reason report e declines = inl declines.1
-checked_work false password field budget scheme kept reason report e (misses, miss, inl told) = inr (rw e (inl (ap (λ (r : Report). r.work) told)))
-checked_work false password field budget scheme kept reason report e (misses, miss, inr (done, failed, told)) =
+checked_work true password field budget scheme kept outdated report e declines = inl declines.1
+checked_work false password field budget scheme kept outdated report e (misses, miss, inl told) =
+    inr (rw e (inl (ap (λ (r : Report). r.work) told
+    ∙ compared_work (bytes_eq (crypt password kept) field) outdated (cost kept (length password)) misses (work password kept))))
+checked_work false password field budget scheme kept outdated report e (misses, miss, inr (done, lacks, told)) =
     let same : report.work ≡ done = ap (λ (r : Report). r.work) told in
-    inr (rw e (inr (subst (λ (w : Work). IsAfterRefusedGrowth no_work kept.scheme w) (sym same) failed)))
+    inr (rw e (inr (subst (λ (w : Work). IsAfterRefusedGrowth no_work kept.scheme w) (sym same) lacks)))
 
 pub one_hash : (password field : List ℕ) (number rounds budget : ℕ) (report : Report) → LogsIn password field number rounds budget report
     → IsLoginWork password field number rounds budget report.work
@@ -169,7 +170,7 @@ one_hash password field number rounds budget report (inl (is, inl (scheme, makes
     inr (decoy scheme, inr (scheme, makes, refl), declines.1, spent_within password (decoy scheme) budget _ declines.1)
 one_hash password field number rounds budget report (inl (is, inl (scheme, makes, inl (kept, spells, checked)))) =
     elim (checked_work (nat_lt budget (cost kept (length password))) password field budget scheme kept
-    (if is_outdated_by kept.scheme scheme then Outdated else Matches) report refl checked) [
+    (if is_outdated_by kept.scheme scheme then 1 else 0) report refl checked) [
       | inl new ↦ inr (decoy scheme, inr (scheme, makes, refl), new, spent_within password (decoy scheme) budget _ new)
       | inr old ↦ inr (kept, inl spells, old, spent_within password kept budget _ old)
     ]
@@ -194,7 +195,7 @@ pretends password field number rounds budget scheme report makes is never (inl (
 
 -- a password that no hash has is refused alike for every field
 pub alike : (password field : List ℕ) (number rounds budget : ℕ) (fault : PasswordFault) (report : Report)
-    → IsPasswordRefused password fault → LogsIn password field number rounds budget report → report ≡ refused (Password fault) 0
+    → IsPasswordRefused password fault → LogsIn password field number rounds budget report → report ≡ refused (password_reason fault) 0
 alike password field number rounds budget TooLong report broken (inl (is, rest)) = absurd (omega (arith, is.0, broken))
 alike password field number rounds budget HasNul report broken (inl (is, rest)) = absurd (is.1 broken.1)
 alike password field number rounds budget TooLong report broken (inr (TooLong, also, e)) = e
@@ -203,68 +204,81 @@ alike password field number rounds budget TooLong report broken (inr (HasNul, al
 alike password field number rounds budget HasNul report broken (inr (TooLong, also, e)) = absurd (omega (arith, broken.0, also))
 
 -- a method and a cost that no new hash has are refused alike for every field
-pub alike_rounds : (password field : List ℕ) (number rounds budget : ℕ) (refusal : Refusal) (report : Report) → IsPassword password
-    → IsSchemeReading TakesNewRounds number rounds (Err refusal) → LogsIn password field number rounds budget report → report ≡ refused refusal 0
-alike_rounds password field number rounds budget refusal report is reading (inr (TooLong, broken, e)) = absurd (omega (arith, is.0, broken))
-alike_rounds password field number rounds budget refusal report is reading (inr (HasNul, broken, e)) = absurd (is.1 broken.1)
-alike_rounds password field number rounds budget refusal report is (inl (kind, none)) (inl (also, inr (inl (nobody, e)))) = rw kind e
-alike_rounds password field number rounds budget refusal report is (inr (kind, rest)) (inl (also, inr (inr (method, named, never, e)))) = rw kind e
-alike_rounds password field number rounds budget refusal report is (inl (kind, none)) (inl (also, inr (inr (method, named, never, e)))) =
+pub alike_rounds : (password field : List ℕ) (number rounds budget : ℕ) (reason : Reason) (report : Report) → IsPassword password
+    → IsSchemeReading TakesNewRounds number rounds (Err reason) → LogsIn password field number rounds budget report → report ≡ refused reason 0
+alike_rounds password field number rounds budget reason report is reading (inr (TooLong, broken, e)) = absurd (omega (arith, is.0, broken))
+alike_rounds password field number rounds budget reason report is reading (inr (HasNul, broken, e)) = absurd (is.1 broken.1)
+alike_rounds password field number rounds budget reason report is (inl (kind, none)) (inl (also, inr (inl (nobody, e)))) = rw kind e
+alike_rounds password field number rounds budget reason report is (inr (kind, rest)) (inl (also, inr (inr (method, named, never, e)))) = rw kind e
+alike_rounds password field number rounds budget reason report is (inl (kind, none)) (inl (also, inr (inr (method, named, never, e)))) =
     absurd (cc (none, named))
-alike_rounds password field number rounds budget refusal report is (inr (kind, (method, named, never))) (inl (also, inr (inl (none, e)))) =
+alike_rounds password field number rounds budget reason report is (inr (kind, (method, named, never))) (inl (also, inr (inl (none, e)))) =
     absurd (cc (none, named))
-alike_rounds password field number rounds budget refusal report is (inl (kind, none)) (inl (also, inl (scheme, makes, rest))) =
+alike_rounds password field number rounds budget reason report is (inl (kind, none)) (inl (also, inl (scheme, makes, rest))) =
     absurd (cc (none, makes.1))
-alike_rounds password field number rounds budget refusal report is (inr (kind, (method, named, never))) (inl (also, inl (scheme, makes, rest))) =
+alike_rounds password field number rounds budget reason report is (inr (kind, (method, named, never))) (inl (also, inl (scheme, makes, rest))) =
     never_refused number rounds scheme _ makes method named never
 
 -- ---- It tells a dead hash
 
--- a reason's number is that of no other
-not_dead : (reason : Reason) (report : Report) → reason ≢ Refused Dead → report.reason ≡ (reason_row reason).0
-    → report.reason ≡ (reason_row (Refused Dead)).0 → ⊥
-not_dead reason report other is told = other (reason_once reason (Refused Dead) (sym is ∙ told))
+-- a report with the error of another reason, or of none, is of no dead hash
+not_dead : (reason : Reason) (report : Report) → reason ≢ Dead → report.error ≡ (reason_row reason).0 → report.error ≡ (reason_row Dead).0 → ⊥
+not_dead reason report other is told = other (reason_once reason Dead (sym is ∙ told))
 
-compared_dead : (equal replaced : Bool) (field : List ℕ) (kept : SettingValue) (misses : Refusal) (most : ℕ) (counts : Work) (report : Report)
+compared_dead : (equal : Bool) (outdated : ℕ) (field : List ℕ) (kept : SettingValue) (misses : Reason) (most : ℕ) (counts : Work) (report : Report)
     → Spells field kept → IsMiss field kept misses
-    → report ≡ reported (if equal then (if replaced then Outdated else Matches) else Refused misses) 0 most counts
-    → report.reason ≡ (reason_row (Refused Dead)).0 → IsDead field
-compared_dead true true field kept misses most counts report spells miss e told =
-    absurd (not_dead Outdated report (λ same. cc) (ap (λ (r : Report). r.reason) e) told)
-compared_dead true false field kept misses most counts report spells miss e told =
-    absurd (not_dead Matches report (λ same. cc) (ap (λ (r : Report). r.reason) e) told)
-compared_dead false replaced field kept misses most counts report spells miss e told =
-    let same : Refused misses ≡ Refused Dead = reason_once (Refused misses) (Refused Dead) (sym (ap (λ (r : Report). r.reason) e) ∙ told) in
-    let dead : misses ≡ Dead = cc same in
-    (kept, spells, subst (IsMiss field kept) dead miss)
+    → report ≡ (if equal then found outdated most counts else failed misses most counts)
+    → report.error ≡ (reason_row Dead).0 → IsDead field
+compared_dead true outdated field kept misses most counts report spells miss e told =
+    absurd (never_zero Dead (sym told ∙ ap (λ (r : Report). r.error) e))
+compared_dead false outdated field kept misses most counts report spells (inl (wrong, whole)) e told =
+    absurd (not_dead WrongPassword report (λ same. absurd (cc same)) (rw wrong at (ap (λ (r : Report). r.error) e)) told)
+compared_dead false outdated field kept misses most counts report spells (inr (dead, cut)) e told = (kept, spells, cut)
 
-checked_dead : (above equal replaced : Bool) (password field : List ℕ) (budget : ℕ) (scheme : Scheme) (kept : SettingValue) (report : Report)
+checked_dead : (above equal : Bool) (outdated : ℕ) (password field : List ℕ) (budget : ℕ) (scheme : Scheme) (kept : SettingValue) (report : Report)
     → Spells field kept
     → MatchBool above (Declines password scheme budget (refused OverBudget (cost kept (length password))) report)
-    ((misses : Refusal) × IsMiss field kept misses
-    × ((report ≡ reported (if equal then (if replaced then Outdated else Matches) else Refused misses) 0 (cost kept (length password)) (work password kept))
+    ((misses : Reason) × IsMiss field kept misses
+    × ((report ≡ (if equal then found outdated (cost kept (length password)) (work password kept) else failed misses (cost kept (length password)) (work password kept)))
     ⊎ LacksMemory kept (cost kept (length password)) report))
-    → report.reason ≡ (reason_row (Refused Dead)).0 → IsDead field
-checked_dead true equal replaced password field budget scheme kept report spells declines told =
-    absurd (not_dead (Refused OverBudget) report (λ same. cc) (ap (λ (r : Report). r.reason) declines.0) told)
-checked_dead false equal replaced password field budget scheme kept report spells (misses, miss, inl e) told =
-    compared_dead equal replaced field kept misses _ _ report spells miss e told
-checked_dead false equal replaced password field budget scheme kept report spells (misses, miss, inr (done, failed, e)) told =
-    absurd (not_dead (Refused OutOfMemory) report (λ same. cc) (ap (λ (r : Report). r.reason) e) told)
+    → report.error ≡ (reason_row Dead).0 → IsDead field
+checked_dead true equal outdated password field budget scheme kept report spells declines told =
+    absurd (not_dead OverBudget report (λ same. absurd (cc same)) (ap (λ (r : Report). r.error) declines.0) told)
+checked_dead false equal outdated password field budget scheme kept report spells (misses, miss, inl e) told =
+    compared_dead equal outdated field kept misses _ _ report spells miss e told
+checked_dead false equal outdated password field budget scheme kept report spells (misses, miss, inr (done, lacks, e)) told =
+    absurd (not_dead OutOfMemory report (λ same. absurd (cc same)) (ap (λ (r : Report). r.error) e) told)
+
+-- no reason for a refused password, setting or field is Dead
+password_other : (fault : PasswordFault) → password_reason fault ≢ Dead
+password_other TooLong = λ same. absurd (cc same)
+password_other HasNul = λ same. absurd (cc same)
+
+pub setting_other : (fault : SettingFault) → setting_reason fault ≢ Dead
+setting_other settings.TooLong = λ same. absurd (cc same)
+setting_other settings.BadCharacter = λ same. absurd (cc same)
+setting_other settings.UnknownScheme = λ same. absurd (cc same)
+setting_other settings.BadRounds = λ same. absurd (cc same)
+setting_other settings.BadCost = λ same. absurd (cc same)
+setting_other settings.ScryptRange = λ same. absurd (cc same)
+setting_other settings.AboveCeiling = λ same. absurd (cc same)
+setting_other settings.BadSalt = λ same. absurd (cc same)
+
+field_other : (field : List ℕ) (reason : Reason) → IsFieldRefusal field reason → reason ≢ Dead
+field_other field reason (inl (is, empty)) = λ same. absurd (cc (is, same))
+field_other field reason (inr (inl (is, locked))) = λ same. absurd (cc (is, same))
+field_other field reason (inr (inr (fault, stored, broken, is))) = λ same. setting_other fault (sym is ∙ same)
 
 pub told_dead : (password field : List ℕ) (number rounds budget : ℕ) (report : Report) → LogsIn password field number rounds budget report
-    → report.reason ≡ (reason_row (Refused Dead)).0 → IsDead field
+    → report.error ≡ (reason_row Dead).0 → IsDead field
 told_dead password field number rounds budget report (inr (fault, is, e)) told =
-    absurd (not_dead (Refused (Password fault)) report (λ same. cc) (ap (λ (r : Report). r.reason) e) told)
+    absurd (not_dead (password_reason fault) report (password_other fault) (ap (λ (r : Report). r.error) e) told)
 told_dead password field number rounds budget report (inl (is, inr (inl (none, e)))) told =
-    absurd (not_dead (Refused UnknownMethod) report (λ same. cc) (ap (λ (r : Report). r.reason) e) told)
+    absurd (not_dead UnknownMethod report (λ same. absurd (cc same)) (ap (λ (r : Report). r.error) e) told)
 told_dead password field number rounds budget report (inl (is, inr (inr (method, named, never, e)))) told =
-    absurd (not_dead (Refused Rounds) report (λ same. cc) (ap (λ (r : Report). r.reason) e) told)
-told_dead password field number rounds budget report (inl (is, inl (scheme, makes, inr (refusal, broken, declines)))) told =
-    let same : Refused refusal ≡ Refused Dead =
-    reason_once (Refused refusal) (Refused Dead) (sym (ap (λ (r : Report). r.reason) declines.0) ∙ told) in
-    let dead : refusal ≡ Dead = cc same in
-    absurd (subst (IsFieldRefusal field) dead broken)
+    absurd (not_dead Rounds report (λ same. absurd (cc same)) (ap (λ (r : Report). r.error) e) told)
+told_dead password field number rounds budget report (inl (is, inl (scheme, makes, inr (reason, broken, declines)))) told =
+    absurd (not_dead reason report (field_other field reason broken) (ap (λ (r : Report). r.error) declines.0) told)
 told_dead password field number rounds budget report (inl (is, inl (scheme, makes, inl (kept, spells, checked)))) told =
-    checked_dead (nat_lt budget (cost kept (length password))) (bytes_eq (crypt password kept) field) (is_outdated_by kept.scheme scheme)
+    checked_dead (nat_lt budget (cost kept (length password))) (bytes_eq (crypt password kept) field) (if is_outdated_by kept.scheme scheme then 1 else 0)
     password field budget scheme kept report spells checked told

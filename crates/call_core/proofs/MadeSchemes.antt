@@ -2,7 +2,6 @@
 use Rattle.std.proofs.Common.{◌≡◌, ℕ, Some, Err, false, inl, inr, refl, subst, arith}
 use Rattle.std.specs.Prelude.{IsTrue}
 use Rattle.crypt_core.specs.MadeSettings.{TakesRounds}
-use Rattle.crypt_core.specs.Methods.{method_numbered}
 use Rattle.crypt_core.specs.OutdatedSchemes.{is_outdated_by}
 use Rattle.crypt_core.specs.Settings.{SettingValue}
 use Rattle.crypt_core.specs.declared.method.Method.{Method}
@@ -10,14 +9,14 @@ use Rattle.crypt_core.specs.declared.method.Method.TheVariants as methods
 use Rattle.crypt_core.specs.declared.scheme.Scheme.{Scheme}
 use Rattle.crypt_core.specs.declared.scheme.Scheme.TheVariants.{Md5crypt, Shacrypt, Scrypt}
 use Rattle.crypt_core.specs.declared.scheme.Sha.TheVariants.{Sha256, Sha512}
-use Rattle.call_core.specs.Arguments.{IsSchemeMade, IsSchemeReading, OnScheme, TakesNewRounds}
-use Rattle.call_core.specs.declared.reason.Refusal.{Refusal}
+use Rattle.call_core.specs.Arguments.{IsSchemeMade, IsSchemeReading, OnScheme, TakesNewRounds, chosen_method}
+use Rattle.call_core.specs.declared.reason.Reason.{Reason}
 
 -- what holds of the refusal of a number and a cost
-pub scheme_refused : (Takes : Method → ℕ → Type 0) (number rounds : ℕ) (refusal : Refusal) (Fails : Refusal → Type 0) (Then : Scheme → Type 0)
-    → IsSchemeReading Takes number rounds (Err refusal) → Fails refusal → OnScheme Takes number rounds Fails Then
-scheme_refused Takes number rounds refusal Fails Then (inl (kind, none)) fails = inr (inl (none, subst Fails kind fails))
-scheme_refused Takes number rounds refusal Fails Then (inr (kind, (method, named, never))) fails =
+pub scheme_refused : (Takes : Method → ℕ → Type 0) (number rounds : ℕ) (reason : Reason) (Fails : Reason → Type 0) (Then : Scheme → Type 0)
+    → IsSchemeReading Takes number rounds (Err reason) → Fails reason → OnScheme Takes number rounds Fails Then
+scheme_refused Takes number rounds reason Fails Then (inl (kind, none)) fails = inr (inl (none, subst Fails kind fails))
+scheme_refused Takes number rounds reason Fails Then (inr (kind, (method, named, never))) fails =
     inr (inr (method, named, never, subst Fails kind fails))
 
 takes_rounds : (method : Method) (rounds : ℕ) → TakesNewRounds method rounds → TakesRounds method rounds
@@ -36,7 +35,7 @@ made_once Takes Also number rounds a b one two =
 
 -- a number and rounds that make a scheme are not refused
 pub never_refused : (number rounds : ℕ) (scheme : Scheme) (Then : Type 0) → IsSchemeMade TakesNewRounds number rounds scheme
-    → (method : Method) → method_numbered number ≡ Some method → ¬ TakesNewRounds method rounds → Then
+    → (method : Method) → chosen_method number ≡ Some method → ¬ TakesNewRounds method rounds → Then
 never_refused number rounds scheme Then makes method named never =
     let same : method ≡ makes.0 = cc (named, makes.1) in
     absurd (never (rw same makes.2))

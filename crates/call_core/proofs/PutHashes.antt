@@ -1,5 +1,5 @@
 -- Hashes that are made, and put into the caller's bytes.
-use Rattle.std.proofs.Common.{◌≡◌, ◌⊎◌, ◌<◌, ◌<ℤ◌, ℕ, pos, List, [], ◌∷◌, length, take, Result, Ok, Err, inl, inr, refl, subst, sym, arith}
+use Rattle.std.proofs.Common.{◌≡◌, ◌⊎◌, ◌<◌, ℕ, List, [], ◌∷◌, length, take, Result, Ok, Err, inl, inr, refl, subst, sym, arith}
 use Rattle.std.proofs.Math.Seq.{take-append_seam}
 use Rattle.std.proofs.lemmas.List.{take_all}
 use Rattle.std.specs.Prelude.{IfOk, MatchResult}
@@ -9,19 +9,18 @@ use Rattle.crypt_core.specs.Settings.{SettingValue}
 use Rattle.crypt_core.specs.Work.{work}
 use Rattle.call_core.specs.Hashes.{Hashes, PutsHash, admission}
 use Rattle.call_core.specs.Private.Hashes.{IsPut, IsTold, MakesHash, MakesHashOf}
-use Rattle.call_core.specs.Reports.{LacksMemory, Leaves, put, reported, token}
-use Rattle.call_core.specs.declared.reason.Reason.TheVariants.{Done}
+use Rattle.call_core.specs.Reports.{LacksMemory, Leaves, put, succeeded, token}
 use Rattle.call_core.specs.declared.report.Report.{Report}
 
 puts_at : (password text : List ℕ) (kept : SettingValue) (lock old : List ℕ) (made : Result (List ℕ × Report) Report) (report : Report) (new : List ℕ)
     (admitted : Result ℕ Report)
     → MatchResult admitted
-    (λ most. (made ≡ Ok (text, reported Done (length text) most (work password kept)))
+    (λ most. (made ≡ Ok (text, succeeded (length text) most (work password kept)))
     ⊎ ((told : Report) × (made ≡ Err told) × LacksMemory kept most told))
     (λ refusal. made ≡ Err refusal)
     → IsPut made lock old report new
     → MatchResult admitted
-    (λ most. Leaves (reported Done (length text) most (work password kept)) text old report new
+    (λ most. Leaves (succeeded (length text) most (work password kept)) text old report new
     ⊎ (LacksMemory kept most report × Leaves report lock old report new))
     (λ refusal. Leaves refusal lock old report new)
 puts_at password text kept lock old made report new (Ok most) (inl e) put = inl (rw e at put)
@@ -52,7 +51,7 @@ take_put text (b ∷ rest) room =
 -- what holds of the hash that was made holds of the bytes that the report counts in `out`
 pub put_whole : (Holds : List ℕ → Type 0) (budget : ℕ) (lock old : List ℕ) (done : Work) (made : Result (List ℕ × Report) Report) (report : Report)
     (new : List ℕ) → IsTold budget (length old) done made → IsPut made lock old report new → IfOk made (λ both. Holds both.0)
-    → pos 0 <ℤ report.reason → Holds (take report.length new)
+    → report.error ≡ 0 → Holds (take report.length new)
 put_whole Holds budget lock old done (Ok (text, told)) report new says is_put holds positive =
     let same : report ≡ told = is_put.0 in
     let e : take report.length new ≡ text = rw (same, is_put.1, says.1) (take_put text old says.2) in

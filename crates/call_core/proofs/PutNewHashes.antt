@@ -1,5 +1,5 @@
 -- Hashes that are made, and put into the caller's bytes.
-use Rattle.std.proofs.Common.{◌≡◌, ◌≢◌, ◌==◌, ◌⊎◌, ap, nat_lt, pos, rules, ◌<ℤ◌, ℕ, List, [], ◌∷◌, length, Result, Ok, Err, false, inl, inr, arith}
+use Rattle.std.proofs.Common.{◌≡◌, ◌≢◌, ◌==◌, ◌⊎◌, ap, nat_lt, refl, ℕ, List, [], ◌∷◌, length, Result, Ok, Err, false, inl, inr, arith}
 use Rattle.std.specs.Prelude.{MatchBool, MatchResult, Bool, true}
 use Rattle.crypt_core.specs.Crypt.{crypt}
 use Rattle.crypt_core.specs.MadeSettings.{salted}
@@ -13,8 +13,7 @@ use Rattle.call_core.specs.Hashes.{PutsHash, admission}
 use Rattle.call_core.specs.Private.Hashes.{IsPut, MakesHash}
 use Rattle.call_core.specs.Reasons.{reason_row}
 use Rattle.call_core.specs.Reports.{Leaves, put, refused, token}
-use Rattle.call_core.specs.declared.reason.Reason.TheVariants.{Refused}
-use Rattle.call_core.specs.declared.reason.Refusal.TheVariants.{NoRandomNumbers, OutOfMemory}
+use Rattle.call_core.specs.declared.reason.Reason.TheVariants.{NoRandomNumbers, OutOfMemory}
 use Rattle.call_core.specs.declared.report.Report.{Report}
 use Rattle.call_core.proofs.MadeSchemes.{made_once, never_refused}
 use Rattle.call_core.proofs.PutHashes.{puts}
@@ -84,11 +83,11 @@ no_three n other = grind arith
 made_within : (password : List ℕ) (kept : SettingValue) (budget : ℕ) (lock old : List ℕ) (report : Report) (new : List ℕ)
     → nat_lt budget (cost kept (length password)) ≡ false → nat_lt (length (crypt password kept)) (length old) ≡ true
     → PutsHash password kept budget lock old report new
-    → (pos 0 <ℤ report.reason) ⊎ (report.reason ≡ (reason_row (Refused OutOfMemory)).0)
+    → (report.error ≡ 0) ⊎ (report.error ≡ (reason_row OutOfMemory).0)
 made_within password kept budget lock old report new low room puts =
     elim (rw (low, room) at puts) [
-      | inl leaves ↦ inl (rw leaves.0 (search rules))
-      | inr lacks ↦ inr (ap (λ (r : Report). r.reason) lacks.0.2)
+      | inl leaves ↦ inl (rw leaves.0 refl)
+      | inr lacks ↦ inr (ap (λ (r : Report). r.error) lacks.0.2)
     ]
 
 pub written : (password : List ℕ) (number rounds budget : ℕ) (numbers old : List ℕ) (scheme : Scheme) (report : Report) (new : List ℕ)
@@ -96,7 +95,7 @@ pub written : (password : List ℕ) (number rounds budget : ℕ) (numbers old : 
     → nat_lt budget (cost (salted scheme numbers) (length password)) ≡ false
     → nat_lt (length (crypt password (salted scheme numbers))) (length old) ≡ true
     → HashesAnew password number rounds budget numbers old report new
-    → (pos 0 <ℤ report.reason) ⊎ (report.reason ≡ (reason_row (Refused OutOfMemory)).0)
+    → (report.error ≡ 0) ⊎ (report.error ≡ (reason_row OutOfMemory).0)
 written password number rounds budget numbers old scheme report new makes is three low room (inr (TooLong, broken, e)) = absurd (omega (arith, is.0, broken))
 written password number rounds budget numbers old scheme report new makes is three low room (inr (HasNul, broken, e)) = absurd (is.1 broken.1)
 written password number rounds budget numbers old scheme report new makes is three low room (inl (also, inr (inl (none, e)))) = absurd (cc (none, makes.1))

@@ -1,5 +1,5 @@
 -- The audit of a stored field, without a password.
-use Rattle.std.specs.Prelude.{◌≡◌, ◌≢◌, ℕ, List, []}
+use Rattle.std.specs.Prelude.{◌≡◌, ◌⊎◌, ℕ, List, []}
 use Rattle.prims_core.specs.Work.{no_work}
 use Rattle.crypt_core.specs.Findings.{Finds}
 use Rattle.crypt_core.specs.Messages.{md5crypt_rounds}
@@ -13,25 +13,22 @@ use Rattle.crypt_core.specs.declared.finding.Finding.TheVariants.{Hash, NoHash, 
 use Rattle.crypt_core.specs.declared.method.Method.TheVariants as methods
 use Rattle.crypt_core.specs.declared.scheme.Scheme.{Scheme}
 use Rattle.crypt_core.specs.declared.scheme.Scheme.TheVariants.{Md5crypt, Shacrypt, Scrypt}
-use Rattle.crypt_core.specs.declared.setting.fault.SettingFault.TheVariants.{UnknownScheme}
 use Rattle.crypt_core.specs.declared.standing.Standing.{Standing}
 use Rattle.crypt_core.specs.declared.standing.Standing.TheVariants as standings
 use Rattle.call_core.specs.Arguments.{IsSchemeMade, OnScheme, Refuses, TakesNewRounds}
 use Rattle.call_core.specs.Limits.{limit_of, twice}
 use Rattle.call_core.specs.Logins.{IsUncheckable}
-use Rattle.call_core.specs.Reasons.{reason_row}
-use Rattle.call_core.specs.Reports.{refused, reported}
-use Rattle.call_core.specs.declared.reason.Reason.{Reason}
-use Rattle.call_core.specs.declared.reason.Reason.TheVariants.{Done, Refused}
-use Rattle.call_core.specs.declared.reason.Refusal.TheVariants as refusals
+use Rattle.call_core.specs.Reasons.{reason_row, setting_reason}
+use Rattle.call_core.specs.Reports.{found, refused}
+use Rattle.call_core.specs.declared.reason.Reason.TheVariants as reasons
 use Rattle.call_core.specs.declared.report.Report.{Report}
 
--- The reason for each standing.
-abbrev pub standing_reason : Standing → Reason
-standing_reason standings.OverBudget = Refused refusals.OverBudget
-standing_reason standings.Dead = Refused refusals.Dead
-standing_reason standings.Outdated = Refused refusals.Outdated
-standing_reason standings.Current = Done
+-- standing_report standing most: the report of a hash with this standing, whose greatest cost is `most`.
+abbrev pub standing_report : Standing → ℕ → Report
+standing_report standings.OverBudget most = refused reasons.OverBudget most
+standing_report standings.Dead most = refused reasons.Dead most
+standing_report standings.Outdated most = found 1 most no_work
+standing_report standings.Current most = found 0 most no_work
 
 -- with_scheme scheme report: the report, with a scheme's number and its rounds, or N, r and p.
 abbrev pub with_scheme : Scheme → Report → Report
@@ -41,7 +38,7 @@ with_scheme (Scrypt params) report =
     record report { scheme = (method_row methods.Scrypt).number; n = row_count params; r = params.r; p = params.p }
 
 -- audit_report finding: the report of a finding.
---   Hash       the reason for its standing, the greatest cost of a hash with its setting, and its scheme
+--   Hash       that of its standing, with its scheme
 --   NoHash     that there is none
 --   Locked     that it is locked
 --   Malformed  what is wrong with the setting
@@ -49,13 +46,13 @@ with_scheme (Scrypt params) report =
 --   Unknown    an unknown scheme
 --   NoScheme   that it is of no scheme
 abbrev pub audit_report : Finding → Report
-audit_report (Hash scheme most standing) = with_scheme scheme (reported (standing_reason standing) 0 most no_work)
-audit_report NoHash = refused refusals.NoHash 0
-audit_report Locked = refused refusals.Locked 0
-audit_report (Malformed fault) = refused (refusals.Setting fault) 0
-audit_report (Other other) = record (refused (refusals.Setting UnknownScheme) 0) { scheme = (other_scheme_row other).0 }
-audit_report Unknown = refused (refusals.Setting UnknownScheme) 0
-audit_report NoScheme = refused refusals.NoScheme 0
+audit_report (Hash scheme most standing) = with_scheme scheme (standing_report standing most)
+audit_report NoHash = refused reasons.NoHash 0
+audit_report Locked = refused reasons.Locked 0
+audit_report (Malformed fault) = refused (setting_reason fault) 0
+audit_report (Other other) = record (refused reasons.UnknownScheme 0) { scheme = (other_scheme_row other).0 }
+audit_report Unknown = refused reasons.UnknownScheme 0
+audit_report NoScheme = refused reasons.NoScheme 0
 
 -- The report of mkpasswd_audit and web_audit: what an audit finds in the field; or the refusal of the method or the rounds. A
 -- budget of 0 stands for the audit's own.
@@ -71,9 +68,13 @@ IsCurrent field number rounds budget =
     (kept : SettingValue) × (scheme : Scheme) × Spells field kept × IsSchemeMade TakesNewRounds number rounds scheme
     × HasStanding scheme budget field kept standings.Current
 
+-- The report of a field that an audit passes.
+abbrev pub Passes : Report → Type 0
+Passes report = (report.error ≡ 0) × (report.outdated ≡ 0)
+
 -- A hash that an audit by its own budget calls current, outdated or dead is one that a login by the same method and rounds
 -- can check within the limit of their policy, at least with the empty password.
 abbrev pub ForeseesLogins : List ℕ → ℕ → ℕ → ℕ → Report → Type 0
 ForeseesLogins field number rounds budget report =
-    (standing : Standing) → standing ≢ standings.OverBudget → report.reason ≡ (reason_row (standing_reason standing)).0 → budget ≡ 0
+    (report.error ≡ 0) ⊎ (report.error ≡ (reason_row reasons.Dead).0) → budget ≡ 0
     → ¬ IsUncheckable [] field (limit_of number rounds twice 0)

@@ -10,11 +10,9 @@ use Rattle.crypt_core.specs.Settings.{SettingValue, Spells}
 use Rattle.crypt_core.specs.StoredFields.{IsWhole}
 use Rattle.crypt_core.specs.Work.{cost, work}
 use Rattle.call_core.specs.Arguments.{OnField, OnPassword, Refuses}
-use Rattle.call_core.specs.Reports.{LacksMemory, refused, reported}
+use Rattle.call_core.specs.Reports.{LacksMemory, failed, found, refused}
 use Rattle.call_core.specs.declared.reason.Reason.{Reason}
-use Rattle.call_core.specs.declared.reason.Reason.TheVariants.{Matches, Refused}
-use Rattle.call_core.specs.declared.reason.Refusal.{Refusal}
-use Rattle.call_core.specs.declared.reason.Refusal.TheVariants.{OverBudget, Differs}
+use Rattle.call_core.specs.declared.reason.Reason.TheVariants.{OverBudget, WrongPassword}
 use Rattle.call_core.specs.declared.report.Report.{Report}
 
 -- A password that opens a stored hash: the hash spells a setting, the password's hash with that setting is the stored
@@ -32,19 +30,20 @@ NeedsNoMemory text = (kept : SettingValue) × Spells text kept × (allocates kep
 abbrev pub IsDead : List ℕ → Type 0
 IsDead text = (kept : SettingValue) × Spells text kept × ¬ IsWhole text kept
 
--- The report of a hash that is compared with the stored one: `fits` or `misses`, or that scrypt could not allocate.
-abbrev pub Compares : List ℕ → SettingValue → List ℕ → Reason → Refusal → Report → Type 0
-Compares password kept stored fits misses report =
+-- The report of a hash that is compared with the stored one: no error if they are the same, and whether the stored one is
+-- outdated, 1 or 0; or else the reason `misses`; or that scrypt could not allocate.
+abbrev pub Compares : List ℕ → SettingValue → List ℕ → ℕ → Reason → Report → Type 0
+Compares password kept stored outdated misses report =
     let most = cost kept (length password) in
-    (report ≡ reported (if bytes_eq (crypt password kept) stored then fits else Refused misses) 0 most (work password kept))
+    (report ≡ (if bytes_eq (crypt password kept) stored then found outdated most (work password kept) else failed misses most (work password kept)))
     ⊎ LacksMemory kept most report
 
 -- The report of mkpasswd_verify and web_verify.
 --   a refusal         that refusal
 --   above the budget  OverBudget and the cost, without work
---   otherwise         Matches or Differs with the cost and the work of one hash, or that scrypt could not allocate
+--   otherwise         no error or WrongPassword with the cost and the work of one hash, or that scrypt could not allocate
 abbrev pub Verifies : List ℕ → List ℕ → ℕ → Report → Type 0
 Verifies password stored budget report =
     OnPassword password (Refuses report) (OnField stored (Refuses report) (λ kept.
     let most = cost kept (length password) in
-    MatchBool (nat_lt budget most) (report ≡ refused OverBudget most) (Compares password kept stored Matches Differs report)))
+    MatchBool (nat_lt budget most) (report ≡ refused OverBudget most) (Compares password kept stored 0 WrongPassword report)))

@@ -8,10 +8,9 @@ use Rattle.crypt_core.specs.MadeSettings.{salted}
 use Rattle.crypt_core.specs.Settings.{SettingValue}
 use Rattle.crypt_core.specs.Work.{cost, work}
 use Rattle.call_core.specs.Arguments.{OnPassword, OnScheme, OnSetting, TakesNewRounds}
-use Rattle.call_core.specs.Reports.{LacksMemory, Leaves, refused, reported, token}
-use Rattle.call_core.specs.declared.reason.Reason.TheVariants.{Done}
-use Rattle.call_core.specs.declared.reason.Refusal.{Refusal}
-use Rattle.call_core.specs.declared.reason.Refusal.TheVariants.{TooFewBytes, OverBudget, NoRandomNumbers}
+use Rattle.call_core.specs.Reports.{LacksMemory, Leaves, refused, succeeded, token}
+use Rattle.call_core.specs.declared.reason.Reason.{Reason}
+use Rattle.call_core.specs.declared.reason.Reason.TheVariants.{TooFewBytes, OverBudget, NoRandomNumbers}
 use Rattle.call_core.specs.declared.report.Report.{Report}
 
 -- The cost, if the budget and then the capacity `room` allow the hash and a byte 0; otherwise the report of the
@@ -29,21 +28,21 @@ abbrev pub PutsHash : List ℕ → SettingValue → ℕ → List ℕ → List �
 PutsHash password kept budget lock old report new =
     let text = crypt password kept in
     MatchResult (admission budget (length old) password kept)
-    (λ most. Leaves (reported Done (length text) most (work password kept)) text old report new
+    (λ most. Leaves (succeeded (length text) most (work password kept)) text old report new
     ⊎ (LacksMemory kept most report × Leaves report lock old report new))
     (λ refusal. Leaves refusal lock old report new)
 
 -- The effect of mkpasswd_hash and web_hash: the hash, or the token with the first refusal.
 abbrev pub Hashes : List ℕ → List ℕ → ℕ → List ℕ → Report → List ℕ → Type 0
 Hashes password text budget old report new =
-    let Locks = λ (refusal : Refusal). Leaves (refused refusal 0) (token text) old report new in
+    let Locks = λ (reason : Reason). Leaves (refused reason 0) (token text) old report new in
     OnPassword password Locks (OnSetting text Locks (λ kept. PutsHash password kept budget (token text) old report new))
 
 -- The effect of mkpasswd_new_from: with three random numbers the hash with the setting that they make. Without them it
 -- is the first refusal that precedes them, or else that they are missing.
 abbrev pub HashesAnew : List ℕ → ℕ → ℕ → ℕ → List ℕ → List ℕ → Report → List ℕ → Type 0
 HashesAnew password number rounds budget numbers old report new =
-    let Locks = λ (refusal : Refusal). Leaves (refused refusal 0) (token []) old report new in
+    let Locks = λ (reason : Reason). Leaves (refused reason 0) (token []) old report new in
     OnPassword password Locks (OnScheme TakesNewRounds number rounds Locks (λ scheme.
     MatchBool (length numbers == 3)
     (PutsHash password (salted scheme numbers) budget (token []) old report new)

@@ -5,7 +5,6 @@ use Rattle.std.specs.Prelude.{◌≡◌, ℕ, ◌≤◌, ◌==◌, ◌||◌, ◌
 use Rattle.std.specs.Option.{option_map_or}
 use Rattle.prims_core.specs.Work.{no_work}
 use Rattle.crypt_core.specs.MadeSettings.{made_scheme, rounds_of}
-use Rattle.crypt_core.specs.Methods.{method_numbered}
 use Rattle.crypt_core.specs.Passwords.{password_limit}
 -- The limit of a policy.
 pub use Rattle.crypt_core.specs.Policies.{new_cost, policy_limit}
@@ -15,15 +14,14 @@ use Rattle.crypt_core.specs.Rounds.{clamped}
 use Rattle.crypt_core.specs.declared.method.Method.{Method}
 use Rattle.crypt_core.specs.declared.method.Method.TheVariants as methods
 use Rattle.crypt_core.specs.declared.scheme.Scheme.{Scheme}
-use Rattle.call_core.specs.Arguments.{IsSchemeMade, OnLength, OnScheme, Refuses, TakesNewRounds}
-use Rattle.call_core.specs.Reports.{refused, reported}
+use Rattle.call_core.specs.Arguments.{IsSchemeMade, OnLength, OnScheme, Refuses, TakesNewRounds, chosen_method}
+use Rattle.call_core.specs.Reports.{refused, succeeded}
 use Rattle.call_core.specs.declared.limit.Limit.{Limit}
 use Rattle.call_core.specs.declared.limit.Limit.TheVariants.{Policy, Bytes}
-use Rattle.call_core.specs.declared.reason.Reason.TheVariants.{Done}
-use Rattle.call_core.specs.declared.reason.Refusal.TheVariants.{OverBudget}
+use Rattle.call_core.specs.declared.reason.Reason.TheVariants.{OverBudget}
 use Rattle.call_core.specs.declared.report.Report.{Report}
 
--- The budget that stands for the limit of the policy: MKPASSWD_TWICE in C.
+-- The budget that stands for the limit of the policy.
 abbrev pub twice : ℕ
 twice = 0
 
@@ -47,7 +45,7 @@ method_limit method rounds len = if takes_new_rounds method rounds then limit_by
 -- limit_in number rounds limit len: the most that a login or a new hash may cost, of a password of this length: the budget, or
 -- the limit of the policy, or 0 if no method has the number.
 abbrev pub limit_in : ℕ → ℕ → Limit → ℕ → ℕ
-limit_in number rounds Policy len = option_map_or (λ (method : Method). method_limit method rounds len) (method_numbered number) 0
+limit_in number rounds Policy len = option_map_or (λ (method : Method). method_limit method rounds len) (chosen_method number) 0
 limit_in number rounds (Bytes budget) len = budget
 
 -- meant budget: the limit that a budget stands for.
@@ -73,7 +71,7 @@ limit_bytes (Bytes budget) scheme = budget
 -- limit_report scheme limit longest: the report of a limit: it, the length of the longest password, and the rounds; or that no
 -- new hash is within the limit.
 abbrev pub limit_report : Scheme → ℕ → Option ℕ → Report
-limit_report scheme limit (Some longest) = record (reported Done longest limit no_work) { rounds = rounds_of scheme }
+limit_report scheme limit (Some longest) = record (succeeded longest limit no_work) { rounds = rounds_of scheme }
 limit_report scheme limit None = refused OverBudget limit
 
 -- The report of mkpasswd_limit and web_limit: the limit, and the length of the longest password whose new hash is within it.
@@ -86,7 +84,7 @@ Limits number rounds limit report =
 -- rounds_report scheme len own: the report of the rounds of a new hash of a password of this length, and of its cost; or that
 -- none is within the limit, with the cost by the policy's scheme.
 abbrev pub rounds_report : Scheme → ℕ → Option Scheme → Report
-rounds_report scheme len (Some own) = record (reported Done 0 (new_cost own len) no_work) { rounds = rounds_of own }
+rounds_report scheme len (Some own) = record (succeeded 0 (new_cost own len) no_work) { rounds = rounds_of own }
 rounds_report scheme len None = refused OverBudget (new_cost scheme len)
 
 -- The report of mkpasswd_rounds and web_rounds: the rounds of the fitted scheme.

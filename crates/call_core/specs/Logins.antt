@@ -18,12 +18,11 @@ use Rattle.crypt_core.specs.declared.scheme.Scheme.TheVariants.{Scrypt}
 use Rattle.call_core.specs.Arguments.{IsSchemeMade, IsSchemeReading, OnField, OnPassword, OnScheme, Refuses, TakesNewRounds}
 use Rattle.call_core.specs.Checks.{Compares, IsDead, Verifies}
 use Rattle.call_core.specs.Limits.{limit_of, new_cost, policy_limit, twice}
-use Rattle.call_core.specs.Reasons.{reason_row}
+use Rattle.call_core.specs.Reasons.{password_reason, reason_row}
 use Rattle.call_core.specs.Rehashes.{IsOutdated}
-use Rattle.call_core.specs.Reports.{refused, reported}
-use Rattle.call_core.specs.declared.reason.Reason.TheVariants.{Matches, Outdated, Refused}
-use Rattle.call_core.specs.declared.reason.Refusal.{Refusal}
-use Rattle.call_core.specs.declared.reason.Refusal.TheVariants.{Dead, Differs, OutOfMemory, OverBudget, Password}
+use Rattle.call_core.specs.Reports.{failed, refused}
+use Rattle.call_core.specs.declared.reason.Reason.{Reason}
+use Rattle.call_core.specs.declared.reason.Reason.TheVariants.{Dead, OutOfMemory, OverBudget, WrongPassword}
 use Rattle.call_core.specs.declared.report.Report.{Report}
 
 -- The setting of the hash that a login makes and drops if it can't check the stored one: a new hash's, with a fixed salt.
@@ -43,26 +42,24 @@ abbrev pub Declines : List ℕ → Scheme → ℕ → Report → Report → Type
 Declines password scheme budget refusal report =
     (report ≡ record refusal { work = report.work }) × IsHashWork password (decoy scheme) budget report.work
 
--- The refusal of a password that doesn't match the stored hash: Dead if no password does, because it is not whole.
-abbrev pub IsMiss : List ℕ → SettingValue → Refusal → Type 0
-IsMiss field kept Differs = IsWhole field kept
-IsMiss field kept Dead = ¬ IsWhole field kept
-IsMiss field kept refusal = ⊥
+-- The reason of a password that doesn't match the stored hash: Dead if no password does, because it is not whole.
+abbrev pub IsMiss : List ℕ → SettingValue → Reason → Type 0
+IsMiss field kept reason = ((reason ≡ WrongPassword) × IsWhole field kept) ⊎ ((reason ≡ Dead) × ¬ IsWhole field kept)
 
 -- The report of mkpasswd_login.
 --   a refused password, method or rounds that refusal, without work
 --   a stored hash that can't be checked  the report of mkpasswd_verify with the work of the decoy
---   otherwise                            the report of mkpasswd_verify, with Outdated in place of Matches if the scheme
---                                        replaces the setting, and Dead in place of Differs if the hash is not whole
+--   otherwise                            the report of mkpasswd_verify, with whether the scheme replaces the setting if the
+--                                        password matches, and Dead in place of WrongPassword if the hash is not whole
 abbrev pub LogsIn : List ℕ → List ℕ → ℕ → ℕ → ℕ → Report → Type 0
 LogsIn password field number rounds budget report =
     OnPassword password (Refuses report) (OnScheme TakesNewRounds number rounds (Refuses report) (λ scheme.
-    OnField field (λ refusal. Declines password scheme budget (refused refusal 0) report) (λ kept.
+    OnField field (λ reason. Declines password scheme budget (refused reason 0) report) (λ kept.
     let most = cost kept (length password) in
     MatchBool (nat_lt budget most)
     (Declines password scheme budget (refused OverBudget most) report)
-    ((misses : Refusal) × IsMiss field kept misses
-    × Compares password kept field (if is_outdated_by kept.scheme scheme then Outdated else Matches) misses report))))
+    ((misses : Reason) × IsMiss field kept misses
+    × Compares password kept field (if is_outdated_by kept.scheme scheme then 1 else 0) misses report))))
 
 -- What the work of a hash with this scheme cost: the bytes that were digested, and for scrypt those that were mixed, 2r
 -- blocks of 64 bytes in each mixing.
@@ -81,14 +78,12 @@ IsLoginWork password field number rounds budget done =
 abbrev pub IsUncheckable : List ℕ → List ℕ → ℕ → Type 0
 IsUncheckable password field budget = (kept : SettingValue) → Spells field kept → budget < cost kept (length password)
 
--- A report that agrees with that of mkpasswd_verify: its cost and reason are the same, but Outdated may stand for Matches, and
--- Dead for Differs.
+-- A report that agrees with that of mkpasswd_verify: its cost and error are the same, but Dead may stand for WrongPassword.
 abbrev pub Agrees : Report → Report → Type 0
 Agrees report verified =
     (report.cost ≡ verified.cost)
-    × ((report.reason ≡ verified.reason)
-    ⊎ (((report.reason ≡ (reason_row Outdated).0) × (verified.reason ≡ (reason_row Matches).0))
-    ⊎ ((report.reason ≡ (reason_row (Refused Dead)).0) × (verified.reason ≡ (reason_row (Refused Differs)).0))))
+    × ((report.error ≡ verified.error)
+    ⊎ ((report.error ≡ (reason_row Dead).0) × (verified.error ≡ (reason_row WrongPassword).0)))
 
 -- If the method and the rounds are valid, and a valid password is checked against a dead hash within the budget, the report is
 -- Dead with the cost and the work of the check, or scrypt could not allocate.
@@ -96,20 +91,20 @@ abbrev pub TellsDead : List ℕ → List ℕ → ℕ → ℕ → ℕ → Report 
 TellsDead password field number rounds budget report =
     (scheme : Scheme) → (kept : SettingValue) → IsSchemeMade TakesNewRounds number rounds scheme → IsPassword password
     → Spells field kept → ¬ IsWhole field kept → cost kept (length password) ≤ budget
-    → (report ≡ reported (Refused Dead) 0 (cost kept (length password)) (work password kept))
-    ⊎ ((report.reason ≡ (reason_row (Refused OutOfMemory)).0) × (allocates kept.scheme ≡ true))
+    → (report ≡ failed Dead (cost kept (length password)) (work password kept))
+    ⊎ ((report.error ≡ (reason_row OutOfMemory).0) × (allocates kept.scheme ≡ true))
 
 -- How a login judges the stored hash, for C and for a web page alike.
 --   shut       a dead hash lets nobody in
 --   dead       the report of a check against a dead hash is Dead
 --   tells      only a dead hash has that report
---   outdated   the report is Outdated exactly if the password is let in, and a new hash would replace the stored one
+--   outdated   the report says so exactly if the password is let in, and a new hash would replace the stored one
 --   as_verify  the report agrees with that of mkpasswd_verify with the same budget
 pub record JudgesStoredHash (password field : List ℕ) (number rounds budget : ℕ) (result : ℤ) (report : Report) : Type 0 where
   pub shut : IsDead field → result ≡ pos 0
   pub dead : TellsDead password field number rounds budget report
-  pub tells : report.reason ≡ (reason_row (Refused Dead)).0 → IsDead field
-  pub outdated : report.reason ≡ (reason_row Outdated).0 ↔ (result ≡ pos 1) × IsOutdated field number rounds
+  pub tells : report.error ≡ (reason_row Dead).0 → IsDead field
+  pub outdated : report.outdated ≡ 1 ↔ (result ≡ pos 1) × IsOutdated field number rounds
   pub as_verify : (scheme : Scheme) → IsSchemeMade TakesNewRounds number rounds scheme
       → (verified : Report) × Verifies password field budget verified × Agrees report verified
 
@@ -129,8 +124,8 @@ pub record TreatsFieldsAlike (password field : List ℕ) (number rounds budget :
   pub decoy : (scheme : Scheme) → IsSchemeMade TakesNewRounds number rounds scheme → IsPassword password
       → IsUncheckable password field (limit_of number rounds budget (length password))
       → IsHashWork password (decoy scheme) (limit_of number rounds budget (length password)) report.work
-  pub alike : (fault : PasswordFault) → IsPasswordRefused password fault → report ≡ refused (Password fault) 0
-  pub alike_rounds : (refusal : Refusal) → IsPassword password → IsSchemeReading TakesNewRounds number rounds (Err refusal)
-      → report ≡ refused refusal 0
+  pub alike : (fault : PasswordFault) → IsPasswordRefused password fault → report ≡ refused (password_reason fault) 0
+  pub alike_rounds : (reason : Reason) → IsPassword password → IsSchemeReading TakesNewRounds number rounds (Err reason)
+      → report ≡ refused reason 0
   pub alike_long : (scheme : Scheme) → IsSchemeMade TakesNewRounds number rounds scheme → budget ≡ twice
       → policy_limit scheme < new_cost scheme (length password) → (result ≡ pos 0) × (report.work ≡ no_work)

@@ -6,9 +6,7 @@ use Rattle.crypt_core.specs.OutdatedSchemes.{is_outdated_by}
 use Rattle.crypt_core.specs.Settings.{SettingValue, Spells}
 use Rattle.crypt_core.specs.declared.scheme.Scheme.{Scheme}
 use Rattle.call_core.specs.Arguments.{IsSchemeMade, OnScheme, OnSetting, Refuses}
-use Rattle.call_core.specs.Reports.{refused, reported}
-use Rattle.call_core.specs.declared.reason.Reason.TheVariants.{Outdated}
-use Rattle.call_core.specs.declared.reason.Refusal.TheVariants.{Current}
+use Rattle.call_core.specs.Reports.{found}
 use Rattle.call_core.specs.declared.report.Report.{Report}
 
 -- A stored hash that is out of date: it spells a setting that the scheme of the method and the rounds replaces.
@@ -17,9 +15,9 @@ IsOutdated stored number rounds =
     (kept : SettingValue) × (scheme : Scheme) × Spells stored kept × IsSchemeMade TakesRounds number rounds scheme
     × IsTrue (is_outdated_by kept.scheme scheme)
 
--- The report of mkpasswd_needs_rehash: Outdated if the scheme replaces the setting, else Current; or the refusal of an
--- argument.
+-- The report of mkpasswd_needs_rehash_bytes and web_needs_rehash: no error, and whether the scheme replaces the setting; or the
+-- refusal of an argument.
 abbrev pub Rehashes : List ℕ → ℕ → ℕ → Report → Type 0
 Rehashes stored number rounds report =
     OnSetting stored (Refuses report) (λ kept. OnScheme TakesRounds number rounds (Refuses report) (λ scheme.
-    report ≡ (if is_outdated_by kept.scheme scheme then reported Outdated 0 0 no_work else refused Current 0)))
+    report ≡ found (if is_outdated_by kept.scheme scheme then 1 else 0) 0 no_work))

@@ -5,33 +5,32 @@ use Rattle.crypt_core.specs.MadeSettings.{salted}
 use Rattle.crypt_core.specs.Settings.{canonical_text}
 use Rattle.crypt_core.specs.Work.{cost, work_bound}
 use Rattle.call_core.specs.Arguments.{OnGiven, OnLength, OnScheme, OnSetting, Refuses, TakesNewRounds}
-use Rattle.call_core.specs.Reports.{Leaves, refused, reported, token}
-use Rattle.call_core.specs.declared.reason.Reason.TheVariants.{Done}
-use Rattle.call_core.specs.declared.reason.Refusal.TheVariants.{TooFewBytes}
+use Rattle.call_core.specs.Reports.{Leaves, refused, succeeded, token}
+use Rattle.call_core.specs.declared.reason.Reason.TheVariants.{TooFewBytes}
 use Rattle.call_core.specs.declared.report.Report.{Report}
 
 -- The report of mkpasswd_bound and web_cost: the cost, and the bound on the work, of each password of this length.
 abbrev pub Bounds : ℕ → List ℕ → Report → Type 0
 Bounds len stored report =
     OnLength len (Refuses report) (OnSetting stored (Refuses report) (λ kept.
-    report ≡ reported Done 0 (cost kept len) (work_bound kept len)))
+    report ≡ succeeded 0 (cost kept len) (work_bound kept len)))
 
 -- The report and `out` of a setting: its text, or the token if the capacity is too small.
 abbrev pub PutsText : List ℕ → List ℕ → Report → List ℕ → Type 0
 PutsText text old report new =
     MatchBool (nat_lt (length text) (length old))
-    (Leaves (reported Done (length text) 0 no_work) text old report new)
+    (Leaves (succeeded (length text) 0 no_work) text old report new)
     (Leaves (refused TooFewBytes 0) (token []) old report new)
 
 -- The effect of mkpasswd_setting and web_setting: the setting that the random numbers make; or the token, if the method or
 -- the rounds are refused, or the capacity is too small.
 abbrev pub PutsSetting : ℕ → ℕ → List ℕ → List ℕ → Report → List ℕ → Type 0
 PutsSetting number rounds numbers old report new =
-    OnScheme TakesNewRounds number rounds (λ refusal. Leaves (refused refusal 0) (token []) old report new) (λ scheme.
+    OnScheme TakesNewRounds number rounds (λ reason. Leaves (refused reason 0) (token []) old report new) (λ scheme.
     PutsText (canonical_text (salted scheme numbers)) old report new)
 
 -- The effect of mkpasswd_setting_with_salt: the setting with the given salt; or the token, if the method, the salt or the rounds are
 -- refused, or the capacity is too small.
 abbrev pub PutsGivenSetting : ℕ → ℕ → List ℕ → List ℕ → Report → List ℕ → Type 0
 PutsGivenSetting number rounds salt old report new =
-    OnGiven number rounds salt (λ refusal. Leaves (refused refusal 0) (token []) old report new) (λ kept. PutsText (canonical_text kept) old report new)
+    OnGiven number rounds salt (λ reason. Leaves (refused reason 0) (token []) old report new) (λ kept. PutsText (canonical_text kept) old report new)

@@ -1,15 +1,14 @@
 //! The audit of a stored field, without a password: is its hash within the budget, whole, and not outdated?
-ghost use Rattle.std.specs.Prelude.{◌≡◌, ◌<ℤ◌, pos};
+ghost use Rattle.std.specs.Prelude.{◌≡◌};
 ghost use Rattle.prims_core.specs.Work.{no_work};
-ghost use Rattle.call_core.specs.Audits.{Audits, ForeseesLogins, IsCurrent, audit_report, standing_reason, with_scheme};
+ghost use Rattle.call_core.specs.Audits.{Audits, ForeseesLogins, IsCurrent, Passes, audit_report, standing_report, with_scheme};
 
 use crate::reading::new_scheme_of;
-use crate::reason::{Reason, Refusal};
+use crate::reason::Reason;
 use crate::report::{NO_WORK, Report};
 use crypt_core::finding::Finding;
 use crypt_core::md5crypt::ROUNDS;
 use crypt_core::scheme::Scheme;
-use crypt_core::setting::SettingFault;
 use crypt_core::standing::Standing;
 
 /// Returns the report on what an audit finds in a field, by the scheme that new hashes have with the method and the rounds, and by
@@ -17,14 +16,14 @@ use crypt_core::standing::Standing;
 /// by the limit of the policy checks, at least with the empty password.
 pub fn report_audit(field: &[u8], method: u32, rounds: u32, budget: u64) -> Report
     ensures audits { Audits field.now method rounds budget result }
-    ensures current { pos 0 <ℤ result.reason → IsCurrent field.now method rounds budget }
-    ensures passes { IsCurrent field.now method rounds budget → pos 0 <ℤ result.reason }
+    ensures current { Passes result → IsCurrent field.now method rounds budget }
+    ensures passes { IsCurrent field.now method rounds budget → Passes result }
     ensures checked { ForeseesLogins field.now method rounds budget result }
     ensures idle { result.work ≡ no_work }
 {
     match new_scheme_of(method, rounds) {
         Ok(scheme) => finding_report(&Finding::of(field, &scheme, budget)),
-        Err(refusal) => Report::from(refusal),
+        Err(reason) => Report::from(reason),
     }
 }
 
@@ -38,28 +37,28 @@ fn finding_report(finding: &Finding) -> Report
             scheme,
             most,
             standing,
-        } => Report::new(standing_reason(standing), 0, most, NO_WORK).with_scheme(&scheme),
-        Finding::NoHash => Report::from(Refusal::NoHash),
-        Finding::Locked => Report::from(Refusal::Locked),
-        Finding::Malformed(fault) => Report::from(fault),
+        } => standing_report(standing, most).with_scheme(&scheme),
+        Finding::NoHash => Report::from(Reason::NoHash),
+        Finding::Locked => Report::from(Reason::Locked),
+        Finding::Malformed(fault) => Report::from(Reason::from(fault)),
         Finding::Other(other) => Report {
             scheme: other.number(),
-            ..Report::from(SettingFault::UnknownScheme)
+            ..Report::from(Reason::UnknownScheme)
         },
-        Finding::Unknown => Report::from(SettingFault::UnknownScheme),
-        Finding::NoScheme => Report::from(Refusal::NoScheme),
+        Finding::Unknown => Report::from(Reason::UnknownScheme),
+        Finding::NoScheme => Report::from(Reason::NoScheme),
     }
 }
 
-// Returns the reason for a standing.
-fn standing_reason(standing: Standing) -> Reason
-    ensures { result ≡ standing_reason standing }
+// Returns the report of a hash with a standing, whose greatest cost is `most`.
+fn standing_report(standing: Standing, most: u64) -> Report
+    ensures { result ≡ standing_report standing most }
 {
     match standing {
-        Standing::OverBudget => Reason::Refused(Refusal::OverBudget),
-        Standing::Dead => Reason::Refused(Refusal::Dead),
-        Standing::Outdated => Reason::Refused(Refusal::Outdated),
-        Standing::Current => Reason::Done,
+        Standing::OverBudget => Report::refused(Reason::OverBudget, most),
+        Standing::Dead => Report::refused(Reason::Dead, most),
+        Standing::Outdated => Report::found(true, most, NO_WORK),
+        Standing::Current => Report::found(false, most, NO_WORK),
     }
 }
 
@@ -82,7 +81,7 @@ impl Report {
                 ..numbered
             },
             Scheme::Scrypt(params) => Report {
-                n: u64::from(params.row_count()),
+                n: params.row_count(),
                 r: params.r(),
                 p: params.p(),
                 ..numbered

@@ -2,10 +2,10 @@
 ghost use Rattle.std.specs.Prelude.{◌≡◌};
 ghost use Rattle.call_core.specs.Settings.{Bounds};
 
+use crate::reading::read_setting;
 use crate::reason::Reason;
 use crate::report::Report;
-use crypt_core::password::{PASSWORD_LIMIT, PasswordFault};
-use crypt_core::setting::Setting;
+use crypt_core::password::PASSWORD_LIMIT;
 use crypt_core::work::{bound, cost};
 
 /// Returns the report of the greatest cost and work of a hash with the setting in the text.
@@ -13,13 +13,13 @@ pub fn report_bound(password_len: usize, text: &[u8]) -> Report
     ensures bounds { Bounds password_len text.now result }
 {
     if password_len > PASSWORD_LIMIT {
-        return Report::from(PasswordFault::TooLong);
+        return Report::from(Reason::PasswordTooLong);
     }
-    match Setting::read(text) {
+    match read_setting(text) {
         Ok(setting) => {
             let most = cost(&setting, password_len);
-            Report::new(Reason::Done, 0, most, bound(&setting, password_len))
+            Report::succeeded(0, most, bound(&setting, password_len))
         }
-        Err(fault) => Report::from(fault),
+        Err(reason) => Report::from(reason),
     }
 }

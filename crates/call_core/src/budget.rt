@@ -4,7 +4,7 @@ ghost use Rattle.crypt_core.specs.Work.{cost};
 ghost use Rattle.call_core.specs.Hashes.{admission};
 ghost use Rattle.call_core.specs.Reports.{refused};
 
-use crate::reason::Refusal;
+use crate::reason::Reason;
 use crate::report::Report;
 use crypt_core::hash::hash_len;
 use crypt_core::password::Password;
@@ -20,11 +20,11 @@ pub(crate) fn cost_within(
     ensures within { IfOk result (λ most. (most ≡ cost setting.now (length password.now))
         × (cost setting.now (length password.now) ≤ budget)) }
     ensures above { IfErr result (λ report. (budget < cost setting.now (length password.now))
-        × (report ≡ refused Refusal.OverBudget (cost setting.now (length password.now)))) }
+        × (report ≡ refused Reason.OverBudget (cost setting.now (length password.now)))) }
 {
     let most = cost(setting, password.bytes().len());
     if most > budget {
-        return Err(Report::refused(Refusal::OverBudget, most));
+        return Err(Report::refused(Reason::OverBudget, most));
     }
     Ok(most)
 }
@@ -40,7 +40,7 @@ pub(crate) fn admit(
 {
     let most = cost_within(password, setting, budget)?;
     if hash_len(setting) >= room {
-        return Err(Report::refused(Refusal::TooFewBytes, most));
+        return Err(Report::refused(Reason::TooFewBytes, most));
     }
     Ok(most)
 }

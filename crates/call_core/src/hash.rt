@@ -1,5 +1,5 @@
 //! The hash of a password with a setting.
-ghost use Rattle.std.specs.Prelude.{◌≡◌, ◌⊎◌, ◌≤◌, ◌<ℤ◌, pos, length, take, false, IsErr, IfOk};
+ghost use Rattle.std.specs.Prelude.{◌≡◌, ◌≢◌, ◌⊎◌, ◌≤◌, length, take, false, IsErr, IfOk};
 ghost use Rattle.prims_core.specs.Work.{no_work};
 ghost use Rattle.crypt_core.specs.Crypt.{allocates, crypt};
 ghost use Rattle.crypt_core.specs.Settings.{Spells};
@@ -10,7 +10,8 @@ ghost use Rattle.call_core.specs.Private.Hashes.{IsPut, IsTold, MakesHash, Makes
 ghost use Rattle.call_core.specs.Reports.{put, token};
 
 use crate::budget::admit;
-use crate::reason::{Reason, Refusal};
+use crate::reading::{read_password, read_setting};
+use crate::reason::Reason;
 use crate::report::{Report, leave, token};
 use crypt_core::hash::{Hashed, hash_by};
 use crypt_core::memory::Memory;
@@ -29,12 +30,12 @@ pub fn put_hash<M: Memory>(
 ) -> Report
     requires new { meter.old ≡ no_work }
     ensures hashes { Hashes password.now text.now budget out.old result out.new }
-    ensures locked { ¬ (pos 0 <ℤ result.reason) → out.new ≡ put (token text.now) out.old }
-    ensures opens { pos 0 <ℤ result.reason → Opens password.now (take result.length out.new) budget
+    ensures locked { result.error ≢ 0 → out.new ≡ put (token text.now) out.old }
+    ensures opens { result.error ≡ 0 → Opens password.now (take result.length out.new) budget
         × (NeedsNoMemory (take result.length out.new) ⊎ M.HasSome) }
-    ensures within { pos 0 <ℤ result.reason → result.cost ≤ budget }
+    ensures within { result.error ≡ 0 → result.cost ≤ budget }
     ensures granted { NeedsNoMemory text.now
-        ⊎ (M.HasSome ⊎ ((¬ (pos 0 <ℤ result.reason)) × (result.work ≡ no_work))) }
+        ⊎ (M.HasSome ⊎ ((result.error ≢ 0) × (result.work ≡ no_work))) }
     ensures bytes { result.work.bytes ≤ budget }
     ensures counted { meter.new ≡ result.work }
 {
@@ -72,8 +73,8 @@ fn hash_of<M: Memory>(
     ensures granted { NeedsNoMemory text.now ⊎ (M.HasSome ⊎ (IsErr result × (meter.new ≡ no_work))) }
     ensures bytes { meter.new.bytes ≤ budget }
 {
-    let password = Password::new(password)?;
-    let setting = Setting::read(text)?;
+    let password = read_password(password)?;
+    let setting = read_setting(text)?;
     hash_within(memory, &password, &setting, budget, room, meter)
 }
 
@@ -98,12 +99,9 @@ pub(crate) fn hash_within<M: Memory>(
     match hash_by(memory, password, setting, meter) {
         Ok(hashed) => {
             let length = hashed.text().len() as u32;
-            let report = Report::new(Reason::Done, length, most, meter.work());
+            let report = Report::succeeded(length, most, meter.work());
             Ok((hashed, report))
         }
-        Err(_) => {
-            let reason = Reason::Refused(Refusal::OutOfMemory);
-            Err(Report::new(reason, 0, most, meter.work()))
-        }
+        Err(_) => Err(Report::failed(Reason::OutOfMemory, most, meter.work())),
     }
 }

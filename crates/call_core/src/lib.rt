@@ -13,6 +13,7 @@ mod budget;
 pub mod hash;
 pub mod limit;
 pub mod login;
+pub mod message;
 pub mod name;
 pub mod new_hash;
 mod reading;

@@ -1,6 +1,6 @@
 //! The limit on the cost of a login and of a new hash: the budget of the call, or one that its method and rounds give. Nothing
 //! here hashes or allocates.
-ghost use Rattle.std.specs.Prelude.{◌≡◌, ℕ, ◌≤◌, ◌<ℤ◌, pos};
+ghost use Rattle.std.specs.Prelude.{◌≡◌, ◌≢◌, ℕ, ◌≤◌};
 ghost use Rattle.crypt_core.specs.Passwords.{password_limit};
 ghost use Rattle.crypt_core.specs.Policies.{NeverFits};
 ghost use Rattle.crypt_core.specs.declared.scheme.Scheme.{Scheme as Made};
@@ -8,9 +8,9 @@ ghost use Rattle.call_core.specs.Arguments.{IsSchemeMade, TakesNewRounds};
 ghost use Rattle.call_core.specs.Limits.{AreFitted, ReportsRounds, Limits, allowance, limit_by, limit_bytes, limit_in, meant};
 
 use crate::reading::new_scheme_of;
-use crate::reason::Refusal;
+use crate::reason::Reason;
 use crate::report::Report;
-use crypt_core::password::{PASSWORD_LIMIT, PasswordFault};
+use crypt_core::password::PASSWORD_LIMIT;
 use crypt_core::scheme::Scheme;
 
 /// The budget that stands for the limit of the policy.
@@ -66,16 +66,16 @@ impl Limit {
 /// rounds, which for 0 are the recommended ones. If no new hash is within the limit, it is `OverBudget`, with the limit.
 pub fn report_limit(method: u32, rounds: u32, limit: Limit) -> Report
     ensures limits { Limits method rounds limit result }
-    ensures used { (len : ℕ) → pos 0 <ℤ result.reason → len ≤ result.length → limit_in method rounds limit len ≡ result.cost }
+    ensures used { (len : ℕ) → result.error ≡ 0 → len ≤ result.length → limit_in method rounds limit len ≡ result.cost }
 {
     let scheme = match new_scheme_of(method, rounds) {
         Ok(scheme) => scheme,
-        Err(refusal) => return Report::from(refusal),
+        Err(reason) => return Report::from(reason),
     };
     let limit = limit.bytes(&scheme);
     match scheme.longest_within(limit) {
         Some(longest) => Report::of_rounds(scheme.rounds(), longest as u32, limit),
-        None => Report::refused(Refusal::OverBudget, limit),
+        None => Report::refused(Reason::OverBudget, limit),
     }
 }
 
@@ -84,23 +84,23 @@ pub fn report_limit(method: u32, rounds: u32, limit: Limit) -> Report
 /// policy's rounds.
 pub fn report_rounds(password_len: usize, method: u32, rounds: u32, limit: Limit) -> Report
     ensures rounds { ReportsRounds password_len method rounds limit result }
-    ensures fitted { (scheme : Made) → IsSchemeMade TakesNewRounds method rounds scheme → pos 0 <ℤ result.reason
+    ensures fitted { (scheme : Made) → IsSchemeMade TakesNewRounds method rounds scheme → result.error ≡ 0
         → AreFitted password_len method (limit_bytes limit scheme) scheme result }
     ensures none { (scheme : Made) → IsSchemeMade TakesNewRounds method rounds scheme → password_len ≤ password_limit
-        → ¬ (pos 0 <ℤ result.reason) → NeverFits scheme (limit_bytes limit scheme) password_len }
+        → result.error ≢ 0 → NeverFits scheme (limit_bytes limit scheme) password_len }
     ensures policy { (scheme : Made) → IsSchemeMade TakesNewRounds method rounds scheme → password_len ≤ password_limit
-        → limit ≡ Limit.Policy → pos 0 <ℤ result.reason }
+        → limit ≡ Limit.Policy → result.error ≡ 0 }
 {
     if password_len > PASSWORD_LIMIT {
-        return Report::from(PasswordFault::TooLong);
+        return Report::from(Reason::PasswordTooLong);
     }
     let scheme = match new_scheme_of(method, rounds) {
         Ok(scheme) => scheme,
-        Err(refusal) => return Report::from(refusal),
+        Err(reason) => return Report::from(reason),
     };
     match scheme.fitted(limit.bytes(&scheme), password_len) {
         Some(fitted) => Report::of_rounds(fitted.rounds(), 0, fitted.new_cost(password_len)),
-        None => Report::refused(Refusal::OverBudget, scheme.new_cost(password_len)),
+        None => Report::refused(Reason::OverBudget, scheme.new_cost(password_len)),
     }
 }
 

@@ -1,6 +1,6 @@
 //! A login: a password against a stored hash, which may be outdated. If the stored hash can't be checked, the password is
 //! hashed as a new one is, so that the call costs the same.
-ghost use Rattle.std.specs.Prelude.{◌≡◌, ◌≤◌, ◌⊎◌, ◌<ℤ◌, pos, length, false, true};
+ghost use Rattle.std.specs.Prelude.{◌≡◌, ◌≤◌, ◌⊎◌, ◌≢◌, length, false, true};
 ghost use Rattle.prims_core.specs.Work.{no_work};
 ghost use Rattle.crypt_core.specs.Crypt.{allocates};
 ghost use Rattle.crypt_core.specs.Settings.{SettingValue, Spells};
@@ -16,7 +16,7 @@ ghost use Rattle.call_core.specs.Rehashes.{IsOutdated};
 use crate::budget::cost_within;
 use crate::limit::Limit;
 use crate::reading::read_request;
-use crate::reason::{Reason, Refusal};
+use crate::reason::Reason;
 use crate::report::Report;
 use crate::verify::{checkable, compare};
 use crypt_core::hash::hash_by;
@@ -27,7 +27,7 @@ use crypt_core::stored::StoredHash;
 use prims_core::meter::Meter;
 
 /// Compares the password's hash with the stored one, if the limit allows it, or else makes and drops a hash like a new
-/// one. The reason tells whether a new hash with the method and the rounds would replace the stored one.
+/// one. `outdated` tells whether a new hash with the method and the rounds would replace the stored one.
 pub fn log_in<M: Memory>(
     memory: &M,
     password: &[u8],
@@ -39,17 +39,15 @@ pub fn log_in<M: Memory>(
 ) -> Report
     requires new { meter.old ≡ no_work }
     ensures logs_in { LogsIn password.now field.now method rounds (limit_in method rounds limit (length password.now)) result }
-    ensures lets_in { pos 0 <ℤ result.reason → Opens password.now field.now (limit_in method rounds limit (length password.now)) }
+    ensures lets_in { result.error ≡ 0 → Opens password.now field.now (limit_in method rounds limit (length password.now)) }
     ensures opens { (scheme : Made) → IsSchemeMade TakesNewRounds method rounds scheme → Opens password.now field.now (limit_in method rounds limit (length password.now))
-        → (pos 0 <ℤ result.reason)
-        ⊎ ((result.reason ≡ (reason_row (Reason.Refused Refusal.OutOfMemory)).0) × ¬ NeedsNoMemory field.now) }
-    ensures shut { IsDead field.now → ¬ (pos 0 <ℤ result.reason) }
+        → (result.error ≡ 0) ⊎ ((result.error ≡ (reason_row Reason.OutOfMemory).0) × ¬ NeedsNoMemory field.now) }
+    ensures shut { IsDead field.now → result.error ≢ 0 }
     ensures dead { TellsDead password.now field.now method rounds (limit_in method rounds limit (length password.now)) result }
-    ensures outdated { result.reason ≡ (reason_row Reason.Outdated).0 → IsOutdated field.now method rounds }
-    ensures replaced { pos 0 <ℤ result.reason → IsOutdated field.now method rounds
-        → result.reason ≡ (reason_row Reason.Outdated).0 }
+    ensures outdated { result.outdated ≡ 1 → (result.error ≡ 0) × IsOutdated field.now method rounds }
+    ensures replaced { result.error ≡ 0 → IsOutdated field.now method rounds → result.outdated ≡ 1 }
     ensures granted { (kept : SettingValue) → Spells field.now kept → cost kept (length password.now) ≤ limit_in method rounds limit (length password.now)
-        → allocates kept.scheme ≡ true → M.HasSome ⊎ ((¬ (pos 0 <ℤ result.reason)) × (result.work ≡ no_work)) }
+        → allocates kept.scheme ≡ true → M.HasSome ⊎ ((result.error ≢ 0) × (result.work ≡ no_work)) }
     ensures granted_decoy { (scheme : Made) → IsSchemeMade TakesNewRounds method rounds scheme
         → IsUncheckable password.now field.now (limit_in method rounds limit (length password.now)) → allocates scheme ≡ true → M.HasSome ⊎ (result.work ≡ no_work) }
     ensures bytes { result.work.bytes ≤ limit_in method rounds limit (length password.now) }
@@ -61,17 +59,13 @@ pub fn log_in<M: Memory>(
     };
     match checkable(&request.password, field, request.limit) {
         Ok((stored, most)) => {
-            let fits = if stored.setting().scheme().is_outdated_by(&request.scheme) {
-                Reason::Outdated
-            } else {
-                Reason::Matches
-            };
+            let is_outdated = stored.setting().scheme().is_outdated_by(&request.scheme);
             compare(
                 memory,
                 &request.password,
                 &stored,
                 most,
-                fits,
+                is_outdated,
                 miss_of(&stored),
                 meter,
             )
@@ -90,14 +84,14 @@ pub fn log_in<M: Memory>(
     }
 }
 
-// Returns the refusal of a password that doesn't match the stored hash: `Dead` if no password does.
-fn miss_of(stored: &StoredHash<'_>) -> Refusal
+// Returns the reason of a password that doesn't match the stored hash: `Dead` if no password does.
+fn miss_of(stored: &StoredHash<'_>) -> Reason
     ensures miss { IsMiss stored.now.text stored.now.setting result }
 {
     if stored.is_whole() {
-        Refusal::Differs
+        Reason::WrongPassword
     } else {
-        Refusal::Dead
+        Reason::Dead
     }
 }
 
@@ -111,7 +105,7 @@ fn decline<M: Memory>(
     meter: &mut Meter,
 ) -> Report
     requires new { meter.old ≡ no_work }
-    requires refused { (¬ (pos 0 <ℤ refused.reason)) × (refused.work ≡ no_work) }
+    requires refused { (refused.error ≢ 0) × (refused.work ≡ no_work) }
     ensures declines { (result ≡ record refused { work = result.work })
         × IsHashWork password.now decoy.now budget result.work }
     ensures granted { (allocates decoy.now.scheme ≡ false) ⊎ (M.HasSome ⊎ (result.work ≡ no_work)) }

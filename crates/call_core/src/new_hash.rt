@@ -1,18 +1,18 @@
 //! The hash of a password with a new setting.
-ghost use Rattle.std.specs.Prelude.{◌≡◌, ◌<ℤ◌, pos, [], length, take, IfOk};
+ghost use Rattle.std.specs.Prelude.{◌≡◌, ◌≢◌, [], length, take, IfOk};
 ghost use Rattle.prims_core.specs.Work.{no_work};
 ghost use Rattle.call_core.specs.Checks.{Opens};
 ghost use Rattle.call_core.specs.Hashes.{HashesAnew};
 ghost use Rattle.call_core.specs.Limits.{limit_in};
 ghost use Rattle.call_core.specs.Private.Hashes.{IsTold, MakesHashAnew};
 ghost use Rattle.call_core.specs.Rehashes.{Rehashes};
-ghost use Rattle.call_core.specs.Reports.{put, refused, token};
+ghost use Rattle.call_core.specs.Reports.{found, put, token};
 
 use crate::budget::admit;
 use crate::hash::{hash_within, put_hashed};
 use crate::limit::Limit;
 use crate::reading::read_request;
-use crate::reason::Refusal;
+use crate::reason::Reason;
 use crate::report::{Report, token};
 use crypt_core::hash::Hashed;
 use crypt_core::memory::Memory;
@@ -34,10 +34,10 @@ pub fn put_new_hash<M: Memory>(
 ) -> Report
     requires new { meter.old ≡ no_work }
     ensures hashes { HashesAnew password.now method rounds (limit_in method rounds limit (length password.now)) numbers.now out.old result out.new }
-    ensures locked { ¬ (pos 0 <ℤ result.reason) → out.new ≡ put (token []) out.old }
-    ensures opens { pos 0 <ℤ result.reason → Opens password.now (take result.length out.new) (limit_in method rounds limit (length password.now)) }
-    ensures current { pos 0 <ℤ result.reason
-        → Rehashes (take result.length out.new) method rounds (refused Refusal.Current 0) }
+    ensures locked { result.error ≢ 0 → out.new ≡ put (token []) out.old }
+    ensures opens { result.error ≡ 0 → Opens password.now (take result.length out.new) (limit_in method rounds limit (length password.now)) }
+    ensures current { result.error ≡ 0
+        → Rehashes (take result.length out.new) method rounds (found 0 0 no_work) }
     ensures counted { meter.new ≡ result.work }
 {
     let room = out.len();
@@ -62,7 +62,7 @@ fn new_hash_of<M: Memory>(
     ensures makes { MakesHashAnew password.now method rounds numbers.now (limit_in method rounds limit (length password.now)) room result }
     ensures told { IsTold (limit_in method rounds limit (length password.now)) room meter.new result }
     ensures opens { IfOk result (λ made. Opens password.now made.0 (limit_in method rounds limit (length password.now))) }
-    ensures current { IfOk result (λ made. Rehashes made.0 method rounds (refused Refusal.Current 0)) }
+    ensures current { IfOk result (λ made. Rehashes made.0 method rounds (found 0 0 no_work)) }
 {
     let request = read_request(password, method, rounds, limit)?;
     if numbers.len() == 3 {
@@ -79,5 +79,5 @@ fn new_hash_of<M: Memory>(
     // Neither the cost nor the length of a hash depends on the random numbers.
     let setting = Setting::salted(request.scheme, [0; 3]);
     let most = admit(&request.password, &setting, request.limit, room)?;
-    Err(Report::refused(Refusal::NoRandomNumbers, most))
+    Err(Report::refused(Reason::NoRandomNumbers, most))
 }

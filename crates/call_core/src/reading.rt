@@ -1,19 +1,23 @@
-//! The scheme that a method's number and the rounds make, the setting that they make with a given salt, and the hash in a stored
-//! field, or the first refusal.
-ghost use Rattle.std.specs.Prelude.{◌≡◌, ◌↔◌, ◌<ℤ◌, pos, length, IfOk, IfErr, IsOk, IsOkAnd, IsTrue};
+//! What a call is given, read: a password, a setting, the scheme that a method's number and the rounds make, and the hash in a
+//! stored field; or the reason why it is refused.
+ghost use Rattle.std.specs.Prelude.{◌≡◌, ◌≢◌, ◌↔◌, length, IfOk, IfErr, IsOk, IsOkAnd, IsTrue};
 ghost use Rattle.prims_core.specs.Work.{no_work};
 ghost use Rattle.crypt_core.specs.MadeSettings.{TakesRounds};
-ghost use Rattle.crypt_core.specs.Passwords.{IsPassword};
+ghost use Rattle.crypt_core.specs.Passwords.{IsPassword, IsPasswordRefused};
+ghost use Rattle.crypt_core.specs.Refusals.{IsRefused};
 ghost use Rattle.crypt_core.specs.Settings.{SettingValue, Spells};
 ghost use Rattle.crypt_core.specs.StoredFields.{IsHashOf};
+ghost use Rattle.crypt_core.specs.declared.password.PasswordFault.{PasswordFault as Fault};
 ghost use Rattle.crypt_core.specs.declared.scheme.Scheme.{Scheme as Made};
-ghost use Rattle.call_core.specs.Arguments.{IsFieldRefusal, IsGivenReading, IsSchemeMade, IsSchemeReading, TakesNewRounds};
+ghost use Rattle.crypt_core.specs.declared.setting.fault.SettingFault.{SettingFault as Refusal};
+ghost use Rattle.call_core.specs.Arguments.{IsFieldRefusal, IsGivenReading, IsSchemeMade, IsSchemeReading, TakesNewRounds, chosen_method};
 ghost use Rattle.call_core.specs.Limits.{limit_in};
 ghost use Rattle.call_core.specs.Private.Hashes.{IsRequestRefused};
 ghost use Rattle.call_core.specs.Private.Settings.{IsClamped};
+ghost use Rattle.call_core.specs.Reasons.{password_reason, setting_reason};
 
 use crate::limit::Limit;
-use crate::reason::Refusal;
+use crate::reason::Reason;
 use crate::report::Report;
 use crypt_core::method::Method;
 use crypt_core::password::Password;
@@ -21,21 +25,57 @@ use crypt_core::scheme::Scheme;
 use crypt_core::setting::Setting;
 use crypt_core::stored::{StoredField, StoredHash};
 
+/// Reads a password.
+///
+/// # Errors
+///
+/// The reason for which [`Password::new`] refuses it.
+pub(crate) fn read_password(bytes: &[u8]) -> Result<Password, Reason>
+    ensures ok { IfOk result (λ password. (password ≡ bytes.now) × IsPassword bytes.now) }
+    ensures refused { IfErr result (λ reason. (fault : Fault) × IsPasswordRefused bytes.now fault × (reason ≡ password_reason fault)) }
+    ensures admits { IsPassword bytes.now → IsOk result }
+{
+    Ok(Password::new(bytes)?)
+}
+
+/// Reads a setting.
+///
+/// # Errors
+///
+/// The reason for which [`Setting::read`] refuses it.
+pub(crate) fn read_setting(text: &[u8]) -> Result<Setting, Reason>
+    ensures spelled { IfOk result (λ setting. Spells text.now setting) }
+    ensures refused { IfErr result (λ reason. (fault : Refusal) × IsRefused text.now fault × (reason ≡ setting_reason fault)) }
+    ensures each_setting { (kept : SettingValue) → Spells text.now kept → IsOkAnd result (λ setting. setting ≡ kept) }
+{
+    Ok(Setting::read(text)?)
+}
+
+// Returns the method with this number, where 0 stands for the recommended one.
+fn chosen_method(number: u32) -> Option<Method>
+    ensures { result ≡ chosen_method number }
+{
+    if number == 0 {
+        return Some(Method::Sha512crypt);
+    }
+    Method::numbered(number)
+}
+
 /// Makes the scheme with a method's number and the rounds, where 0 stands for the recommended ones.
 ///
 /// # Errors
 ///
 /// - `UnknownMethod`: no method has the number.
 /// - `Rounds`: the method does not take the rounds.
-pub(crate) fn scheme_of(number: u32, rounds: u32) -> Result<Scheme, Refusal>
+pub(crate) fn scheme_of(number: u32, rounds: u32) -> Result<Scheme, Reason>
     ensures { IsSchemeReading TakesRounds number rounds result }
 {
-    let Some(method) = Method::numbered(number) else {
-        return Err(Refusal::UnknownMethod);
+    let Some(method) = chosen_method(number) else {
+        return Err(Reason::UnknownMethod);
     };
     match Scheme::made(method, method.chosen_rounds(rounds)) {
         Ok(scheme) => Ok(scheme),
-        Err(_) => Err(Refusal::Rounds),
+        Err(_) => Err(Reason::Rounds),
     }
 }
 
@@ -45,12 +85,12 @@ pub(crate) fn scheme_of(number: u32, rounds: u32) -> Result<Scheme, Refusal>
 ///
 /// - `UnknownMethod`: no method has the number.
 /// - `Rounds`: the method does not take the rounds, or would clamp them.
-pub(crate) fn new_scheme_of(number: u32, rounds: u32) -> Result<Scheme, Refusal>
+pub(crate) fn new_scheme_of(number: u32, rounds: u32) -> Result<Scheme, Reason>
     ensures { IsSchemeReading TakesNewRounds number rounds result }
 {
     let scheme = scheme_of(number, rounds)?;
     if is_clamped(&scheme, rounds) {
-        return Err(Refusal::Rounds);
+        return Err(Reason::Rounds);
     }
     Ok(scheme)
 }
@@ -62,15 +102,15 @@ pub(crate) fn new_scheme_of(number: u32, rounds: u32) -> Result<Scheme, Refusal>
 /// - `UnknownMethod`: no method has the number.
 /// - `SaltLength`, `SaltCharacter`: the salt is empty, has more characters than the method keeps, or one outside crypt's alphabet.
 /// - `Rounds`: the method does not take the rounds, or would clamp them.
-pub(crate) fn given_setting(number: u32, rounds: u32, salt: &[u8]) -> Result<Setting, Refusal>
+pub(crate) fn given_setting(number: u32, rounds: u32, salt: &[u8]) -> Result<Setting, Reason>
     ensures { IsGivenReading number rounds salt.now result }
 {
-    let Some(method) = Method::numbered(number) else {
-        return Err(Refusal::UnknownMethod);
+    let Some(method) = chosen_method(number) else {
+        return Err(Reason::UnknownMethod);
     };
     let setting = Setting::make(method, method.chosen_rounds(rounds), salt)?;
     if is_clamped(&setting.scheme(), rounds) {
-        return Err(Refusal::Rounds);
+        return Err(Reason::Rounds);
     }
     Ok(setting)
 }
@@ -111,10 +151,10 @@ pub(crate) fn read_request(
     ensures scheme { IfOk result (λ request. IsSchemeMade TakesNewRounds number rounds request.scheme) }
     ensures limit { IfOk result (λ request. request.limit ≡ limit_in number rounds limit (length password.now)) }
     ensures refused { IfErr result (IsRequestRefused password.now number rounds) }
-    ensures idle { IfErr result (λ report. (¬ (pos 0 <ℤ report.reason)) × (report.work ≡ no_work)) }
+    ensures idle { IfErr result (λ report. (report.error ≢ 0) × (report.work ≡ no_work)) }
     ensures admits { (scheme : Made) → IsPassword password.now → IsSchemeMade TakesNewRounds number rounds scheme → IsOk result }
 {
-    let password = Password::new(password)?;
+    let password = read_password(password)?;
     let scheme = new_scheme_of(number, rounds)?;
     let limit = limit.allowance(&scheme, password.bytes().len());
     Ok(Request {
@@ -131,15 +171,15 @@ pub(crate) fn read_request(
 /// - `NoHash`: the field is empty.
 /// - `Locked`: the field begins with `!` or `*`, whatever follows.
 /// - `Setting`: the first rule that any other field breaks as a setting.
-pub(crate) fn stored_hash(field: &[u8]) -> Result<StoredHash<'_>, Refusal>
+pub(crate) fn stored_hash(field: &[u8]) -> Result<StoredHash<'_>, Reason>
     ensures spelled { IfOk result (IsHashOf field.now) }
     ensures refused { IfErr result (IsFieldRefusal field.now) }
     ensures each_setting { (kept : SettingValue) → Spells field.now kept → IsOkAnd result (λ stored. stored.setting ≡ kept) }
 {
     match StoredField::read(field) {
-        Ok(StoredField::Empty) => Err(Refusal::NoHash),
-        Ok(StoredField::Locked) => Err(Refusal::Locked),
+        Ok(StoredField::Empty) => Err(Reason::NoHash),
+        Ok(StoredField::Locked) => Err(Reason::Locked),
         Ok(StoredField::Hash(stored)) => Ok(stored),
-        Err(fault) => Err(Refusal::Setting(fault)),
+        Err(fault) => Err(Reason::from(fault)),
     }
 }

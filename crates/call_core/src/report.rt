@@ -1,11 +1,9 @@
 //! The report of a call, and the string that it leaves in the caller's bytes.
-ghost use Rattle.std.specs.Prelude.{◌≡◌, ◌↔◌, ◌⊎◌, ◌<ℤ◌, pos};
+ghost use Rattle.std.specs.Prelude.{◌≡◌, ◌↔◌, if◌then◌else◌, pos, IsTrue};
 ghost use Rattle.prims_core.specs.Work.{no_work};
-ghost use Rattle.call_core.specs.Reports.{Leaves, PutsWhole, put, refused, reported, token};
+ghost use Rattle.call_core.specs.Reports.{Answers, AnswersCurrent, AnswersOutdated, IsOneOrZero, Leaves, PutsWhole, failed, found, put, refused, succeeded, token};
 
-use crate::reason::{Reason, Refusal};
-use crypt_core::password::PasswordFault;
-use crypt_core::setting::SettingFault;
+use crate::reason::Reason;
 use prims_core::meter::Work;
 use std::mem::size_of;
 
@@ -22,105 +20,133 @@ pub const NO_WORK: Work = Work {
 #[repr(C)]
 #[derive(Clone, Copy, Debug, PartialEq, Eq)]
 pub struct Report {
-    /// The number of the reason: above 0 if the call returned 1, and below 0 if it returned 0.
-    pub reason: i32,
-    /// The number of bytes written to `out`, without the byte 0, if the call returned 1. In the report of a limit it is that of
+    /// 0 if the call did what its name says, or else the number of the reason why not. Of a call that asks whether a stored
+    /// hash is outdated or current it is 0 for both answers.
+    pub error: u32,
+    /// 1 if a new hash by the policy would replace the stored one, or else 0. After a login it is 1 only if the password matches.
+    pub outdated: u32,
+    /// The number of bytes written to `out`, without the byte 0, if the error is 0. In the report of a limit it is that of
     /// the longest password.
     pub length: u32,
+    /// In the report of an audit, the number of the stored hash's scheme, or of the other scheme whose form the field has.
+    /// Otherwise 0.
+    pub scheme: u32,
+    /// The rounds of new hashes, in the report of a limit or of rounds, as [`Scheme::made`](crypt_core::scheme::Scheme::made) takes
+    /// them: 0 for md5crypt. In the report of an audit, those of the stored hash: 1000 for md5crypt, and 0 for scrypt. Otherwise 0.
+    pub rounds: u32,
+    /// scrypt's N, in the report of an audit, or else 0.
+    pub n: u32,
+    /// scrypt's r, in the report of an audit, or else 0.
+    pub r: u32,
+    /// scrypt's p, in the report of an audit, or else 0.
+    pub p: u32,
     /// The greatest cost of a hash with this setting and a password of this length, once both are known to be valid: of an audit
     /// for the longest password. In the report of a limit it is the limit.
     pub cost: u64,
     /// All the work that was done. In the report of a bound it is the greatest work.
     pub work: Work,
-    /// The rounds of new hashes, in the report of a limit or of rounds, as [`Scheme::made`](crypt_core::scheme::Scheme::made) takes
-    /// them: 0 for md5crypt. In the report of an audit, those of the stored hash: 1000 for md5crypt, and 0 for scrypt. Otherwise 0.
-    pub rounds: u32,
-    /// In the report of an audit, the number of the stored hash's scheme, or of the other scheme whose form the field has.
-    /// Otherwise 0.
-    pub scheme: u32,
-    /// scrypt's N, in the report of an audit, or else 0.
-    pub n: u64,
-    /// scrypt's r, in the report of an audit, or else 0.
-    pub r: u32,
-    /// scrypt's p, in the report of an audit, or else 0.
-    pub p: u32,
 }
 
 // C and the page read the fields at fixed places.
 const _: () = prove!(size_of::<Report>() == 80);
 
 impl Report {
-    /// Returns a report with these parts.
-    pub fn new(reason: Reason, length: u32, cost: u64, work: Work) -> Report
-        ensures { result ≡ reported reason length cost work }
+    /// Returns the report of a call that did what its name says.
+    pub fn succeeded(length: u32, cost: u64, work: Work) -> Report
+        ensures { result ≡ succeeded length cost work }
     {
         Report {
-            reason: reason.number(),
+            error: 0,
+            outdated: 0,
             length,
-            cost,
-            work,
-            rounds: 0,
             scheme: 0,
+            rounds: 0,
             n: 0,
             r: 0,
             p: 0,
+            cost,
+            work,
+        }
+    }
+
+    /// Returns the report of a call that failed.
+    pub fn failed(reason: Reason, cost: u64, work: Work) -> Report
+        ensures { result ≡ failed reason cost work }
+    {
+        Report {
+            error: reason.number(),
+            ..Report::succeeded(0, cost, work)
+        }
+    }
+
+    /// Returns the report of a call that failed before any hashing.
+    pub fn refused(reason: Reason, cost: u64) -> Report
+        ensures { result ≡ refused reason cost }
+    {
+        Report::failed(reason, cost, NO_WORK)
+    }
+
+    /// Returns the report of a stored hash that was found, or that the password matches.
+    pub fn found(is_outdated: bool, cost: u64, work: Work) -> Report
+        ensures { result ≡ found (if is_outdated then 1 else 0) cost work }
+    {
+        Report {
+            outdated: u32::from(is_outdated),
+            ..Report::succeeded(0, cost, work)
         }
     }
 
     /// Returns the report of a policy's rounds, with a length and a cost. Nothing was hashed.
     pub fn of_rounds(rounds: u32, length: u32, cost: u64) -> Report
-        ensures { result ≡ record (reported Reason.Done length cost no_work) { rounds = rounds } }
+        ensures { result ≡ record (succeeded length cost no_work) { rounds = rounds } }
     {
         Report {
             rounds,
-            ..Report::new(Reason::Done, length, cost, NO_WORK)
+            ..Report::succeeded(length, cost, NO_WORK)
         }
     }
+}
 
-    /// Returns the report of a refusal before any hashing.
-    pub fn refused(refusal: Refusal, cost: u64) -> Report
-        ensures { result ≡ refused refusal cost }
-    {
-        Report::new(Reason::Refused(refusal), 0, cost, NO_WORK)
+impl From<Reason> for Report {
+    ghost from_gives = { λ reason report. report ≡ refused reason 0 };
+
+    fn from(reason: Reason) -> Report {
+        Report::refused(reason, 0)
     }
 }
 
-impl From<PasswordFault> for Report {
-    ghost use Rattle.call_core.specs.declared.reason.Refusal.TheVariants.{Password};
-
-    ghost from_gives = { λ fault report. report ≡ refused (Password fault) 0 };
-
-    fn from(fault: PasswordFault) -> Report {
-        Report::refused(Refusal::Password(fault), 0)
-    }
-}
-
-impl From<SettingFault> for Report {
-    ghost use Rattle.call_core.specs.declared.reason.Refusal.TheVariants.{Setting};
-
-    ghost from_gives = { λ fault report. report ≡ refused (Setting fault) 0 };
-
-    fn from(fault: SettingFault) -> Report {
-        Report::refused(Refusal::Setting(fault), 0)
-    }
-}
-
-impl From<Refusal> for Report {
-    ghost from_gives = { λ refusal report. report ≡ refused refusal 0 };
-
-    fn from(refusal: Refusal) -> Report {
-        Report::refused(refusal, 0)
-    }
-}
-
-/// Writes the report of a call and returns its result: 1 if the reason is above 0, else 0.
+/// Writes the report of a call and returns its result: 1 if the error is 0, else 0.
 pub fn tell(report: &mut Report, told: Report) -> i32
     ensures told { report.new ≡ told }
-    ensures one_or_zero { (result ≡ pos 1) ⊎ (result ≡ pos 0) }
-    ensures positive { result ≡ pos 1 ↔ pos 0 <ℤ told.reason }
+    ensures answers { Answers result told }
+{
+    answer(report, told, told.error == 0)
+}
+
+/// Writes the report of a call and returns 1 if the stored hash is outdated, else 0.
+pub fn tell_outdated(report: &mut Report, told: Report) -> i32
+    ensures told { report.new ≡ told }
+    ensures answers { AnswersOutdated result told }
+{
+    answer(report, told, told.outdated == 1)
+}
+
+/// Writes the report of a call and returns 1 if the stored hash is current, else 0.
+pub fn tell_current(report: &mut Report, told: Report) -> i32
+    ensures told { report.new ≡ told }
+    ensures answers { AnswersCurrent result told }
+{
+    answer(report, told, told.error == 0 && told.outdated == 0)
+}
+
+// Writes the report of a call and returns 1 for yes, else 0.
+fn answer(report: &mut Report, told: Report, is_yes: bool) -> i32
+    ensures told { report.new ≡ told }
+    ensures yes { result ≡ pos 1 ↔ IsTrue is_yes }
+    ensures one_or_zero { IsOneOrZero result }
 {
     *report = told;
-    if report.reason > 0 { 1 } else { 0 }
+    i32::from(is_yes)
 }
 
 /// Returns the string that a refusal leaves in place of a hash with the setting (crypt(3)).

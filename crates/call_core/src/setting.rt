@@ -1,45 +1,45 @@
 //! A new setting.
-ghost use Rattle.std.specs.Prelude.{◌≡◌, ◌<ℤ◌, pos, []};
+ghost use Rattle.std.specs.Prelude.{◌≡◌, ◌≢◌, []};
 ghost use Rattle.crypt_core.specs.Settings.{canonical_text};
 ghost use Rattle.call_core.specs.Reports.{put, token};
 ghost use Rattle.call_core.specs.Settings.{PutsGivenSetting, PutsSetting, PutsText};
 
 use crate::reading::{given_setting, new_scheme_of};
-use crate::reason::{Reason, Refusal};
+use crate::reason::Reason;
 use crate::report::{NO_WORK, Report, leave, token};
 use crypt_core::setting::Setting;
 
 /// Writes the setting that three random numbers make to `out`, or after a refusal the token, and returns the report.
 pub fn put_setting(method: u32, rounds: u32, numbers: [u64; 3], out: &mut [u8]) -> Report
     ensures puts { PutsSetting method rounds numbers out.old result out.new }
-    ensures locked { ¬ (pos 0 <ℤ result.reason) → out.new ≡ put (token []) out.old }
+    ensures locked { result.error ≢ 0 → out.new ≡ put (token []) out.old }
 {
     match new_scheme_of(method, rounds) {
         Ok(scheme) => put_text(&Setting::salted(scheme, numbers), out),
-        Err(refusal) => leave(Report::from(refusal), out, token(b"")),
+        Err(reason) => leave(Report::from(reason), out, token(b"")),
     }
 }
 
 /// Writes the setting with the given salt to `out`, or after a refusal the token, and returns the report.
 pub fn put_setting_with_salt(method: u32, rounds: u32, salt: &[u8], out: &mut [u8]) -> Report
     ensures puts { PutsGivenSetting method rounds salt.now out.old result out.new }
-    ensures locked { ¬ (pos 0 <ℤ result.reason) → out.new ≡ put (token []) out.old }
+    ensures locked { result.error ≢ 0 → out.new ≡ put (token []) out.old }
 {
     match given_setting(method, rounds, salt) {
         Ok(setting) => put_text(&setting, out),
-        Err(refusal) => leave(Report::from(refusal), out, token(b"")),
+        Err(reason) => leave(Report::from(reason), out, token(b"")),
     }
 }
 
 // Writes the setting to `out`, or the token if there is no room for it, and returns the report.
 fn put_text(setting: &Setting, out: &mut [u8]) -> Report
     ensures puts { PutsText (canonical_text setting.now) out.old result out.new }
-    ensures locked { ¬ (pos 0 <ℤ result.reason) → out.new ≡ put (token []) out.old }
+    ensures locked { result.error ≢ 0 → out.new ≡ put (token []) out.old }
 {
     let text = setting.text();
     if text.len() >= out.len() {
-        return leave(Report::refused(Refusal::TooFewBytes, 0), out, token(b""));
+        return leave(Report::refused(Reason::TooFewBytes, 0), out, token(b""));
     }
-    let report = Report::new(Reason::Done, text.len() as u32, 0, NO_WORK);
+    let report = Report::succeeded(text.len() as u32, 0, NO_WORK);
     leave(report, out, text.as_slice())
 }

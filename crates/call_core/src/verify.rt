@@ -1,5 +1,5 @@
 //! A password against a stored hash.
-ghost use Rattle.std.specs.Prelude.{◌≡◌, ◌≢◌, ◌⊎◌, ◌≤◌, ◌<◌, ◌<ℤ◌, pos, length, false, true, IfOk, IfErr, IsOk};
+ghost use Rattle.std.specs.Prelude.{◌≡◌, ◌≢◌, ◌⊎◌, ◌≤◌, if◌then◌else◌, length, false, true, IfOk, IfErr, IsOk};
 ghost use Rattle.prims_core.specs.Work.{no_work};
 ghost use Rattle.crypt_core.specs.Crypt.{allocates, crypt};
 ghost use Rattle.crypt_core.specs.Settings.{SettingValue, Spells};
@@ -8,11 +8,11 @@ ghost use Rattle.crypt_core.specs.Work.{cost, work};
 ghost use Rattle.call_core.specs.Checks.{Compares, IsDead, NeedsNoMemory, Opens, Verifies};
 ghost use Rattle.call_core.specs.Private.Checks.{IsCheckRefused};
 ghost use Rattle.call_core.specs.Reasons.{reason_row};
-ghost use Rattle.call_core.specs.Reports.{reported};
+ghost use Rattle.call_core.specs.Reports.{failed};
 
 use crate::budget::cost_within;
-use crate::reading::stored_hash;
-use crate::reason::{Reason, Refusal};
+use crate::reading::{read_password, stored_hash};
+use crate::reason::Reason;
 use crate::report::Report;
 use crypt_core::memory::Memory;
 use crypt_core::password::Password;
@@ -29,18 +29,18 @@ pub fn verify<M: Memory>(
 ) -> Report
     requires new { meter.old ≡ no_work }
     ensures verifies { Verifies password.now stored.now budget result }
-    ensures lets_in { pos 0 <ℤ result.reason → Opens password.now stored.now budget }
-    ensures opens { Opens password.now stored.now budget → (pos 0 <ℤ result.reason)
-        ⊎ ((result.reason ≡ (reason_row (Reason.Refused Refusal.OutOfMemory)).0) × ¬ NeedsNoMemory stored.now) }
-    ensures shut { IsDead stored.now → ¬ (pos 0 <ℤ result.reason) }
+    ensures lets_in { result.error ≡ 0 → Opens password.now stored.now budget }
+    ensures opens { Opens password.now stored.now budget → (result.error ≡ 0)
+        ⊎ ((result.error ≡ (reason_row Reason.OutOfMemory).0) × ¬ NeedsNoMemory stored.now) }
+    ensures shut { IsDead stored.now → result.error ≢ 0 }
     ensures granted { NeedsNoMemory stored.now
-        ⊎ (M.HasSome ⊎ ((¬ (pos 0 <ℤ result.reason)) × (result.work ≡ no_work))) }
+        ⊎ (M.HasSome ⊎ ((result.error ≢ 0) × (result.work ≡ no_work))) }
     ensures bytes { result.work.bytes ≤ budget }
     ensures counted { meter.new ≡ result.work }
 {
-    let password = match Password::new(password) {
+    let password = match read_password(password) {
         Ok(password) => password,
-        Err(fault) => return Report::from(fault),
+        Err(reason) => return Report::from(reason),
     };
     match checkable(&password, stored, budget) {
         Ok((stored, most)) => compare(
@@ -48,8 +48,8 @@ pub fn verify<M: Memory>(
             &password,
             &stored,
             most,
-            Reason::Matches,
-            Refusal::Differs,
+            false,
+            Reason::WrongPassword,
             meter,
         ),
         Err(refused) => refused,
@@ -66,7 +66,7 @@ pub(crate) fn checkable<'a>(
     ensures found { IfOk result (λ check. IsHashOf field.now check.0) }
     ensures within { IfOk result (λ check. (check.1 ≡ cost check.0.setting (length password.now)) × (check.1 ≤ budget)) }
     ensures refused { IfErr result (IsCheckRefused password.now field.now budget) }
-    ensures idle { IfErr result (λ report. (¬ (pos 0 <ℤ report.reason)) × (report.work ≡ no_work)) }
+    ensures idle { IfErr result (λ report. (report.error ≢ 0) × (report.work ≡ no_work)) }
     ensures only { IfOk result (λ check. (kept : SettingValue) → Spells field.now kept → check.0.setting ≡ kept) }
     ensures admits { (kept : SettingValue) → Spells field.now kept → cost kept (length password.now) ≤ budget → IsOk result }
 {
@@ -75,38 +75,37 @@ pub(crate) fn checkable<'a>(
     Ok((stored, most))
 }
 
-/// Compares the password's hash, which costs at most `most`, with the stored one. The reason is `fits` if they are the
-/// same, and else the refusal `misses`.
+/// Compares the password's hash, which costs at most `most`, with the stored one. If they are the same, the report says
+/// whether the stored one is outdated, and else the reason is `misses`.
 pub(crate) fn compare<M: Memory>(
     memory: &M,
     password: &Password,
     stored: &StoredHash<'_>,
     most: u64,
-    fits: Reason,
-    misses: Refusal,
+    is_outdated: bool,
+    misses: Reason,
     meter: &mut Meter,
 ) -> Report
     requires new { meter.old ≡ no_work }
     requires most { most ≡ cost stored.now.setting (length password.now) }
-    requires fits { (fits ≡ Reason.Matches) ⊎ (fits ≡ Reason.Outdated) }
-    requires misses { (misses ≡ Refusal.Differs) ⊎ (misses ≡ Refusal.Dead) }
-    ensures compares { Compares password.now stored.now.setting stored.now.text fits misses result }
-    ensures same { pos 0 <ℤ result.reason
-        → (crypt password.now stored.now.setting ≡ stored.now.text) × (result.reason ≡ (reason_row fits).0) }
-    ensures opens { crypt password.now stored.now.setting ≡ stored.now.text → (pos 0 <ℤ result.reason)
-        ⊎ ((result.reason ≡ (reason_row (Reason.Refused Refusal.OutOfMemory)).0) × (allocates stored.now.setting.scheme ≡ true)) }
+    requires misses { (misses ≡ Reason.WrongPassword) ⊎ (misses ≡ Reason.Dead) }
+    ensures compares { Compares password.now stored.now.setting stored.now.text (if is_outdated then 1 else 0) misses result }
+    ensures same { result.error ≡ 0
+        → (crypt password.now stored.now.setting ≡ stored.now.text) × (result.outdated ≡ (if is_outdated then 1 else 0)) }
+    ensures only { result.outdated ≡ 1 → result.error ≡ 0 }
+    ensures opens { crypt password.now stored.now.setting ≡ stored.now.text → (result.error ≡ 0)
+        ⊎ ((result.error ≡ (reason_row Reason.OutOfMemory).0) × (allocates stored.now.setting.scheme ≡ true)) }
     ensures missed { crypt password.now stored.now.setting ≢ stored.now.text
-        → (result ≡ reported (Reason.Refused misses) 0 most (work password.now stored.now.setting))
-        ⊎ ((result.reason ≡ (reason_row (Reason.Refused Refusal.OutOfMemory)).0) × (allocates stored.now.setting.scheme ≡ true)) }
+        → (result ≡ failed misses most (work password.now stored.now.setting))
+        ⊎ ((result.error ≡ (reason_row Reason.OutOfMemory).0) × (allocates stored.now.setting.scheme ≡ true)) }
     ensures granted { (allocates stored.now.setting.scheme ≡ false)
-        ⊎ (M.HasSome ⊎ ((¬ (pos 0 <ℤ result.reason)) × (result.work ≡ no_work))) }
+        ⊎ (M.HasSome ⊎ ((result.error ≢ 0) × (result.work ≡ no_work))) }
     ensures bytes { result.work.bytes ≤ most }
     ensures counted { meter.new ≡ result.work }
 {
-    let reason = match stored.matches(memory, password, meter) {
-        Ok(true) => fits,
-        Ok(false) => Reason::Refused(misses),
-        Err(_) => Reason::Refused(Refusal::OutOfMemory),
-    };
-    Report::new(reason, 0, most, meter.work())
+    match stored.matches(memory, password, meter) {
+        Ok(true) => Report::found(is_outdated, most, meter.work()),
+        Ok(false) => Report::failed(misses, most, meter.work()),
+        Err(_) => Report::failed(Reason::OutOfMemory, most, meter.work()),
+    }
 }

@@ -1,18 +1,19 @@
 //! mkpasswd for C: the calls of `c/mkpasswd.h`, which says how to use each of them.
 //!
-//! A list of bytes is a pointer and a number of bytes. All calls but [`mkpasswd_words`] and [`mkpasswd_version`] have a
-//! report. Such a call returns 1 if it did what its name says, else 0. It always writes the whole report, which has the
-//! reason. So a caller who compares nothing denies access. After a 0 `out` holds a token, which matches no password, cut
-//! to the capacity of `out`.
+//! A list of bytes is a pointer and a number of bytes. All calls but [`mkpasswd_message_bytes`], [`mkpasswd_scheme_name_bytes`]
+//! and [`mkpasswd_version`] have a report. Such a call returns 1 for yes: it did what its name says, the password matches, the
+//! stored hash is outdated, or current for an audit. Otherwise it returns 0. It always writes the whole report, whose error is 0
+//! or the number of the reason why not. After an error `out` holds a token, which matches no password, cut to the capacity of
+//! `out`.
 //!
-//! The report has the first refusal that applies, in this order: password, setting, method, rounds, budget, capacity,
-//! random numbers, memory. For a login and an audit method and rounds come before the field. [`mkpasswd_proved_verify`],
-//! [`mkpasswd_proved_login`] and [`mkpasswd_audit`] read a stored field: a locked one is `Locked` and an empty one `NoHash`, where the
-//! other calls report what is wrong with it as a setting. The calls share no state and start no threads, so many threads may
-//! call at once.
+//! The error is the first one that applies, in this order: password, setting, method, salt, rounds, budget, capacity, random
+//! numbers, memory. For a login and an audit method and rounds come before the field. [`mkpasswd_proved_verify`],
+//! [`mkpasswd_proved_login`] and [`mkpasswd_audit_bytes`] read a stored field: a locked one is `Locked` and an empty one `NoHash`,
+//! where the other calls report what is wrong with it as a setting. A method of 0 is the recommended one, sha512crypt, and
+//! rounds of 0 are the recommended ones. The calls share no state and start no threads, so many threads may call at once.
 #![tactic(auto)]
 
-ghost use Rattle.std.specs.Prelude.{◌≡◌, ◌≢◌, ◌⊎◌, ◌↔◌, ◌<◌, ◌≤◌, pos, [], ◌∷◌, length, take, codes};
+ghost use Rattle.std.specs.Prelude.{◌≡◌, ◌≢◌, ◌⊎◌, ◌↔◌, ◌<◌, ◌≤◌, pos, [], length, take};
 ghost use Rattle.prims_core.specs.Work.{no_work};
 ghost use Rattle.crypt_core.specs.Crypt.{crypt};
 ghost use Rattle.crypt_core.specs.MadeSettings.{salted};
@@ -26,26 +27,24 @@ ghost use Rattle.call_core.specs.Checks.{IsDead, Opens, Verifies};
 ghost use Rattle.call_core.specs.Hashes.{Hashes, HashesAnew};
 ghost use Rattle.call_core.specs.Limits.{AreFitted, ReportsRounds, Limits, limit_bytes, limit_of, meant, new_cost, policy_limit, twice};
 ghost use Rattle.call_core.specs.Logins.{JudgesStoredHash, LogsIn, TreatsFieldsAlike};
-ghost use Rattle.call_core.specs.Names.{PutsSchemeName};
+ghost use Rattle.call_core.specs.Names.{PutsMessage, PutsSchemeName};
 ghost use Rattle.call_core.specs.Reasons.{reason_row};
 ghost use Rattle.call_core.specs.Rehashes.{IsOutdated, Rehashes};
-ghost use Rattle.call_core.specs.Reports.{Answers, put, refused, token};
-ghost use Rattle.call_core.specs.Settings.{Bounds, PutsGivenSetting, PutsSetting};
-ghost use Rattle.call_core.specs.declared.reason.Reason.{Reason as Why};
-ghost use Rattle.call_core.specs.declared.reason.Reason.TheVariants.{Refused};
-ghost use Rattle.call_core.specs.declared.reason.Refusal.TheVariants.{Current, OutOfMemory};
+ghost use Rattle.call_core.specs.Reports.{Answers, AnswersCurrent, AnswersOutdated, found, put, token};
+ghost use Rattle.call_core.specs.Settings.{Bounds, PutsGivenSetting};
+ghost use Rattle.call_core.specs.declared.reason.Reason.TheVariants.{OutOfMemory};
 
 use call_core::audit::report_audit;
 use call_core::bound::report_bound;
 use call_core::hash::put_hash;
 use call_core::limit::{Limit, report_limit, report_rounds};
 use call_core::login::log_in;
+use call_core::message::put_message;
 use call_core::name::put_scheme_name;
 use call_core::new_hash::put_new_hash;
-use call_core::reason::Reason;
 use call_core::rehash::report_rehash;
-use call_core::report::{Report, put, put_whole, tell};
-use call_core::setting::{put_setting, put_setting_with_salt};
+use call_core::report::{Report, tell, tell_current, tell_outdated};
+use call_core::setting::put_setting_with_salt;
 use call_core::verify::verify;
 use crypt_core::version::VERSION_NUMBER;
 use prims_core::meter::Meter;
@@ -61,11 +60,11 @@ use std::alloc::Global;
 ///
 /// # Errors
 ///
-/// - `Password`: the password is invalid.
+/// - `PasswordTooLong`, `PasswordZeroByte`: the password is invalid.
 /// - `Locked`, `NoHash`: the stored hash begins with `!` or `*`, or is empty.
-/// - `Setting`: any other stored hash is invalid.
+/// - of a setting: any other stored hash is invalid.
 /// - `OverBudget`: the hash can cost more than the budget.
-/// - `Differs`: the password does not match.
+/// - `WrongPassword`: the password does not match.
 /// - `OutOfMemory`: scrypt could not allocate.
 #[unsafe(no_mangle)]
 pub extern "C" fn mkpasswd_proved_verify(
@@ -78,7 +77,7 @@ pub extern "C" fn mkpasswd_proved_verify(
     ensures answers { Answers result report.new }
     ensures lets_in { result ≡ pos 1 → Opens password.now stored.now budget }
     ensures opens { Opens password.now stored.now budget
-        → (result ≡ pos 1) ⊎ (report.new.reason ≡ (reason_row (Refused OutOfMemory)).0) }
+        → (result ≡ pos 1) ⊎ (report.new.error ≡ (reason_row OutOfMemory).0) }
     ensures shut { IsDead stored.now → result ≡ pos 0 }
     ensures verifies { Verifies password.now stored.now budget report.new }
 {
@@ -89,7 +88,8 @@ pub extern "C" fn mkpasswd_proved_verify(
 }
 
 /// Returns 1 exactly if a new hash can have the method and the rounds, and [`mkpasswd_proved_verify`] returns 1 within the same
-/// limit, unless scrypt could not allocate. The reason then tells whether [`mkpasswd_needs_rehash`] would return 1.
+/// limit, unless scrypt could not allocate. The report's `outdated` then tells whether [`mkpasswd_needs_rehash_bytes`] would
+/// return 1. After a 0 it is 0.
 ///
 /// If the field has no setting, or one above the budget, the call hashes the password with the method, the rounds and a
 /// fixed salt, and returns 0. So such a name does the work of a new hash. For an unknown name, pass an empty field.
@@ -101,15 +101,15 @@ pub extern "C" fn mkpasswd_proved_verify(
 ///
 /// # Errors
 ///
-/// - `Password`: the password is invalid. The field makes no difference.
+/// - `PasswordTooLong`, `PasswordZeroByte`: the password is invalid. The field makes no difference.
 /// - `UnknownMethod`, `Rounds`: no method has the number, or a new hash cannot have the rounds. Here too the field makes no
 ///   difference.
 /// - `Locked`, `NoHash`: the field begins with `!` or `*`, or is empty.
-/// - `Setting`, `OverBudget`: any other field has no valid hash, or one that can cost more than the budget. After these
+/// - of a setting, `OverBudget`: any other field has no valid hash, or one that can cost more than the budget. After these
 ///   four the work is that of the new hash: none if that can cost more than the budget, and if scrypt could not allocate
 ///   for it, that of the allocations before.
-/// - `Differs`: the password does not match.
-/// - `Dead`: no password matches the stored hash, because it is not whole. The work is that of `Differs`.
+/// - `WrongPassword`: the password does not match.
+/// - `Dead`: no password matches the stored hash, because it is not whole. The work is that of `WrongPassword`.
 /// - `OutOfMemory`: scrypt could not allocate for the stored hash.
 #[unsafe(no_mangle)]
 pub extern "C" fn mkpasswd_proved_login(
@@ -124,7 +124,7 @@ pub extern "C" fn mkpasswd_proved_login(
     ensures answers { Answers result report.new }
     ensures lets_in { result ≡ pos 1 → Opens password.now field.now (limit_of method rounds budget (length password.now)) }
     ensures opens { (scheme : Scheme) → IsSchemeMade TakesNewRounds method rounds scheme → Opens password.now field.now (limit_of method rounds budget (length password.now))
-        → (result ≡ pos 1) ⊎ (report.new.reason ≡ (reason_row (Refused OutOfMemory)).0) }
+        → (result ≡ pos 1) ⊎ (report.new.error ≡ (reason_row OutOfMemory).0) }
     ensures logs_in { LogsIn password.now field.now method rounds (limit_of method rounds budget (length password.now)) report.new }
     ensures judges { JudgesStoredHash password.now field.now method rounds (limit_of method rounds budget (length password.now))
         result report.new }
@@ -153,11 +153,11 @@ pub extern "C" fn mkpasswd_proved_login(
 /// The method is 1 for md5crypt, 5 for sha256crypt, 6 for sha512crypt or 7 for scrypt, as in their hashes. The rounds
 /// are those of `mkpasswd -R`, but 0 is the recommended ones. A budget of 0 is the limit of the policy, as for
 /// [`mkpasswd_proved_login`], which accepts the hash for its password by the same method, rounds and budget, unless scrypt lacks
-/// memory. For the same method and rounds [`mkpasswd_needs_rehash`] does not report it as outdated.
+/// memory. For the same method and rounds [`mkpasswd_needs_rehash_bytes`] does not report it as outdated.
 ///
 /// # Errors
 ///
-/// - `Password`: the password is invalid.
+/// - `PasswordTooLong`, `PasswordZeroByte`: the password is invalid.
 /// - `UnknownMethod`, `Rounds`: no method has the number, or the method does not accept the rounds, or would clamp them.
 /// - `OverBudget`: the hash can cost more than the budget.
 /// - `TooFewBytes`: the hash and the byte 0 do not fit into `out`.
@@ -180,9 +180,9 @@ pub extern "C" fn mkpasswd_proved_new_from(
     ensures writes { (scheme : Scheme) → IsSchemeMade TakesNewRounds method rounds scheme → budget ≡ twice → IsPassword password.now
         → new_cost scheme (length password.now) ≤ policy_limit scheme → length numbers.now ≡ 3
         → length (crypt password.now (salted scheme numbers.now)) < length out.old
-        → (result ≡ pos 1) ⊎ (report.new.reason ≡ (reason_row (Refused OutOfMemory)).0) }
+        → (result ≡ pos 1) ⊎ (report.new.error ≡ (reason_row OutOfMemory).0) }
     ensures then_opens { result ≡ pos 1 → Opens password.now (take report.new.length out.new) (limit_of method rounds budget (length password.now)) }
-    ensures then_current { result ≡ pos 1 → Rehashes (take report.new.length out.new) method rounds (refused Current 0) }
+    ensures then_current { result ≡ pos 1 → Rehashes (take report.new.length out.new) method rounds (found 0 0 no_work) }
 {
     tell(
         report,
@@ -201,25 +201,25 @@ pub extern "C" fn mkpasswd_proved_new_from(
 
 /// Returns 1 if a new hash with the method and the rounds would replace the stored one.
 ///
-/// It would if the stored hash has another method, fewer rounds, or for scrypt a smaller `N * r * p`.
+/// It would if the stored hash has another method, fewer rounds, or for scrypt a smaller `N * r * p`. The report's `outdated` says
+/// the same, and its error is 0 for both answers.
 ///
 /// # Errors
 ///
-/// - `Setting`: the stored hash is invalid.
+/// - of a setting: the stored hash is invalid.
 /// - `UnknownMethod`, `Rounds`: no method has the number, or the method does not accept the rounds.
-/// - `Current`: the stored hash needs no replacement.
 #[unsafe(no_mangle)]
-pub extern "C" fn mkpasswd_needs_rehash(
+pub extern "C" fn mkpasswd_needs_rehash_bytes(
     stored: &[u8],
     method: u32,
     rounds: u32,
     report: &mut Report,
 ) -> i32
-    ensures answers { Answers result report.new }
+    ensures answers { AnswersOutdated result report.new }
     ensures outdated { result ≡ pos 1 ↔ IsOutdated stored.now method rounds }
     ensures rehashes { Rehashes stored.now method rounds report.new }
 {
-    tell(report, report_rehash(stored, method, rounds))
+    tell_outdated(report, report_rehash(stored, method, rounds))
 }
 
 /// Returns 1 if the stored hash in a field is current: some digest makes it, no hash with its setting costs more than the
@@ -235,27 +235,28 @@ pub extern "C" fn mkpasswd_needs_rehash(
 ///
 /// - `UnknownMethod`, `Rounds`: no method has the number, or a new hash cannot have the rounds.
 /// - `Locked`, `NoHash`: the field begins with `!` or `*`, or is empty.
-/// - `Setting`: any other field begins with `$`, and has no valid hash; or with `UnknownScheme` it has the form of another scheme
+/// - of a setting: any other field begins with `$`, and has no valid hash; or with `UnknownScheme` it has the form of another scheme
 ///   of crypt(5).
 /// - `NoScheme`: any other field has the form of no scheme: it is a password, say, or a damaged hash.
 /// - `OverBudget`: the hash is over the budget.
 /// - `Dead`: no password matches the hash, because it is not whole.
-/// - `Outdated`: a new hash would replace it.
+///
+/// If only a new hash would replace it, the error is 0, and the report's `outdated` is 1.
 #[unsafe(no_mangle)]
-pub extern "C" fn mkpasswd_audit(
+pub extern "C" fn mkpasswd_audit_bytes(
     field: &[u8],
     method: u32,
     rounds: u32,
     budget: u64,
     report: &mut Report,
 ) -> i32
-    ensures answers { Answers result report.new }
+    ensures answers { AnswersCurrent result report.new }
     ensures current { result ≡ pos 1 ↔ IsCurrent field.now method rounds budget }
     ensures audits { Audits field.now method rounds budget report.new }
     ensures checked { ForeseesLogins field.now method rounds budget report.new }
     ensures idle { report.new.work ≡ no_work }
 {
-    tell(report, report_audit(field, method, rounds, budget))
+    tell_current(report, report_audit(field, method, rounds, budget))
 }
 
 /// Reports the limit on the cost of a login and of a new hash, by a method, rounds and a budget, and the length of the longest
@@ -270,7 +271,12 @@ pub extern "C" fn mkpasswd_audit(
 /// - `UnknownMethod`, `Rounds`: no method has the number, or a new hash cannot have the rounds.
 /// - `OverBudget`: no new hash is within the limit. The cost in the report is the limit.
 #[unsafe(no_mangle)]
-pub extern "C" fn mkpasswd_limit(method: u32, rounds: u32, budget: u64, report: &mut Report) -> i32
+pub extern "C" fn mkpasswd_limit_bytes(
+    method: u32,
+    rounds: u32,
+    budget: u64,
+    report: &mut Report,
+) -> i32
     ensures answers { Answers result report.new }
     ensures limits { Limits method rounds (meant budget) report.new }
 {
@@ -281,17 +287,17 @@ pub extern "C" fn mkpasswd_limit(method: u32, rounds: u32, budget: u64, report: 
 /// the cost of that hash.
 ///
 /// They are the policy's own, if a hash with them is within the limit, or else fewer rounds of SHA-crypt, but as few as 1000 are
-/// enough. A caller gives them to [`mkpasswd_proved_new_from`], with the limit that [`mkpasswd_limit`] reports as the budget, since fewer
+/// enough. A caller gives them to [`mkpasswd_proved_new_from`], with the limit that [`mkpasswd_limit_bytes`] reports as the budget, since fewer
 /// rounds have a lower limit of their own; and the same budget to [`mkpasswd_proved_login`].
 ///
 /// # Errors
 ///
-/// - `Password`: the length exceeds that of any password.
+/// - `PasswordTooLong`: the length exceeds that of any password.
 /// - `UnknownMethod`, `Rounds`: no method has the number, or a new hash cannot have the rounds.
 /// - `OverBudget`: no hash of such a password is within the limit, with SHA-crypt by whatever rounds. With a budget of 0 there
 ///   always is one.
 #[unsafe(no_mangle)]
-pub extern "C" fn mkpasswd_rounds(
+pub extern "C" fn mkpasswd_rounds_bytes(
     password_len: usize,
     method: u32,
     rounds: u32,
@@ -317,10 +323,14 @@ pub extern "C" fn mkpasswd_rounds(
 ///
 /// # Errors
 ///
-/// - `Password`: the length exceeds that of any password.
-/// - `Setting`: the stored hash is invalid.
+/// - `PasswordTooLong`: the length exceeds that of any password.
+/// - of a setting: the stored hash is invalid.
 #[unsafe(no_mangle)]
-pub extern "C" fn mkpasswd_bound(stored: &[u8], password_len: usize, report: &mut Report) -> i32
+pub extern "C" fn mkpasswd_bound_bytes(
+    stored: &[u8],
+    password_len: usize,
+    report: &mut Report,
+) -> i32
     ensures answers { Answers result report.new }
     ensures bounds { Bounds password_len stored.now report.new }
 {
@@ -334,7 +344,7 @@ pub extern "C" fn mkpasswd_bound(stored: &[u8], password_len: usize, report: &mu
 ///
 /// # Errors
 ///
-/// - `Password`, `Setting`: the password or the setting is invalid.
+/// - of a password or a setting: it is invalid.
 /// - `OverBudget`: the hash can cost more than the budget.
 /// - `TooFewBytes`: the hash and the byte 0 do not fit into `out`.
 /// - `OutOfMemory`: scrypt could not allocate.
@@ -360,32 +370,6 @@ pub extern "C" fn mkpasswd_proved_hash(
     )
 }
 
-/// Makes a setting with a method, the rounds and three random numbers, and writes it and a byte 0 to `out`.
-///
-/// # Errors
-///
-/// - `UnknownMethod`, `Rounds`: no method has the number, or the method does not accept the rounds, or would clamp them.
-/// - `TooFewBytes`: the setting and the byte 0 do not fit into `out`.
-#[unsafe(no_mangle)]
-pub extern "C" fn mkpasswd_setting(
-    method: u32,
-    rounds: u32,
-    first: u64,
-    second: u64,
-    third: u64,
-    out: &mut [u8],
-    report: &mut Report,
-) -> i32
-    ensures answers { Answers result report.new }
-    ensures puts { PutsSetting method rounds (first ∷ second ∷ third ∷ []) out.old report.new out.new }
-    ensures locked { result ≡ pos 0 → out.new ≡ put (token []) out.old }
-{
-    tell(
-        report,
-        put_setting(method, rounds, [first, second, third], out),
-    )
-}
-
 /// Makes a setting with a method, the rounds and a given salt, and writes it and a byte 0 to `out`.
 ///
 /// # Errors
@@ -395,7 +379,7 @@ pub extern "C" fn mkpasswd_setting(
 /// - `Rounds`: the method does not accept the rounds, or would clamp them.
 /// - `TooFewBytes`: the setting and the byte 0 do not fit into `out`.
 #[unsafe(no_mangle)]
-pub extern "C" fn mkpasswd_setting_with_salt(
+pub extern "C" fn mkpasswd_setting_bytes(
     method: u32,
     rounds: u32,
     salt: &[u8],
@@ -410,22 +394,15 @@ pub extern "C" fn mkpasswd_setting_with_salt(
     tell(report, told)
 }
 
-/// Writes the message for a reason and a byte 0 to `out`, cut to the capacity of `out`, or `unknown reason` if none has the number.
+/// Writes the message for the reason with this number and a byte 0 to `out`, cut to the capacity of `out`, or `unknown reason` if
+/// none has the number.
 ///
 /// It returns 1, or 0 if the message is cut or no reason has the number.
 #[unsafe(no_mangle)]
-pub extern "C" fn mkpasswd_words(reason: i32, out: &mut [u8]) -> i32
-    ensures one_or_zero { (result ≡ pos 1) ⊎ (result ≡ pos 0) }
-    ensures known { (why : Why) → reason ≡ (reason_row why).0 → (out.new ≡ put (reason_row why).1 out.old)
-        × (result ≡ pos 1 ↔ length (reason_row why).1 < length out.old) }
-    ensures unknown { ((why : Why) → reason ≢ (reason_row why).0)
-        → (out.new ≡ put (codes "unknown reason") out.old) × (result ≡ pos 0) }
+pub extern "C" fn mkpasswd_message_bytes(error: u32, out: &mut [u8]) -> i32
+    ensures { PutsMessage error out.old result out.new }
 {
-    let Some(reason) = Reason::numbered(reason) else {
-        put(out, b"unknown reason");
-        return 0;
-    };
-    put_whole(out, reason.message().as_bytes())
+    put_message(error, out)
 }
 
 /// Writes the name in crypt(5) of the scheme with this number and a byte 0 to `out`, cut to the capacity of `out`, or `unknown scheme`
@@ -433,7 +410,7 @@ pub extern "C" fn mkpasswd_words(reason: i32, out: &mut [u8]) -> i32
 ///
 /// It returns 1, or 0 if the name is cut or no scheme has the number.
 #[unsafe(no_mangle)]
-pub extern "C" fn mkpasswd_scheme_name(scheme: u32, out: &mut [u8]) -> i32
+pub extern "C" fn mkpasswd_scheme_name_bytes(scheme: u32, out: &mut [u8]) -> i32
     ensures { PutsSchemeName scheme out.old result out.new }
 {
     put_scheme_name(scheme, out)

@@ -3,11 +3,12 @@
 //! A web page or node calls the WebAssembly module built from this crate. A list of bytes is a pointer and a number of bytes.
 //! Pointers are valid, the report is aligned, and neither `out` nor the report overlaps another argument. Nothing is wiped.
 //!
-//! Each call returns 1 if it did what its name says, and 0 otherwise. It writes the whole report, which has the reason: above
-//! 0 in the first case, else the number of the first refusal that applies, in the order password, setting, method, rounds,
-//! budget, capacity, memory; of a login and an audit method and rounds come before the field. [`web_verify`], [`web_login`] and
-//! [`web_audit`] read a stored field: a locked one is `Locked` and an empty one `NoHash`, where the other calls report what is
-//! wrong with it as a setting. These numbers, the report's other fields and what is left in `out` are those of the calls for C.
+//! Each call returns 1 for yes: it did what its name says, the password matches, the stored hash is outdated, or current for an
+//! audit. Otherwise it returns 0. It writes the whole report, whose error is 0 or the number of the first reason why not, in the
+//! order password, setting, method, rounds, budget, capacity, memory; of a login and an audit method and rounds come before the
+//! field. [`web_verify`], [`web_login`] and [`web_audit`] read a stored field: a locked one is `Locked` and an empty one `NoHash`,
+//! where the other calls report what is wrong with it as a setting. A method of 0 is the recommended one, sha512crypt, and rounds
+//! of 0 are the recommended ones. These numbers, the report's other fields and what is left in `out` are those of the calls for C.
 //! scrypt needs memory, so the calls that hash refuse it with `OutOfMemory`.
 #![tactic(auto)]
 
@@ -25,9 +26,9 @@ ghost use Rattle.call_core.specs.Checks.{IsDead, NeedsNoMemory, Opens, Verifies}
 ghost use Rattle.call_core.specs.Hashes.{Hashes};
 ghost use Rattle.call_core.specs.Limits.{AreFitted, ReportsRounds, Limits, limit_bytes, limit_of, meant, twice};
 ghost use Rattle.call_core.specs.Logins.{IsUncheckable, JudgesStoredHash, LogsIn, TreatsFieldsAlike};
-ghost use Rattle.call_core.specs.Names.{PutsSchemeName};
+ghost use Rattle.call_core.specs.Names.{PutsMessage, PutsSchemeName};
 ghost use Rattle.call_core.specs.Rehashes.{IsOutdated, Rehashes};
-ghost use Rattle.call_core.specs.Reports.{Answers, put, token};
+ghost use Rattle.call_core.specs.Reports.{Answers, AnswersCurrent, AnswersOutdated, put, token};
 ghost use Rattle.call_core.specs.Settings.{Bounds, PutsSetting};
 
 use call_core::audit::report_audit;
@@ -35,9 +36,10 @@ use call_core::bound::report_bound;
 use call_core::hash::put_hash;
 use call_core::limit::{Limit, report_limit, report_rounds};
 use call_core::login::log_in;
+use call_core::message::put_message;
 use call_core::name::put_scheme_name;
 use call_core::rehash::report_rehash;
-use call_core::report::{Report, tell};
+use call_core::report::{Report, tell, tell_current, tell_outdated};
 use call_core::setting::put_setting;
 use call_core::verify::verify;
 use crypt_core::memory::NoHeap;
@@ -53,12 +55,12 @@ use prims_core::meter::Meter;
 ///
 /// # Errors
 ///
-/// - `Password`: the password is invalid.
+/// - `PasswordTooLong`, `PasswordZeroByte`: the password is invalid.
 /// - `Locked`, `NoHash`: the stored hash begins with `!` or `*`, or is empty.
-/// - `Setting`: any other stored hash is invalid.
+/// - of a setting: any other stored hash is invalid.
 /// - `OverBudget`: the hash can cost more than the budget.
 /// - `OutOfMemory`: the method is scrypt.
-/// - `Differs`: the password does not match.
+/// - `WrongPassword`: the password does not match.
 #[unsafe(no_mangle)]
 pub extern "C" fn web_verify(
     password: &[u8],
@@ -81,7 +83,8 @@ pub extern "C" fn web_verify(
 }
 
 /// Checks the password of a login, as `mkpasswd_login` does for C. Returns 1 exactly if a new hash can have the method and the
-/// rounds, and [`web_verify`] with the same limit returns 1. The reason then tells whether [`web_needs_rehash`] would return 1.
+/// rounds, and [`web_verify`] with the same limit returns 1. The report's
+/// `outdated` then tells whether [`web_needs_rehash`] would return 1. After a 0 it is 0.
 ///
 /// If the field has no setting, or one above the limit, the call hashes the password with the method, the rounds and a
 /// fixed salt, and returns 0. So such a name does the work of a new hash. A name that is not known has an empty field. The
@@ -94,15 +97,15 @@ pub extern "C" fn web_verify(
 ///
 /// # Errors
 ///
-/// - `Password`: the password is invalid. The field makes no difference.
+/// - `PasswordTooLong`, `PasswordZeroByte`: the password is invalid. The field makes no difference.
 /// - `UnknownMethod`, `Rounds`: no method has the number, or a new hash cannot have the rounds. Here too the field makes no
 ///   difference.
 /// - `Locked`, `NoHash`: the field begins with `!` or `*`, or is empty.
-/// - `Setting`, `OverBudget`: any other field has no valid hash, or one that can cost more than the budget. After these
+/// - of a setting, `OverBudget`: any other field has no valid hash, or one that can cost more than the budget. After these
 ///   four the work is that of the new hash: none if that can cost more than the budget, or is of scrypt.
 /// - `OutOfMemory`: the stored hash is of scrypt.
-/// - `Differs`: the password does not match.
-/// - `Dead`: no password matches the stored hash, because it is not whole. The work is that of `Differs`.
+/// - `WrongPassword`: the password does not match.
+/// - `Dead`: no password matches the stored hash, because it is not whole. The work is that of `WrongPassword`.
 #[unsafe(no_mangle)]
 pub extern "C" fn web_login(
     password: &[u8],
@@ -144,13 +147,12 @@ pub extern "C" fn web_login(
 
 /// Returns 1 if a new hash with the method and the rounds would replace the stored one, as `mkpasswd_needs_rehash` does for C.
 ///
-/// It hashes nothing.
+/// It hashes nothing. The report's `outdated` says the same, and its error is 0 for both answers.
 ///
 /// # Errors
 ///
-/// - `Setting`: the stored hash is invalid.
+/// - of a setting: the stored hash is invalid.
 /// - `UnknownMethod`, `Rounds`: no method has the number, or the method does not accept the rounds.
-/// - `Current`: the stored hash needs no replacement.
 #[unsafe(no_mangle)]
 pub extern "C" fn web_needs_rehash(
     stored: &[u8],
@@ -158,11 +160,11 @@ pub extern "C" fn web_needs_rehash(
     rounds: u32,
     report: &mut Report,
 ) -> i32
-    ensures answers { Answers result report.new }
+    ensures answers { AnswersOutdated result report.new }
     ensures outdated { result ≡ pos 1 ↔ IsOutdated stored.now method rounds }
     ensures rehashes { Rehashes stored.now method rounds report.new }
 {
-    tell(report, report_rehash(stored, method, rounds))
+    tell_outdated(report, report_rehash(stored, method, rounds))
 }
 
 /// Hashes a password with a setting, and writes the hash and a byte 0 to `out`. [`web_verify`] accepts it for the password
@@ -172,7 +174,7 @@ pub extern "C" fn web_needs_rehash(
 ///
 /// # Errors
 ///
-/// - `Password`, `Setting`: the password or the setting is invalid.
+/// - of a password or a setting: it is invalid.
 /// - `OverBudget`: the hash can cost more than the budget.
 /// - `TooFewBytes`: the hash and the byte 0 do not fit into `out`.
 /// - `OutOfMemory`: the method is scrypt.
@@ -241,11 +243,12 @@ pub extern "C" fn web_setting(
 ///
 /// - `UnknownMethod`, `Rounds`: no method has the number, or a new hash cannot have the rounds.
 /// - `Locked`, `NoHash`: the field begins with `!` or `*`, or is empty.
-/// - `Setting`: any other field begins with `$`, and has no valid hash; or with `UnknownScheme` it has the form of another scheme
+/// - of a setting: any other field begins with `$`, and has no valid hash; or with `UnknownScheme` it has the form of another scheme
 ///   of crypt(5).
 /// - `NoScheme`: any other field has the form of no scheme.
-/// - `OverBudget`, `Dead`, `Outdated`: the hash is over the budget; no password matches it, because it is not whole; a new
-///   hash would replace it.
+/// - `OverBudget`, `Dead`: the hash is over the budget; no password matches it, because it is not whole.
+///
+/// If only a new hash would replace it, the error is 0, and the report's `outdated` is 1.
 #[unsafe(no_mangle)]
 pub extern "C" fn web_audit(
     field: &[u8],
@@ -254,13 +257,13 @@ pub extern "C" fn web_audit(
     budget: u64,
     report: &mut Report,
 ) -> i32
-    ensures answers { Answers result report.new }
+    ensures answers { AnswersCurrent result report.new }
     ensures current { result ≡ pos 1 ↔ IsCurrent field.now method rounds budget }
     ensures audits { Audits field.now method rounds budget report.new }
     ensures checked { ForeseesLogins field.now method rounds budget report.new }
     ensures idle { report.new.work ≡ no_work }
 {
-    tell(report, report_audit(field, method, rounds, budget))
+    tell_current(report, report_audit(field, method, rounds, budget))
 }
 
 /// Reports the limit on the cost of a login and of a new hash, by a method, rounds and a budget, and the length of the longest
@@ -291,7 +294,7 @@ pub extern "C" fn web_limit(method: u32, rounds: u32, budget: u64, report: &mut 
 ///
 /// # Errors
 ///
-/// - `Password`: the length exceeds that of any password.
+/// - `PasswordTooLong`: the length exceeds that of any password.
 /// - `UnknownMethod`, `Rounds`: no method has the number, or a new hash cannot have the rounds.
 /// - `OverBudget`: no hash of such a password is within the limit, with SHA-crypt by whatever rounds. With a budget of 0 there
 ///   always is one.
@@ -322,14 +325,25 @@ pub extern "C" fn web_rounds(
 ///
 /// # Errors
 ///
-/// - `Password`: the length exceeds that of any password.
-/// - `Setting`: the setting is invalid.
+/// - `PasswordTooLong`: the length exceeds that of any password.
+/// - of a setting: the setting is invalid.
 #[unsafe(no_mangle)]
 pub extern "C" fn web_cost(setting: &[u8], password_len: usize, report: &mut Report) -> i32
     ensures answers { Answers result report.new }
     ensures bounds { Bounds password_len setting.now report.new }
 {
     tell(report, report_bound(password_len, setting))
+}
+
+/// Writes the message for the reason with this number and a byte 0 to `out`, cut to the capacity of `out`, or `unknown reason` if
+/// none has the number.
+///
+/// It returns 1, or 0 if the message is cut or no reason has the number.
+#[unsafe(no_mangle)]
+pub extern "C" fn web_message(error: u32, out: &mut [u8]) -> i32
+    ensures { PutsMessage error out.old result out.new }
+{
+    put_message(error, out)
 }
 
 /// Writes the name in crypt(5) of the scheme with this number and a byte 0 to `out`, cut to the capacity of `out`, or `unknown scheme`

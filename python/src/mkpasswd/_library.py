@@ -7,7 +7,7 @@ import ctypes
 import enum
 import os
 
-SONAME = "libmkpasswd.so.2"
+SONAME = "libmkpasswd.so.3"
 
 # As in the header: the size of a buffer for any hash, setting or message, and the longest password in bytes.
 TEXT_SIZE = 145

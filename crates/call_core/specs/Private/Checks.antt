@@ -4,13 +4,13 @@ use Rattle.crypt_core.specs.Settings.{SettingValue, Spells}
 use Rattle.crypt_core.specs.Work.{cost}
 use Rattle.call_core.specs.Arguments.{IsFieldRefusal, Refuses}
 use Rattle.call_core.specs.Reports.{refused}
-use Rattle.call_core.specs.declared.reason.Refusal.{Refusal}
-use Rattle.call_core.specs.declared.reason.Refusal.TheVariants.{OverBudget}
+use Rattle.call_core.specs.declared.reason.Reason.{Reason}
+use Rattle.call_core.specs.declared.reason.Reason.TheVariants.{OverBudget}
 use Rattle.call_core.specs.declared.report.Report.{Report}
 
 -- The report of a field against which the password is not checked: the field is refused, or its setting costs more than
 -- the budget.
 abbrev pub IsCheckRefused : List ℕ → List ℕ → ℕ → Report → Type 0
 IsCheckRefused password field budget report =
-    ((refusal : Refusal) × IsFieldRefusal field refusal × Refuses report refusal)
+    ((reason : Reason) × IsFieldRefusal field reason × Refuses report reason)
     ⊎ ((kept : SettingValue) × Spells field kept × (budget < cost kept (length password)) × (report ≡ refused OverBudget (cost kept (length password))))

@@ -1,5 +1,5 @@
 -- What the steps of a call that hashes leave to it.
-use Rattle.std.specs.Prelude.{◌≡◌, ◌⊎◌, ◌<◌, ◌≤◌, ◌<ℤ◌, ◌==◌, pos, ℕ, List, [], ◌∷◌, length, MatchBool, MatchResult, Result, Ok, Err}
+use Rattle.std.specs.Prelude.{◌≡◌, ◌≢◌, ◌⊎◌, ◌<◌, ◌≤◌, ◌==◌, ℕ, List, [], ◌∷◌, length, MatchBool, MatchResult, Result, Ok, Err}
 use Rattle.prims_core.specs.declared.meter.Work.{Work}
 use Rattle.crypt_core.specs.Crypt.{crypt}
 use Rattle.crypt_core.specs.MadeSettings.{salted}
@@ -7,10 +7,9 @@ use Rattle.crypt_core.specs.Settings.{SettingValue}
 use Rattle.crypt_core.specs.Work.{work}
 use Rattle.call_core.specs.Arguments.{OnPassword, OnScheme, OnSetting, Refuses, TakesNewRounds}
 use Rattle.call_core.specs.Hashes.{admission}
-use Rattle.call_core.specs.Reports.{LacksMemory, Leaves, refused, reported}
-use Rattle.call_core.specs.declared.reason.Reason.TheVariants.{Done}
-use Rattle.call_core.specs.declared.reason.Refusal.{Refusal}
-use Rattle.call_core.specs.declared.reason.Refusal.TheVariants.{NoRandomNumbers}
+use Rattle.call_core.specs.Reports.{LacksMemory, Leaves, refused, succeeded}
+use Rattle.call_core.specs.declared.reason.Reason.{Reason}
+use Rattle.call_core.specs.declared.reason.Reason.TheVariants.{NoRandomNumbers}
 use Rattle.call_core.specs.declared.report.Report.{Report}
 
 -- The report of a request for a new hash whose password, method or rounds are refused.
@@ -23,20 +22,20 @@ abbrev pub MakesHash : List ℕ → SettingValue → ℕ → ℕ → Result (Lis
 MakesHash password kept budget room made =
     let text = crypt password kept in
     MatchResult (admission budget room password kept)
-    (λ most. (made ≡ Ok (text, reported Done (length text) most (work password kept)))
+    (λ most. (made ≡ Ok (text, succeeded (length text) most (work password kept)))
     ⊎ ((report : Report) × (made ≡ Err report) × LacksMemory kept most report))
     (λ refusal. made ≡ Err refusal)
 
 -- The hash with the setting in a text, or the report of the first refusal.
 abbrev pub MakesHashOf : List ℕ → List ℕ → ℕ → ℕ → Result (List ℕ × Report) Report → Type 0
 MakesHashOf password text budget room made =
-    let Fails = λ (refusal : Refusal). made ≡ Err (refused refusal 0) in
+    let Fails = λ (reason : Reason). made ≡ Err (refused reason 0) in
     OnPassword password Fails (OnSetting text Fails (λ kept. MakesHash password kept budget room made))
 
 -- The hash with a new setting, or the report of the first refusal.
 abbrev pub MakesHashAnew : List ℕ → ℕ → ℕ → List ℕ → ℕ → ℕ → Result (List ℕ × Report) Report → Type 0
 MakesHashAnew password number rounds numbers budget room made =
-    let Fails = λ (refusal : Refusal). made ≡ Err (refused refusal 0) in
+    let Fails = λ (reason : Reason). made ≡ Err (refused reason 0) in
     OnPassword password Fails (OnScheme TakesNewRounds number rounds Fails (λ scheme.
     MatchBool (length numbers == 3)
     (MakesHash password (salted scheme numbers) budget room made)
@@ -48,9 +47,9 @@ MakesHashAnew password number rounds numbers budget room made =
 -- costs at most the budget, or none was made.
 abbrev pub IsTold : ℕ → ℕ → Work → Result (List ℕ × Report) Report → Type 0
 IsTold budget room done (Ok (text, report)) =
-    (pos 0 <ℤ report.reason) × (report.length ≡ length text) × (length text < room) × (report.cost ≤ budget)
+    (report.error ≡ 0) × (report.length ≡ length text) × (length text < room) × (report.cost ≤ budget)
     × (done ≡ report.work)
-IsTold budget room done (Err report) = (¬ (pos 0 <ℤ report.reason)) × (done ≡ report.work)
+IsTold budget room done (Err report) = (report.error ≢ 0) × (done ≡ report.work)
 
 -- The report and `out` of a hash: the hash, or the lock after a refusal.
 abbrev pub IsPut : Result (List ℕ × Report) Report → List ℕ → List ℕ → Report → List ℕ → Type 0

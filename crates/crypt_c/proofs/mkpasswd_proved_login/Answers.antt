@@ -7,7 +7,7 @@ pub returns-clause-opens : goal.returns-clause-opens
 returns-clause-opens c = λ scheme made opens.
     let opened = rw c.of.ensures at c.log_in.ensures.opens in
     elim (opened scheme made opens) [
-      | inl positive ↦ inl (search (rules, c.tell.ensures.positive.1 positive))
+      | inl positive ↦ inl (search (rules, c.tell.ensures.answers.1.1 positive))
       | inr lacks ↦ inr (rw c.tell.ensures.told lacks.0)
     ]
 

@@ -1,4 +1,4 @@
-use Rattle.std.proofs.Common.{◌≡◌, ◌==◌, ◌<ℤ◌, ◌∙◌, ap, arith, false, inl, inr, length, nat_lt, pos, rules, true}
+use Rattle.std.proofs.Common.{◌≡◌, ◌==◌, ◌∙◌, ap, arith, false, inl, inr, length, nat_lt, pos, rules, true}
 use Rattle.crypt_core.specs.Crypt.{crypt}
 use Rattle.crypt_core.specs.MadeSettings.{salted}
 use Rattle.crypt_core.specs.Work.{cost}
@@ -13,13 +13,13 @@ returns-clause-hashes c = rw c.tell.ensures.told (rw c.of.ensures at c.put_new_h
 
 pub returns-clause-then_current : goal.returns-clause-then_current
 returns-clause-then_current c = λ one.
-    let positive : pos 0 <ℤ (c.put_new_hash.result).reason = c.tell.ensures.positive.0 (search (rules, one)) in
+    let positive : (c.put_new_hash.result).error ≡ 0 = c.tell.ensures.answers.1.0 (search (rules, one)) in
     rw c.tell.ensures.told (c.put_new_hash.ensures.current positive)
 
 pub returns-clause-locked : goal.returns-clause-locked
 returns-clause-locked c = λ zero. c.put_new_hash.ensures.locked (λ positive.
     let none : c.tell.result ≡ pos 0 = search (rules, zero) in
-    absurd (cc (c.tell.ensures.positive.1 positive, none)))
+    absurd (cc (c.tell.ensures.answers.1.1 positive, none)))
 
 pub returns-clause-writes : goal.returns-clause-writes
 returns-clause-writes c = λ scheme made twice is within three room.
@@ -33,6 +33,6 @@ returns-clause-writes c = λ scheme made twice is within three room.
     let drawn : (length c.args.numbers.now == 3) ≡ true = grind (arith, three) in
     elim (written c.args.password.now c.args.method c.args.rounds limit c.args.numbers.now c.args.out.now scheme _ _ made is drawn low fits
     (rw c.of.ensures at c.put_new_hash.ensures.hashes)) [
-      | inl positive ↦ inl (search (rules, c.tell.ensures.positive.1 positive))
+      | inl positive ↦ inl (search (rules, c.tell.ensures.answers.1.1 positive))
       | inr lacks ↦ inr (rw c.tell.ensures.told lacks)
     ]

@@ -1,4 +1,11 @@
+use Rattle.std.proofs.Common.{inl, inr, rules}
 use Rattle.crypt_c.proofs.mkpasswd_proved_verify.Goals as goal
 
 pub returns-clause-verifies : goal.returns-clause-verifies
 returns-clause-verifies c = rw c.tell.ensures.told c.verify.ensures.verifies
+
+pub returns-clause-opens : goal.returns-clause-opens
+returns-clause-opens c = λ opens. elim (c.verify.ensures.opens opens) [
+  | inl none ↦ inl (search (rules, c.tell.ensures.answers.1.1 none))
+  | inr lacks ↦ inr (rw c.tell.ensures.told lacks.0)
+]

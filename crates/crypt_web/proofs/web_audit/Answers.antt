@@ -1,7 +1,14 @@
+use Rattle.std.proofs.Common.{rules}
 use Rattle.crypt_web.proofs.web_audit.Goals as goal
 
 pub returns-clause-audits : goal.returns-clause-audits
-returns-clause-audits c = rw c.tell.ensures.told c.report_audit.ensures.audits
+returns-clause-audits c = rw c.tell_current.ensures.told c.report_audit.ensures.audits
 
 pub returns-clause-checked : goal.returns-clause-checked
-returns-clause-checked c = rw c.tell.ensures.told c.report_audit.ensures.checked
+returns-clause-checked c = rw c.tell_current.ensures.told c.report_audit.ensures.checked
+
+pub returns-clause-current : goal.returns-clause-current
+returns-clause-current c = (
+  λ one. c.report_audit.ensures.current (c.tell_current.ensures.answers.1.0 (search (rules, one))),
+  λ is. search (rules, c.tell_current.ensures.answers.1.1 (c.report_audit.ensures.passes is)),
+)

@@ -1,5 +1,5 @@
 use Rattle.std.proofs.Common.{◌≡◌, Bool, false, true, refl, inl, inr, rules, length}
-use Rattle.std.specs.Prelude.{◌<ℤ◌, pos}
+use Rattle.std.specs.Prelude.{pos}
 use Rattle.crypt_core.specs.Crypt.{allocates}
 use Rattle.call_core.specs.Limits.{limit_of}
 use Rattle.call_core.proofs.LoginPromises.{judges, treats_alike}
@@ -12,7 +12,7 @@ free true never = absurd (never refl)
 
 pub returns-clause-lets_in : goal.returns-clause-lets_in
 returns-clause-lets_in c = λ one.
-    let positive : pos 0 <ℤ (c.log_in.result).reason = c.tell.ensures.positive.0 (search (rules, one)) in
+    let positive : (c.log_in.result).error ≡ 0 = c.tell.ensures.answers.1.0 (search (rules, one)) in
     let opened = (rw c.of.ensures at c.log_in.ensures.lets_in) positive in
     let granted = rw c.of.ensures at c.log_in.ensures.granted in
     let kept = opened.1.0 in (
@@ -31,7 +31,7 @@ pub returns-clause-opens : goal.returns-clause-opens
 returns-clause-opens c = λ scheme made opens none.
     let opened = rw c.of.ensures at c.log_in.ensures.opens in
     elim (opened scheme made opens) [
-      | inl positive ↦ search (rules, c.tell.ensures.positive.1 positive)
+      | inl positive ↦ search (rules, c.tell.ensures.answers.1.1 positive)
       | inr lacks ↦ absurd (lacks.1 none)
     ]
 
@@ -41,8 +41,8 @@ returns-clause-scrypt c = λ kept spells low needs.
     elim (granted kept spells low needs) [
       | inl never ↦ absurd never
       | inr idle ↦
-          let refused : c.tell.result ≡ pos 0 = elim c.tell.ensures.one_or_zero [
-            | inl one ↦ absurd (idle.0 (c.tell.ensures.positive.0 one))
+          let refused : c.tell.result ≡ pos 0 = elim c.tell.ensures.answers.0 [
+            | inl one ↦ absurd (idle.0 (c.tell.ensures.answers.1.0 one))
             | inr zero ↦ zero
           ] in
           (search (rules, refused), rw c.tell.ensures.told idle.1)

@@ -6,16 +6,16 @@ returns-clause-rounds c = rw (c.tell.ensures.told, ← c.of.ensures) c.report_ro
 
 pub returns-clause-fitted : goal.returns-clause-fitted
 returns-clause-fitted c = λ scheme makes one.
-    let positive = c.tell.ensures.positive.0 (search (rules, one)) in
+    let positive = c.tell.ensures.answers.1.0 (search (rules, one)) in
     rw (c.tell.ensures.told, ← c.of.ensures) (c.report_rounds-told.ensures.fitted scheme makes positive)
 
 pub returns-clause-none : goal.returns-clause-none
 returns-clause-none c = λ scheme makes short zero.
     rw (← c.of.ensures) (c.report_rounds-told.ensures.none scheme makes short (λ positive.
     let none : c.tell.result ≡ pos 0 = search (rules, zero) in
-    absurd (cc (c.tell.ensures.positive.1 positive, none))))
+    absurd (cc (c.tell.ensures.answers.1.1 positive, none))))
 
 pub returns-clause-policy : goal.returns-clause-policy
 returns-clause-policy c = λ scheme makes short policy.
     let limit = rw policy at c.of.ensures in
-    search (rules, c.tell.ensures.positive.1 (c.report_rounds-told.ensures.policy scheme makes short limit))
+    search (rules, c.tell.ensures.answers.1.1 (c.report_rounds-told.ensures.policy scheme makes short limit))

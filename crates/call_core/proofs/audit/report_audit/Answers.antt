@@ -1,17 +1,16 @@
-use Rattle.std.proofs.Common.{◌<ℤ◌, pos, subst, sym}
-use Rattle.call_core.specs.Audits.{ForeseesLogins}
-use Rattle.call_core.specs.declared.report.Report.{Report}
+use Rattle.std.proofs.Common.{subst, sym}
+use Rattle.call_core.specs.Audits.{ForeseesLogins, Passes}
 use Rattle.call_core.proofs.AuditReports.{foreseen, passed, passes}
 use Rattle.call_core.proofs.audit.report_audit.Goals as goal
 
 pub returns-in-Ok-clause-current : goal.returns-in-Ok-clause-current
 returns-in-Ok-clause-current c above =
     passed c.args.method c.args.rounds c.args.budget c.in-Ok.scheme c.args.field.now c.of.result c.in-Ok.ensures c.of.ensures.finds
-    (subst (λ (report : Report). pos 0 <ℤ report.reason) c.finding_report.ensures.report above)
+    (subst Passes c.finding_report.ensures.report above)
 
 pub returns-in-Ok-clause-passes : goal.returns-in-Ok-clause-passes
 returns-in-Ok-clause-passes c is =
-    subst (λ (report : Report). pos 0 <ℤ report.reason) (sym c.finding_report.ensures.report)
+    subst Passes (sym c.finding_report.ensures.report)
     (passes c.args.method c.args.rounds c.args.budget c.in-Ok.scheme c.args.field.now c.of.result c.in-Ok.ensures c.of.ensures.judges is)
 
 pub returns-in-Ok-clause-checked : goal.returns-in-Ok-clause-checked

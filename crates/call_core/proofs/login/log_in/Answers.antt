@@ -5,15 +5,11 @@ use Rattle.crypt_core.specs.OutdatedSchemes.{is_outdated_by}
 use Rattle.crypt_core.specs.Settings.{SettingValue}
 use Rattle.call_core.specs.Arguments.{TakesNewRounds}
 use Rattle.call_core.specs.Logins.{IsMiss}
-use Rattle.call_core.specs.Reasons.{reason_row}
-use Rattle.call_core.specs.declared.reason.Reason.{Reason}
-use Rattle.call_core.specs.declared.reason.Reason.TheVariants.{Matches, Outdated}
-use Rattle.call_core.specs.declared.reason.Refusal.TheVariants.{Dead}
+use Rattle.call_core.specs.declared.reason.Reason.TheVariants.{Dead}
 use Rattle.call_core.proofs.CheckReports.{dead_fits}
-use Rattle.call_core.proofs.LoginReports.{compared, declined, miss_is, outdated_fits}
+use Rattle.call_core.proofs.LoginReports.{compared, declined, outdated_is}
 use Rattle.call_core.proofs.MadeSchemes.{made_once}
 use Rattle.call_core.proofs.login.log_in.Goals as goal
-use Rattle.call_core.proofs.login.log_in.Goals.{then-is_outdated_by, else-is_outdated_by}
 
 pub returns-in-Err-checkable-clause-logs_in : goal.returns-in-Err-checkable-clause-logs_in
 returns-in-Err-checkable-clause-logs_in g c =
@@ -21,40 +17,32 @@ returns-in-Err-checkable-clause-logs_in g c =
     rw (← c.in-Ok.ensures.limit) (declined c.args.password.now c.args.field.now c.args.method c.args.rounds (c.in-Ok.request).limit (c.in-Ok.request).scheme _ _ password.1 c.in-Ok.ensures.scheme
     (rw password.0 at c.in-Err-checkable.ensures.refused) (rw (password.0, c.salted-decoy.ensures) at c.decline.ensures.declines))
 
-pub returns-after-is_outdated_by-clause-logs_in : goal.returns-after-is_outdated_by-clause-logs_in
-returns-after-is_outdated_by-clause-logs_in g c =
+pub returns-in-Ok-checkable-clause-logs_in : goal.returns-in-Ok-checkable-clause-logs_in
+returns-in-Ok-checkable-clause-logs_in g c =
     let kept = (c.in-Ok-checkable.stored).setting in
     let scheme = (c.in-Ok.request).scheme in
     let password = c.in-Ok.ensures.password in
     let found = c.in-Ok-checkable.ensures.found in
     let within = rw password.0 at c.in-Ok-checkable.ensures.within in
-    let fits : c.if-is_outdated_by.fits ≡ (if is_outdated_by kept.scheme scheme then Outdated else Matches) =
-    elim c.if-is_outdated_by.branch [
-      | then-is_outdated_by w ↦ let e : is_outdated_by kept.scheme scheme ≡ true = cc in rw e w.fits-is
-      | else-is_outdated_by w ↦ let e : is_outdated_by kept.scheme scheme ≡ false = cc in rw e w.fits-is
-    ] in
+    let outdated : c.is_outdated_by-is_outdated.result ≡ is_outdated_by kept.scheme scheme = cc in
     rw (← c.in-Ok.ensures.limit) (compared c.args.password.now c.args.field.now c.args.method c.args.rounds (c.in-Ok.request).limit scheme kept c.miss_of.result _ password.1 c.in-Ok.ensures.scheme
-    found.spells (omega (arith, within)) (rw found.is_text at c.miss_of.ensures.miss) (rw (password.0, found.is_text, fits) at c.compare.ensures.compares))
+    found.spells (omega (arith, within)) (rw found.is_text at c.miss_of.ensures.miss) (rw (password.0, found.is_text, outdated) at c.compare.ensures.compares))
 
-pub returns-after-is_outdated_by-clause-replaced : goal.returns-after-is_outdated_by-clause-replaced
-returns-after-is_outdated_by-clause-replaced g c = λ positive is.
+pub returns-in-Ok-checkable-clause-replaced : goal.returns-in-Ok-checkable-clause-replaced
+returns-in-Ok-checkable-clause-replaced g c = λ none is.
     let kept = (c.in-Ok-checkable.stored).setting in
     let scheme = (c.in-Ok.request).scheme in
     let same : kept ≡ is.0 = c.in-Ok-checkable.ensures.only is.0 is.2 in
     let made : scheme ≡ is.1 = made_once TakesNewRounds TakesRounds c.args.method c.args.rounds scheme is.1 c.in-Ok.ensures.scheme is.3 in
-    let fits : c.if-is_outdated_by.fits ≡ (if is_outdated_by kept.scheme scheme then Outdated else Matches) =
-    elim c.if-is_outdated_by.branch [
-      | then-is_outdated_by w ↦ let e : is_outdated_by kept.scheme scheme ≡ true = cc in rw e w.fits-is
-      | else-is_outdated_by w ↦ let e : is_outdated_by kept.scheme scheme ≡ false = cc in rw e w.fits-is
-    ] in
-    let is_outdated = outdated_fits kept is.0 scheme is.1 c.if-is_outdated_by.fits fits same made is.4 in
-    (c.compare.ensures.same positive).1 ∙ ap (λ (reason : Reason). (reason_row reason).0) is_outdated
+    let outdated : is_outdated_by kept.scheme scheme ≡ true = outdated_is kept is.0 scheme is.1 same made is.4 in
+    let told : c.is_outdated_by-is_outdated.result ≡ true = cc in
+    rw told at (c.compare.ensures.same none).1
 
-pub returns-after-is_outdated_by-clause-shut : goal.returns-after-is_outdated_by-clause-shut
-returns-after-is_outdated_by-clause-shut g c = λ dead positive.
+pub returns-in-Ok-checkable-clause-shut : goal.returns-in-Ok-checkable-clause-shut
+returns-in-Ok-checkable-clause-shut g c = λ dead none.
     let found = c.in-Ok-checkable.ensures.found in
     dead_fits (c.in-Ok.request).password c.args.field.now (c.in-Ok-checkable.stored).setting found.spells
-    (rw found.is_text at (c.compare.ensures.same positive).0) dead
+    (rw found.is_text at (c.compare.ensures.same none).0) dead
 
 pub returns-in-Err-clause-dead : goal.returns-in-Err-clause-dead
 returns-in-Err-clause-dead g c = λ scheme kept made is spells dead low. absurd (cc (c.in-Err.ensures.admits scheme is made))
@@ -63,15 +51,15 @@ pub returns-in-Err-checkable-clause-dead : goal.returns-in-Err-checkable-clause-
 returns-in-Err-checkable-clause-dead g c = λ scheme kept made is spells dead low.
     absurd (cc (c.in-Err-checkable.ensures.admits kept spells (rw (c.in-Ok.ensures.password.0, c.in-Ok.ensures.limit) low)))
 
-pub returns-after-is_outdated_by-clause-dead : goal.returns-after-is_outdated_by-clause-dead
-returns-after-is_outdated_by-clause-dead g c = λ scheme kept made is spells dead low.
+pub returns-in-Ok-checkable-clause-dead : goal.returns-in-Ok-checkable-clause-dead
+returns-in-Ok-checkable-clause-dead g c = λ scheme kept made is spells dead low.
     let found = c.in-Ok-checkable.ensures.found in
     let own = (c.in-Ok-checkable.stored).setting in
     let same : own ≡ kept = c.in-Ok-checkable.ensures.only kept spells in
     let miss : IsMiss c.args.field.now kept c.miss_of.result = rw (found.is_text, same) at c.miss_of.ensures.miss in
-    let is_dead : c.miss_of.result ≡ Dead = elim (miss_is _ kept _ miss) [
-      | inl differs ↦ absurd (dead (rw differs at miss))
-      | inr told ↦ told
+    let is_dead : c.miss_of.result ≡ Dead = elim miss [
+      | inl whole ↦ absurd (dead whole.1)
+      | inr cut ↦ cut.0
     ] in
     let missed = c.compare.ensures.missed (λ fits. dead_fits (c.in-Ok.request).password c.args.field.now own found.spells (rw found.is_text at fits) (kept, spells, dead)) in
     elim missed [
@@ -86,8 +74,8 @@ pub returns-in-Err-checkable-clause-granted : goal.returns-in-Err-checkable-clau
 returns-in-Err-checkable-clause-granted g c = λ kept spells low costly.
     absurd (cc (c.in-Err-checkable.ensures.admits kept spells (rw (c.in-Ok.ensures.password.0, c.in-Ok.ensures.limit) low)))
 
-pub returns-after-is_outdated_by-clause-granted : goal.returns-after-is_outdated_by-clause-granted
-returns-after-is_outdated_by-clause-granted g c = λ kept spells low costly.
+pub returns-in-Ok-checkable-clause-granted : goal.returns-in-Ok-checkable-clause-granted
+returns-in-Ok-checkable-clause-granted g c = λ kept spells low costly.
     let same : (c.in-Ok-checkable.stored).setting ≡ kept = c.in-Ok-checkable.ensures.only kept spells in
     elim (rw same at c.compare.ensures.granted) [
       | inl free ↦ absurd (cc (free, costly))
@@ -101,8 +89,8 @@ pub returns-in-Err-checkable-clause-opens : goal.returns-in-Err-checkable-clause
 returns-in-Err-checkable-clause-opens g c = λ scheme made opens.
     absurd (cc (c.in-Err-checkable.ensures.admits opens.1.0 opens.1.1 (rw (c.in-Ok.ensures.password.0, c.in-Ok.ensures.limit) opens.1.3)))
 
-pub returns-after-is_outdated_by-clause-opens : goal.returns-after-is_outdated_by-clause-opens
-returns-after-is_outdated_by-clause-opens g c = λ scheme made opens.
+pub returns-in-Ok-checkable-clause-opens : goal.returns-in-Ok-checkable-clause-opens
+returns-in-Ok-checkable-clause-opens g c = λ scheme made opens.
     let kept = (c.in-Ok-checkable.stored).setting in
     let found = c.in-Ok-checkable.ensures.found in
     let only = c.in-Ok-checkable.ensures.only in

@@ -1,8 +1,8 @@
 use Rattle.std.proofs.Common.{ℕ, List, length}
+use Rattle.prims_core.specs.Work.{no_work}
 use Rattle.call_core.specs.Checks.{Opens}
 use Rattle.call_core.specs.Limits.{limit_in}
-use Rattle.call_core.specs.Reports.{refused}
-use Rattle.call_core.specs.declared.reason.Refusal.TheVariants.{Current}
+use Rattle.call_core.specs.Reports.{found}
 use Rattle.call_core.proofs.PutHashes.{put_whole}
 use Rattle.call_core.specs.Rehashes.{Rehashes}
 use Rattle.call_core.proofs.PutNewHashes.{puts_new_hash}
@@ -21,6 +21,6 @@ returns-clause-opens g c =
 
 pub returns-clause-current : goal.returns-clause-current
 returns-clause-current g c =
-    put_whole (λ (text : List ℕ). Rehashes text c.args.method c.args.rounds (refused Current 0)) (limit_in c.args.method c.args.rounds c.args.limit (length c.args.password.now)) c.token.result.now c.args.out.now _
+    put_whole (λ (text : List ℕ). Rehashes text c.args.method c.args.rounds (found 0 0 no_work)) (limit_in c.args.method c.args.rounds c.args.limit (length c.args.password.now)) c.token.result.now c.args.out.now _
     c.new_hash_of-hashed.result _ c.put_hashed.new.out c.new_hash_of-hashed.ensures.told c.put_hashed.ensures.puts
     c.new_hash_of-hashed.ensures.current

@@ -1,23 +1,23 @@
 use Rattle.std.proofs.Common.{◌≡◌, ◌∙◌, ℕ, List, Ok, Err, Some, inr, refl, subst, sym, ap, true≢false}
 use Rattle.std.specs.Prelude.{IsErrAnd, Result}
 use Rattle.crypt_core.specs.MadeSettings.{BreaksMake, IsMakeRefused, made_scheme}
-use Rattle.crypt_core.specs.Methods.{method_numbered}
 use Rattle.crypt_core.specs.Policies.{chosen_rounds}
 use Rattle.crypt_core.specs.Settings.{SettingValue}
 use Rattle.crypt_core.specs.declared.method.Method.{Method}
 use Rattle.crypt_core.specs.declared.scheme.Scheme.{Scheme as Made}
 use Rattle.crypt_core.specs.declared.setting.fault.MakeFault.{MakeFault}
-use Rattle.call_core.specs.Arguments.{IsGivenReading, IsGivenRefused, make_refusal}
+use Rattle.call_core.specs.Arguments.{IsGivenReading, IsGivenRefused, chosen_method}
 use Rattle.call_core.specs.Private.Settings.{IsClamped}
-use Rattle.call_core.specs.declared.reason.Refusal.{Refusal}
+use Rattle.call_core.specs.Reasons.{make_reason}
+use Rattle.call_core.specs.declared.reason.Reason.{Reason}
 use Rattle.call_core.proofs.GivenSettings.{clamped_refused, made_refused, unbroken}
 use Rattle.call_core.proofs.reading.given_setting.Goals as goal
 
-refused_as : (number rounds : ℕ) (salt : List ℕ) (method : Method) (fault : MakeFault) (result : Result SettingValue Refusal)
-    → method_numbered number ≡ Some method → IsGivenRefused method rounds salt fault → IsErrAnd result (λ refusal. refusal ≡ make_refusal fault)
+refused_as : (number rounds : ℕ) (salt : List ℕ) (method : Method) (fault : MakeFault) (result : Result SettingValue Reason)
+    → chosen_method number ≡ Some method → IsGivenRefused method rounds salt fault → IsErrAnd result (λ reason. reason ≡ make_reason fault)
     → IsGivenReading number rounds salt result
 refused_as number rounds salt method fault (Ok kept) named first is = absurd is
-refused_as number rounds salt method fault (Err refusal) named first is = inr (method, fault, named, first, is)
+refused_as number rounds salt method fault (Err reason) named first is = inr (method, fault, named, first, is)
 
 pub returns-in_err-setting : goal.returns-in_err-setting
 returns-in_err-setting c =

@@ -47,7 +47,7 @@ returns-in-Ok-checkable-clause-granted g c = elim c.compare.ensures.granted [
 ]
 
 pub returns-in-Ok-checkable-clause-shut : goal.returns-in-Ok-checkable-clause-shut
-returns-in-Ok-checkable-clause-shut g c = λ dead positive.
+returns-in-Ok-checkable-clause-shut g c = λ dead none.
     let found = c.in-Ok-checkable.ensures.found in
     dead_fits c.in-Ok.password c.args.stored.now (c.in-Ok-checkable.stored).setting found.spells
-    (rw found.is_text at (c.compare.ensures.same positive).0) dead
+    (rw found.is_text at (c.compare.ensures.same none).0) dead

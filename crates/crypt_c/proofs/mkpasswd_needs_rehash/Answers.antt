@@ -1,4 +1,0 @@
-use Rattle.crypt_c.proofs.mkpasswd_needs_rehash.Goals as goal
-
-pub returns-clause-rehashes : goal.returns-clause-rehashes
-returns-clause-rehashes c = rw c.tell.ensures.told c.report_rehash.ensures.rehashes
