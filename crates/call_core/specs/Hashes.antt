@@ -38,7 +38,7 @@ Hashes password text budget old report new =
     let Locks = λ (reason : Reason). Leaves (refused reason 0) (token text) old report new in
     OnPassword password Locks (OnSetting text Locks (λ kept. PutsHash password kept budget (token text) old report new))
 
--- The effect of mkpasswd_new_from: with three random numbers the hash with the setting that they make. Without them it
+-- The effect of mkpasswd_proved_new_from: with three random numbers the hash with the setting that they make. Without them it
 -- is the first refusal that precedes them, or else that they are missing.
 abbrev pub HashesAnew : List ℕ → ℕ → ℕ → ℕ → List ℕ → List ℕ → Report → List ℕ → Type 0
 HashesAnew password number rounds budget numbers old report new =

@@ -6,7 +6,7 @@ use Rattle.call_core.specs.Reasons.{reason_row}
 use Rattle.call_core.specs.Reports.{PutsWhole, put}
 use Rattle.call_core.specs.declared.reason.Reason.{Reason}
 
--- The effect of mkpasswd_scheme_name_bytes and web_scheme_name: the name in crypt(5) of the scheme with this number; or that no scheme has
+-- The effect of mkpasswd_scheme_name and web_scheme_name: the name in crypt(5) of the scheme with this number; or that no scheme has
 -- it.
 abbrev pub PutsSchemeName : ℕ → List ℕ → ℤ → List ℕ → Type 0
 PutsSchemeName number old result new =
@@ -16,7 +16,7 @@ PutsSchemeName number old result new =
     (λ other. PutsWhole (other_scheme_row other).1 old result new))
     (λ method. PutsWhole (method_row method).name old result new)
 
--- The effect of mkpasswd_message_bytes and web_message.
+-- The effect of mkpasswd_message and web_message.
 --   known    the message for the reason that has the number
 --   unknown  that no reason has it
 pub record PutsMessage (number : ℕ) (old : List ℕ) (result : ℤ) (new : List ℕ) : Type 0 where

@@ -15,7 +15,7 @@ IsOutdated stored number rounds =
     (kept : SettingValue) × (scheme : Scheme) × Spells stored kept × IsSchemeMade TakesRounds number rounds scheme
     × IsTrue (is_outdated_by kept.scheme scheme)
 
--- The report of mkpasswd_needs_rehash_bytes and web_needs_rehash: no error, and whether the scheme replaces the setting; or the
+-- The report of mkpasswd_needs_rehash and web_needs_rehash: no error, and whether the scheme replaces the setting; or the
 -- refusal of an argument.
 abbrev pub Rehashes : List ℕ → ℕ → ℕ → Report → Type 0
 Rehashes stored number rounds report =

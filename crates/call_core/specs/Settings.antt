@@ -22,14 +22,14 @@ PutsText text old report new =
     (Leaves (succeeded (length text) 0 no_work) text old report new)
     (Leaves (refused TooFewBytes 0) (token []) old report new)
 
--- The effect of mkpasswd_setting and web_setting: the setting that the random numbers make; or the token, if the method or
+-- The effect of web_setting: the setting that the random numbers make; or the token, if the method or
 -- the rounds are refused, or the capacity is too small.
 abbrev pub PutsSetting : ℕ → ℕ → List ℕ → List ℕ → Report → List ℕ → Type 0
 PutsSetting number rounds numbers old report new =
     OnScheme TakesNewRounds number rounds (λ reason. Leaves (refused reason 0) (token []) old report new) (λ scheme.
     PutsText (canonical_text (salted scheme numbers)) old report new)
 
--- The effect of mkpasswd_setting_with_salt: the setting with the given salt; or the token, if the method, the salt or the rounds are
+-- The effect of mkpasswd_setting: the setting with the given salt; or the token, if the method, the salt or the rounds are
 -- refused, or the capacity is too small.
 abbrev pub PutsGivenSetting : ℕ → ℕ → List ℕ → List ℕ → Report → List ℕ → Type 0
 PutsGivenSetting number rounds salt old report new =
