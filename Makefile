@@ -156,8 +156,8 @@ build/mkpasswd.wasm: build/wasm64/mkpasswd.wasm
 	wasm-opt --enable-memory64 --enable-bulk-memory --memory64-lowering --strip-debug \
 		--strip-producers --strip-target-features $< -o $@
 
-build/mkpasswd.html build/mkpasswd.mjs $(NPM): build/mkpasswd.wasm tools/web c/mkpasswd.h \
-		$(wildcard web/*)
+build/mkpasswd.html build/mkpasswd.mjs $(NPM): build/mkpasswd.wasm tools/web tools/reasons \
+		c/mkpasswd.h $(wildcard web/*)
 	@mkdir -p $(@D)
 	tools/web $< $@
 

@@ -1,156 +1,316 @@
-// The calls of the module, as mkpasswd.mjs, its workers and the page's worker make them: tools/web puts this before each.
-// Passwords, settings and fields are strings, as UTF-8, or Uint8Arrays. The module alone knows which rounds a method has,
-// what a policy admits, and what scheme a field is of.
+// The calls of the module of WebAssembly, for all that makes them: mkpasswd.mjs, its workers and
+// the page's worker. tools/web puts this file into each.
+//
+// Here is how bytes get into the module, and how its reports are read. Which rounds a method has,
+// what a policy admits and what scheme a field is of: all that the module alone knows.
+
 const METHODS = { __proto__: null, md5crypt: 1, sha256crypt: 5, sha512crypt: 6 };
-const [FITS, OUTDATED, OUT_OF_MEMORY, REFUSED_METHOD, REFUSED_COST] = [1, 2, -11, -13, -14];
-const [OVER_BUDGET, DIFFERS, CURRENT, LOCKED, NO_HASH] = [-16, -17, -18, -20, -21];
-const REFUSALS = { __proto__: null, @REFUSALS@ };
+// No method and no rounds are this number, which the module refuses.
+const NEITHER = 2 ** 32 - 1;
+const RECOMMENDED_BUDGET = 0;
 
-// An error whose `reason` is the name that mkpasswd.h has for a refusal, such as MKPASSWD_OVER_BUDGET.
-const refusal = (number) => Object.assign(new Error(REFUSALS[number][1]), { reason: REFUSALS[number][0] });
+// ERRORS, a Map: by the number of each error of mkpasswd.h its name and its message.
+/*@ERRORS@*/
 
-// A copy of the bytes, since a worker may take them later. Half a character becomes U+FFFD, which no setting has.
+// ---- What the module takes
+
+// Copies bytes, since a worker may take them later. A lone surrogate becomes U+FFFD, which no
+// setting has.
 function bytesOf(text, name = 'setting', allowed = 'a string or a Uint8Array') {
     if (text instanceof Uint8Array) return new Uint8Array(text);
     if (typeof text === 'string') return new TextEncoder().encode(text);
-    const kind = text === null ? 'null' : typeof text?.then === 'function' ? 'a promise: await it' : typeof text;
-    throw new TypeError(`${name} must be ${allowed}, not ${kind}`);
+    throw new TypeError(`${name} must be ${allowed}, not ${kindOf(text)}`);
 }
-const hasHalfCharacter = (text) => typeof text === 'string' && /\p{Surrogate}/u.test(text);
+
+function kindOf(value) {
+    if (value === null) return 'null';
+    if (Array.isArray(value)) return 'an array';
+    if (typeof value?.then === 'function') return 'a promise: await it';
+    return typeof value === 'object' ? 'another object' : typeof value;
+}
+
+function hasLoneSurrogate(text) {
+    return typeof text === 'string' && /\p{Surrogate}/u.test(text);
+}
+
 function passwordBytes(password) {
-    if (hasHalfCharacter(password)) throw new TypeError('password has half of a character, which has no bytes');
+    if (hasLoneSurrogate(password)) {
+        throw new TypeError('password has a lone surrogate (half of a character): it has no bytes');
+    }
     return bytesOf(password, 'password');
 }
+
+function bytesOfBase64(text) {
+    return Uint8Array.from(atob(text), (digit) => digit.charCodeAt(0));
+}
+
 // A budget or a length in 64 bits.
-const in64Bits = (number) => BigInt(Math.max(0, Math.min(number, Number.MAX_SAFE_INTEGER)));
-// Rounds in 32 bits. A number that doesn't fit there becomes the greatest that does, which the module refuses, where
-// WebAssembly would take the lowest 32 bits of it.
-const in32Bits = (rounds) => (rounds === rounds >>> 0 ? rounds : 2 ** 32 - 1);
-// Method and rounds as the module takes them: no method has the number 0, and rounds of 0 are the recommended ones.
-const asNumbers = (method, rounds) => [METHODS[method] ?? 0, in32Bits(rounds)];
+function in64Bits(number) {
+    return BigInt(Math.max(0, Math.min(number, Number.MAX_SAFE_INTEGER)));
+}
 
-// The calls of a compiled module. They throw refusals, except for `login` and `audit`.
-function callsOf(compiled) {
-    let { exports } = new WebAssembly.Instance(compiled);
-    let memory = new Uint8Array(exports.memory.buffer);
-    const initial = memory.slice();
+// Rounds in 32 bits. WebAssembly would take the lowest 32 bits of a greater number.
+function in32Bits(rounds) {
+    const isFitting = rounds === rounds >>> 0;
+    return isFitting ? rounds : NEITHER;
+}
 
-    // In the free memory are the report, `out`, and then what is passed. More bytes than this the module refuses anyhow.
-    const START = Math.ceil(Number(exports.__heap_base.value) / 16) * 16;
-    const [OUT, OUT_SIZE, PASSED, MOST_BYTES] = [START + 80, 145, START + 256, 4096];
-    const INTO_OUT = [BigInt(OUT), BigInt(OUT_SIZE)];
+// Method and rounds as the module takes them. It takes rounds of 0 for the recommended ones.
+function asNumbers(method, rounds) {
+    return [METHODS[method] ?? NEITHER, in32Bits(rounds)];
+}
 
-    // Calls the module with bytes and numbers, and returns what it returns. The caller wipes the memory.
-    function run(name, passed) {
-        if (!exports) {
-            const { exports: anew } = new WebAssembly.Instance(compiled);
-            [exports, memory] = [anew, new Uint8Array(anew.memory.buffer)];
-        }
-        let end = PASSED;
-        const words = passed.flatMap((value) => {
-            if (typeof value !== 'object') return [value];
-            const [from, bytes] = [end, value.subarray(0, MOST_BYTES)];
-            memory.set(bytes, from);
-            end += bytes.length;
-            return [BigInt(from), BigInt(bytes.length)];
-        });
-        try { return exports[name](...words); } catch (error) {    // the stack ended
-            exports = undefined;
-            memory.fill(0);
+// ---- What the module reports
+
+// An error of a library that is newer than this list is one that nobody knows, but an error.
+function errorOf(number) {
+    if (number === 0) return null;
+    return ERRORS.get(number) ?? { name: `MKPASSWD_ERROR_${number}`, message: `error ${number}` };
+}
+
+// Reads a report of mkpasswd.h. Nothing else knows what is where in it.
+function readReport(view) {
+    return {
+        error: errorOf(view.getUint32(0, true)),
+        isOutdated: view.getUint32(4, true) === 1,
+        length: view.getUint32(8, true),
+        scheme: view.getUint32(12, true),
+        rounds: view.getUint32(16, true),
+        cost: Number(view.getBigUint64(32, true)),
+    };
+}
+
+function hasError(report, ...names) {
+    return report.error !== null && names.includes(report.error.name);
+}
+
+// An error whose `reason` is its name in mkpasswd.h, such as MKPASSWD_ERROR_OVER_BUDGET.
+function refusal(error) {
+    const { name, message } = error ?? { message: 'the call failed without an error' };
+    return Object.assign(new Error(message), { reason: name });
+}
+
+// ---- The module
+
+const REPORT_SIZE = 80;
+const OUT_SIZE = 145;
+const MOST_BYTES = 4096; // of a password or a field: the module refuses more than some hundreds
+const ALIGNMENT = 16; // of the report and of what is passed
+
+// An instance of the module. Its free memory has the report, `out`, and what is passed.
+class Instance {
+    #compiled;
+    #exports;
+    #memory;
+    #initial;
+    #report;
+    #out;
+    #passed;
+
+    constructor(compiled) {
+        this.#compiled = compiled;
+        this.#begin();
+        this.#initial = this.#memory.slice();
+        const free = Number(this.#exports.__heap_base.value);
+        this.#report = Math.ceil(free / ALIGNMENT) * ALIGNMENT;
+        this.#out = this.#report + REPORT_SIZE;
+        this.#passed = this.#out + Math.ceil(OUT_SIZE / ALIGNMENT) * ALIGNMENT;
+    }
+
+    #begin() {
+        this.#exports = new WebAssembly.Instance(this.#compiled).exports;
+        this.#memory = new Uint8Array(this.#exports.memory.buffer);
+    }
+
+    // Where a call writes a string, as it takes that.
+    get out() {
+        return [BigInt(this.#out), BigInt(OUT_SIZE)];
+    }
+
+    // Makes a call that has a report with bytes and numbers, and wipes the memory. `isDone` tells
+    // whether the call did what its name says.
+    call(name, ...given) {
+        const returned = this.#run(name, [...given, BigInt(this.#report)]);
+        const report = readReport(new DataView(this.#memory.buffer, this.#report, REPORT_SIZE));
+        const text = this.#textInOut();
+        this.#wipe();
+        return { isDone: returned === 1, text, ...report };
+    }
+
+    // Makes a call that only writes a string. Returns null where there is none.
+    callForText(name, ...given) {
+        const returned = this.#run(name, [...given, ...this.out]);
+        const text = returned === 1 ? this.#textInOut() : null;
+        this.#wipe();
+        return text;
+    }
+
+    #run(name, given) {
+        if (!this.#exports) this.#begin();
+        const words = this.#placed(given);
+        try {
+            return this.#exports[name](...words);
+        } catch (error) {
+            // The stack ended within the module, and left it as it was then.
+            this.#exports = undefined;
+            this.#memory.fill(0);
             throw error;
         }
     }
-    // The string in `out`, which ends with a zero byte, and is empty after a call that has none.
-    const textInOut = () => String.fromCharCode(...memory.subarray(OUT, memory.indexOf(0, OUT)));
 
-    // Calls the module with bytes and numbers, wipes its memory, and returns what it reports.
-    function reported(name, ...passed) {
-        run(name, [...passed, BigInt(START)]);
-        const report = new DataView(memory.buffer, START);
-        const found = {
-            reason: report.getInt32(0, true),
-            length: report.getUint32(4, true),
-            cost: Number(report.getBigUint64(8, true)),
-            rounds: report.getUint32(56, true),
-            scheme: report.getUint32(60, true),
-            text: textInOut(),
-        };
-        memory.set(initial);
-        return found;
+    // Copies bytes into the memory. A call takes their address and their number.
+    #placed(given) {
+        let end = this.#passed;
+        const words = [];
+        for (const value of given) {
+            if (value instanceof Uint8Array) {
+                const bytes = value.subarray(0, MOST_BYTES);
+                this.#memory.set(bytes, end);
+                words.push(BigInt(end), BigInt(bytes.length));
+                end += bytes.length;
+            } else {
+                words.push(value);
+            }
+        }
+        return words;
     }
-    function call(...passed) {
-        const report = reported(...passed);
-        if (report.reason < 0 && report.reason !== DIFFERS) throw refusal(report.reason);
+
+    // The string in `out`, which ends with a zero byte, and is empty after a call that has none.
+    #textInOut() {
+        const end = this.#memory.indexOf(0, this.#out);
+        return String.fromCharCode(...this.#memory.subarray(this.#out, end));
+    }
+
+    #wipe() {
+        this.#memory.set(this.#initial);
+    }
+}
+
+// ---- The calls
+
+// What `verify` finds where it is no error of the caller's that the password doesn't match.
+const NO_MATCH = [
+    'MKPASSWD_ERROR_WRONG_PASSWORD',
+    'MKPASSWD_ERROR_DEAD',
+    'MKPASSWD_ERROR_LOCKED',
+    'MKPASSWD_ERROR_NO_HASH',
+];
+
+// The calls of a compiled module. All but `login`, `audit` and `passwordError` throw refusals.
+class Calls {
+    #module;
+
+    constructor(compiled) {
+        this.#module = new Instance(compiled);
+    }
+
+    #required(...call) {
+        const report = this.#module.call(...call);
+        if (!report.isDone) throw refusal(report.error);
         return report;
     }
-    // The name of a scheme in crypt(5) by the number that the module reports, or null for 0.
-    function schemeName(number) {
-        const isNamed = run('web_scheme_name', [number, ...INTO_OUT]) === 1;
-        const name = isNamed ? textInOut() : null;
-        memory.set(initial);
-        return name;
-    }
 
-    // What a policy admits: `bytes` is the most that a login and a new hash may cost, by a budget of 0 the policy's own limit;
-    // `passwordLength` that of the longest password whose new hash costs no more, or null if not even the empty one's does;
-    // `rounds` are those of new hashes, but 0 for md5crypt and for null.
-    function limit(method, rounds, budget = 0) {
-        const report = reported('web_limit', ...asNumbers(method, rounds), in64Bits(budget));
-        if (report.reason < 0 && report.reason !== OVER_BUDGET) throw refusal(report.reason);
-        const passwordLength = report.reason === OVER_BUDGET ? null : report.length;
+    // What a policy admits. `bytes` is the most that a login and a new hash may cost;
+    // `passwordLength` is the length of the longest password whose new hash costs no more, or null
+    // if not even the empty one's does; `rounds` are those of new hashes, but 0 for md5crypt.
+    limit(method, rounds, budget = RECOMMENDED_BUDGET) {
+        const given = [...asNumbers(method, rounds), in64Bits(budget)];
+        const report = this.#module.call('web_limit', ...given);
+        const admitsNone = hasError(report, 'MKPASSWD_ERROR_OVER_BUDGET');
+        if (!report.isDone && !admitsNone) throw refusal(report.error);
+        const passwordLength = admitsNone ? null : report.length;
         return { bytes: report.cost, passwordLength, rounds: report.rounds };
     }
-    // A setting with a new salt. md5crypt has no rounds.
-    function setting(method, rounds) {
-        const random = new BigUint64Array(crypto.getRandomValues(new Uint8Array(24)).buffer);
-        return call('web_setting', ...asNumbers(method, rounds), ...random, ...INTO_OUT).text;
+
+    // A setting with a new salt.
+    setting(method, rounds) {
+        const salt = new BigUint64Array(crypto.getRandomValues(new Uint8Array(24)).buffer);
+        const given = [...asNumbers(method, rounds), ...salt];
+        return this.#required('web_setting', ...given, ...this.#module.out).text;
     }
-    // The hash of a password. No more bytes than the budget are hashed for it.
-    function hash(password, by, budget) {
-        return call('web_hash', passwordBytes(password), bytesOf(by), in64Bits(budget), ...INTO_OUT).text;
+
+    // The hash of a password with a setting or a stored hash.
+    hash(password, setting, budget) {
+        const given = [passwordBytes(password), bytesOf(setting), in64Bits(budget)];
+        return this.#required('web_hash', ...given, ...this.#module.out).text;
     }
-    function newHash(password, method, rounds, budget) {
-        return hash(password, setting(method, rounds), budget);
+
+    newHash(password, method, rounds, budget) {
+        return this.hash(password, this.setting(method, rounds), budget);
     }
-    // Whether a password matches.
-    function verify(password, stored, budget) {
-        return call('web_verify', passwordBytes(password), bytesOf(stored), in64Bits(budget)).reason === FITS;
+
+    verify(password, stored, budget) {
+        const given = [passwordBytes(password), bytesOf(stored), in64Bits(budget)];
+        const report = this.#module.call('web_verify', ...given);
+        if (report.isDone) return true;
+        if (report.error && !hasError(report, ...NO_MATCH)) throw refusal(report.error);
+        return false;
     }
-    // False, or for a match an object: `renewed` is a hash to store if the one in the field is outdated and a new one costs at
-    // most the limit. A field that can't be checked takes the work of a new hash; the module refuses scrypt without any, so
-    // that takes a second call.
-    function login(password, field, method, rounds, budget, limit) {
-        const check = (text) => reported('web_login', password, text, ...asNumbers(method, rounds), in64Bits(budget)).reason;
-        const reason = check(field);
-        if (reason === OUT_OF_MEMORY) check(new Uint8Array());
-        if (reason !== FITS && reason !== OUTDATED) return false;
-        let renewed = null;
-        // Without a new one the old one stays good.
-        try { if (reason === OUTDATED) renewed = newHash(password, method, rounds, limit); } catch { }
+
+    // Why no hash can be that of a password, or null. The module looks at the password first, so
+    // the empty field hashes nothing.
+    passwordError(password) {
+        const report = this.#module.call('web_verify', password, new Uint8Array(), 0n);
+        return hasError(report, 'MKPASSWD_ERROR_NO_HASH') ? null : report.error;
+    }
+
+    // False, or an object for a match: `renewed` is a hash to store if the stored one is outdated
+    // and a new one costs at most the limit.
+    login(password, field, policy) {
+        const { method, rounds, budget, limit } = policy;
+        const numbers = [...asNumbers(method, rounds), in64Bits(budget)];
+        const report = this.#module.call('web_login', password, field, ...numbers);
+        if (!report.isDone) {
+            this.#hideScrypt(report, password, numbers);
+            return false;
+        }
+        const renewed = report.isOutdated ? this.#renewed(password, method, rounds, limit) : null;
         return { renewed };
     }
-    // Whether a new hash would replace a stored one. A field without one has none to replace. The rounds are those of a policy
-    // that `limit` has accepted: here the module would clamp others.
-    function needsRehash(stored, method, rounds) {
+
+    // The module refuses scrypt at once. A login with an empty field takes the time of a new hash.
+    #hideScrypt(report, password, numbers) {
+        if (!hasError(report, 'MKPASSWD_ERROR_OUT_OF_MEMORY')) return;
+        this.#module.call('web_login', password, new Uint8Array(), ...numbers);
+    }
+
+    // A new hash, or null: without one the old one stays good.
+    #renewed(password, method, rounds, limit) {
+        try {
+            return this.newHash(password, method, rounds, limit);
+        } catch {
+            return null;
+        }
+    }
+
+    // Whether a new hash would replace a stored one. A field without a hash has none to replace.
+    needsRehash(stored, method, rounds) {
         const given = [stored, ...asNumbers(method, rounds)];
-        const { reason } = reported('web_needs_rehash', ...given);
-        if (reason === OUTDATED || reason === CURRENT) return reason === OUTDATED;
-        if ([LOCKED, NO_HASH].includes(reported('web_audit', ...given, 0n).reason)) return false;
-        throw refusal(reason);
+        const report = this.#module.call('web_needs_rehash', ...given);
+        if (!report.error) return report.isOutdated;
+        const audited = this.#module.call('web_audit', ...given, in64Bits(RECOMMENDED_BUDGET));
+        if (hasError(audited, 'MKPASSWD_ERROR_LOCKED', 'MKPASSWD_ERROR_NO_HASH')) return false;
+        throw refusal(report.error);
     }
-    // The most bytes that a hash with this setting can cost, for a password of so many bytes.
-    function cost(by, length) {
-        return call('web_cost', bytesOf(by), in64Bits(length)).cost;
+
+    // The most that a hash with this setting can cost, for a password of so many bytes.
+    cost(setting, length) {
+        return this.#required('web_cost', bytesOf(setting), in64Bits(length)).cost;
     }
-    // What a stored field is, without a password: `message`, which is current, outdated, dead, over budget, locked, no hash or
-    // what is wrong with its setting; `reason`, its name in mkpasswd.h; `scheme`, the name of its method or of another scheme of
-    // crypt(5), or null; and `cost`, the most that a check can cost, or 0 if it is no hash by a method. Method and rounds are
-    // those of new hashes, and a budget of 0 is that of an audit by them.
-    function audit(stored, method, rounds, budget) {
-        const found = reported('web_audit', bytesOf(stored), ...asNumbers(method, rounds), in64Bits(budget));
-        if (found.reason === REFUSED_METHOD || found.reason === REFUSED_COST) throw refusal(found.reason);
-        const [reason, message] = REFUSALS[found.reason] ?? ['MKPASSWD_DONE', 'current'];
-        return { message, reason, scheme: schemeName(found.scheme), cost: found.cost };
+
+    // What a stored field is, without a password: its `error` (a name and a message) or null, and
+    // then whether it `isOutdated`; `scheme`, the name of its method or of another scheme of
+    // crypt(5), or null; and `cost`, the most that a check can cost, or 0 if no method has it.
+    audit(stored, method, rounds, budget) {
+        const given = [bytesOf(stored), ...asNumbers(method, rounds), in64Bits(budget)];
+        const report = this.#module.call('web_audit', ...given);
+        if (hasError(report, 'MKPASSWD_ERROR_UNKNOWN_METHOD', 'MKPASSWD_ERROR_ROUNDS')) {
+            throw refusal(report.error);
+        }
+        const { isDone, error, isOutdated, cost } = report;
+        const isCurrent = isDone;
+        if (!isCurrent && !isOutdated && !error) throw refusal(null);
+        const scheme = this.#module.callForText('web_scheme_name', report.scheme);
+        return { error, isOutdated, scheme, cost };
     }
-    return { audit, cost, hash, limit, login, needsRehash, newHash, setting, verify };
 }

@@ -1,12 +1,22 @@
-// A worker of mkpasswd.mjs, in node or a browser, after calls.js. Its first message is the compiled module, others are calls.
-const node = typeof require === 'function' && require('node:worker_threads');
-const port = node ? node.parentPort : globalThis;
+// A worker of mkpasswd.mjs, in node or a browser. Its first message has the compiled module, each
+// other one a call. It answers by the result, or by why the call failed.
+/*@CALLS@*/
+const isNode = typeof require === 'function';
+const port = isNode ? require('node:worker_threads').parentPort : globalThis;
 let calls;
-port.onmessage = ({ data: { compiled, name, given } }) => {
-    if (compiled) return void (calls = callsOf(compiled));
+
+function answerTo({ name, given }) {
     try {
-        port.postMessage({ result: calls[name](...given) });
+        return { result: calls[name](...given) };
     } catch ({ message, reason }) {
-        port.postMessage({ fault: { message, reason } });
+        return { failure: { message, reason } };
+    }
+}
+
+port.onmessage = ({ data }) => {
+    if (data.compiled) {
+        calls = new Calls(data.compiled);
+    } else {
+        port.postMessage(answerTo(data));
     }
 };

@@ -1,4 +1,5 @@
-// Password hashes of crypt(5) by sha512crypt, sha256crypt and md5crypt. scrypt needs memory, which the module doesn't have.
+// Logins and password hashes of crypt(5) by sha512crypt, sha256crypt and md5crypt. scrypt needs
+// memory, which the module doesn't have.
 
 /** A password, a setting or a stored hash. A string is encoded as UTF-8. */
 export type Text = string | Uint8Array;
@@ -8,30 +9,50 @@ export type Method = 'sha512crypt' | 'sha256crypt' | 'md5crypt';
 /** What a login returns for a password that matches. */
 export interface Match {
     readonly matches: true;
-    /** A new hash, to be stored over the one that was checked, or null. Logs and JSON don't show it. */
+    /**
+     * A new hash, to be stored over the one that was checked, or null. Logs and JSON don't show it.
+     */
     readonly new: string | null;
 }
 
 /**
- * What a login returns: false, or a match, which is true. Test `matches`: a promise has none, so nobody gets in where an
- * `await` was forgotten. The promise itself is always true.
+ * What a login returns: false, or a match, which is true. Test `matches`: a promise has none, so
+ * nobody gets in where an `await` was forgotten. The promise itself is always true.
  */
 export type Verdict = Match | (false & { readonly matches?: undefined; readonly new?: undefined });
 
+/**
+ * Why no hash can be that of a password: it has a zero byte; or more bytes than the policy admits,
+ * as its `limit` has them; or half of a character, which has no bytes, such as "\ud800".
+ */
+export type PasswordProblem = 'zero byte' | 'too long' | 'lone surrogate';
+
 export type State =
-    'current' | 'outdated' | 'dead' | 'over budget' | 'locked' | 'none' | 'no scheme' | 'unknown' | 'malformed';
+    | 'current'
+    | 'outdated'
+    | 'dead'
+    | 'over budget'
+    | 'locked'
+    | 'none'
+    | 'no scheme'
+    | 'unknown'
+    | 'malformed';
 
 /**
- * What a stored field is. As a string it is `md5crypt:1927022:outdated`, `scrypt:unknown`, `malformed:bad rounds`, `locked` or
- * the like. `mkpasswd --audit` prints more: the rounds, and the names of other schemes.
+ * What a stored field is. As a string it is `md5crypt:1927022:outdated`, `scrypt:unknown`,
+ * `malformed:bad rounds`, `locked` or the like. `mkpasswd --audit` prints more: the rounds, and the
+ * names of other schemes.
  */
 export interface Description {
     /** null if there is no valid setting. */
     readonly method: Method | 'scrypt' | null;
-    /** The most that a hash with this setting costs, for a password of 1,024 bytes; null without one and for scrypt. */
+    /**
+     * The most that a hash with this setting costs, for a password of 1,024 bytes; null without one
+     * and for scrypt.
+     */
     readonly cost: number | null;
     readonly state: State;
-    /** The first broken rule if the state is malformed, by its name in mkpasswd.h; otherwise null. */
+    /** The first broken rule if the state is malformed, by its name in mkpasswd.h; else null. */
     readonly reason: string | null;
     toString(): string;
 }
@@ -40,45 +61,64 @@ export interface Description {
 export interface Limit {
     /** The most that a login and a new hash may cost, as `cost` counts it. */
     readonly bytes: number;
-    /** The bytes of the longest password whose new hash is within it, or null if the budget is too small for any. */
+    /**
+     * The bytes of the longest password whose new hash is within it, or null if the budget is too
+     * small for any. A form can refuse longer ones when they are chosen.
+     */
     readonly passwordLength: number | null;
 }
 
 /** Thrown for a hash, a password or a policy that is refused. Nothing was hashed. */
 export class Refused extends Error {
-    /** The name that mkpasswd.h has for it, such as MKPASSWD_REFUSED_BAD_ROUNDS. */
+    /** The name that mkpasswd.h has for it, such as MKPASSWD_ERROR_BAD_ROUNDS. */
     readonly reason: string;
 }
 
 /** Thrown if a hash can cost more than the budget. */
 export class TooCostly extends Refused {}
 
+/** Thrown if a queue is full. Nothing was hashed. */
+export class Busy extends Error {}
+
+export interface PolicyOptions {
+    /** By default sha512crypt. */
+    readonly method?: Method;
+    /** 1000 to 999999999; undefined, null and 0 stand for 656000. md5crypt ignores it (0). */
+    readonly rounds?: number | null;
+    /**
+     * The most that a hash may cost, as `cost` counts it: the bytes that are digested. Without one
+     * that is twice what a new hash costs with a password of 64 bytes, and at least 150,000,000:
+     * by the recommended policy 253,921,472, which admits passwords of up to 168 bytes. A budget
+     * of 1,300,000,000 admits all of them there.
+     */
+    readonly budget?: number | null;
+}
+
 /**
- * The method and rounds of a service's new hashes, and what a hash may cost. The functions below are those of `new Policy()`.
+ * The method and rounds of a service's new hashes, and what a hash may cost. The functions below
+ * are those of `new Policy()`.
  *
- * `rounds` is 1000 to 999999999; undefined, null and 0 stand for 656000. md5crypt ignores it (0). `budget` is the most that a
- * hash may cost, as `cost` counts it: the bytes that are digested. Without one that is twice what a new hash costs with a
- * password of 64 bytes, and at least 150,000,000. `limit` tells what it comes to: by the recommended policy 253,921,472,
- * which admits passwords of up to 168 bytes. A budget of 1,300,000,000 admits all of them there.
+ * Throws Refused for an unknown method or other rounds, RangeError for a budget below 1, and
+ * TypeError for all else: another property, another type, or anything but a plain object. Only own
+ * properties count.
  *
- * Throws Refused for an unknown method or other rounds, RangeError for a budget below 1, and TypeError for all else.
- *
- * Only own properties of the argument count. The calls need no `this`: `const { login } = new Policy({ rounds: 800000 })`.
+ * The calls need no `this`: `const { login } = new Policy({ rounds: 800000 })`.
  */
 export class Policy {
     readonly method: Method;
     readonly rounds: number;
     readonly budget: number | null;
-    /** What the policy admits: a form can refuse longer passwords before they are hashed. */
     readonly limit: Limit;
 
-    constructor(policy?: { method?: Method; rounds?: number | null; budget?: number | null });
+    constructor(policy?: PolicyOptions);
 
     /**
-     * Hashes a new password, with a new salt. What it returns is always true: to check a password, call `loginAsync`.
+     * Hashes a new password, with a new salt. What it returns is always true: to check a password,
+     * call `loginAsync`.
      *
-     * Throws TooCostly if the hash costs more than the budget, so `login` opens what this makes; and Refused for a password
-     * of more than 1,024 bytes or with a zero byte. Half of a character, which has no bytes, is a TypeError.
+     * Throws TooCostly if the hash costs more than the budget, so `login` opens what this makes;
+     * and Refused for a password of more than 1,024 bytes or with a zero byte. A lone surrogate is
+     * a TypeError.
      */
     hash(password: Text): string;
 
@@ -86,51 +126,67 @@ export class Policy {
     hashAsync(password: Text): Promise<string>;
 
     /**
-     * Checks the password of a login, at the same cost for every name. The field is what is stored for the name, and null for
-     * a name that doesn't exist. The password comes first: swapped, whoever types a hash of what is stored gets in.
+     * Checks the password of a login, at the same cost for every name. The field is what is stored
+     * for the name, and null for a name that doesn't exist. The password comes first: swapped,
+     * whoever types a hash of what is stored gets in.
      *
-     * It is a match only if the password matches. If `needsRehash` is true of the field, and a new hash is within the budget,
-     * `new` is one to store in its place. All else is false: a locked, malformed or empty field, another scheme, scrypt, a
-     * hash above the budget, and a password that no hash can have. No string or bytes throw, nor does null as a field;
-     * anything else is a TypeError. But if another script has set `Object.prototype.matches` or `new`, false would look like
-     * a match, so an Error is thrown in its place.
+     * It is a match only if the password matches. If `needsRehash` is true of the field, and a new
+     * hash is within the budget, `new` is one to store in its place. All else is false: a locked,
+     * malformed or empty field, another scheme, scrypt, a hash above the budget, and a password
+     * that no hash can have (`passwordProblem`). No string or bytes throw, nor does null as a
+     * field; anything else is a TypeError. But if another script has set
+     * `Object.prototype.matches` or `new`, false would look like a match, so an Error is thrown in
+     * its place.
      *
-     * A field that can't be checked costs what a new hash costs, so the time doesn't tell which names exist, as long as all
-     * hashes are made by this policy. It blocks the thread for that time: a server calls `loginAsync`.
+     * A field that can't be checked costs what a new hash costs, so the time doesn't tell which
+     * names exist, as long as all hashes are made by this policy. It blocks the thread for that
+     * time: a server makes a LoginQueue.
      */
     login(password: Text, field: Text | null | undefined): Verdict;
 
     /**
-     * The same in a worker, so a server goes on. There are as many as cores, but for one that is left to the server, and at
-     * least one; further calls wait. If a worker dies, its call's promise is rejected.
+     * The same in a worker, so the caller's thread goes on. There are as many as cores, but for one
+     * that is left to the caller, and at least one; all calls wait for them in one queue, without
+     * a limit. If a worker dies, its call's promise is rejected.
      */
     loginAsync(password: Text, field: Text | null | undefined): Promise<Verdict>;
 
     /**
-     * Whether the password matches the stored hash. It is false for a locked or empty field, and for a hash that was cut. It
-     * isn't for logins: its time tells which names exist, and it throws.
+     * Whether the password matches the stored hash. It is false for a locked or empty field, and
+     * for a hash that was cut. It isn't for logins: its time tells which names exist, and it
+     * throws.
      *
-     * Throws TooCostly if the hash can cost more than the budget; Refused for scrypt, another scheme, an invalid setting and a
-     * password of more than 1,024 bytes or with a zero byte. Half of a character is a TypeError.
+     * Throws TooCostly if the hash can cost more than the budget; Refused for scrypt, another
+     * scheme, an invalid setting and a password of more than 1,024 bytes or with a zero byte. A
+     * lone surrogate is a TypeError.
      */
     verify(password: Text, field: Text): boolean;
 
     /**
-     * Whether a new hash by this policy would replace the stored one: it is of another method, or has fewer rounds. A locked or
-     * empty field has none. Throws Refused if the setting is invalid or of another scheme.
+     * Whether a new hash by this policy would replace the stored one: it is of another method, or
+     * has fewer rounds. A locked or empty field has none. Throws Refused if the setting is invalid
+     * or of another scheme.
      */
     needsRehash(stored: Text): boolean;
 
     /**
-     * Says what a stored field is, without any password. Nothing is hashed. No string, bytes or null throws.
+     * Says what a stored field is, without any password. Nothing is hashed. No string, bytes or
+     * null throws.
      *
-     * The state is the first of these: `locked`, `none` (empty or null), `no scheme` (no hash at all, such as a password
-     * that was stored as it is), `unknown` (another scheme, or scrypt: the user needs a new password), `malformed`, `over
-     * budget` (without a budget: that of `mkpasswd --audit`), `dead` (cut or changed, so no password matches it), `outdated`
-     * (as `needsRehash` says; a login renews it), `current`. What is over budget is so for a password of 1,024 bytes: a login
-     * with a shorter one can match.
+     * The state is the first of these: `locked`, `none` (empty or null), `no scheme` (no hash at
+     * all, such as a password that was stored as it is), `unknown` (another scheme, or scrypt: the
+     * user needs a new password), `malformed`, `over budget` (without a budget: that of
+     * `mkpasswd --audit`), `dead` (cut or changed, so no password matches it), `outdated` (as
+     * `needsRehash` says; a login renews it), `current`. What is over budget is so for a password
+     * of 1,024 bytes: a login with a shorter one can match.
      */
     describe(field: Text | null | undefined): Description;
+
+    /**
+     * Why no hash by this policy can be that of a password, or null if one can: whether it is the
+     * right one, only a login tells. Nothing is hashed. No string or bytes throw.
+     */
+    passwordProblem(password: Text): PasswordProblem | null;
 }
 
 export const hash: Policy['hash'];
@@ -140,19 +196,56 @@ export const loginAsync: Policy['loginAsync'];
 export const verify: Policy['verify'];
 export const needsRehash: Policy['needsRehash'];
 export const describe: Policy['describe'];
+export const passwordProblem: Policy['passwordProblem'];
+export const limit: Limit;
+
+export interface LoginQueueOptions {
+    /** By default `new Policy()`. */
+    readonly policy?: Policy;
+    /** The milliseconds from a call to the answer of a login that fails: by default 5000. */
+    readonly failureTime?: number;
+    /** How many calls may be waiting for a worker or being hashed: by default 1000. */
+    readonly size?: number;
+}
 
 /**
- * The most that a hash with this setting costs, for any password of so many bytes. Throws Refused for a field without a valid
- * setting, and for more than 1,024 bytes.
+ * The logins and new hashes of a server, which waits neither for them nor for failures: workers
+ * hash, in the order of the calls, and a login that fails is answered at a fixed time after its
+ * call, so the time doesn't tell why. While it waits for that, it is no longer in the queue: its
+ * worker has gone on to the next call, and a match is answered at once.
+ *
+ * A failure that takes longer, since the queue is long, is answered at twice that time, at three
+ * times and so on. So let `failureTime` be longer than the costliest login takes, and `size` what
+ * your workers hash in the time that your users wait.
+ *
+ * The calls need no `this`. Throws RangeError for a number below 0 (of `size` below 1) or above
+ * 2 ** 31 - 1, and TypeError for other options than these.
+ */
+export class LoginQueue {
+    constructor(options?: LoginQueueOptions);
+
+    /** As the policy's `loginAsync`. Rejected with Busy if the queue is full. */
+    login(password: Text, field: Text | null | undefined): Promise<Verdict>;
+
+    /** As the policy's `hashAsync`. Rejected with Busy if the queue is full. */
+    hash(password: Text): Promise<string>;
+}
+
+/**
+ * The most that a hash with this setting can cost, for any password of so many bytes. Throws
+ * Refused for a field without a valid setting, and for more than 1,024 bytes.
  */
 export function cost(stored: Text, passwordLength: number): number;
 
-/** A setting with a new salt. Throws Refused for an unknown method and rounds that it doesn't have; md5crypt ignores them. */
+/**
+ * A setting with a new salt. Throws Refused for an unknown method and rounds that it doesn't have;
+ * md5crypt ignores them.
+ */
 export function setting(method?: Method, rounds?: number): string;
 
 /**
- * The hash of a password with a setting or a stored hash, whose salt it takes. Throws TooCostly if it can cost more than the
- * budget, by default that of the recommended policy; and Refused.
+ * The hash of a password with a setting or a stored hash, whose salt it takes. Throws TooCostly if
+ * it can cost more than the budget, by default that of the recommended policy; and Refused.
  */
 export function crypt(password: Text, setting: Text, budget?: number): string;
 

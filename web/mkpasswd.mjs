@@ -1,265 +1,344 @@
-// mkpasswd @VERSION@: hashes of crypt(5) by sha512crypt, sha256crypt and md5crypt, for node 20 and web pages. LLVM compiled the
-// proved code, and Binaryen lowered it; this script is tested. mkpasswd.d.ts, in the package of npm, describes each call.
+// mkpasswd @VERSION@: hashes of crypt(5) by sha512crypt, sha256crypt and md5crypt, for node 20 and
+// web pages. LLVM compiled the proved code, and Binaryen lowered it; this script is tested.
+// mkpasswd.d.ts, in the package of npm, describes each call.
 //
-//     import { hash, loginAsync } from './mkpasswd.mjs';
-//     const stored = hash('correct horse');
-//     const result = await loginAsync(password, stored);    // stored: null for an unknown name
+//     import { LoginQueue } from './mkpasswd.mjs';
+//     const queue = new LoginQueue();
+//     const stored = await queue.hash('correct horse');
+//     const result = await queue.login(password, stored); // stored: null for an unknown name
 //     if (result.matches) letIn();
-@CALLS@
-const compiled = @COMPILED@;
-const calls = callsOf(compiled);
+//
+// First come the calls of the module, the workers and what is passed to them; then arguments,
+// errors and results; at the end policies, the queue of logins and what is exported.
+/*@CALLS@*/
+/*@POOL@*/
+const compiled = new WebAssembly.Module(bytesOfBase64('@MODULE@'));
+const calls = new Calls(compiled);
 
-// ---- Workers
+// ---- Arguments
 
-// Makes a call in a worker. The pool is started by the first one.
-let pool;
-async function inWorker(name, given) {
-    pool ??= startPool().catch((error) => { pool = undefined; throw error; });
-    const ask = await pool;
-    return ask({ name, given });
+function integer(value, name, allowed = 'an integer') {
+    if (Number.isInteger(value)) return value;
+    const found = typeof value === 'number' ? value : kindOf(value);
+    throw new TypeError(`${name} must be ${allowed}, not ${found}`);
 }
 
-// Returns a call that has a worker make each call, in turn. There are at most as many workers as cores, but for the caller's
-// one. An idle worker doesn't keep node running. One that dies fails its own call, and the next call starts another.
-async function startPool() {
-    const { cores, start } = await (globalThis.process?.versions?.node ? nodeWorkers() : webWorkers());
-    const [most, idle, waiting] = [Math.max(1, cores - 1), [], []];
-    let count = 0;
+// Refuses another number of arguments than those that a call's form names.
+function required(form, given) {
+    if (given.length === form.split(',').length) return given;
+    throw new TypeError(`call ${form}, not with ${given.length} arguments. `
+        + 'A policy has method, rounds and budget: new Policy({ method, rounds, budget })');
+}
 
-    function distribute() {
-        while (waiting.length > 0 && (idle.length > 0 || count < most)) {
-            const { asked, ...job } = waiting.shift();
-            try {
-                const worker = idle.pop() ?? started();
-                worker.job = job;
-                worker.ref?.();
-                worker.postMessage(asked);
-            } catch (error) { job.reject(error); }
+function isPlainObject(value) {
+    if (typeof value !== 'object' || value === null || Array.isArray(value)) return false;
+    const prototype = Object.getPrototypeOf(value);
+    // An object of another realm, as a test runner makes them, has another Object.prototype.
+    return prototype === null || Object.getPrototypeOf(prototype) === null;
+}
+
+// The own properties of an object that has no others than these.
+function optionsOf(value, owner, names) {
+    if (!isPlainObject(value)) {
+        throw new TypeError(`${owner} is made from a plain object with ${listed(names)}, `
+            + `not from ${kindOf(value)}`);
+    }
+    for (const name of Reflect.ownKeys(value)) {
+        if (!names.includes(name)) {
+            throw new TypeError(`${owner} has ${listed(names)}, but no ${String(name)}`);
         }
     }
-    function started() {
-        const worker = start(
-            (answer) => {
-                worker.unref?.();
-                idle.push(worker);
-                worker.job.resolve(answer);
-                worker.job = undefined;
-                distribute();
-            },
-            (error) => {
-                if (worker.isGone) return;
-                worker.isGone = true;
-                count--;
-                if (idle.includes(worker)) idle.splice(idle.indexOf(worker), 1);
-                worker.terminate();
-                worker.job?.reject(error);
-                distribute();
-            },
-        );
-        count++;
-        worker.postMessage({ compiled });
-        return worker;
-    }
-    return (asked) => new Promise((resolve, reject) => {
-        waiting.push({ asked, resolve, reject });
-        distribute();
-    });
+    return { __proto__: null, ...value };
 }
 
-// The number of cores, and a call that starts a worker, which tells its answers and its end.
-const HASHER = @HASHER@;
-const ENDED = 'the worker that made this call has ended';
-const NO_WORKER = 'the browser refuses the worker: allow worker-src blob: in the Content-Security-Policy of the page';
-async function nodeWorkers() {
-    const found = ['node:os', 'node:worker_threads'].map((name) =>
-        process.getBuiltinModule?.(name) ?? import(/* webpackIgnore: true */ /* @vite-ignore */ name));
-    const [os, { Worker }] = await Promise.all(found);
-    // Neither options nor variables of the process are for it.
-    const options = { __proto__: null, eval: true, execArgv: [], env: {} };
-    const start = (tell, end) => new Worker(HASHER, options)
-        .on('message', tell).on('error', end).on('exit', () => end(new Error(ENDED)));
-    return { cores: os.availableParallelism(), start };
-}
-function webWorkers() {
-    const url = URL.createObjectURL(new Blob([HASHER], { type: 'text/javascript' }));
-    // Some browsers throw, others have an event without a message.
-    const worker = () => { try { return new Worker(url); } catch { throw new Error(NO_WORKER); } };
-    const start = (tell, end) => Object.assign(worker(), {
-        onmessage: ({ data }) => tell(data),
-        onerror: ({ message }) => end(new Error(message || NO_WORKER)),
-    });
-    return { cores: navigator.hardwareConcurrency ?? 1, start };
+function listed(names) {
+    return `${names.slice(0, -1).join(', ')} and ${names.at(-1)}`;
 }
 
-// ---- Refusals
+// The bytes of a login's password. A lone surrogate stands in no password, and neither does a zero
+// byte, which the module refuses without hashing.
+function loginPasswordBytes(password) {
+    return hasLoneSurrogate(password) ? new Uint8Array(1) : bytesOf(password, 'password');
+}
 
-export class Refused extends Error {
+function fieldBytes(field) {
+    return bytesOf(field ?? '', 'field', 'a string, a Uint8Array or null');
+}
+
+// ---- Errors
+
+class Refused extends Error {
     constructor(reason, message) {
         super(message);
         this.reason = reason;
     }
-    get name() { return 'Refused'; }
-}
-export class TooCostly extends Refused {
-    get name() { return 'TooCostly'; }
+
+    get name() {
+        return 'Refused';
+    }
 }
 
-// Messages that say what is allowed, where mkpasswd's own don't.
+class TooCostly extends Refused {
+    get name() {
+        return 'TooCostly';
+    }
+}
+
+// What is allowed, where mkpasswd's own message doesn't say so.
 const MESSAGES = {
     __proto__: null,
-    MKPASSWD_REFUSED_PASSWORD_TOO_LONG: 'password too long: it may have 1024 bytes',
-    MKPASSWD_REFUSED_OUT_OF_MEMORY: 'scrypt is not supported here: only sha512crypt, sha256crypt and md5crypt are',
-    MKPASSWD_REFUSED_UNKNOWN_METHOD: 'method must be sha512crypt, sha256crypt or md5crypt',
-    MKPASSWD_REFUSED_COST: 'rounds must be 1000 to 999999999, or 0 for the recommended ones',
+    MKPASSWD_ERROR_PASSWORD_TOO_LONG: 'password too long: it may have 1024 bytes',
+    MKPASSWD_ERROR_OUT_OF_MEMORY:
+        'scrypt is not supported here: only sha512crypt, sha256crypt and md5crypt are',
+    MKPASSWD_ERROR_UNKNOWN_METHOD: 'method must be sha512crypt, sha256crypt or md5crypt',
+    MKPASSWD_ERROR_ROUNDS: 'rounds must be 1000 to 999999999, or 0 for the recommended ones',
 };
-// The error for a refusal. `why` says what is too costly where it is over budget.
-function failure({ reason, message }, why) {
+
+// The error of a call that failed. `excess` says what is too costly if that is why.
+function errorOfCall({ reason, message }, excess) {
     if (!reason) return new Error(message);
-    if (reason !== 'MKPASSWD_OVER_BUDGET') return new Refused(reason, MESSAGES[reason] ?? message);
-    return new TooCostly(reason, `${message}: ${why}`);
+    const isTooCostly = reason === 'MKPASSWD_ERROR_OVER_BUDGET';
+    if (isTooCostly) return new TooCostly(reason, `${message}: ${excess}`);
+    return new Refused(reason, MESSAGES[reason] ?? message);
 }
-const tooCostly = (budget) => `the hash can cost more than ${budget}`;
-const tooLong = ({ bytes, passwordLength }) => (passwordLength === null ? `every new hash can cost more than ${bytes}`
-    : `a password may have at most ${passwordLength} bytes with these rounds`);
+
+function excessOfHash(budget) {
+    return `the hash can cost more than ${budget}`;
+}
+
+function excessOfPassword({ bytes, passwordLength }) {
+    if (passwordLength === null) return `every new hash can cost more than ${bytes}`;
+    return `a password may have at most ${passwordLength} bytes with these rounds`;
+}
+
+// ---- Making calls
+
 // Makes a call in this thread.
-function inThread(name, given, why) {
-    try { return calls[name](...given); } catch (error) { throw error.reason ? failure(error, why) : error; }
+function inThread(name, given, excess) {
+    try {
+        return calls[name](...given);
+    } catch (error) {
+        throw error.reason ? errorOfCall(error, excess) : error;
+    }
 }
 
-// ---- Arguments
+let pool;
 
-function integer(value, name, kind = 'an integer') {
-    if (Number.isInteger(value)) return value;
-    throw new TypeError(`${name} must be ${kind}, not ${typeof value === 'number' ? value : typeof value}`);
+// Makes a call in a worker. The first one starts the pool.
+async function inWorker(name, given, excess) {
+    pool ??= startPool(compiled);
+    let workers;
+    try {
+        workers = await pool;
+    } catch (error) {
+        pool = undefined;
+        throw error;
+    }
+    const { result, failure } = await workers.ask(name, given);
+    if (failure) throw errorOfCall(failure, excess);
+    return result;
 }
-// Refuses another number of arguments: method, rounds and budget, which were arguments, are a policy's.
-function taken(form, given) {
-    if (given.length === form.split(',').length) return given;
-    throw new TypeError(`call ${form}, or new Policy({ method, rounds, budget }).${form}, not with ${given.length} arguments`);
-}
-// The bytes of a login's password. No password has a zero byte, so that stands for one with half of a character.
-const typedBytes = (password) => hasHalfCharacter(password) ? new Uint8Array(1) : bytesOf(password, 'password');
-const fieldBytes = (field) => bytesOf(field ?? '', 'field', 'a string, a Uint8Array or null');
 
 // ---- Results
 
 class Match {
     matches = true;
-    // Logs and JSON have no hash.
-    constructor(renewed) { Object.defineProperty(this, 'new', { __proto__: null, value: renewed }); }
+
+    // Logs and JSON don't show the hash.
+    constructor(renewed) {
+        Object.defineProperty(this, 'new', { __proto__: null, value: renewed });
+    }
 }
-// What another script sets in Object.prototype, false has too: then false would let everybody in.
-function verdict(result) {
-    if (result) return new Match(result.renewed);
-    if (false.matches === undefined && false.new === undefined) return false;
-    throw new Error('Object.prototype has matches or new, so every login would look right: find the script that sets it');
-}
+
 const ABSENT = { __proto__: null, value: undefined };
 
+// What a login returns, false or a promise, such that it has no `matches`: a flaw of another script
+// can set that in Object.prototype, and everybody would get in by it.
+function guarded(result) {
+    if (result !== false) {
+        return Object.defineProperties(result, { __proto__: null, matches: ABSENT, new: ABSENT });
+    }
+    if (result.matches === undefined && result.new === undefined) return false;
+    throw new Error('Object.prototype has matches or new, so every login would look right: '
+        + 'find the script that sets it');
+}
+
+function resultOf(login) {
+    return login ? new Match(login.renewed) : guarded(false);
+}
+
 const STATES = {
-    __proto__: null, MKPASSWD_DONE: 'current', MKPASSWD_REPLACED: 'outdated', MKPASSWD_DEAD: 'dead',
-    MKPASSWD_OVER_BUDGET: 'over budget', MKPASSWD_LOCKED: 'locked', MKPASSWD_NO_HASH: 'none',
-    MKPASSWD_NO_SCHEME: 'no scheme', MKPASSWD_REFUSED_UNKNOWN_SCHEME: 'unknown',
+    __proto__: null,
+    MKPASSWD_ERROR_DEAD: 'dead',
+    MKPASSWD_ERROR_OVER_BUDGET: 'over budget',
+    MKPASSWD_ERROR_LOCKED: 'locked',
+    MKPASSWD_ERROR_NO_HASH: 'none',
+    MKPASSWD_ERROR_NO_SCHEME: 'no scheme',
+    MKPASSWD_ERROR_UNKNOWN_SCHEME: 'unknown',
 };
+
+function stateOf({ error, isOutdated, scheme }) {
+    if (scheme === 'scrypt') return 'unknown'; // no login takes it
+    if (error) return STATES[error.name] ?? 'malformed';
+    return isOutdated ? 'outdated' : 'current';
+}
 
 class Description {
     #message;
 
-    constructor(method, cost, state, reason = null, message = null) {
-        Object.assign(this, { method, cost, state, reason });
-        this.#message = message;
+    constructor(audited) {
+        const { error, scheme, cost } = audited;
+        const state = stateOf(audited);
+        const isMalformed = state === 'malformed';
+        const isScrypt = scheme === 'scrypt';
+        const isHash = cost > 0 && !isMalformed && !isScrypt;
+        this.method = isHash || isScrypt ? scheme : null;
+        this.cost = isHash ? cost : null;
+        this.state = state;
+        this.reason = isMalformed ? error.name : null;
+        this.#message = isMalformed ? error.message : null;
     }
-    toString() { return [this.method, this.cost, this.state, this.#message].filter((part) => part !== null).join(':'); }
+
+    toString() {
+        const parts = [this.method, this.cost, this.state, this.#message];
+        return parts.filter((part) => part !== null).join(':');
+    }
 }
 
-// ---- The calls
+const PROBLEMS = {
+    __proto__: null,
+    MKPASSWD_ERROR_PASSWORD_ZERO_BYTE: 'zero byte',
+    MKPASSWD_ERROR_PASSWORD_TOO_LONG: 'too long',
+};
 
-// A policy's calls, which are bound to it: they can be taken out of it.
-const CALLS = ['hash', 'hashAsync', 'login', 'loginAsync', 'verify', 'needsRehash', 'describe'];
+// ---- Policies
 
-export class Policy {
+const NO_LIMIT = 'an integer (2 ** 42 for no limit)';
+
+// Each is bound to its policy, so it can be taken out of that.
+const CALLS_OF_A_POLICY = [
+    'hash', 'hashAsync', 'login', 'loginAsync', 'verify', 'needsRehash', 'describe',
+    'passwordProblem',
+];
+
+class Policy {
     #limit;
 
     constructor(policy = {}) {
-        const { method = 'sha512crypt', rounds, budget, ...others } = { __proto__: null, ...policy };
-        for (const name of Object.keys(others)) throw new TypeError(`a policy has method, rounds and budget, but no ${name}`);
-        if (typeof method !== 'string') throw new TypeError(`method must be a string, not ${typeof method}`);
+        const names = ['method', 'rounds', 'budget'];
+        const { method = 'sha512crypt', rounds, budget } = optionsOf(policy, 'a policy', names);
+        if (typeof method !== 'string') {
+            throw new TypeError(`method must be a string, not ${kindOf(method)}`);
+        }
         integer(rounds ?? 0, 'rounds');
-        if (integer(budget ?? 1, 'budget', 'an integer (2 ** 42 for no limit)') < 1) {
+        if (integer(budget ?? 1, 'budget', NO_LIMIT) < 1) {
             throw new RangeError('budget must be above 0, or null for twice what a new hash costs');
         }
-        const recommended = inThread('limit', [method, rounds ?? 0]);
-        Object.assign(this, { method, rounds: rounds || recommended.rounds, budget: budget ?? null });
-        for (const name of CALLS) Object.defineProperty(this, name, { __proto__: null, value: this[name].bind(this) });
-        Object.freeze(this);
-        const { bytes, passwordLength } = this.budget ? calls.limit(method, this.rounds, this.budget) : recommended;
+        const standard = inThread('limit', [method, rounds ?? 0]);
+        this.method = method;
+        this.rounds = rounds || standard.rounds;
+        this.budget = budget ?? null;
+        const admitted = this.budget ? calls.limit(method, this.rounds, this.budget) : standard;
+        const { bytes, passwordLength } = admitted;
         this.#limit = Object.freeze({ bytes, passwordLength });
+        for (const name of CALLS_OF_A_POLICY) {
+            Object.defineProperty(this, name, { __proto__: null, value: this[name].bind(this) });
+        }
+        Object.freeze(this);
     }
 
-    get limit() { return this.#limit; }
+    get limit() {
+        return this.#limit;
+    }
 
     hash(...given) {
-        return inThread('newHash', this.#toHash(given), tooLong(this.#limit));
+        return inThread('newHash', this.#toHash(given), excessOfPassword(this.#limit));
     }
+
     async hashAsync(...given) {
-        const { result, fault } = await inWorker('newHash', this.#toHash(given));
-        if (fault) throw failure(fault, tooLong(this.#limit));
-        return result;
+        return inWorker('newHash', this.#toHash(given), excessOfPassword(this.#limit));
     }
+
     #toHash(given) {
-        const [password] = taken('hash(password)', given);
+        const [password] = required('hash(password)', given);
         return [passwordBytes(password), this.method, this.rounds, this.#limit.bytes];
     }
 
     login(...given) {
-        return verdict(inThread('login', this.#toLogin(given)));
+        return resultOf(inThread('login', this.#toLogin(given)));
     }
-    // Where the `await` was forgotten, nobody gets in, whatever Object.prototype has.
+
     loginAsync(...given) {
-        return Object.defineProperties(this.#loginAsync(given), { __proto__: null, matches: ABSENT, new: ABSENT });
+        return guarded(this.#loginAsync(given));
     }
+
     async #loginAsync(given) {
-        const { result, fault } = await inWorker('login', this.#toLogin(given));
-        if (fault) throw failure(fault);
-        return verdict(result);
+        return resultOf(await inWorker('login', this.#toLogin(given)));
     }
+
     #toLogin(given) {
-        const [password, field] = taken('login(password, field)', given);
-        return [typedBytes(password), fieldBytes(field), this.method, this.rounds, this.budget ?? 0, this.#limit.bytes];
+        const [password, field] = required('login(password, field)', given);
+        const { method, rounds, budget } = this;
+        const policy = {
+            method,
+            rounds,
+            budget: budget ?? RECOMMENDED_BUDGET,
+            limit: this.#limit.bytes,
+        };
+        return [loginPasswordBytes(password), fieldBytes(field), policy];
     }
 
     verify(...given) {
-        const [password, field] = taken('verify(password, field)', given);
+        const [password, field] = required('verify(password, field)', given);
         const { bytes } = this.#limit;
-        try { return inThread('verify', [password, bytesOf(field, 'field'), bytes], tooCostly(bytes)); } catch (error) {
-            if (['MKPASSWD_LOCKED', 'MKPASSWD_NO_HASH'].includes(error.reason)) return false;
-            throw error;
-        }
+        return inThread('verify', [password, bytesOf(field, 'field'), bytes], excessOfHash(bytes));
     }
 
     needsRehash(...given) {
-        const [stored] = taken('needsRehash(stored)', given);
+        const [stored] = required('needsRehash(stored)', given);
         return inThread('needsRehash', [bytesOf(stored, 'stored'), this.method, this.rounds]);
     }
 
     describe(...given) {
-        const bytes = fieldBytes(...taken('describe(field)', given));
-        const { message, reason, scheme, cost } = calls.audit(bytes, this.method, this.rounds, this.budget ?? 0);
-        const state = STATES[reason];
-        if (scheme === 'scrypt') return new Description(scheme, null, 'unknown');    // no login takes it
-        if (!state) return new Description(null, null, 'malformed', reason, message);
-        return cost > 0 ? new Description(scheme, cost, state) : new Description(null, null, state);
+        const [field] = required('describe(field)', given);
+        const budget = this.budget ?? RECOMMENDED_BUDGET;
+        return new Description(calls.audit(fieldBytes(field), this.method, this.rounds, budget));
+    }
+
+    passwordProblem(...given) {
+        const [password] = required('passwordProblem(password)', given);
+        if (hasLoneSurrogate(password)) return 'lone surrogate';
+        const bytes = bytesOf(password, 'password');
+        const error = calls.passwordError(bytes);
+        if (error) return PROBLEMS[error.name] ?? error.message;
+        const { passwordLength } = this.#limit;
+        const isTooLong = passwordLength === null || bytes.length > passwordLength;
+        return isTooLong ? 'too long' : null;
     }
 }
 
 const recommended = new Policy();
-export const { hash, hashAsync, login, loginAsync, verify, needsRehash, describe } = recommended;
+/*@QUEUE@*/
+// ---- What is exported
+
+export { Policy, Refused, TooCostly };
+export const {
+    hash, hashAsync, login, loginAsync, verify, needsRehash, describe, passwordProblem, limit,
+} = recommended;
+export const version = '@VERSION@';
 
 export function cost(stored, passwordLength) {
-    if (integer(passwordLength, 'passwordLength') < 0) throw new RangeError('passwordLength must be 0 or more');
+    if (integer(passwordLength, 'passwordLength') < 0) {
+        throw new RangeError('passwordLength must be 0 or more');
+    }
     return inThread('cost', [bytesOf(stored, 'stored'), passwordLength]);
 }
-export const setting = (method = 'sha512crypt', rounds = 0) => inThread('setting', [method, integer(rounds, 'rounds')]);
-export const crypt = (password, by, budget = recommended.limit.bytes) =>
-    inThread('hash', [password, bytesOf(by), integer(budget, 'budget', 'an integer (2 ** 42 for no limit)')], tooCostly(budget));
-export const version = '@VERSION@';
+
+export function setting(method = 'sha512crypt', rounds = 0) {
+    return inThread('setting', [method, integer(rounds, 'rounds')]);
+}
+
+export function crypt(password, by, budget = limit.bytes) {
+    integer(budget, 'budget', NO_LIMIT);
+    return inThread('hash', [password, bytesOf(by), budget], excessOfHash(budget));
+}

@@ -1,45 +1,75 @@
-// Runs one job with the calls of calls.js, which tools/web puts before this. The page makes a worker for each job and drops it.
+// A worker of the page, with the module. The page starts one for each job, and ends it with all its
+// memory. A worker posts what is known while it hashes, and last what the job has come to.
+/*@CALLS@*/
+const calls = new Calls(new WebAssembly.Module(bytesOfBase64('@MODULE@')));
 
-// Tells the method and the cost of a hash before it is made: they say how long that takes. A refusal is told by the call that
-// hashes.
-function tellCost(method, by, password) {
-    try { postMessage({ method, cost: cost(by, bytesOf(password).length) }); } catch { }
+// Posts the method and the cost of a hash before it is made, by which the page tells how long that
+// takes. If there is no cost, the call that hashes says why.
+function postCost(method, setting, password) {
+    let cost;
+    try {
+        cost = calls.cost(setting, bytesOf(password).length);
+    } catch {
+        return;
+    }
+    postMessage({ method, cost });
+}
+
+// Hashes for so many milliseconds, since one hash is too fast for a browser's clock, and returns
+// how many each took.
+function timeOfHash(setting, milliseconds) {
+    const begin = performance.now();
+    let count = 0;
+    let time = 0;
+    while (time < milliseconds) {
+        calls.hash('aaaaaaaa', setting, Infinity);
+        count += 1;
+        time = performance.now() - begin;
+    }
+    return time / count;
 }
 
 const jobs = {
-    // Tells the rounds of new hashes and the limit on a check that the module recommends.
-    recommend: () => limit('sha512crypt', 0),
+    // The rounds of new hashes and the limit on a check that the module recommends.
+    recommend: () => calls.limit('sha512crypt', 0),
 
-    // Tells the cost and the time of a hash of 5000 rounds with a method, of 1000 with md5crypt. The first hashes are slow,
-    // since the browser still compiles, and one alone is too fast for its clock.
+    // The cost and the time of a hash of 5000 rounds with a method, of 1000 with md5crypt.
     measure({ method }) {
-        const by = setting(method, 5000);
-        for (const end = performance.now() + 250; performance.now() < end;) hash('aaaaaaaa', by, Infinity);
-        const begin = performance.now();
-        let [time, count] = [0, 0];
-        for (; time < 100; count++, time = performance.now() - begin) hash('aaaaaaaa', by, Infinity);
-        return { cost: cost(by, 8), time: time / count };
+        const setting = calls.setting(method, 5000);
+        timeOfHash(setting, 250); // slower than later ones: the browser still compiles
+        return { cost: calls.cost(setting, 8), time: timeOfHash(setting, 100) };
     },
 
+    // A new hash.
     make({ password, method, rounds }) {
-        const by = setting(method, rounds);
-        tellCost(method, by, password);
-        return { text: hash(password, by, Infinity) };
+        const setting = calls.setting(method, rounds);
+        postCost(method, setting, password);
+        return { hash: calls.hash(password, setting, Infinity) };
     },
 
+    // Whether a password matches a stored hash. None is hashed for one that no password matches,
+    // whatever it costs.
     check({ password, stored, budget }) {
-        const { reason, message, scheme } = audit(stored, 'sha512crypt', 0, Infinity);
-        if (!METHODS[scheme]) return { reason, message, scheme };
-        tellCost(scheme, stored, password);
-        // Nothing is hashed for a hash that no password matches, however dear.
-        const [isDead, isOutdated] = [reason === 'MKPASSWD_DEAD', reason === 'MKPASSWD_REPLACED'];
-        return { isDead, isOutdated, fits: !isDead && verify(password, stored, budget) };
+        const { error, isOutdated, scheme } = calls.audit(stored, 'sha512crypt', 0, Infinity);
+        const isOfMethod = scheme in METHODS;
+        if (!isOfMethod) return { error, scheme };
+        postCost(scheme, stored, password);
+        const isDead = error?.name === 'MKPASSWD_ERROR_DEAD';
+        const isMatch = !isDead && calls.verify(password, stored, budget);
+        return { isDead, isOutdated, isMatch };
     },
 };
 
+function resultOf(job, given) {
+    try {
+        return jobs[job](given);
+    } catch ({ reason, message }) {
+        return { error: { name: reason, message } };
+    }
+}
+
 onmessage = ({ data: { job, ...given } }) => {
     const begin = performance.now();
-    let told;
-    try { told = jobs[job](given); } catch ({ reason, message }) { told = { reason, message }; }
-    postMessage({ time: performance.now() - begin, ...told, isLast: true });
+    const result = resultOf(job, given);
+    postMessage({ isLast: true, time: performance.now() - begin, ...result });
 };

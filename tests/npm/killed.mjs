@@ -1,5 +1,5 @@
-// Kills a worker among calls. Tells what became of each, of later ones and of those that are refused, and how many workers were
-// started. Then it has nothing to do but to end.
+// Kills a worker among calls. Reports what became of each, of later ones and of those that are
+// refused, and how many workers were started. Then it has nothing to do but to end.
 import os from 'node:os';
 import { syncBuiltinESMExports } from 'node:module';
 import threads from 'node:worker_threads';
@@ -14,18 +14,33 @@ threads.Worker = class extends threads.Worker {
 syncBuiltinESMExports();
 const { Policy, TooCostly, hashAsync, loginAsync } = await import('mkpasswd');
 
-const [cores, policy] = [os.availableParallelism(), new Policy({ rounds: 100000 })];
+const cores = os.availableParallelism();
+const policy = new Policy({ rounds: 100000 });
 const stored = await policy.hashAsync('password');
 const calls = Array.from({ length: 3 * cores }, () => policy.loginAsync('password', stored));
 setImmediate(() => workers[0].terminate());
 const ends = await Promise.allSettled(calls);
-const later = await Promise.all([loginAsync('password', stored), loginAsync('passwort', stored)]);
-const refused = await Promise.allSettled([hashAsync('x'.repeat(169)), hashAsync(5), loginAsync('x', 5), loginAsync('x')]);
+const later = await Promise.all([
+    loginAsync('password', stored),
+    loginAsync('passwort', stored),
+]);
+const refused = await Promise.allSettled([
+    hashAsync('x'.repeat(169)),
+    hashAsync(5),
+    loginAsync('x', 5),
+    loginAsync('x'),
+]);
+
+function nameOf({ reason }) {
+    return reason instanceof TooCostly ? reason.reason : reason?.name;
+}
+
 console.log(JSON.stringify({
-    failed: ends.filter(({ status }) => status === 'rejected').map(({ reason }) => reason instanceof Error),
+    failed: ends.filter(({ status }) => status === 'rejected')
+        .map(({ reason }) => reason instanceof Error),
     matched: ends.filter(({ value }) => value?.matches).length,
     later,
-    refused: refused.map(({ reason }) => (reason instanceof TooCostly ? reason.reason : reason?.name)),
+    refused: refused.map(nameOf),
     cores,
     workers: workers.length,
 }));

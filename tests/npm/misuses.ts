@@ -1,7 +1,34 @@
-// Misuses the package; tsc has to refuse each line that has this above it, and says so where it doesn't.
-import { Policy, cost, crypt, describe, hash, hashAsync, login, loginAsync, needsRehash, setting, verify } from 'mkpasswd';
+// Misuses the package; tsc has to refuse each line that has a comment for it above, and complains
+// where it doesn't.
+import {
+    LoginQueue, Policy, cost, crypt, describe, hash, hashAsync, login, loginAsync, needsRehash,
+    passwordProblem, setting, verify,
+} from 'mkpasswd';
 declare function letIn(): void;
 declare const field: string;
+declare const queue: LoginQueue;
+const result = login('x', field);
+
+// @ts-expect-error
+if (queue.login('x', field)) letIn();
+// @ts-expect-error
+if (queue.login('x', field).matches) letIn();
+// @ts-expect-error
+if (result.matches !== false) letIn();
+// @ts-expect-error
+queue.login('x');
+// @ts-expect-error
+queue.hash(5);
+// @ts-expect-error
+new LoginQueue({ failuretime: 5000 });
+// @ts-expect-error
+new LoginQueue({ size: '5' });
+// @ts-expect-error
+new LoginQueue({ policy: { rounds: 5000 } });
+// @ts-expect-error
+new LoginQueue(5000);
+// @ts-expect-error
+passwordProblem(null);
 
 // @ts-expect-error
 if (loginAsync('x', field)) letIn();
@@ -47,6 +74,8 @@ new Policy({ rounds: '5000' });
 new Policy({ method: 'bcrypt' });
 // @ts-expect-error
 new Policy('md5crypt');
+// @ts-expect-error
+new Policy(5);
 // @ts-expect-error
 new Policy().rounds = 5;
 // @ts-expect-error

@@ -1,17 +1,19 @@
-// A server with logins at /login and a health check at /health. At /blocked it tells for how much of a hash's time its event
-// loop is blocked, except for one time in a hundred, when the machine may be.
+// A server with logins at /login and a health check at /health. At /blocked it tells for how much
+// of the time of a hash its event loop is blocked, but for one time in a hundred, when the machine
+// may be.
 import http from 'node:http';
 import { monitorEventLoopDelay } from 'node:perf_hooks';
 import { text } from 'node:stream/consumers';
-import { hash, loginAsync } from 'mkpasswd';
+import { LoginQueue, hash } from 'mkpasswd';
 
+const queue = new LoginQueue({ failureTime: 1000 });
 const stored = hash('correct horse');
 const begin = performance.now();
 hash('correct horse');
 const time = performance.now() - begin;
 const delays = monitorEventLoopDelay({ resolution: 1 });
 const answers = {
-    '/login': async (password) => ((await loginAsync(password, stored)).matches ? 'in' : 'out'),
+    '/login': async (password) => ((await queue.login(password, stored)).matches ? 'in' : 'out'),
     '/health': async () => 'well',
     '/blocked': async () => String(delays.percentile(99) / 1e6 / time),
 };

@@ -1,5 +1,5 @@
-// Reads fields of JSON, and tells for each how many steps a login took in the module of logged/mkpasswd.mjs, which wasm-opt
-// made count them.
+// Reads fields of JSON, and reports for each how many steps a login took in the module of
+// logged/mkpasswd.mjs, which wasm-opt made count them.
 import { readFileSync } from 'node:fs';
 
 let steps = 0;
@@ -10,8 +10,9 @@ WebAssembly.Instance = function (compiled) {
 const { Policy } = await import('./logged/mkpasswd.mjs');
 
 const policy = new Policy({ rounds: 1000 });
-console.log(JSON.stringify(JSON.parse(readFileSync(0, 'utf8')).map((field) => {
+function stepsOf(field) {
     steps = 0;
     policy.login('password', field);
     return steps;
-})));
+}
+console.log(JSON.stringify(JSON.parse(readFileSync(0, 'utf8')).map(stepsOf)));

@@ -1,11 +1,22 @@
-// Does what a visitor does, as the body of a function that a browser evaluates in the page: makes and checks hashes, has others
-// refused, stops one, and tries to send something. It reports what the page showed. test_page.py fills in @ROWS@, @CURRENT@ and
-// @SERVER@, and knows what the page should show.
+// Does what a visitor does, as the body of a function that a browser evaluates in the page: makes
+// and checks hashes, has others refused, stops one, and tries to send something. It reports what
+// the page showed. test_page.py defines ROWS, CURRENT and SERVER before it, returns visit() behind
+// it, and knows what the page should show.
+
+const PASSWORD = 'K\u00e4se \u{1f40e}';
+const WRONG_PASSWORD = 'K\u00e4se';
+const METHODS = ['sha512crypt', 'sha256crypt', 'md5crypt'];
+
+// ---- What a visitor sees and does
+
 const element = (id) => document.getElementById(id);
 const status = (form) => element(form).querySelector('p[role=status]').textContent;
 const button = (name) => document.querySelector(`[data-${name}]`);
-const until = async (test) => { while (!test()) await new Promise((next) => setTimeout(next, 20)); };
 const isShown = (part) => part.offsetParent !== null;
+
+async function until(test) {
+    while (!test()) await new Promise((next) => { setTimeout(next, 20); });
+}
 
 function set(values) {
     for (const [id, value] of Object.entries(values)) {
@@ -20,122 +31,258 @@ function start(form, values) {
     element(form).requestSubmit();
 }
 
+// What the page says once a form's job has ended.
 async function ended(form, values) {
     start(form, values);
     await until(() => /^(?!Hashing)./.test(status(form)));
     return status(form);
 }
 
-// What stands in the box for each place, and what is copied.
-function places() {
-    const told = {};
-    for (const { id, index } of element('place').options) {
-        element('place').selectedIndex = index;
-        const refused = ['', 'a b', '1ann'].map((name) => {
-            set({ name });
-            button('copy=snippet').click();
-            return button('copy=snippet').nextElementSibling.textContent;
-        });
-        const isNamed = isShown(element('name')) && element('snippet').textContent.includes('NAME');
-        set({ name: 'ann' });
-        let copied;
-        document.addEventListener('copy', () => { copied = getSelection().toString(); }, { once: true });
-        button('copy=snippet').click();
-        copied ??= getSelection().toString();    // where no person clicked
-        told[id] = [element('snippet').textContent, copied, isNamed && refused];
-    }
-    return told;
+// ---- Making and checking
+
+// The hashes by which a stored one was damaged: without its digest, without its end, with more
+// behind it, and with other characters.
+function damaged(stored) {
+    const [front, digest] = stored.split(/\$(?=[^$]*$)/);
+    return [front, stored.slice(0, -9), `${stored}$x`, `${front}$${digest.slice(1)}z`];
 }
 
-// How far the widest part of the page reaches beyond this width, and how high the page and the least of what can be pressed are.
-function sizes(width) {
-    document.documentElement.style.width = `${width}px`;
-    const beyond = Math.max(...[...document.querySelectorAll('body *')].map((part) => part.getBoundingClientRect().right)) - width;
-    const pressed = [...document.querySelectorAll('button, summary, input, select')].filter(isShown);
-    const least = Math.min(...pressed.map((part) => part.getBoundingClientRect().height));
-    return { beyond, least, height: document.body.getBoundingClientRect().height };
+// Makes a hash with a method, and checks it: rightly, wrongly and damaged.
+async function makeAndCheck(method) {
+    set({ password: PASSWORD, repeat: PASSWORD, method });
+    const isHashLeft = isShown(element('made'));
+    if (!element('rounds').disabled) set({ rounds: 1234 });
+    const made = await ended('make', {});
+    const stored = element('snippet').textContent;
+    const right = await ended('check', { stored: ` ${stored} `, guess: PASSWORD }); // as pasted
+    set({ guess: '' });
+    const isAnswerLeft = status('check') !== '';
+    const wrong = await ended('check', { guess: WRONG_PASSWORD });
+    const dead = [];
+    for (const hash of damaged(stored)) dead.push(await ended('check', { stored: hash }));
+    return { row: [stored, right, wrong, made], dead, left: isHashLeft || isAnswerLeft };
 }
+
+async function visitMethods() {
+    const visits = [];
+    for (const method of METHODS) visits.push(await makeAndCheck(method));
+    const fixed = [
+        element('rounds').disabled,
+        element('rounds').value,
+        element('estimate').textContent,
+    ];
+    set({ method: 'sha512crypt' });
+    return {
+        made: visits.map(({ row }) => row),
+        dead: visits.flatMap(({ dead }) => dead),
+        left: visits.some(({ left }) => left),
+        fixed,
+        free: [element('rounds').disabled, element('rounds').value],
+    };
+}
+
+// ---- Where a hash goes
+
+// What the page says where the name of a place is copied that isn't valid.
+function refusedNames() {
+    return ['', 'a b', '1ann'].map((name) => {
+        set({ name });
+        button('copy=snippet').click();
+        return button('copy=snippet').nextElementSibling.textContent;
+    });
+}
+
+function copied() {
+    let text;
+    document.addEventListener('copy', () => { text = getSelection().toString(); }, { once: true });
+    button('copy=snippet').click();
+    return text ?? getSelection().toString(); // where no person clicked
+}
+
+// What stands in the box for each place, what is copied, and what is said of names.
+function visitPlaces() {
+    const places = {};
+    for (const { id, index } of element('place').options) {
+        element('place').selectedIndex = index;
+        const refused = refusedNames();
+        const hasName = element('snippet').textContent.includes('NAME');
+        const isNamed = isShown(element('name')) && hasName;
+        set({ name: 'ann' });
+        const text = copied();
+        places[id] = [element('snippet').textContent, text, isNamed && refused];
+    }
+    return places;
+}
+
+// What the page makes of lines that have the hash.
+async function visitLines(places, stored) {
+    const [, ...ofPlaces] = Object.values(places).map(([line]) => line); // not the hash alone
+    const lines = [
+        `ann:${stored}:19000:0:99999:7:::`,
+        ...ofPlaces,
+        `userPassword: {CRYPT}${stored}`,
+    ];
+    const answers = [];
+    for (const line of lines) {
+        const answer = await ended('check', { stored: line, guess: PASSWORD });
+        const isAlone = element('stored').value === stored;
+        answers.push([answer, isAlone, element('stored-note').textContent]);
+    }
+    return answers;
+}
+
+// ---- What is refused, stopped and mistyped
+
+async function visitRefusals() {
+    const isClosed = !element('more').open;
+    const refused = [];
+    for (const [stored, guess] of ROWS) {
+        refused.push(await ended('check', { stored: stored || ' ', guess })); // empty isn't sent
+    }
+    return { refused, hidden: isClosed && element('more').open };
+}
+
+async function visitRounds() {
+    const answers = [];
+    for (const rounds of [999, 1000000000, 4294972296]) {
+        const given = { password: PASSWORD, repeat: PASSWORD, method: 'sha512crypt', rounds };
+        answers.push(await ended('make', given));
+    }
+    set({ rounds: 1234 });
+    return answers;
+}
+
+async function visitMistyped() {
+    const without = await ended('make', { repeat: '' });
+    const another = await ended('make', { repeat: WRONG_PASSWORD });
+    return [without, another, isShown(element('made'))];
+}
+
+async function visitStop() {
+    const given = { password: PASSWORD, repeat: PASSWORD, method: 'sha512crypt' };
+    start('make', { ...given, rounds: 999999999 });
+    const stop = element('make').querySelector('[data-stop]');
+    await until(() => !stop.hidden);
+    stop.click();
+    return status('make');
+}
+
+// ---- Generated passwords
 
 // How often each character is in generated passwords, if each byte comes equally often.
 function frequencies() {
     let byte = 0;
-    crypto.getRandomValues = (bytes) => bytes.map((_, at) => { bytes[at] = byte++; return bytes[at]; });
+    crypto.getRandomValues = (bytes) => {
+        for (const at of bytes.keys()) bytes[at] = byte++;
+        return bytes;
+    };
     const counts = {};
     for (let round = 0; round < 31; round++) {
         button('generate').click();
-        for (const character of element('password').value) counts[character] = (counts[character] ?? 0) + 1;
+        for (const character of element('password').value) {
+            counts[character] = (counts[character] ?? 0) + 1;
+        }
     }
     delete crypto.getRandomValues;
     return counts;
 }
 
+async function visitGenerated() {
+    const password = element('password').value;
+    const shown = [
+        button('show=password').textContent,
+        element('password').type,
+        element('repeat').disabled,
+        isShown(button('copy=password')),
+    ];
+    await ended('make', { rounds: 1000 });
+    const stored = element('snippet').textContent;
+    const generated = [password, ...shown, await ended('check', { stored, guess: password })];
+    button('show=password').click();
+    const concealed = [
+        button('show=password').textContent,
+        element('password').type,
+        element('repeat').disabled,
+    ];
+    return { generated, concealed };
+}
+
+// ---- The page itself
+
+// How far the widest part of the page reaches beyond this width, and how high the page is and the
+// least of what can be pressed.
+function sizes(width) {
+    document.documentElement.style.width = `${width}px`;
+    const parts = [...document.querySelectorAll('body *')];
+    const beyond = Math.max(...parts.map((part) => part.getBoundingClientRect().right)) - width;
+    const pressed = [...document.querySelectorAll('button, summary, input, select')];
+    const heights = pressed.filter(isShown).map((part) => part.getBoundingClientRect().height);
+    const { height } = document.body.getBoundingClientRect();
+    return { beyond, least: Math.min(...heights), height };
+}
+
+async function hasIcon() {
+    const icon = new Image();
+    icon.src = document.querySelector('[rel=icon]').href;
+    return icon.decode().then(() => icon.naturalWidth > 0, String);
+}
+
+async function tryToSend() {
+    new Image().src = `${SERVER}/image`;
+    const source = `fetch('${SERVER}/fetched', { mode: 'no-cors' })`
+        + ".then(() => 'sent', () => 'refused')";
+    const worker = new Worker(URL.createObjectURL(new Blob([`${source}.then(postMessage)`])));
+    const sentByPage = await fetch(`${SERVER}/fetched`, { mode: 'no-cors' })
+        .then(() => 'sent', () => 'refused');
+    const sentByWorker = await new Promise((next) => {
+        worker.onmessage = ({ data }) => next(data);
+    });
+    return [sentByPage, sentByWorker];
+}
+
 // What is told of how long a hash takes, before one and after it.
-async function slow() {
+async function visitSlowPage() {
     const before = element('estimate').textContent;
     await ended('make', { password: 'x', repeat: 'x' });
-    return [before, element('estimate').textContent.replace(/(a|half a|a quarter of a|\d+) seconds?/, 'N')];
+    const after = element('estimate').textContent;
+    return [before, after.replace(/(a|half a|a quarter of a|\d+) seconds?/, 'N')];
+}
+
+async function visitForms() {
+    const estimate = element('estimate').textContent;
+    const links = document.links.length;
+    const recommended = [element('rounds').value, element('budget').value];
+    const ofMethods = await visitMethods();
+    await ended('make', {});
+    const stored = element('snippet').textContent;
+    const phone = sizes(390);
+    const wide = sizes(1280).beyond;
+    const places = visitPlaces();
+    const lines = await visitLines(places, stored);
+    const current = await ended('check', { stored: CURRENT, guess: 'password' });
+    const ofRefusals = await visitRefusals();
+    const rounds = await visitRounds();
+    const mistyped = await visitMistyped();
+    const stopped = await visitStop();
+    const counts = frequencies();
+    const ofGenerated = await visitGenerated();
+    const icon = await hasIcon();
+    const sent = await tryToSend();
+    return {
+        ...ofMethods, ...ofRefusals, ...ofGenerated, estimate, links, recommended, stored, phone,
+        wide, places, lines, current, rounds, mistyped, stopped, icon, sent, frequencies: counts,
+    };
 }
 
 async function visit() {
-    await until(() => isShown(element('unsupported')) || element('estimate').textContent.trim());
-    if (isShown(element('unsupported'))) return { unable: element('unsupported').textContent, forms: [...document.forms].filter(isShown).length, links: document.links.length };
-    if (document.title === 'slow') return slow();
-    const told = { made: [], dead: [], refused: [], lines: [], rounds: [], left: false, estimate: element('estimate').textContent, links: document.links.length };
-    told.recommended = [element('rounds').value, element('budget').value];
-    const password = 'K\u00e4se \u{1f40e}';
-    for (const method of ['sha512crypt', 'sha256crypt', 'md5crypt']) {
-        set({ password, repeat: password, method });
-        told.left ||= isShown(element('made'));
-        if (!element('rounds').disabled) set({ rounds: 1234 });
-        const made = await ended('make', {});
-        const stored = element('snippet').textContent;
-        const right = await ended('check', { stored: ` ${stored} `, guess: password });    // as it may be pasted
-        set({ guess: '' });
-        told.left ||= status('check') !== '';
-        told.made.push([stored, right, await ended('check', { guess: 'K\u00e4se' }), made]);
-        const [front, digest] = stored.split(/\$(?=[^$]*$)/);
-        for (const dead of [front, stored.slice(0, -9), `${stored}$x`, `${front}$${digest.slice(1)}z`]) told.dead.push(await ended('check', { stored: dead }));
+    const isUnable = () => isShown(element('unsupported'));
+    await until(() => isUnable() || element('estimate').textContent.trim());
+    if (isUnable()) {
+        return {
+            unable: element('unsupported').textContent,
+            forms: [...document.forms].filter(isShown).length,
+            links: document.links.length,
+        };
     }
-    told.fixed = [element('rounds').disabled, element('rounds').value, element('estimate').textContent];
-    set({ method: 'sha512crypt' });
-    told.free = [element('rounds').disabled, element('rounds').value];
-    await ended('make', {});
-    told.stored = element('snippet').textContent;
-    told.phone = sizes(390);
-    told.wide = sizes(1280).beyond;
-    told.places = places();
-    const [, ...lines] = Object.values(told.places).map(([line]) => line);    // without the hash alone
-    for (const line of [`ann:${told.stored}:19000:0:99999:7:::`, ...lines, `userPassword: {CRYPT}${told.stored}`]) {
-        const answer = await ended('check', { stored: line, guess: password });
-        told.lines.push([answer, element('stored').value === told.stored, element('stored-note').textContent]);
-    }
-    told.current = await ended('check', { stored: '@CURRENT@', guess: 'password' });
-    told.hidden = !element('more').open;
-    for (const [stored, guess] of @ROWS@) told.refused.push(await ended('check', { stored: stored || ' ', guess }));    // an empty field isn't sent
-    told.hidden &&= element('more').open;
-    for (const rounds of [999, 1000000000, 4294972296]) told.rounds.push(await ended('make', { password, repeat: password, method: 'sha512crypt', rounds }));
-    set({ rounds: 1234 });
-    told.mistyped = [await ended('make', { repeat: '' }), await ended('make', { repeat: 'K\u00e4se' }), isShown(element('made'))];
-    start('make', { password, repeat: password, method: 'sha512crypt', rounds: 999999999 });
-    const stop = element('make').querySelector('[data-stop]');
-    await until(() => !stop.hidden);
-    stop.click();
-    told.stopped = status('make');
-    told.frequencies = frequencies();
-    const generated = element('password').value;
-    const shown = [button('show=password').textContent, element('password').type, element('repeat').disabled, isShown(button('copy=password'))];
-    await ended('make', { rounds: 1000 });
-    told.generated = [generated, ...shown, await ended('check', { stored: element('snippet').textContent, guess: generated })];
-    button('show=password').click();
-    told.concealed = [button('show=password').textContent, element('password').type, element('repeat').disabled];
-    const icon = new Image();
-    icon.src = document.querySelector('[rel=icon]').href;
-    told.icon = await icon.decode().then(() => icon.naturalWidth > 0, String);
-    new Image().src = '@SERVER@/image';
-    const send = () => fetch('@SERVER@/fetched', { mode: 'no-cors' }).then(() => 'sent', () => 'refused');
-    const worker = new Worker(URL.createObjectURL(new Blob([`(${send})().then(postMessage)`])));
-    told.sent = [await send(), await new Promise((next) => { worker.onmessage = ({ data }) => next(data); })];
-    return told;
+    return document.title === 'slow' ? visitSlowPage() : visitForms();
 }
-
-return visit().catch(String).then(JSON.stringify);

@@ -47,49 +47,49 @@ REFUSALS = [
         "a password of 1025 bytes",
         stored="$6$s$x",
         password="x" * 1025,
-        reason="MKPASSWD_REFUSED_PASSWORD_TOO_LONG",
+        reason="MKPASSWD_ERROR_PASSWORD_TOO_LONG",
     ),
     Refusal(
         "a password with a zero byte",
         stored="$6$s$x",
         password="x\0y",
-        reason="MKPASSWD_REFUSED_PASSWORD_ZERO_BYTE",
+        reason="MKPASSWD_ERROR_PASSWORD_ZERO_BYTE",
     ),
     Refusal(
         "a setting that is too long",
         stored="$6$" + "x" * 400,
         password="x",
-        reason="MKPASSWD_REFUSED_SETTING_TOO_LONG",
+        reason="MKPASSWD_ERROR_SETTING_TOO_LONG",
     ),
     Refusal(
         "a character of another alphabet",
         stored="$6$s\u00e4lt$x",
         password="x",
-        reason="MKPASSWD_REFUSED_BAD_CHARACTER",
+        reason="MKPASSWD_ERROR_BAD_CHARACTER",
     ),
     Refusal(
         "bcrypt",
         stored="$2b$05$x",
         password="x",
-        reason="MKPASSWD_REFUSED_UNKNOWN_SCHEME",
+        reason="MKPASSWD_ERROR_UNKNOWN_SCHEME",
     ),
     Refusal(
         "rounds without a number",
         stored="$5$rounds=$x",
         password="x",
-        reason="MKPASSWD_REFUSED_BAD_ROUNDS",
+        reason="MKPASSWD_ERROR_BAD_ROUNDS",
     ),
     Refusal(
         "a hash above the budget",
         stored="$6$rounds=999999999$s$x",
         password="x",
-        reason="MKPASSWD_OVER_BUDGET",
+        reason="MKPASSWD_ERROR_OVER_BUDGET",
     ),
     Refusal(
         "scrypt above its ceiling",
         stored="$7$M0..../....s",
         password="x",
-        reason="MKPASSWD_REFUSED_ABOVE_CEILING",
+        reason="MKPASSWD_ERROR_ABOVE_CEILING",
     ),
     Refusal("a locked field, which no password matches", "!x", "x", reason=False),
     Refusal("an empty field, which no password matches", "", "x", reason=False),
@@ -154,19 +154,19 @@ AUDITS = [
     Audit("5000 characters after a prefix", "malformed:setting too long", "$6$" + "x" * 5000),
     Audit(
         "rounds that sha512crypt doesn't have",
-        "MKPASSWD_REFUSED_COST",
+        "MKPASSWD_ERROR_ROUNDS",
         NEW_HASH,
         policy=("sha512crypt", 12),
     ),
     Audit(
         "rounds that sha512crypt has in their lowest 32 bits",
-        "MKPASSWD_REFUSED_COST",
+        "MKPASSWD_ERROR_ROUNDS",
         NEW_HASH,
         policy=("sha512crypt", WRAPPED_ROUNDS),
     ),
     Audit(
         "rounds below 0",
-        "MKPASSWD_REFUSED_COST",
+        "MKPASSWD_ERROR_ROUNDS",
         NEW_HASH,
         policy=("sha512crypt", -(2**32)),
     ),
@@ -178,7 +178,7 @@ AUDITS = [
     ),
     Audit(
         "a method that new hashes don't have",
-        "MKPASSWD_REFUSED_UNKNOWN_METHOD",
+        "MKPASSWD_ERROR_UNKNOWN_METHOD",
         NEW_HASH,
         policy=("bcrypt",),
     ),
@@ -315,9 +315,9 @@ def test_half_of_a_character_is_refused(report: Report) -> None:
 @pytest.mark.parametrize(
     ("place", "reason"),
     [
-        pytest.param(1, "MKPASSWD_REFUSED_UNKNOWN_METHOD", id="a setting of bcrypt"),
-        pytest.param(2, "MKPASSWD_REFUSED_COST", id="a setting of 12 rounds"),
-        pytest.param(3, "MKPASSWD_OVER_BUDGET", id="a hash of the most rounds"),
+        pytest.param(1, "MKPASSWD_ERROR_UNKNOWN_METHOD", id="a setting of bcrypt"),
+        pytest.param(2, "MKPASSWD_ERROR_ROUNDS", id="a setting of 12 rounds"),
+        pytest.param(3, "MKPASSWD_ERROR_OVER_BUDGET", id="a hash of the most rounds"),
     ],
 )
 def test_refusal_has_the_name_of_the_header(report: Report, place: int, reason: str) -> None:
@@ -348,7 +348,7 @@ def test_budget_admits_a_password_of_168_bytes(report: Report) -> None:
     "place", [pytest.param(3, id="to be hashed"), pytest.param(4, id="to be checked")]
 )
 def test_budget_refuses_a_password_of_169_bytes(report: Report, place: int) -> None:
-    assert report["defaults"][place] == "MKPASSWD_OVER_BUDGET"
+    assert report["defaults"][place] == "MKPASSWD_ERROR_OVER_BUDGET"
 
 
 # ---- Costs and audits

@@ -153,7 +153,11 @@ def login_of_readme(user: Site, program: str, name: str, password: str) -> Repor
 
 @pytest.fixture(scope="module")
 def login_program(web_build: Path) -> str:
-    return program_of_readme(web_build, 0)
+    """The program with a login, where a failure takes less than its five seconds."""
+    program = program_of_readme(web_build, 0)
+    faster = re.sub(r"\b5000\b", "1000", program)
+    assert faster != program, "a failure takes no 5000 milliseconds"
+    return faster
 
 
 @pytest.mark.parametrize(
@@ -180,56 +184,261 @@ def test_program_of_readme_renews_an_outdated_hash(user: Site, login_program: st
 
 
 def test_program_of_readme_lets_nobody_in_without_its_await(user: Site, login_program: str) -> None:
-    careless = login_program.replace("await loginAsync", "loginAsync")
-    assert careless != login_program, "the program awaits no loginAsync"
+    careless = login_program.replace("await queue.login", "queue.login")
+    assert careless != login_program, "the program awaits no login"
     report = login_of_readme(user, careless, "ann", "wrong horse")
     assert report["entered"] == [], report
 
 
-# What stands behind the second program, in which calls take turns: 24 logins at once.
-REPORT_OF_TURNS = """
-import { Policy } from 'mkpasswd';
-const stored = new Policy({ rounds: 1000 }).hash('right');
-const made = loginInTurn('right', await hashInTurn('right'));
-let least = Infinity;
-const answers = await Promise.all(Array.from({ length: 24 }, async (_, number) => {
-    const begin = performance.now();
-    const { matches } = await loginInTurn(number % 3 ? 'right' : 'wrong', stored);
-    if (!matches) least = Math.min(least, performance.now() - begin);
-    return Boolean(matches);
-}));
-const { matches } = await made;
-waiting.length = 100;
-const busy = await loginInTurn('right', stored).catch(({ message }) => message);
-console.log(JSON.stringify({ answers, least, busy, matches }));
+@pytest.fixture(scope="module")
+def reason_program(web_build: Path) -> str:
+    """The program that tells why a login failed, with the hash of `password`."""
+    field = crypt(b"password", b"$6$rounds=1000$saltsaltsaltsalt").decode()
+    given = f"const [password, field] = [process.argv[2], '{field}'];\n"
+    printed = "console.log(JSON.stringify({ reason }));\n"
+    return given + program_of_readme(web_build, 1) + printed
+
+
+@pytest.mark.parametrize(
+    ("password", "reason"),
+    [
+        pytest.param("x" * 169, "too long", id="a password that is too long"),
+        pytest.param("wrong", "outdated", id="a wrong password"),
+    ],
+)
+def test_program_of_readme_tells_why_a_login_failed(
+    user: Site, reason_program: str, password: str, reason: str
+) -> None:
+    (user.folder / "reason.mjs").write_text(reason_program, encoding="utf-8")
+    report = user.report_of("reason.mjs", password)
+    assert report["reason"] == reason, report
+
+
+# What the programs of README are for, in TypeScript.
+DECLARED = """
+declare const users: Map<string, string>;
+declare const name: string, password: string, field: string;
+declare function letIn(name: string): void;
 """
-MILLISECONDS_OF_A_FAILURE = 700
+
+
+@pytest.mark.needs("tsc")
+@pytest.mark.parametrize("place", [0, 1])
+def test_typescript_accepts_programs_of_readme(user: Site, web_build: Path, place: int) -> None:
+    program = program_of_readme(web_build, place)
+    declared = DECLARED.replace(", field: string", "") if "const field" in program else DECLARED
+    script = f"readme{place}.ts"
+    text = f"{declared}{program}export {{}};\n"
+    (user.folder / script).write_text(text, encoding="utf-8")
+    options = ("--noEmit", "--strict", "--target", "es2022", "--module", "nodenext")
+    assert_result(run("tsc", *options, script, cwd=user.folder))
+
+
+# ---- The queue of logins
+
+
+# A wrong password, and what can be stored; then passwords that no hash can have.
+FIELDS_OF_FAILURES = {
+    "a hash": crypt(b"password", b"$6$rounds=5000$saltsaltsaltsalt").decode(),
+    "a hash of more rounds": crypt(b"password", b"$6$rounds=20000$saltsaltsaltsalt").decode(),
+    "a hash of md5crypt": crypt(b"password", b"$1$saltsalt").decode(),
+    "an unknown name": None,
+    "an empty field": "",
+    "a locked account": "!",
+    "yescrypt": "$y$x",
+    "scrypt": "$7$46..../....s",
+    "a malformed hash": "$5$rounds=$x",
+    "a cut hash": crypt(b"password", b"$6$rounds=5000$saltsaltsaltsalt").decode()[:40],
+    "a hostile hash": "$6$rounds=999999999$s$x",
+}
+IMPOSSIBLE_PASSWORDS = ("x" * 1025, "x\0y", "\ud83d")
+FAILURE_MILLISECONDS = 1000  # of queue.mjs
+MOST_MILLISECONDS_APART = 5  # of failures that are called at once
+MOST_MILLISECONDS_LATE = 25  # of a hundred: without multiples it would be some fifty
+GREATEST_SLOWDOWN = 1.2
 
 
 @pytest.fixture(scope="module")
-def turns(user: Site, web_build: Path) -> Report:
-    """What the second program does, where a failure takes less than its five seconds."""
-    program = program_of_readme(web_build, 1)
-    faster = re.sub(r"\b5000\b", str(MILLISECONDS_OF_A_FAILURE), program)
-    assert faster != program, "a failure takes no 5000 milliseconds"
-    (user.folder / "turns.mjs").write_text(faster + REPORT_OF_TURNS, encoding="utf-8")
-    return user.report_of("turns.mjs")
+def queue(user: Site) -> Report:
+    hashed = FIELDS_OF_FAILURES["a hash"]
+    wrong = [["passwort", field] for field in FIELDS_OF_FAILURES.values()]
+    impossible = [[password, hashed] for password in IMPOSSIBLE_PASSWORDS]
+    given = {
+        "password": "password",
+        "stored": hashed,
+        "costly": crypt(b"password", b"$6$rounds=100000$saltsaltsaltsalt").decode(),
+        "failures": wrong + impossible,
+        "most": {
+            "spread": MOST_MILLISECONDS_APART,
+            "lateness": MOST_MILLISECONDS_LATE,
+            "slowdown": GREATEST_SLOWDOWN,
+        },
+    }
+    return user.report_of("queue.mjs", given=given)
 
 
-def test_each_login_that_waits_its_turn_is_answered(turns: Report) -> None:
-    assert turns["answers"] == [number % 3 != 0 for number in range(24)]
+def test_no_failure_is_answered_before_its_time(queue: Report) -> None:
+    assert queue["failures"]["earliest"] >= FAILURE_MILLISECONDS
 
 
-def test_failure_takes_a_fixed_time(turns: Report) -> None:
-    assert turns["least"] >= MILLISECONDS_OF_A_FAILURE - 10  # of clocks
+def test_all_kinds_of_failures_are_answered_at_the_same_moment(queue: Report) -> None:
+    assert queue["failures"]["spread"] <= MOST_MILLISECONDS_APART
 
 
-def test_more_than_a_hundred_that_wait_are_refused(turns: Report) -> None:
-    assert turns["busy"] == "busy"
+def test_failure_that_took_too_long_is_answered_at_a_multiple_of_its_time(queue: Report) -> None:
+    assert queue["lateness"] <= MOST_MILLISECONDS_LATE
 
 
-def test_hash_that_was_made_in_turn_matches(turns: Report) -> None:
-    assert turns["matches"] is True
+def test_login_takes_no_longer_while_failures_wait(queue: Report) -> None:
+    assert queue["slowdown"] <= GREATEST_SLOWDOWN
+
+
+def test_full_queue_is_busy(queue: Report) -> None:
+    assert queue["full"]["refused"] == ["Busy: 2 calls are in the queue: try again later"] * 2
+
+
+def test_failure_that_waits_has_no_place_in_the_queue(queue: Report) -> None:
+    assert queue["full"]["later"] == {"matches": True}
+
+
+@pytest.mark.parametrize(
+    ("place", "refusal"),
+    [
+        pytest.param(0, "a plain object", id="a number"),
+        pytest.param(1, "a plain object", id="null"),
+        pytest.param(2, "a plain object", id="a list"),
+        pytest.param(3, "a plain object", id="a map"),
+        pytest.param(4, "no failuretime", id="another key"),
+        pytest.param(5, "failureTime must be an integer", id="a string as time"),
+        pytest.param(6, "failureTime must be 0 to", id="a time below 0"),
+        pytest.param(7, "size must be 1 to", id="a size of 0"),
+        pytest.param(8, "size must be an integer", id="an infinite size"),
+        pytest.param(9, "policy must be a Policy", id="another object as policy"),
+    ],
+)
+def test_queue_refuses_other_options(queue: Report, place: int, refusal: str) -> None:
+    assert refusal in queue["options"][place]
+
+
+# ---- Policies
+
+
+@pytest.fixture(scope="module")
+def policies(user: Site) -> Report:
+    return user.report_of("policies.mjs")
+
+
+@pytest.mark.parametrize(
+    ("title", "rounds"),
+    [
+        ("nothing", 656_000),
+        ("an empty object", 656_000),
+        ("an object without a prototype", 5000),
+        ("null as rounds", 656_000),
+    ],
+)
+def test_policy(policies: Report, title: str, rounds: int) -> None:
+    expected = {"method": "sha512crypt", "rounds": rounds, "budget": None}
+    assert policies["policies"][title] == expected
+
+
+@pytest.mark.parametrize(
+    ("title", "error"),
+    [
+        ("a number", "TypeError: a policy is made from a plain object"),
+        ("null", "TypeError: a policy is made from a plain object"),
+        ("a string", "TypeError: a policy is made from a plain object"),
+        ("a list", "TypeError: a policy is made from a plain object"),
+        ("a map", "TypeError: a policy is made from a plain object"),
+        ("a function", "TypeError: a policy is made from a plain object"),
+        ("an object of a class", "TypeError: a policy is made from a plain object"),
+        ("a promise", "TypeError: a policy is made from a plain object"),
+        ("another key", "TypeError: a policy has method, rounds and budget, but no cost"),
+        ("a key in another case", "TypeError: a policy has method, rounds and budget, but no Roun"),
+        ("a symbol as key", "TypeError: a policy has method, rounds and budget, but no Symbol"),
+        ("a string as rounds", "TypeError: rounds must be an integer, not string"),
+        ("half a round", "TypeError: rounds must be an integer, not 5000.5"),
+        ("true as rounds", "TypeError: rounds must be an integer, not boolean"),
+        ("a bigint as rounds", "TypeError: rounds must be an integer, not bigint"),
+        ("too few rounds", "Refused: rounds must be 1000 to 999999999"),
+        ("a number as method", "TypeError: method must be a string, not number"),
+        ("null as method", "TypeError: method must be a string, not null"),
+        ("another method", "Refused: method must be sha512crypt, sha256crypt or md5crypt"),
+        ("a method of all objects", "Refused: method must be sha512crypt, sha256crypt or md5crypt"),
+        ("a string as budget", "TypeError: budget must be an integer"),
+        ("a budget of 0", "RangeError: budget must be above 0"),
+        ("an infinite budget", "TypeError: budget must be an integer"),
+    ],
+)
+def test_policy_is_refused(policies: Report, title: str, error: str) -> None:
+    assert str(policies["policies"][title]).startswith(error)
+
+
+def test_limit_of_the_recommended_policy(policies: Report) -> None:
+    assert policies["limit"] == {"bytes": 253_921_472, "passwordLength": 168}
+
+
+@pytest.mark.parametrize(
+    ("place", "problem"),
+    [
+        pytest.param(0, None, id="the empty password"),
+        pytest.param(1, None, id="168 bytes"),
+        pytest.param(2, "too long", id="169 bytes, which the recommended policy refuses"),
+        pytest.param(3, "too long", id="2000 bytes"),
+        pytest.param(4, "zero byte", id="a zero byte"),
+        pytest.param(5, "lone surrogate", id="half of a horse"),
+        pytest.param(6, None, id="a horse"),
+    ],
+)
+def test_password_problem(policies: Report, place: int, problem: str | None) -> None:
+    assert policies["problems"][place] == problem
+
+
+def test_every_password_is_too_long_for_a_policy_that_admits_none(policies: Report) -> None:
+    assert policies["ofNoPolicy"] == "too long"
+
+
+# ---- What the module may report
+
+
+UNKNOWN_ERROR = "9999"
+ALL_CALLS = ("hash", "crypt", "setting", "cost", "policy")
+
+
+@pytest.fixture(scope="module")
+def zeros(user: Site) -> Report:
+    """What calls make of reports of zeros, by calls that return 0."""
+    return user.report_of("reports.mjs", "0", "0")
+
+
+@pytest.fixture(scope="module")
+def unknown_error(user: Site) -> Report:
+    """What calls make of an error that mkpasswd.h doesn't have."""
+    return user.report_of("reports.mjs", "0", UNKNOWN_ERROR)
+
+
+@pytest.mark.parametrize("call", ["login", "loginOfUnknownName", "verify"])
+def test_report_of_zeros_lets_nobody_in(zeros: Report, call: str) -> None:
+    assert zeros[call] is False
+
+
+@pytest.mark.parametrize("call", ["describe", *ALL_CALLS])
+def test_report_of_zeros_is_a_failed_call(zeros: Report, call: str) -> None:
+    assert zeros[call] == "Error: the call failed without an error"
+
+
+@pytest.mark.parametrize("call", ["login", "loginOfUnknownName"])
+def test_unknown_error_lets_nobody_in(unknown_error: Report, call: str) -> None:
+    assert unknown_error[call] is False
+
+
+@pytest.mark.parametrize("call", ["verify", "needsRehash", *ALL_CALLS])
+def test_unknown_error_is_a_failed_call(unknown_error: Report, call: str) -> None:
+    assert unknown_error[call] == f"Refused: error {UNKNOWN_ERROR}"
+
+
+def test_field_with_an_unknown_error_is_malformed(unknown_error: Report) -> None:
+    assert unknown_error["describe"] == "malformed"
 
 
 # ---- Logins by a policy of 5000 rounds of sha512crypt
@@ -251,7 +460,7 @@ class Login:
     password: str
     field: str
     matches: bool = False
-    refusal: str | None = None  # by verify: the reason of its error, without MKPASSWD_
+    refusal: str | None = None  # by verify: the reason of its error, without MKPASSWD_ERROR_
     work: Work = Work.OF_THE_FIELD
 
     @property
@@ -267,13 +476,13 @@ class Login:
     @property
     def verified(self) -> str | bool:
         """What verify returns, or the reason of its error."""
-        return self.matches if self.refusal is None else f"MKPASSWD_{self.refusal}"
+        return self.matches if self.refusal is None else f"MKPASSWD_ERROR_{self.refusal}"
 
     @property
     def outdated(self) -> str | bool:
         """What needsRehash returns, or the reason of its error."""
         if self.refusal and re.search("UNKNOWN|BAD|SETTING", self.refusal):
-            return f"MKPASSWD_{self.refusal}"
+            return f"MKPASSWD_ERROR_{self.refusal}"
         return self.is_outdated
 
 
@@ -311,24 +520,24 @@ LOGINS = [
     hidden("a locked field", "!"),
     hidden("a field of a star", "*"),
     hidden("a field that Solaris locked", "*LK*"),
-    hidden("yescrypt", "$y$x", "REFUSED_UNKNOWN_SCHEME"),
-    hidden("bcrypt", "$2b$05$x", "REFUSED_UNKNOWN_SCHEME"),
-    hidden("descrypt", "abJnggxhB/yWI", "REFUSED_UNKNOWN_SCHEME"),
-    hidden("the password itself", "password", "REFUSED_UNKNOWN_SCHEME"),
-    hidden("an animal in place of the salt", "$6$\U0001f40e$x", "REFUSED_BAD_CHARACTER"),
-    hidden("a letter beyond ASCII", "\u00e4", "REFUSED_BAD_CHARACTER"),
-    hidden("two lines", "x\ny", "REFUSED_BAD_CHARACTER"),
-    hidden("a hash with its line feed", f"{CURRENT}\n", "REFUSED_BAD_CHARACTER"),
-    hidden("5000 characters", "$6$" + "x" * 5000, "REFUSED_SETTING_TOO_LONG"),
-    hidden("rounds without a number", "$5$rounds=$x", "REFUSED_BAD_ROUNDS"),
+    hidden("yescrypt", "$y$x", "UNKNOWN_SCHEME"),
+    hidden("bcrypt", "$2b$05$x", "UNKNOWN_SCHEME"),
+    hidden("descrypt", "abJnggxhB/yWI", "UNKNOWN_SCHEME"),
+    hidden("the password itself", "password", "UNKNOWN_SCHEME"),
+    hidden("an animal in place of the salt", "$6$\U0001f40e$x", "BAD_CHARACTER"),
+    hidden("a letter beyond ASCII", "\u00e4", "BAD_CHARACTER"),
+    hidden("two lines", "x\ny", "BAD_CHARACTER"),
+    hidden("a hash with its line feed", f"{CURRENT}\n", "BAD_CHARACTER"),
+    hidden("5000 characters", "$6$" + "x" * 5000, "SETTING_TOO_LONG"),
+    hidden("rounds without a number", "$5$rounds=$x", "BAD_ROUNDS"),
     hidden("the most rounds", "$6$rounds=999999999$s$x", "OVER_BUDGET"),
-    hidden("scrypt", "$7$46..../....s", "REFUSED_OUT_OF_MEMORY"),
-    impossible("1025 bytes", "x" * 1025, CURRENT, "REFUSED_PASSWORD_TOO_LONG"),
-    impossible("1025 bytes for an empty field", "x" * 1025, "", "REFUSED_PASSWORD_TOO_LONG"),
-    impossible("1025 bytes for a locked field", "x" * 1025, "!", "REFUSED_PASSWORD_TOO_LONG"),
-    impossible("a zero byte", "x\0y", CURRENT, "REFUSED_PASSWORD_ZERO_BYTE"),
-    impossible("a zero byte for an empty field", "x\0y", "", "REFUSED_PASSWORD_ZERO_BYTE"),
-    impossible("a zero byte for a locked field", "x\0y", "!", "REFUSED_PASSWORD_ZERO_BYTE"),
+    hidden("scrypt", "$7$46..../....s", "OUT_OF_MEMORY"),
+    impossible("1025 bytes", "x" * 1025, CURRENT, "PASSWORD_TOO_LONG"),
+    impossible("1025 bytes for an empty field", "x" * 1025, "", "PASSWORD_TOO_LONG"),
+    impossible("1025 bytes for a locked field", "x" * 1025, "!", "PASSWORD_TOO_LONG"),
+    impossible("a zero byte", "x\0y", CURRENT, "PASSWORD_ZERO_BYTE"),
+    impossible("a zero byte for an empty field", "x\0y", "", "PASSWORD_ZERO_BYTE"),
+    impossible("a zero byte for a locked field", "x\0y", "!", "PASSWORD_ZERO_BYTE"),
 ]
 
 
@@ -436,6 +645,12 @@ def test_field_that_cannot_be_checked_takes_the_work_of_a_new_hash(
 ) -> None:
     of_a_hash = logins.of_login(LOGINS[0])["digests"]
     assert logins.of_login(login)["digests"] == of_a_hash > 5000
+
+
+@each_login
+def test_password_problem_tells_what_no_hash_can_have(logins: LoginReport, login: Login) -> None:
+    is_problem = logins.of_login(login)["problem"] is not None
+    assert is_problem == (login.work is Work.NONE)
 
 
 @pytest.mark.parametrize(
@@ -571,20 +786,20 @@ def polluted(user: Site) -> Report:
 def test_wrong_password_throws_where_all_objects_match(polluted: Report) -> None:
     """false has their properties too."""
     errors = [message.split(",")[0] for message in polluted["wrong"]]
-    assert errors == ["Object.prototype has matches or new"] * 6
+    assert errors == ["Object.prototype has matches or new"] * 8
 
 
 def test_forgotten_await_lets_nobody_in_where_all_objects_match(polluted: Report) -> None:
-    assert polluted["forgotten"] == [None, None]
+    assert polluted["forgotten"] == [None] * 4
 
 
 def test_match_is_what_it_was_where_all_objects_match(polluted: Report) -> None:
-    assert polluted["right"] == [True, True, None, None]
+    assert polluted["right"] == [True] * 3 + [None] * 3
 
 
-def test_policy_has_no_properties_of_all_objects(polluted: Report) -> None:
+def test_policy_and_queue_have_no_properties_of_all_objects(polluted: Report) -> None:
     recommended = {"method": "sha512crypt", "rounds": 656000, "budget": None}
-    assert polluted["policies"] == [recommended, recommended]
+    assert polluted["policies"] == [recommended, recommended, {}]
 
 
 def test_match_has_no_hash_in_logs(polluted: Report) -> None:
@@ -620,7 +835,7 @@ def test_there_is_a_worker_for_each_core_and_one_after_the_killed_one(killed: Re
 
 
 def test_refusals_are_errors_of_their_calls(killed: Report) -> None:
-    assert killed["refused"] == ["MKPASSWD_OVER_BUDGET", "TypeError", "TypeError", "TypeError"]
+    assert killed["refused"] == ["MKPASSWD_ERROR_OVER_BUDGET", *["TypeError"] * 3]
 
 
 # ---- A server

@@ -247,7 +247,7 @@ def pages(web_build: Path, tmp_path_factory: pytest.TempPathFactory) -> Pages:
     module_page = MODULE_PAGE.replace(
         "@MODULE@", (web_build / "mkpasswd.mjs").read_text(encoding="utf-8")
     )
-    slow = changed(text, "time: time / count", "time: 9000")
+    slow = changed(text, "return time / count;", "return 9000;")
 
     def write(name: str, content: str) -> Path:
         path = folder / name
@@ -265,16 +265,16 @@ def pages(web_build: Path, tmp_path_factory: pytest.TempPathFactory) -> Pages:
 
 @pytest.fixture(scope="module")
 def page_script(server: WebServer) -> str:
-    """page.js with what it asks for."""
+    """The body of a function that is page.js, with what it asks for."""
     values = {
         "SERVER": server.address,
-        "ROWS": json.dumps([[row.stored, row.password] for row in UNCHECKED]),
+        "ROWS": [[row.stored, row.password] for row in UNCHECKED],
         "CURRENT": crypt(b"password", b"$6$rounds=656000$saltsaltsaltsalt").decode(),
     }
+    defined = [f"const {name} = {json.dumps(value)};\n" for name, value in values.items()]
     script = PAGE_SCRIPT.read_text(encoding="utf-8")
-    for name, value in values.items():
-        script = script.replace(f"@{name}@", value)
-    return script
+    returned = "return visit().catch(String).then(JSON.stringify);\n"
+    return "".join(defined) + script + returned
 
 
 def visit(browser: Browser, address: str, script: str) -> Report:
@@ -706,7 +706,7 @@ def test_module_makes_the_hash_of_libxcrypt(module: Report) -> None:
 
 
 def test_module_names_the_reason_of_a_refusal(module: Report) -> None:
-    assert module["refused"] == "MKPASSWD_REFUSED_PASSWORD_ZERO_BYTE"
+    assert module["refused"] == "MKPASSWD_ERROR_PASSWORD_ZERO_BYTE"
 
 
 def test_module_names_the_policy_that_refuses_its_worker(browser: Browser, pages: Pages) -> None:
