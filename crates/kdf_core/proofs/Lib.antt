@@ -8,3 +8,4 @@ pub mod MixedParts
 pub mod Pbkdf2Lemmas
 pub mod ScryptBounds
 pub mod ScryptResult
+pub mod TableRows

@@ -1,8 +1,6 @@
 -- What scrypt returns and leaves in the meter, from what each of its steps does; also where an allocation is refused.
-use Rattle.std.proofs.Common.{◌≡◌, ℕ, ◌+◌, ◌*◌, List, ◌++◌, length, take, drop, refl, sym, ap, ◌∙◌, arith}
+use Rattle.std.proofs.Common.{◌≡◌, ℕ, ◌+◌, ◌*◌, List, length, ap, ◌∙◌, arith}
 use Rattle.std.specs.Int.{div_ceil}
-use Rattle.std.proofs.lemmas.List.{take_at}
-use Rattle.prims_core.specs.Memory.{written_over}
 use Rattle.prims_core.specs.Meter.{with_work}
 use Rattle.prims_core.specs.declared.meter.Work.{Work}
 use Rattle.kdf_core.specs.Hmac.{key_digests, tag_bytes}
@@ -15,66 +13,24 @@ use Rattle.kdf_core.specs.ScryptMessages.{mixed_parts}
 use Rattle.kdf_core.specs.ScryptWork.{scrypt_work}
 use Rattle.kdf_core.proofs.ScryptBounds.{parts-blocks}
 
--- what is written over a list of its length stands there as it is
-written_over-same : (old new : List ℕ) → length new ≡ length old → written_over old new ≡ new
-written_over-same old new same =
-    ap (λ n. take n (new ++ drop (length new) old)) (sym same) ∙ take_at new (drop (length new) old) (length new) refl
-
--- all that is written has the length of what stood there
-pub same_length : (zeros derived parts mixed last : List ℕ) → length derived ≡ length zeros → parts ≡ written_over zeros derived
-    → length mixed ≡ length parts → last ≡ written_over (written_over zeros derived) mixed → length last ≡ length zeros
-same_length zeros derived parts mixed last same parts_are same_mixed lasting =
-    let over : length mixed ≡ length (written_over zeros derived) = same_mixed ∙ ap length parts_are in
-    ap length (lasting ∙ written_over-same (written_over zeros derived) mixed over)
-    ∙ (over ∙ (ap length (written_over-same zeros derived same) ∙ same))
-
 -- the two derivations, and the mixing of the parts between them
-pub value-is : (password salt : List ℕ) (params : ScryptParams) (count n : ℕ) (zeros derived parts halves mixed last out : List ℕ)
-    → n ≡ row_count params → length zeros ≡ parts_bytes params → length halves ≡ 64 * params.r
-    → derived ≡ pbkdf2_sha256 password salt 1 (length zeros) → length derived ≡ length zeros → parts ≡ written_over zeros derived
-    → mixed ≡ mixed_parts n (2 * length halves) parts → length mixed ≡ length parts → last ≡ written_over (written_over zeros derived) mixed
-    → out ≡ pbkdf2_sha256 password last 1 count → out ≡ scrypt password salt params count
+pub value-is : (password salt : List ℕ) (params : ScryptParams) (count n : ℕ) (parts halves derived mixed out : List ℕ)
+    → n ≡ row_count params → length parts ≡ parts_bytes params → length halves ≡ 64 * params.r
+    → derived ≡ pbkdf2_sha256 password salt 1 (length parts) → mixed ≡ mixed_parts n (2 * length halves) derived
+    → out ≡ pbkdf2_sha256 password mixed 1 count → out ≡ scrypt password salt params count
 unfolding scrypt mixed_parts
-value-is password salt params count n zeros derived parts halves mixed last out n_is whole blocks first same parts_are mixing same_mixed lasting second =
+value-is password salt params count n parts halves derived mixed out n_is whole blocks first mixing second =
     let size : 2 * length halves ≡ part_bytes params = omega arith in
-    let parts_derived : parts ≡ derived = parts_are ∙ written_over-same zeros derived same in
     let derived_is : derived ≡ pbkdf2_sha256 password salt 1 (parts_bytes params) = first ∙ ap (pbkdf2_sha256 password salt 1) whole in
-    let mixed_is : mixed ≡ mixed_parts (row_count params) (part_bytes params) (pbkdf2_sha256 password salt 1 (parts_bytes params)) =
-    mixing ∙ (ap (λ k. mixed_parts k (2 * length halves) parts) n_is
-    ∙ (ap (λ k. mixed_parts (row_count params) k parts) size ∙ ap (mixed_parts (row_count params) (part_bytes params)) (parts_derived ∙ derived_is))) in
-    let same_length : length mixed ≡ length (written_over zeros derived) = same_mixed ∙ ap length parts_are in
-    let last_is : last ≡ mixed = lasting ∙ written_over-same (written_over zeros derived) mixed same_length in
-    second ∙ ap (λ (s : List ℕ). pbkdf2_sha256 password s 1 count) (last_is ∙ mixed_is)
+    second ∙ ap (λ (s : List ℕ). pbkdf2_sha256 password s 1 count)
+    (mixing ∙ (ap (λ k. mixed_parts k (2 * length halves) derived) n_is
+    ∙ (ap (λ k. mixed_parts (row_count params) k derived) size ∙ ap (mixed_parts (row_count params) (part_bytes params)) derived_is)))
 
--- the counts after the growths, the key, the two derivations and the mixings
-pub counts-are : (m0 m1 m2 m3 m4 m5 m6 m7 : Work) (table parts halves key_d key_b first_d first_b mixes last_d last_b : ℕ)
-    → m1 ≡ record m0 { table = m0.table + table } → m2 ≡ record m1 { scratch = m1.scratch + parts }
-    → m3 ≡ record m2 { scratch = m2.scratch + halves } → m4 ≡ with_work m3 key_d key_b → m5 ≡ with_work m4 first_d first_b
-    → m6 ≡ record m5 { mixes = m5.mixes + mixes } → m7 ≡ with_work m6 last_d last_b
-    → m7 ≡ record {
-      digests = m0.digests + key_d + first_d + last_d;
-      bytes = m0.bytes + key_b + first_b + last_b;
-      mixes = m0.mixes + mixes;
-      table = m0.table + table;
-      scratch = m0.scratch + parts + halves;
-    }
-counts-are m0 m1 m2 m3 m4 m5 m6 m7 table parts halves key_d key_b first_d first_b mixes last_d last_b e1 e2 e3 e4 e5 e6 e7 =
-    e7 ∙ ap (λ (m : Work). with_work m last_d last_b) (e6
-    ∙ ap (λ (m : Work). record m { mixes = m.mixes + mixes }) (e5
-    ∙ ap (λ (m : Work). with_work m first_d first_b) (e4
-    ∙ ap (λ (m : Work). with_work m key_d key_b) (e3
-    ∙ ap (λ (m : Work). record m { scratch = m.scratch + halves }) (e2
-    ∙ ap (λ (m : Work). record m { scratch = m.scratch + parts }) e1)))))
-
--- counts that agree, number by number
-pub same_counts : (a b : Work) → a.digests ≡ b.digests → a.bytes ≡ b.bytes → a.mixes ≡ b.mixes → a.table ≡ b.table
-    → a.scratch ≡ b.scratch → a ≡ b
-same_counts a b d y m t s =
-    ap (λ n. record a { digests = n }) d
-    ∙ (ap (λ n. record a { digests = b.digests; bytes = n }) y
-    ∙ (ap (λ n. record a { digests = b.digests; bytes = b.bytes; mixes = n }) m
-    ∙ (ap (λ n. record a { digests = b.digests; bytes = b.bytes; mixes = b.mixes; table = n }) t
-    ∙ ap (λ n. record b { scratch = n }) s)))
+-- the bytes before the last derivation
+pub bytes-before_last : (m0 m1 m2 m3 : Work) (key_d key_b first_d first_b mixes : ℕ) → m1 ≡ with_work m0 key_d key_b
+    → m2 ≡ with_work m1 first_d first_b → m3 ≡ record m2 { mixes = m2.mixes + mixes } → m3.bytes ≡ m0.bytes + key_b + first_b
+bytes-before_last m0 m1 m2 m3 key_d key_b first_d first_b mixes first then mixing =
+    omega (arith, ap (λ (m : Work). m.bytes) first, ap (λ (m : Work). m.bytes) then, ap (λ (m : Work). m.bytes) mixing)
 
 -- the digests of the two derivations, in closed form
 pub digests-are : (params : ScryptParams) (password_length salt_length count first : ℕ) → first ≡ parts_bytes params

@@ -1,5 +1,6 @@
 pub mod Hmac
 pub mod HmacMessages
+pub mod Lent
 pub mod ParamFaults
 pub mod Params
 pub mod Pbkdf2

@@ -3,7 +3,9 @@
 #![tactic(auto)]
 
 pub mod hmac;
+pub mod lent;
 pub mod params;
 pub mod pbkdf2;
+mod romix;
 pub mod scrypt;
 pub mod work;

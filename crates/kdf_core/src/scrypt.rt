@@ -1,39 +1,32 @@
-//! scrypt (RFC 7914), over PBKDF2 and block mixing.
+//! scrypt (RFC 7914), over PBKDF2 and ROMix.
 //!
 //! All memory is allocated before any work: one table, which serves one part after another; the parts as
-//! bytes; and two halves of words, each as long as a part. Each step of ROMix reads one half and writes the
-//! other. During ROMix the blocks stand diagonal by diagonal, as the mixing takes them.
+//! bytes; and two halves of words, each as long as a part. [`scrypt_lent`](crate::lent::scrypt_lent) takes it from its
+//! caller instead.
 
-ghost use Rattle.std.specs.Prelude.{◌≡◌, ℕ, ◌+◌, ◌-◌, ◌*◌, ◌/◌, ◌^◌, ◌%◌, ◌<◌, ◌≤◌, List, length, OnOk, OnErr};
-ghost use Rattle.std.specs.Fn.{iterate};
-ghost use Rattle.prims_core.specs.BlockMix.{block_mix};
-ghost use Rattle.prims_core.specs.Diagonals.{in_rows};
-ghost use Rattle.prims_core.specs.Memory.{HasShape, HoldsMixings};
-ghost use Rattle.prims_core.specs.Meter.{HaveCountAndSum, HasRoom};
-ghost use Rattle.kdf_core.specs.Params.{IsBounded};
-ghost use Rattle.kdf_core.specs.Private.Mixing.{AreHalves, IsPower, part_words};
-ghost use Rattle.kdf_core.specs.Scrypt.{scrypt, integerify, mixed_back, mixed_part};
-ghost use Rattle.kdf_core.specs.ScryptMessages.{mixed_parts, scrypt_messages, with_scrypt};
+ghost use Rattle.std.specs.Prelude.{◌≡◌, ◌*◌, ◌-◌, ◌^◌, ◌≤◌, length, OnOk, OnErr};
+ghost use Rattle.prims_core.specs.Meter.{HaveCountAndSum, HasDigestRoom, HasRoom};
+ghost use Rattle.kdf_core.specs.Params.{IsBounded, row_count};
+ghost use Rattle.kdf_core.specs.Private.Mixing.{part_words, with_derivation};
+ghost use Rattle.kdf_core.specs.Scrypt.{parts_bytes, scrypt};
+ghost use Rattle.kdf_core.specs.ScryptMessages.{scrypt_messages, with_scrypt};
 ghost use Rattle.kdf_core.specs.ScryptWork.{scrypt_work, IsAfterRefusal};
 
 use crate::hmac::HmacKey;
 use crate::params::Params;
 use crate::pbkdf2::pbkdf2;
+use crate::romix::mix_parts;
 use prims_core::meter::Meter;
-use prims_core::mix::{from_diagonals, mix_xor_diagonals, to_diagonals};
+use prims_core::rows::Rows;
 use prims_core::scratch::{ByteScratch, WordScratch};
 use prims_core::table::Table;
-use prims_core::words::{load_words, store_words};
 use std::alloc::{AllocError, Global};
 
 /// The bytes of two blocks, in which r counts.
 pub(crate) const UNIT_BYTES: usize = 128;
 
-// Their words, of 4 bytes each.
-const UNIT_WORDS: usize = UNIT_BYTES / 4;
-
-// The words of a block.
-const BLOCK_WORDS: usize = UNIT_WORDS / 2;
+/// Their words, of 4 bytes each.
+pub(crate) const UNIT_WORDS: usize = UNIT_BYTES / 4;
 
 /// Fills `out` with bytes derived from a password and a salt (RFC 7914, section 6).
 ///
@@ -71,110 +64,50 @@ pub fn scrypt(
     let rows = params.row_count() as usize;
     let r = params.r() as usize;
     let p = params.p() as usize;
-    let mut table = Table::new(alloc, rows, UNIT_WORDS * r, meter)?;
+    let table = Table::new(alloc, rows, UNIT_WORDS * r, meter)?;
     let mut parts = ByteScratch::new(alloc, UNIT_BYTES * r * p, meter)?;
     let mut halves = WordScratch::new(alloc, 2 * UNIT_WORDS * r, meter)?;
-    let key = HmacKey::new(password, meter);
-    pbkdf2(&key, salt, 1, parts.bytes_mut(), meter);
-    mix_parts(
+    derive(
+        &mut table.into_words(),
         parts.bytes_mut(),
-        p,
-        rows,
-        &mut table,
         halves.words_mut(),
+        password,
+        salt,
+        params,
+        out,
         meter,
     );
-    pbkdf2(&key, parts.bytes(), 1, out, meter);
     Ok(())
 }
 
-// Replaces each of the parts by its ROMix, one after another in the same memory.
-fn mix_parts(
+/// Does the work of scrypt in memory that is counted already: memory for N rows, all parts, and two halves.
+///
+/// Preconditions: the parts have `128 * r * p` bytes, the halves `64 * r` words, and the rows memory for `32 * N * r`
+/// words. `out` has at most `32 * (2^32 - 1)` bytes, and each count of the meter that rises is at most 2^120.
+pub(crate) fn derive<M: Rows>(
+    rows: &mut M,
     parts: &mut [u8],
-    count: usize,
-    rows: usize,
-    table: &mut Table,
     halves: &mut [u32],
+    password: &[u8],
+    salt: &[u8],
+    params: &Params,
+    out: &mut [u8],
     meter: &mut Meter,
 )
-    requires power { (k : ℕ) × IsPower rows k }
-    requires some_block { (r : ℕ) × (1 ≤ r) × (length halves.old ≡ 2 * part_words r) }
-    requires whole { length parts.old ≡ 2 * length halves.old * count }
-    requires shape { HasShape table.old rows (length halves.old / 2) }
-    requires room { meter.old.mixes + 2 * rows * count < 2 ^ 128 }
-    ensures parts { parts.new ≡ mixed_parts rows (2 * length halves.old) parts.old }
-    ensures count { meter.new ≡ record meter.old { mixes = meter.old.mixes + 2 * rows * count } }
+    requires few_blocks { length out.old ≤ 32 * (2 ^ 32 - 1) }
+    requires room { HasDigestRoom meter.old }
+    requires mixes_room { meter.old.mixes ≤ 2 ^ 120 }
+    requires rows { row_count params.now * part_words params.now.r ≤ M.room rows.old }
+    requires parts { length parts.old ≡ parts_bytes params.now }
+    requires halves { length halves.old ≡ 2 * part_words params.now.r }
+    ensures bytes { out.new ≡ scrypt password.now salt.now params.now (length out.old) }
+    ensures count { meter.new
+        ≡ with_derivation meter.old params.now (length password.now) (length salt.now) (length out.old) }
 {
-    let size = 2 * halves.len();
-    'parts: for i in 0..count {
-        mix_part(
-            &mut parts[size * i..size * i + size],
-            rows,
-            table,
-            halves,
-            meter,
-        );
-    }
-}
-
-// Replaces a part by its ROMix.
-fn mix_part(part: &mut [u8], rows: usize, table: &mut Table, halves: &mut [u32], meter: &mut Meter)
-    requires power { (k : ℕ) × IsPower rows k }
-    requires some_block { (r : ℕ) × (1 ≤ r) × (length halves.old ≡ 2 * part_words r) }
-    requires whole { length part.old ≡ 2 * length halves.old }
-    requires shape { HasShape table.old rows (length halves.old / 2) }
-    requires room { meter.old.mixes + 2 * rows < 2 ^ 128 }
-    ensures part { part.new ≡ mixed_part rows part.old }
-    ensures shape { HasShape table.new rows (length halves.old / 2) }
-    ensures count { meter.new ≡ record meter.old { mixes = meter.old.mixes + 2 * rows } }
-{
-    let part_words = halves.len() / 2;
-    let (x, y) = halves.split_at_mut(part_words);
-    load_words(part, x);
-    to_diagonals(x);
-    table.fill_by_mixing(x, y, meter);
-    mix_with_rows(table, rows, x, y, meter);
-    from_diagonals(x);
-    store_words(x, part);
-}
-
-// Makes the N steps of ROMix's second loop from `x` on. They write to `y` and to `x` in turn, so that no block is
-// copied. N is even, so the last step writes to `x`.
-fn mix_with_rows(table: &Table, rows: usize, x: &mut [u32], y: &mut [u32], meter: &mut Meter)
-    requires power { (k : ℕ) × IsPower rows k }
-    requires halves { (r : ℕ) × AreHalves r x.old y.old }
-    requires shape { HasShape table.now rows (length x.old) }
-    requires room { meter.old.mixes + rows < 2 ^ 128 }
-    ensures mixed { (start : List ℕ) → HoldsMixings table.now rows start
-        → in_rows x.new ≡ iterate (mixed_back rows start) rows (in_rows x.old) }
-    ensures count { meter.new ≡ record meter.old { mixes = meter.old.mixes + rows } }
-{
-    'mixing: for _ in 0..rows / 2 {
-        mix_back(table, rows, x, y, meter);
-        mix_back(table, rows, y, x, meter);
-    }
-}
-
-// Writes to `y` what one step of ROMix's second loop makes of `x`.
-fn mix_back(table: &Table, rows: usize, x: &[u32], y: &mut [u32], meter: &mut Meter)
-    requires power { (k : ℕ) × IsPower rows k }
-    requires halves { (r : ℕ) × AreHalves r x.now y.old }
-    requires shape { HasShape table.now rows (length x.now) }
-    requires room { meter.old.mixes + 1 < 2 ^ 128 }
-    ensures mixed { (start : List ℕ) → HoldsMixings table.now rows start
-        → in_rows y.new ≡ mixed_back rows start (in_rows x.now) }
-    ensures count { meter.new ≡ record meter.old { mixes = meter.old.mixes + 1 } }
-{
-    let row = table.row(row_number(x, rows));
-    mix_xor_diagonals(x, row, y, meter);
-}
-
-// Returns the number of the row that a step takes for X: Integerify (X) mod N. As N is a power of two of at most 2^32,
-// the first word of the last block decides. It is the first word of that block's first diagonal too.
-fn row_number(words: &[u32], rows: usize) -> usize
-    requires power { (k : ℕ) × IsPower rows k }
-    requires some_block { (r : ℕ) × (1 ≤ r) × (length words.now ≡ part_words r) }
-    ensures { result ≡ integerify (in_rows words.now) % rows }
-{
-    words[words.len() - BLOCK_WORDS] as usize % rows
+    let row_count = params.row_count() as usize;
+    let p = params.p() as usize;
+    let key = HmacKey::new(password, meter);
+    pbkdf2(&key, salt, 1, parts, meter);
+    mix_parts(parts, p, row_count, rows, halves, meter);
+    pbkdf2(&key, parts, 1, out, meter);
 }

@@ -1,14 +1,14 @@
 -- A table while it is filled: each row holds the start after one mixing more, and so does the table once it is full.
-use Rattle.std.proofs.Common.{◌≡◌, ℕ, zero, suc, ◌+◌, ◌-◌, ◌*◌, ◌/◌, ◌<◌, ◌≤◌, List, [], ◌++◌, length, get_or, take, drop, refl, sym, ◌∙◌, ap, arith, below_more, length-append, length-drop, length-take-le, append-nil}
+use Rattle.std.proofs.Common.{◌≡◌, ℕ, zero, suc, ◌+◌, ◌*◌, ◌/◌, ◌<◌, ◌≤◌, List, [], ◌++◌, length, take, drop, refl, sym, ◌∙◌, ap, arith, below_more, length-append, length-drop}
 use Rattle.std.specs.Fn.{iterate}
 use Rattle.std.proofs.Math.Nat.{mul-le-mul_left}
 use Rattle.std.proofs.lemmas.List.{drop-append-le, take-append-le, drop_at, take_all}
 use Rattle.std.proofs.lemmas.Nat.{rows}
 use Rattle.prims_core.specs.BlockMix.{block_mix}
 use Rattle.prims_core.specs.Diagonals.{in_rows}
-use Rattle.prims_core.specs.Memory.{rows_of, padded, HasShape, HoldsMixings}
+use Rattle.prims_core.specs.Memory.{rows_of, HoldsMixings}
 use Rattle.prims_core.specs.declared.meter.Work.{Work}
-use Rattle.prims_core.proofs.TableFacts.{length-rows_of, get_or-rows_of}
+use Rattle.prims_core.proofs.TableFacts.{get_or-rows_of}
 
 -- one application more
 pub iterate-more : (h : List ℕ → List ℕ) (n : ℕ) (x : List ℕ) → iterate h (n + 1) x ≡ h (iterate h n x)
@@ -73,23 +73,6 @@ room_for_two_rows n w i inside =
     let more : 2 * i + 2 ≤ n = omega arith in
     omega (arith, mul-le-mul_left w more)
 
--- the row of place i in a table whose rows are all there
-row_filled : (n w i : ℕ) (items start : List ℕ) → HasMixings items w n start → i < n
-    → get_or (rows_of n w (padded (n * w) items)) i [] ≡ take w (drop (i * w) items)
-row_filled n w i items start is inside =
-    let none : n * w - length items ≡ 0 = omega (arith, is.long) in
-    get_or-rows_of n w (padded (n * w) items) i [] inside
-    ∙ ap (λ (list : List ℕ). take w (drop (i * w) list)) (rw none (append-nil items))
-
-pub filled-held : (n w : ℕ) (items start : List ℕ) → HasMixings items w n start
-    → HoldsMixings (rows_of n w (padded (n * w) items)) n start
-filled-held n w items start is = λ i inside. ap in_rows (row_filled n w i items start is inside) ∙ is.held i inside
-
-pub filled-shape : (n w : ℕ) (items start : List ℕ) → HasMixings items w n start → HasShape (rows_of n w (padded (n * w) items)) n w
-filled-shape n w items start is = record {
-  row_count = length-rows_of n w (padded (n * w) items);
-  row_words = λ (i : ℕ) (inside : i < n).
-      let ends : i * w + w ≤ n * w = grind (arith, rows) in
-      ap length (row_filled n w i items start is inside)
-      ∙ length-take-le w (drop (i * w) items) (omega (arith, ends, is.long, length-drop (i * w) items));
-}
+-- the rows of a table that is full
+pub filled-held : (n w : ℕ) (items start : List ℕ) → HasMixings items w n start → HoldsMixings (rows_of n w items) n start
+filled-held n w items start is = λ i inside. ap in_rows (get_or-rows_of n w items i [] inside) ∙ is.held i inside

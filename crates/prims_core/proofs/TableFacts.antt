@@ -6,7 +6,7 @@ use Rattle.std.proofs.Math.Seq.{take-add, drop-append-add}
 use Rattle.std.proofs.lemmas.List.{length-replicate, drop-drop, drop-append-le, take-append-le, take_at, drop_at, take-replicate, drop-replicate, replicate-append-replicate}
 use Rattle.std.proofs.lemmas.Nat.{rows}
 use borrow.Rule.Slice.PartMut.{put_mid}
-use Rattle.prims_core.specs.Memory.{rows_of, padded, IsLaidOut}
+use Rattle.prims_core.specs.Memory.{rows_of, padded, HasShape, IsLaidOut}
 
 pub length-rows_of : (n w : ℕ) (xs : List ℕ) → length (rows_of n w xs) ≡ n
 unfolding rows_of
@@ -59,6 +59,18 @@ pub same_words : (n w : ℕ) (xs row : List ℕ) (table : List (List ℕ)) (i : 
     → i < length table → length xs ≤ n * w → length row ≡ length (get_or table i []) → length row ≡ w
 same_words n w xs row table i is inside within same =
     same ∙ length-row n w (padded (n * w) xs) table i is inside (omega (arith, length-padded (n * w) xs within))
+
+-- a table of a shape has as many words as its rows together
+pub shape_fits : (n w rows words : ℕ) (xs : List ℕ) (table : List (List ℕ)) → rows_of n w (padded (n * w) xs) ≡ table
+    → length xs ≤ n * w → HasShape table rows words → rows * words ≤ n * w
+shape_fits n w zero words xs table is within shape = omega (arith, zero-mul words)
+shape_fits n w (suc rows) words xs table is within shape =
+    let all : suc rows ≡ n = sym (shape.row_count) ∙ row_count n w (padded (n * w) xs) table is in
+    let some : 0 < length table = omega (arith, shape.row_count) in
+    let long : words ≡ w =
+    sym (shape.row_words 0 (omega arith))
+    ∙ length-row n w (padded (n * w) xs) table 0 is some (omega (arith, length-padded (n * w) xs within)) in
+    rw (all, long) (omega arith)
 
 pub rows_of-replicate : (n w : ℕ) → rows_of n w (replicate (n * w) 0) ≡ replicate n (replicate w 0)
 unfolding rows_of

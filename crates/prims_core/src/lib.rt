@@ -7,6 +7,7 @@ pub mod counted;
 mod diagonals;
 pub mod meter;
 pub mod mix;
+pub mod rows;
 pub mod salsa;
 pub mod scratch;
 pub mod table;

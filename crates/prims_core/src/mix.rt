@@ -7,10 +7,10 @@
 //! During the whole of ROMix a block's words stand diagonal by diagonal, as Salsa20/8 in lanes takes them:
 //! words 0, 5, 10, 15, then 4, 9, 14, 3, then 8, 13, 2, 7, then 12, 1, 6, 11. So no mixing has to rearrange
 //! any. [`to_diagonals`] and [`from_diagonals`] convert blocks before and after it. ROMix's first loop copies blocks to
-//! the table while it mixes them ([`Table::fill_by_mixing`](crate::table::Table::fill_by_mixing)): rows that are
-//! written before that keep the processor waiting for memory.
+//! the table while it mixes them ([`fill_by_mixing`](crate::rows::fill_by_mixing)): rows that are written before that
+//! keep the processor waiting for memory.
 
-ghost use Rattle.std.specs.Prelude.{◌≡◌, ℕ, ◌+◌, ◌*◌, ◌%◌, ◌^◌, ◌<◌, ◌≤◌, List, ◌++◌, length, vec_len, vec_capacity};
+ghost use Rattle.std.specs.Prelude.{◌≡◌, ℕ, ◌+◌, ◌*◌, ◌%◌, ◌^◌, ◌<◌, ◌≤◌, List, ◌++◌, length};
 ghost use Rattle.prims_core.specs.BlockMix.{block_at, block_mix};
 ghost use Rattle.prims_core.specs.Diagonals.{block_in_rows, in_rows};
 ghost use Rattle.prims_core.specs.Private.Mixing.{mixed_block, ArePlaced};
@@ -18,11 +18,11 @@ ghost use Rattle.prims_core.specs.Words.{xor_lists};
 
 use crate::diagonals::Diagonals;
 use crate::meter::Meter;
+use crate::rows::Rows;
 use crate::salsa::salsa8_of;
-use std::simd::prelude::*;
 
-// The words of a block.
-const BLOCK_WORDS: usize = 16;
+/// The words of a block.
+pub(crate) const BLOCK_WORDS: usize = 16;
 
 /// Mixes the 2r blocks of `src` into `dst`, as scryptBlockMix does (RFC 7914, section 4), and counts one mixing.
 ///
@@ -39,26 +39,26 @@ pub fn block_mix(src: &[u32], dst: &mut [u32], meter: &mut Meter)
 }
 
 /// Mixes the 2r blocks of `src` into `dst`, where both stand diagonal by diagonal (RFC 7914, section 4), appends `src` to
-/// `copies`, and counts one mixing.
+/// `rows`, and counts one mixing.
 ///
-/// Preconditions: both have the 32r words of 2r blocks, for one r of at least 1, `copies` has room for 32r words more,
+/// Preconditions: both have the 32r words of 2r blocks, for one r of at least 1, `rows` has memory for 32r words more,
 /// and the meter has room.
-// It is inlined so that the length of `copies` stays in a register.
+// It is inlined so that the length of `rows` stays in a register.
 #[inline(always)]
-pub(crate) fn mix_and_append(src: &[u32], dst: &mut [u32], copies: &mut Vec<u32>, meter: &mut Meter)
+pub(crate) fn mix_and_append<R: Rows>(src: &[u32], dst: &mut [u32], rows: &mut R, meter: &mut Meter)
     requires blocks { (r : ℕ) × (1 ≤ r) × (length src.now ≡ 32 * r) × (length dst.old ≡ 32 * r) }
-    requires fits { vec_len copies.old + length src.now ≤ vec_capacity copies.old }
+    requires fits { length (R.words rows.old) + length src.now ≤ R.room rows.old }
     requires room { meter.old.mixes + 1 < 2 ^ 128 }
     ensures mixed { in_rows dst.new ≡ block_mix (in_rows src.now) }
-    ensures copied { copies.new.items ≡ copies.old.items ++ src.now }
-    ensures kept { vec_capacity copies.new ≡ vec_capacity copies.old }
+    ensures appended { R.words rows.new ≡ R.words rows.old ++ src.now }
+    ensures kept { R.room rows.new ≡ R.room rows.old }
     ensures count { meter.new ≡ record meter.old { mixes = meter.old.mixes + 1 } }
 {
     let r = src.len() / (2 * BLOCK_WORDS);
     let mut x = block_on_diagonals(src, 2 * r - 1);
     'mixing: for i in 0..2 * r {
         x = mixed_block(&x, &block_on_diagonals(src, i));
-        append_block(block_words(src, i), copies);
+        rows.push_block(block_words(src, i));
         put_result(&x, dst, i, r);
     }
     meter.count_mix();
@@ -169,20 +169,6 @@ fn block_words(words: &[u32], i: usize) -> &[u32]
     ensures { result.now ≡ block_at i words.now }
 {
     &words[BLOCK_WORDS * i..BLOCK_WORDS * i + BLOCK_WORDS]
-}
-
-// Appends a block. It is read as one vector, as for the mixing: so it is read once. Since there is room, nothing is
-// tested, and the loop of a mixing has no branch.
-#[inline(always)]
-fn append_block(block: &[u32], copies: &mut Vec<u32>)
-    requires whole { length block.now ≡ 16 }
-    requires fits { vec_len copies.old + 16 ≤ vec_capacity copies.old }
-    ensures appended { copies.new.items ≡ copies.old.items ++ block.now }
-    ensures kept { vec_capacity copies.new ≡ vec_capacity copies.old }
-{
-    'appending: for word in u32x16::from_slice(block).to_array() {
-        copies.push_reserved(word);
-    }
 }
 
 // Mixes 2r blocks, and writes the results to `dst` diagonal by diagonal.

@@ -1,8 +1,8 @@
 //! The memory that scrypt uses besides its table: bytes, and 32-bit words.
 //!
-//! Each is one allocation in its full size.
+//! Each is one allocation in its full size, or lent by a caller.
 
-ghost use Rattle.std.specs.Prelude.{◌≡◌, ◌+◌, ◌*◌, ◌^◌, ◌<◌, ◌≤◌, replicate, IfOk, OnOk, OnErr};
+ghost use Rattle.std.specs.Prelude.{◌≡◌, ◌+◌, ◌*◌, ◌^◌, ◌<◌, ◌≤◌, length, replicate, IfOk, OnOk, OnErr};
 ghost use Rattle.std.specs.Borrow.{sem};
 ghost use Rattle.prims_core.specs.Memory.{LendsBytes, LendsWords};
 
@@ -109,4 +109,29 @@ impl WordScratch {
     {
         self.words.as_mut_slice()
     }
+}
+
+/// Takes lent bytes as scratch memory, which the meter counts, and returns them.
+///
+/// Precondition: the meter can count them without overflow.
+pub fn lent_bytes<'a>(bytes: &'a mut [u8], meter: &mut Meter) -> &'a mut [u8]
+    requires { meter.old.scratch + length bytes.old < 2 ^ 128 }
+    ensures value { result.now ≡ bytes.old }
+    ensures count { meter.new ≡ record meter.old { scratch = meter.old.scratch + length bytes.old } }
+{
+    meter.count_scratch(bytes.len());
+    bytes
+}
+
+/// Takes lent words as scratch memory, whose bytes, four each, the meter counts, and returns them.
+///
+/// Preconditions: the words have at most 2^30 bytes, and the meter can count these without overflow.
+pub fn lent_words<'a>(words: &'a mut [u32], meter: &mut Meter) -> &'a mut [u32]
+    requires fits { 4 * length words.old ≤ 2 ^ 30 }
+    requires room { meter.old.scratch + 4 * length words.old < 2 ^ 128 }
+    ensures value { result.now ≡ words.old }
+    ensures count { meter.new ≡ record meter.old { scratch = meter.old.scratch + 4 * length words.old } }
+{
+    meter.count_scratch(words.len() * size_of::<u32>());
+    words
 }

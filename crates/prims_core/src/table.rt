@@ -4,14 +4,10 @@
 //! size. The vector holds whole rows. Rows of at most 1,024 words behind the last one that was set are not written yet
 //! and are read as zeros: writing these first would take as long as wiping them.
 
-ghost use Rattle.std.specs.Prelude.{◌≡◌, ℕ, ◌+◌, ◌-◌, ◌*◌, ◌%◌, ◌^◌, ◌<◌, ◌≤◌, [], ◌++◌, length, replicate, slice_index_or, slice_set, vec_len, vec_capacity, IfOk, OnOk, OnErr};
-ghost use Rattle.std.specs.Fn.{iterate};
-ghost use Rattle.prims_core.specs.BlockMix.{block_mix};
-ghost use Rattle.prims_core.specs.Diagonals.{in_rows};
-ghost use Rattle.prims_core.specs.Memory.{HasShape, HoldsMixings};
+ghost use Rattle.std.specs.Prelude.{◌≡◌, ℕ, ◌+◌, ◌-◌, ◌*◌, ◌^◌, ◌<◌, ◌≤◌, [], ◌++◌, length, replicate, slice_index_or, slice_set, vec_len, vec_capacity, IfOk, OnOk, OnErr};
+ghost use Rattle.prims_core.specs.Memory.{HasShape};
 
 use crate::meter::Meter;
-use crate::mix::mix_and_append;
 use std::alloc::{AllocError, Global};
 use std::marker::Model;
 use std::mem::size_of;
@@ -103,28 +99,12 @@ impl Table {
         self.words[start..end].copy_from_slice(row);
     }
 
-    /// Fills all rows anew, as the first loop of scryptROMix does (RFC 7914, section 5): row `i` becomes `x` after `i`
-    /// mixings, and `x` is mixed as often as there are rows, which is counted. In `x` and the rows blocks stand diagonal
-    /// by diagonal. The mixings go from `x` to `y` and back in turn.
-    ///
-    /// Preconditions: the number of rows is even and not 0, `x` and `y` have the length of a row, which is the 32r words
-    /// of 2r blocks, for one r of at least 1, and the meter has room.
-    #[tactic(auto, using(crate::proofs::TableFacts::row_count))]
-    pub fn fill_by_mixing(&mut self, x: &mut [u32], y: &mut [u32], meter: &mut Meter)
-        requires even { (1 ≤ length self.old) × (length self.old % 2 ≡ 0) }
-        requires blocks { (r : ℕ) × (1 ≤ r) × (length x.old ≡ 32 * r) × (length y.old ≡ 32 * r) }
-        requires shape { HasShape self.old (length self.old) (length x.old) }
-        requires room { meter.old.mixes + length self.old < 2 ^ 128 }
-        ensures shape { HasShape self.new (length self.old) (length x.old) }
-        ensures rows { HoldsMixings self.new (length self.old) (in_rows x.old) }
-        ensures mixed { in_rows x.new ≡ iterate block_mix (length self.old) (in_rows x.old) }
-        ensures count { meter.new ≡ record meter.old { mixes = meter.old.mixes + length self.old } }
+    /// Returns the memory of the rows: a vector with capacity for all words of them.
+    pub fn into_words(self) -> Vec<u32>
+        ensures room { (rows row_words : ℕ) → HasShape self rows row_words → rows * row_words ≤ vec_capacity result }
     {
-        self.words.clear();
-        'filling: for _ in 0..self.rows / 2 {
-            mix_and_append(x, y, &mut self.words, meter);
-            mix_and_append(y, x, &mut self.words, meter);
-        }
+        let Table { words, .. } = self;
+        words
     }
 }
 

@@ -2,6 +2,7 @@
 
 use super::{counts, want};
 use kdf_core::hmac::HmacKey;
+use kdf_core::lent::{LentFault, needed_bytes, needed_words, scrypt_lent};
 use kdf_core::params::Params;
 use kdf_core::pbkdf2::pbkdf2;
 use kdf_core::scrypt::scrypt;
@@ -389,6 +390,61 @@ fn want_bytes(rt: &impl Abort, alloc: Global, row: &Row) -> Result<(), Fail> {
 fn bytes_by_scrypt(rt: HostRuntime) -> Result<(), Fail> {
     for row in ROWS {
         want_bytes(&rt, rt.alloc(), row)?;
+    }
+    Ok(())
+}
+
+// Asserts what scrypt answers of a row in lent memory, and what it counts and leaves in the bytes.
+fn want_lent(
+    rt: &impl Abort,
+    alloc: Global,
+    row: &Row,
+    words: &mut [u32],
+    bytes: &mut [u8],
+    answer: Result<(), LentFault>,
+) -> Result<(), Fail> {
+    let (log_n, r, p, count) = (row.log_n, row.r, row.p, row.wanted.len() / 2);
+    assert!(rt; count <= 128 && row.password.len() <= 65 && row.salt.len() <= 70);
+    let params = Params::new(log_n, r, p)?;
+    let mut out = vec![in alloc; 7; count]?;
+    let unchanged = hex::encode(alloc, out.as_slice())?;
+    let mut meter = Meter::new();
+    let told = scrypt_lent(
+        words,
+        bytes,
+        row.password,
+        row.salt,
+        &params,
+        &mut out,
+        &mut meter,
+    );
+    want(rt, told, answer, row.wanted);
+    let told = hex::encode(alloc, out.as_slice())?;
+    let (wanted, work) = match answer {
+        Ok(()) => (row.wanted, row.work.map(|count| u128::from(count))),
+        Err(_) => (unchanged.as_str(), [0; 5]),
+    };
+    want(rt, told.as_str(), wanted, "bytes by scrypt");
+    want(rt, counts(&meter), work, row.wanted);
+    Ok(())
+}
+
+// The same rows in exactly the memory that is needed, which is not zeros, and in a word or a byte less.
+#[test]
+fn bytes_by_scrypt_in_lent_memory(rt: HostRuntime) -> Result<(), Fail> {
+    let alloc = rt.alloc();
+    for row in ROWS {
+        let params = Params::new(row.log_n, row.r, row.p)?;
+        let mut words = vec![in alloc; 0xffff_ffff; needed_words(&params)]?;
+        let mut bytes = vec![in alloc; 0xff; needed_bytes(&params)]?;
+        want_lent(&rt, alloc, row, &mut words, &mut bytes, Ok(()))?;
+        let _word = words.pop();
+        let few = Err(LentFault::Words);
+        want_lent(&rt, alloc, row, &mut words, &mut bytes, few)?;
+        words.push(0)?;
+        let _byte = bytes.pop();
+        let few = Err(LentFault::Bytes);
+        want_lent(&rt, alloc, row, &mut words, &mut bytes, few)?;
     }
     Ok(())
 }

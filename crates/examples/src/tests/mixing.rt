@@ -1,13 +1,13 @@
 //! Salsa20/8 and scrypt's mixing of blocks, and the memory that scrypt works in.
 ghost use Rattle.std.specs.Prelude.{◌≡◌, ◌+◌, ◌*◌, ◌≤◌, length, IfOk};
-ghost use Rattle.prims_core.specs.Memory.{HasShape};
 
 use super::{counts, want};
 use prims_core::counted::{Counted, CountedSha256};
 use prims_core::meter::Meter;
 use prims_core::mix::{block_mix, from_diagonals, mix_xor_diagonals, to_diagonals};
+use prims_core::rows::{LentRows, Rows, fill_by_mixing};
 use prims_core::salsa::salsa8;
-use prims_core::scratch::{ByteScratch, WordScratch};
+use prims_core::scratch::{ByteScratch, WordScratch, lent_bytes, lent_words};
 use prims_core::table::Table;
 use prims_core::words::{load_words, store_words};
 use std::alloc::{AllocError, Global};
@@ -272,41 +272,55 @@ fn on_diagonals(blocks: &[u8; 128]) -> [u32; 32] {
     words
 }
 
-// Fills a table of two rows, and returns the blocks after them.
-fn fill(table: &mut Table, blocks: &[u32; 32], meter: &mut Meter) -> [u32; 32]
-    requires shape { HasShape table.old 2 32 }
+// Fills two rows, asserts what they hold, and returns the blocks after them.
+fn fill<R: Rows>(
+    rt: &impl Abort,
+    rows: &mut R,
+    blocks: [&[u32; 32]; 2],
+    meter: &mut Meter,
+) -> [u32; 32]
+    requires fits { 64 ≤ R.room rows.old }
     requires room { meter.old.mixes ≤ 2 }
-    ensures shape { HasShape table.new 2 32 }
+    ensures kept { R.room rows.new ≡ R.room rows.old }
     ensures count { meter.new ≡ record meter.old { mixes = meter.old.mixes + 2 } }
 {
-    let (mut x, mut y) = (*blocks, [7; 32]);
-    table.fill_by_mixing(&mut x, &mut y, meter);
+    let (mut x, mut y) = (*blocks[0], [7; 32]);
+    fill_by_mixing(rows, 2, &mut x, &mut y, meter);
+    want(
+        rt,
+        &rows.words()[..32],
+        blocks[0].as_slice(),
+        "the first row",
+    );
+    want(
+        rt,
+        &rows.words()[32..],
+        blocks[1].as_slice(),
+        "the second row",
+    );
     x
 }
 
-// Asserts the rows of a table of two.
-fn want_rows(rt: &impl Abort, table: &Table, first: &[u32; 32], second: &[u32; 32], what: &str)
-    requires { length table.now ≡ 2 }
+// Asserts what the first loop of scryptROMix does, twice in the same memory. The blocks are those of RFC 7914, section 9.
+fn want_filled<R: Rows>(rt: &impl Abort, rows: &mut R)
+    requires { 64 ≤ R.room rows.old }
 {
-    want(rt, table.row(0), first.as_slice(), what);
-    want(rt, table.row(1), second.as_slice(), what);
-}
-
-// The first loop of scryptROMix, twice over the same table. The blocks are those of RFC 7914, section 9.
-#[test]
-fn a_table_filled_by_mixing(rt: HostRuntime) -> Result<(), Fail> {
     let (first, second) = (on_diagonals(&BLOCKS), on_diagonals(&MIXED));
     let third = on_diagonals(&mixed(&MIXED, &mut Meter::new()));
     let mut meter = Meter::new();
-    let mut table = Table::new(rt.alloc(), 2, 32, &mut meter)?;
-    let next = fill(&mut table, &first, &mut meter);
-    want(&rt, next, third, "after the rows");
-    want_rows(&rt, &table, &first, &second, "filled");
-    let _ = fill(&mut table, &second, &mut meter);
-    want_rows(&rt, &table, &second, &third, "filled already");
-    table.set_row(0, &first);
-    want_rows(&rt, &table, &first, &third, "a row that is set then");
-    want(&rt, counts(&meter), [0, 0, 4, 256, 0], "work");
+    let next = fill(rt, rows, [&first, &second], &mut meter);
+    want(rt, next, third, "after the rows");
+    let _next = fill(rt, rows, [&second, &third], &mut meter);
+    want(rt, counts(&meter), [0, 0, 4, 0, 0], "work");
+}
+
+#[test]
+fn a_table_filled_by_mixing(rt: HostRuntime) -> Result<(), Fail> {
+    let table = Table::new(rt.alloc(), 2, 32, &mut Meter::new())?;
+    want_filled(&rt, &mut table.into_words());
+    let (mut words, mut meter) = ([7; 64], Meter::new());
+    want_filled(&rt, &mut LentRows::new(&mut words, &mut meter));
+    want(&rt, counts(&meter), [0, 0, 0, 256, 0], "memory");
     Ok(())
 }
 
@@ -320,6 +334,9 @@ fn memory_that_is_counted(rt: HostRuntime) -> Result<(), Fail> {
     want(&rt, table.row(1), [0; 32].as_slice(), "a row");
     want_bytes(&rt, &mut bytes);
     want_words(&rt, &mut words);
+    lent_bytes(&mut [0; 3], &mut meter)[2] = 255;
+    lent_words(&mut [0; 5], &mut meter)[4] = 255;
+    want(&rt, counts(&meter), [0, 0, 0, 256, 384 + 23], "memory");
     Ok(())
 }
 

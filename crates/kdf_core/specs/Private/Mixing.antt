@@ -1,5 +1,8 @@
--- The memory in which scrypt mixes a part.
-use Rattle.std.specs.Prelude.{◌≡◌, ℕ, ◌*◌, ◌^◌, ◌≤◌, List, length}
+-- The memory in which scrypt mixes a part, and the counts of what it does there.
+use Rattle.std.specs.Prelude.{◌≡◌, ℕ, ◌+◌, ◌*◌, ◌^◌, ◌≤◌, List, length}
+use Rattle.prims_core.specs.declared.meter.Work.{Work}
+use Rattle.kdf_core.specs.Params.{ScryptParams}
+use Rattle.kdf_core.specs.ScryptWork.{scrypt_work}
 
 -- part_words r: the number of words of a part, which is 2r blocks of sixteen words.
 abbrev pub part_words : ℕ → ℕ
@@ -16,3 +19,14 @@ pub record IsPower (rows k : ℕ) : Type 0 where
   pub power : rows ≡ 2 ^ k
   pub above_one : 1 ≤ k
   pub most : k ≤ 32
+
+-- with_derivation counts params password_length salt_length count: the counts of a meter after the work of scrypt, but for
+-- its memory.
+abbrev pub with_derivation : Work → ScryptParams → ℕ → ℕ → ℕ → Work
+with_derivation counts params password_length salt_length count =
+    let work = scrypt_work params password_length salt_length count in
+    record counts {
+      digests = counts.digests + work.digests;
+      bytes = counts.bytes + work.bytes;
+      mixes = counts.mixes + work.mixes;
+    }

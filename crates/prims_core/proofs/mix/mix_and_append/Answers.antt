@@ -1,4 +1,4 @@
-use Rattle.std.proofs.Common.{◌≡◌, ℕ, ◌+◌, ◌*◌, ◌/◌, ◌≤◌, List, ◌++◌, length, take, sym, ap, ap₂, ◌∙◌, arith, length-take, length-drop, append_assoc, append-nil}
+use Rattle.std.proofs.Common.{◌≡◌, ℕ, ◌+◌, ◌*◌, ◌/◌, ◌≤◌, List, ◌++◌, length, take, sym, ap, ap₂, ◌∙◌, arith, length-take, length-drop, length-append, append_assoc, append-nil}
 use Rattle.prims_core.specs.BlockMix.{block_at, x_after, block_mix}
 use Rattle.prims_core.specs.Diagonals.{in_rows}
 use Rattle.prims_core.specs.Private.Mixing.{mixed_block, y_at}
@@ -7,44 +7,57 @@ use Rattle.prims_core.proofs.MixedBlocks.{x_after-none, x_after-more, in_order, 
 use Rattle.prims_core.proofs.mix.mix_and_append.Goals as goal
 
 pub block_on_diagonals-x-requires : goal.block_on_diagonals-x-requires
-block_on_diagonals-x-requires c = omega (arith, c.requires.blocks)
+block_on_diagonals-x-requires g c = omega (arith, c.requires.blocks)
 
 pub mixing-init : goal.mixing-init
-mixing-init c = record {
+mixing-init g c = record {
   before = c.block_on_diagonals-x.ensures ∙ sym (x_after-none (length c.args.src.now / 32) (in_rows c.args.src.now));
   placed = λ k none. absurd (omega arith);
-  copied = sym (append-nil c.args.copies.now.items);
+  appended = sym (append-nil (g.R.Rows.words c.args.rows.now));
   kept = omega arith;
 }
 
 pub block_on_diagonals-requires : goal.block_on_diagonals-requires
-block_on_diagonals-requires c = omega (arith, c.requires.blocks, c.mixing-test.true)
+block_on_diagonals-requires g c = omega (arith, c.requires.blocks, c.mixing-test.true)
 
-pub append_block-requires-clause-whole : goal.append_block-requires-clause-whole
-append_block-requires-clause-whole c =
+pub push_block-requires-clause-whole : goal.push_block-requires-clause-whole
+push_block-requires-clause-whole g c =
     let inside : 16 * c.mixing.i + 16 ≤ length c.args.src.now = omega (arith, c.requires.blocks, c.mixing-test.true) in
     ap length c.block_words.ensures ∙ simp (length-take, length-drop) (omega (arith, inside))
 
+pub push_block-requires-clause-fits : goal.push_block-requires-clause-fits
+push_block-requires-clause-fits g c =
+    let inside : 16 * c.mixing.i + 16 ≤ length c.args.src.now = omega (arith, c.requires.blocks, c.mixing-test.true) in
+    omega (
+      arith,
+      inside,
+      ap length c.mixing.invariant.appended,
+      length-append (g.R.Rows.words c.args.rows.now) (take (16 * c.mixing.i) c.args.src.now),
+      length-take (16 * c.mixing.i) c.args.src.now,
+      c.mixing.invariant.kept,
+      c.requires.fits,
+    )
+
 pub mixing-preserved : goal.mixing-preserved
-mixing-preserved c =
+mixing-preserved g c =
     let words = in_rows c.args.src.now in
     let i : ℕ = c.mixing.i in
     let r : ℕ = length c.args.src.now / 32 in
-    let old : List ℕ = c.args.copies.now.items in
+    let old : List ℕ = g.R.Rows.words c.args.rows.now in
     let is : c.mixed_block-x.result ≡ x_after r words (i + 1) =
     c.mixed_block-x.ensures ∙ ap₂ mixed_block {y = x_after r words i} c.mixing.invariant.before c.block_on_diagonals.ensures ∙ sym (x_after-more r words i) in record {
       before = is;
       placed = c.put_result.ensures (y_at r words) c.mixing.invariant.placed is;
-      copied = c.append_block.ensures.appended
-          ∙ ap₂ (λ (done block : List ℕ). done ++ block) c.mixing.invariant.copied c.block_words.ensures
+      appended = c.push_block.ensures.words
+          ∙ ap₂ (λ (done block : List ℕ). done ++ block) c.mixing.invariant.appended c.block_words.ensures
           ∙ append_assoc old (take (16 * i) c.args.src.now) (block_at i c.args.src.now)
           ∙ ap (λ (blocks : List ℕ). old ++ blocks) (block_more i c.args.src.now);
-      kept = omega (arith, c.mixing.invariant.kept, c.append_block.ensures.kept);
+      kept = omega (arith, c.mixing.invariant.kept, c.push_block.ensures.room);
     }
 
 pub returns-clause-mixed : goal.returns-clause-mixed
 unfolding block_mix
-returns-clause-mixed c =
+returns-clause-mixed g c =
     let words = in_rows c.args.src.now in
     let r : length words / 32 ≡ length c.args.src.now / 32 = omega (arith, c.requires.blocks, length-in_rows c.args.src.now) in
     rw r (in_order (length c.args.src.now / 32) (y_at (length c.args.src.now / 32) words) c.mixing.dst

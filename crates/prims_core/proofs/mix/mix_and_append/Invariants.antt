@@ -1,4 +1,4 @@
-use Rattle.std.proofs.Common.{◌≡◌, ◌*◌, ◌++◌, take, vec_capacity}
+use Rattle.std.proofs.Common.{◌≡◌, ◌*◌, ◌++◌, take}
 use Rattle.prims_core.specs.BlockMix.{x_after}
 use Rattle.prims_core.specs.Diagonals.{in_rows}
 use Rattle.prims_core.specs.Private.Mixing.{y_at, ArePlaced}
@@ -6,9 +6,9 @@ use Rattle.prims_core.proofs.mix.mix_and_append.Given as goal
 
 -- x is X before block i is mixed, the results before that block stand at their places, and the blocks before it are appended
 abbrev pub invariant-mixing : goal.invariant-mixing
-invariant-mixing l = record {
+invariant-mixing g l = record {
   before : l.x ≡ x_after l.r (in_rows l.src) l.i;
   placed : ArePlaced (y_at l.r (in_rows l.src)) l.r l.i l.dst;
-  copied : l.copies.items ≡ l.fn.copies.items ++ take (16 * l.i) l.src;
-  kept : vec_capacity l.copies ≡ vec_capacity l.fn.copies;
+  appended : g.R.Rows.words l.rows ≡ g.R.Rows.words l.fn.rows ++ take (16 * l.i) l.src;
+  kept : g.R.Rows.room l.rows ≡ g.R.Rows.room l.fn.rows;
 }

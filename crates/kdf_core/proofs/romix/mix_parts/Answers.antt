@@ -1,20 +1,19 @@
-use Rattle.std.proofs.Common.{◌≡◌, ◌+◌, ◌*◌, ◌/◌, ◌≤◌, ◌-◌, ◌∙◌, ℕ, length, take, drop, length-take, length-drop, subst, refl, arith}
+use Rattle.std.proofs.Common.{◌≡◌, ◌+◌, ◌*◌, ◌≤◌, ◌-◌, ◌∙◌, ℕ, length, take, drop, length-take, length-drop, subst, refl, arith}
 use Rattle.std.proofs.Math.Nat.{mul-le-mul_left}
-use Rattle.prims_core.specs.Memory.{HasShape}
 use Rattle.prims_core.proofs.FilledTable.{mixes-more}
 use Rattle.kdf_core.proofs.MixedParts.{first_parts, parts_done-none, parts_done-more, parts_to_come-more, parts-all, mixes-none}
-use Rattle.kdf_core.proofs.scrypt.mix_parts.Goals as goal
+use Rattle.kdf_core.proofs.romix.mix_parts.Goals as goal
 
 pub parts-init : goal.parts-init
-parts-init c = record {
-  done = parts_done-none c.args.rows (2 * length c.args.halves.now) c.args.parts.now;
+parts-init g c = record {
+  done = parts_done-none c.args.row_count (2 * length c.args.halves.now) c.args.parts.now;
   to_come = refl;
-  shape = c.requires.shape;
-  count = mixes-none c.args.meter.now (2 * c.args.rows);
+  kept = refl;
+  count = mixes-none c.args.meter.now (2 * c.args.row_count);
 }
 
 pub parts-preserved : goal.parts-preserved
-parts-preserved c =
+parts-preserved g c =
     let size = 2 * length c.args.halves.now in
     let i = c.parts.i in
     let parts = c.parts.parts in
@@ -25,19 +24,19 @@ parts-preserved c =
     let same : length c.mix_part.new.part ≡ size =
     c.mix_part.auto.part ∙ omega (arith, length-take (size * i + size - size * i) (drop (size * i) parts), length-drop (size * i) parts) in
     record {
-      done = parts_done-more c.args.rows size i (size * i + size - size * i) c.args.parts.now parts c.mix_part.new.part inside width
+      done = parts_done-more c.args.row_count size i (size * i + size - size * i) c.args.parts.now parts c.mix_part.new.part inside width
           before.done before.to_come c.mix_part.ensures.part same;
       to_come = parts_to_come-more size i (size * i + size - size * i) c.args.parts.now parts c.mix_part.new.part inside width
           before.to_come same;
-      shape = subst (λ (n : ℕ). HasShape c.mix_part.new.table c.args.rows (n / 2)) c.parts.auto.halves c.mix_part.ensures.shape;
-      count = mixes-more c.args.meter.now c.parts.meter c.mix_part.new.meter (2 * c.args.rows * i) (2 * c.args.rows)
-          (2 * c.args.rows * (i + 1)) before.count c.mix_part.ensures.count (omega arith);
+      kept = c.mix_part.ensures.kept ∙ before.kept;
+      count = mixes-more c.args.meter.now c.parts.meter c.mix_part.new.meter (2 * c.args.row_count * i) (2 * c.args.row_count)
+          (2 * c.args.row_count * (i + 1)) before.count c.mix_part.ensures.count (omega arith);
     }
 
 pub returns-clause-parts : goal.returns-clause-parts
-returns-clause-parts c =
+returns-clause-parts g c =
     let size = 2 * length c.args.halves.now in
     let all : c.parts.i ≡ c.args.count = omega arith in
-    parts-all c.args.rows size c.args.count c.args.parts.now c.parts.parts (omega (arith, c.requires.some_block.1)) c.requires.whole
+    parts-all c.args.row_count size c.args.count c.args.parts.now c.parts.parts (omega (arith, c.requires.some_block.1)) c.requires.whole
     c.parts.auto.parts
-    (subst (λ (n : ℕ). take (size * n) c.parts.parts ≡ first_parts c.args.rows size c.args.parts.now n) all c.parts.invariant.done)
+    (subst (λ (n : ℕ). take (size * n) c.parts.parts ≡ first_parts c.args.row_count size c.args.parts.now n) all c.parts.invariant.done)

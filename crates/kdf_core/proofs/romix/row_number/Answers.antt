@@ -3,7 +3,7 @@ use Rattle.prims_core.specs.Diagonals.{in_rows}
 use Rattle.prims_core.proofs.BlockFacts.{length-in_rows}
 use Rattle.kdf_core.specs.Scrypt.{integerify}
 use Rattle.kdf_core.proofs.Integerify.{first_word-in_rows, integerify-mod}
-use Rattle.kdf_core.proofs.scrypt.row_number.Goals as goal
+use Rattle.kdf_core.proofs.romix.row_number.Goals as goal
 
 pub returns : goal.returns
 returns c =
@@ -12,7 +12,7 @@ returns c =
     let r = c.requires.some_block in
     let power = c.requires.power.1 in
     let some : 16 ≤ length rows = omega (arith, length-in_rows words, r.1, r.2) in
-    ap (λ n. n % c.args.rows) (sym (first_word-in_rows words r.0 r.1 r.2))
+    ap (λ n. n % c.args.row_count) (sym (first_word-in_rows words r.0 r.1 r.2))
     ∙ ap (λ n. get_or rows (length rows - 16) 0 % n) power.power
     ∙ (sym (integerify-mod rows c.requires.power.0 some power.most)
     ∙ ap (λ n. integerify rows % n) (sym power.power))

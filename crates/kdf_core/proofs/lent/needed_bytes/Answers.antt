@@ -1,0 +1,13 @@
+use Rattle.std.proofs.Common.{arith}
+use Rattle.kdf_core.proofs.ScryptBounds.{parts-product, parts-fit}
+use Rattle.kdf_core.proofs.lent.needed_bytes.Goals as goal
+
+pub overflow_mul-result-2 : goal.overflow_mul-result-2
+overflow_mul-result-2 c =
+    let params = c.args.params.now in
+    omega (arith, parts-product params c.r.result c.p.result c.r.ensures.number c.p.ensures.number, parts-fit params c.r.ensures.accepted)
+
+pub returns-clause-below : goal.returns-clause-below
+returns-clause-below c =
+    let params = c.args.params.now in
+    omega (arith, parts-product params c.r.result c.p.result c.r.ensures.number c.p.ensures.number, parts-fit params c.r.ensures.accepted)

@@ -1,0 +1,123 @@
+//! scryptROMix (RFC 7914, section 5), of one part after another in the same memory.
+//!
+//! Each step reads one half of words and writes the other, which are as long as a part. Blocks stand diagonal by
+//! diagonal here, as the mixing takes them.
+
+ghost use Rattle.std.specs.Prelude.{◌≡◌, ℕ, ◌+◌, ◌-◌, ◌*◌, ◌/◌, ◌^◌, ◌%◌, ◌<◌, ◌≤◌, List, length};
+ghost use Rattle.std.specs.Fn.{iterate};
+ghost use Rattle.prims_core.specs.BlockMix.{block_mix};
+ghost use Rattle.prims_core.specs.Diagonals.{in_rows};
+ghost use Rattle.prims_core.specs.Memory.{rows_of, HoldsMixings};
+ghost use Rattle.kdf_core.specs.Private.Mixing.{AreHalves, IsPower, part_words};
+ghost use Rattle.kdf_core.specs.Scrypt.{integerify, mixed_back, mixed_part};
+ghost use Rattle.kdf_core.specs.ScryptMessages.{mixed_parts};
+
+use crate::scrypt::UNIT_WORDS;
+use prims_core::meter::Meter;
+use prims_core::mix::{from_diagonals, mix_xor_diagonals, to_diagonals};
+use prims_core::rows::{Rows, fill_by_mixing};
+use prims_core::words::{load_words, store_words};
+
+// The words of a block.
+const BLOCK_WORDS: usize = UNIT_WORDS / 2;
+
+/// Replaces each of `count` parts by its ROMix with N rows, and counts the 2N mixings of each.
+///
+/// Preconditions: N, which is `row_count`, is a power of two from 2 to 2^32. The halves have the words of two parts, and
+/// the rows have memory for those of N. The parts have the bytes of `count` parts, and the meter can count the mixings
+/// without overflow.
+pub(crate) fn mix_parts<M: Rows>(
+    parts: &mut [u8],
+    count: usize,
+    row_count: usize,
+    rows: &mut M,
+    halves: &mut [u32],
+    meter: &mut Meter,
+)
+    requires power { (k : ℕ) × IsPower row_count k }
+    requires some_block { (r : ℕ) × (1 ≤ r) × (length halves.old ≡ 2 * part_words r) }
+    requires whole { length parts.old ≡ 2 * length halves.old * count }
+    requires fits { row_count * (length halves.old / 2) ≤ M.room rows.old }
+    requires room { meter.old.mixes + 2 * row_count * count < 2 ^ 128 }
+    ensures parts { parts.new ≡ mixed_parts row_count (2 * length halves.old) parts.old }
+    ensures count { meter.new ≡ record meter.old { mixes = meter.old.mixes + 2 * row_count * count } }
+{
+    let size = 2 * halves.len();
+    'parts: for i in 0..count {
+        mix_part(
+            &mut parts[size * i..size * i + size],
+            row_count,
+            rows,
+            halves,
+            meter,
+        );
+    }
+}
+
+// Replaces a part by its ROMix.
+fn mix_part<M: Rows>(
+    part: &mut [u8],
+    row_count: usize,
+    rows: &mut M,
+    halves: &mut [u32],
+    meter: &mut Meter,
+)
+    requires power { (k : ℕ) × IsPower row_count k }
+    requires some_block { (r : ℕ) × (1 ≤ r) × (length halves.old ≡ 2 * part_words r) }
+    requires whole { length part.old ≡ 2 * length halves.old }
+    requires fits { row_count * (length halves.old / 2) ≤ M.room rows.old }
+    requires room { meter.old.mixes + 2 * row_count < 2 ^ 128 }
+    ensures part { part.new ≡ mixed_part row_count part.old }
+    ensures kept { M.room rows.new ≡ M.room rows.old }
+    ensures count { meter.new ≡ record meter.old { mixes = meter.old.mixes + 2 * row_count } }
+{
+    let part_words = halves.len() / 2;
+    let (x, y) = halves.split_at_mut(part_words);
+    load_words(part, x);
+    to_diagonals(x);
+    fill_by_mixing(rows, row_count, x, y, meter);
+    mix_with_rows(rows.words(), row_count, x, y, meter);
+    from_diagonals(x);
+    store_words(x, part);
+}
+
+// Makes the N steps of ROMix's second loop from `x` on. They write to `y` and to `x` in turn, so that no block is
+// copied. N is even, so the last step writes to `x`.
+fn mix_with_rows(table: &[u32], row_count: usize, x: &mut [u32], y: &mut [u32], meter: &mut Meter)
+    requires power { (k : ℕ) × IsPower row_count k }
+    requires halves { (r : ℕ) × AreHalves r x.old y.old }
+    requires whole { length table.now ≡ row_count * length x.old }
+    requires room { meter.old.mixes + row_count < 2 ^ 128 }
+    ensures mixed { (start : List ℕ) → HoldsMixings (rows_of row_count (length x.old) table.now) row_count start
+        → in_rows x.new ≡ iterate (mixed_back row_count start) row_count (in_rows x.old) }
+    ensures count { meter.new ≡ record meter.old { mixes = meter.old.mixes + row_count } }
+{
+    'mixing: for _ in 0..row_count / 2 {
+        mix_back(table, row_count, x, y, meter);
+        mix_back(table, row_count, y, x, meter);
+    }
+}
+
+// Writes to `y` what one step of ROMix's second loop makes of `x`.
+fn mix_back(table: &[u32], row_count: usize, x: &[u32], y: &mut [u32], meter: &mut Meter)
+    requires power { (k : ℕ) × IsPower row_count k }
+    requires halves { (r : ℕ) × AreHalves r x.now y.old }
+    requires whole { length table.now ≡ row_count * length x.now }
+    requires room { meter.old.mixes + 1 < 2 ^ 128 }
+    ensures mixed { (start : List ℕ) → HoldsMixings (rows_of row_count (length x.now) table.now) row_count start
+        → in_rows y.new ≡ mixed_back row_count start (in_rows x.now) }
+    ensures count { meter.new ≡ record meter.old { mixes = meter.old.mixes + 1 } }
+{
+    let start = row_number(x, row_count) * x.len();
+    mix_xor_diagonals(x, &table[start..start + x.len()], y, meter);
+}
+
+// Returns the number of the row that a step takes for X: Integerify (X) mod N. As N is a power of two of at most 2^32,
+// the first word of the last block decides. It is the first word of that block's first diagonal too.
+fn row_number(words: &[u32], row_count: usize) -> usize
+    requires power { (k : ℕ) × IsPower row_count k }
+    requires some_block { (r : ℕ) × (1 ≤ r) × (length words.now ≡ part_words r) }
+    ensures { result ≡ integerify (in_rows words.now) % row_count }
+{
+    words[words.len() - BLOCK_WORDS] as usize % row_count
+}

@@ -1,0 +1,28 @@
+use Rattle.std.proofs.Common.{◌≡◌, ℕ, ◌+◌, ◌-◌, List, ◌++◌, length, take, drop, ap, ◌∙◌, arith, length-take, length-drop}
+use Rattle.std.specs.Simd.Lanes.{put_chunk, chunk}
+use Rattle.std.proofs.lemmas.List.{take_all}
+use Rattle.std.proofs.lemmas.Simd.{put_chunk_whole}
+use Rattle.std.proofs.lemmas.Slice.{take-put_mid}
+use Rattle.prims_core.proofs.rows.LentRowsRows.push_block.Goals as goal
+
+pub returns-clause-words : goal.returns-clause-words
+returns-clause-words c =
+    let words : List ℕ = c.args.self.now.words.now in
+    let at : ℕ = c.args.self.now.written in
+    let part : List ℕ = take (at + 16 - at) (drop at words) in
+    let block : chunk 0 16 c.args.block.now ≡ c.args.block.now = take_all 16 c.args.block.now (omega (arith, c.requires.whole)) in
+    let same : length part ≡ length (chunk 0 16 c.args.block.now) =
+    omega (
+      arith,
+      length-take (at + 16 - at) (drop at words),
+      length-drop at words,
+      length-take at words,
+      ap length block,
+      c.requires.whole,
+      c.requires.fits,
+    ) in
+    let written : put_chunk 0 part (chunk 0 16 c.args.block.now) ≡ c.args.block.now =
+    put_chunk_whole part (chunk 0 16 c.args.block.now) same ∙ block in
+    take-put_mid at (at + 16 - at) words (put_chunk 0 part (chunk 0 16 c.args.block.now)) (at + 16)
+    (omega (arith, ap length written, c.requires.whole)) (omega arith)
+    ∙ ap (λ (b : List ℕ). take at words ++ b) written

@@ -1,0 +1,14 @@
+use Rattle.std.proofs.Common.{arith}
+use Rattle.prims_core.proofs.TableFacts.{shape_fits}
+use Rattle.prims_core.proofs.table.Table.into_words.Goals as goal
+
+pub returns : goal.returns
+returns c = record {
+  room = λ rows row_words shape.
+      omega (
+        arith,
+        shape_fits c.self.inside.rows c.self.inside.row_words rows row_words c.self.inside.words.items c.args.self c.self.view_is
+            (omega (arith, c.self.inside.words.ok.0, c.self.invariant.inside)) shape,
+        c.self.invariant.fits,
+      );
+}
