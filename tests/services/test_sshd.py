@@ -55,9 +55,12 @@ def fixture_door(site_with_module: Site, folder: Path) -> Iterator[Door]:
     site.machine.make_folder("/run/sshd")
     site.run("ssh-keygen", "-q", "-t", "ed25519", "-N", "", "-f", f"{folder}/key").required()
     options = [f"-o{option}" for option in OPTIONS]
+    # OpenSSH 9.8 and later turn an address away for a while where a login has failed.
+    addresses = (f"127.0.0.{number}" for number in range(2, 255))
 
     def log_in(name: str, password: str) -> Verdict:
-        words = ("ssh", "-q", f"-p{PORT}", "-l", name, *options, "127.0.0.1", "true")
+        client = ("ssh", "-q", f"-b{next(addresses)}", f"-p{PORT}", "-l", name, *options)
+        words = (*client, "127.0.0.1", "true")
         asked = {"SSH_ASKPASS": f"{folder}/askpass", "SSH_ASKPASS_REQUIRE": "force"}
         result = site.machine.run(*words, env={"PASSWORD": password, **asked})
         return verdict_of(result, refused=REFUSED)
