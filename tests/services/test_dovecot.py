@@ -1,8 +1,9 @@
-"""Dovecot 2.3 takes the file that its recipe in GUIDE installs, and asks PAM."""
+"""Dovecot takes the file that its recipe in GUIDE installs, and asks PAM."""
 from __future__ import annotations
 
 import contextlib
 from collections.abc import Iterator
+from dataclasses import dataclass
 from pathlib import Path
 
 import pytest
@@ -17,43 +18,87 @@ pytestmark = [pytest.mark.needs("namespaces", "dovecot"), pytest.mark.xdist_grou
 
 PORT = 8080
 REFUSED = 77  # doveadm's status
-CONFIGURATION = f"""\
+# The name of a setting, and the first lines, are those of a version.
+CONFIGURATION = """\
+%s
 protocols =
 log_path = /dev/stderr
 auth_failure_delay = 0
-service auth {{
-  inet_listener {{
-    address = 127.0.0.1
-    port = {PORT}
-  }}
-}}
-service anvil {{
-  unix_listener anvil-auth-penalty {{
+service auth {
+  inet_listener test {
+    %s = 127.0.0.1
+    port = %d
+  }
+}
+service anvil {
+  unix_listener anvil-auth-penalty {
     mode = 0
-  }}
-}}
+  }
+}
 !include_try local.conf
 """
-BY_PAM = """\
+
+
+@dataclass(frozen=True)
+class Version:
+    """How a version is configured. GUIDE has a recipe for each."""
+
+    name: str
+    first_lines: str
+    listens_on: str  # the setting
+    by_pam: str
+
+    @property
+    def by_file(self) -> str:
+        """The lines of the recipe."""
+        return marked(f"Dovecot {self.name}", "dovecot").code
+
+
+VERSIONS = [
+    Version(
+        name="2.3",
+        first_lines="",
+        listens_on="address",
+        by_pam="""\
 passdb {
   driver = pam
   args = example
 }
-"""
+""",
+    ),
+    Version(
+        name="2.4",
+        first_lines="""\
+dovecot_config_version = 2.4.0
+dovecot_storage_version = 2.4.0
+auth_allow_weak_schemes = yes
+""",
+        listens_on="listen",
+        by_pam="""\
+passdb pam {
+  service_name = example
+}
+""",
+    ),
+]
 
 
-@pytest.fixture(scope="module", autouse=True)
-def _version() -> None:
-    """GUIDE's recipe is for this version."""
-    if not run("dovecot", "--version").stdout.startswith(b"2.3."):
-        missing("Dovecot 2.3", "Debian 12's package dovecot-core")
+@pytest.fixture(scope="module", name="version")
+def fixture_version() -> Version:
+    """The version that is installed."""
+    printed = run("dovecot", "--version").required().stdout.decode()
+    for version in VERSIONS:
+        if printed.startswith(f"{version.name}."):
+            return version
+    missing("Dovecot 2.3 or 2.4", "Debian package dovecot-imapd")
 
 
 @contextlib.contextmanager
-def dovecot(site: Site, folder: Path, lines: str) -> Iterator[Door]:
+def dovecot(site: Site, folder: Path, version: Version, lines: str) -> Iterator[Door]:
     """Runs Dovecot with these lines in local.conf."""
+    configuration = CONFIGURATION % (version.first_lines, version.listens_on, PORT)
     site.machine.write("/etc/dovecot/local.conf", lines)
-    site.machine.write("/etc/dovecot/dovecot.conf", CONFIGURATION)
+    site.machine.write("/etc/dovecot/dovecot.conf", configuration)
 
     def log_in(name: str, password: str) -> Verdict:
         result = site.machine.run("doveadm", "auth", "test", name, password)
@@ -67,10 +112,12 @@ class TestLoginsByFile(LoginTests):
     """Logins to Dovecot, which reads the file."""
 
     @pytest.fixture(scope="class", name="door")
-    def fixture_door(self, site: Site, tmp_path_factory: pytest.TempPathFactory) -> Iterator[Door]:
+    def fixture_door(
+        self, site: Site, version: Version, tmp_path_factory: pytest.TempPathFactory
+    ) -> Iterator[Door]:
         site.load_hashes("Dovecot")
-        lines = marked("Dovecot", "dovecot").code
-        with dovecot(site, tmp_path_factory.mktemp("file"), lines) as door:
+        folder = tmp_path_factory.mktemp("file")
+        with dovecot(site, folder, version, version.by_file) as door:
             yield door
 
 
@@ -79,7 +126,8 @@ class TestLoginsByPam(PamLoginTests):
 
     @pytest.fixture(scope="class", name="door")
     def fixture_door(
-        self, site_with_module: Site, tmp_path_factory: pytest.TempPathFactory
+        self, site_with_module: Site, version: Version, tmp_path_factory: pytest.TempPathFactory
     ) -> Iterator[Door]:
-        with dovecot(site_with_module, tmp_path_factory.mktemp("pam"), BY_PAM) as door:
+        folder = tmp_path_factory.mktemp("pam")
+        with dovecot(site_with_module, folder, version, version.by_pam) as door:
             yield door
