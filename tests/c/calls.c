@@ -1,12 +1,15 @@
 /* Makes the calls of mkpasswd.h that standard input asks for, and prints a line for each.
  * tests/support/driver.py builds this as C and as C++, writes the rows and reads the lines.
  *
- * A row is a call and its arguments by the names that they have in the header:
+ * A row is a call without mkpasswd_ and its arguments by the names that they have in the header:
  *
- *     verify_str password=70617373 stored=24312461 budget=150000000
+ *     verify_bytes password=70617373 stored=24312461 budget=150000000
  *
- * Bytes are hexadecimal, or `null`. What a row leaves out is empty, or 0. `out_len=null` stands for
- * a null `out`. `new_over` is mkpasswd_new with a password that stands in `out`.
+ * Bytes are hexadecimal, or `null`. For the calls that the header has itself they go to
+ * mkpasswd_password_bytes() and mkpasswd_field_bytes(), and with `text:` before them, as a string,
+ * to mkpasswd_password() and mkpasswd_field(). What a row leaves out is empty, or 0.
+ * `out_size=null` stands for a null `out`. `new_over` is mkpasswd_new_bytes with a password that
+ * stands in `out`.
  *
  * The rows `set threads=N` (so many threads make calls), `set refused=N` (this allocation fails,
  * from 1) and `set entropy=HEX`, `entropy=none` or `entropy=real` hold for the rows that follow.
@@ -15,9 +18,10 @@
  * call left in `out`: its string, `unchanged`, or `SPILT` if another byte was written.
  *
  * Input ends where a page begins that nobody may touch, and is read-only; `out` and the report end
- * at such a page too. Each call is made twice, with a report full of 0xff and of 0 (a _str call the
- * second time with none), with 26 KiB of stack left above such a page (not with -DSANITIZED), and
- * has to leave the same both times. */
+ * at such a page too. Each call is made twice, with 26 KiB of stack left above such a page (not
+ * with -DSANITIZED), and has to leave the same both times: first with a report full of 0xff, then
+ * with one full of 0 or, if the header has the call itself, with none, and with a null policy in
+ * place of one of zeros. */
 #ifndef _GNU_SOURCE
 #define _GNU_SOURCE
 #endif
@@ -35,6 +39,7 @@
 #define STACK ((size_t)64 * 1024)
 #define STACK_LEFT ((size_t)26 * 1024)
 #define LONGEST_ROW (3 * PAGE)
+#define TEXT "text:" /* before the digits of a string */
 
 static void *allocated(void *block)
 {
@@ -49,39 +54,39 @@ static void *allocated(void *block)
 struct input {
     uint8_t *page; /* at whose end they are */
     const uint8_t *bytes;
-    size_t len;
+    size_t length;
+    bool is_text; /* so that a zero byte follows */
 };
 
 /* The arguments of a call. */
 struct arguments {
-    struct input password, text; /* which is called stored, field or setting */
-    const char *password_str, *text_str;
-    uint32_t method, rounds, scheme;
-    uint64_t budget, first, second, third;
-    size_t password_len, out_len;
-    int32_t reason;
-    int has_out;
+    struct input password, stored; /* the latter is called stored, field, setting or salt */
+    struct mkpasswd_policy policy; /* whose budget is also that of a call without a policy */
+    uint32_t error, scheme;
+    size_t password_length, out_size;
+    bool has_out;
 };
 
 /* The value of a name in a row, up to the next space; NULL if the row doesn't have it. */
 static const char *value_of(const char *row, const char *name)
 {
-    size_t len = strlen(name);
+    size_t length = strlen(name);
     const char *word = strchr(row, ' ');
 
     for (; word; word = strchr(word, ' ')) {
         word++;
-        if (strncmp(word, name, len) == 0 && word[len] == '=')
-            return word + len + 1;
+        if (strncmp(word, name, length) == 0 && word[length] == '=')
+            return word + length + 1;
     }
     return NULL;
 }
 
-static int is_value(const char *value, const char *word)
+static bool is_value(const char *value, const char *word)
 {
-    size_t len = strlen(word);
+    size_t length = strlen(word);
 
-    return value && strncmp(value, word, len) == 0 && (value[len] == ' ' || value[len] == 0);
+    return value && strncmp(value, word, length) == 0
+        && (value[length] == ' ' || value[length] == 0);
 }
 
 static uint64_t number_of(const char *row, const char *name)
@@ -99,28 +104,30 @@ static uint8_t digit_of(char hex)
 /* The bytes that a value has in hexadecimal digits. */
 static size_t bytes_of(const char *value, uint8_t *bytes)
 {
-    size_t len = 0;
+    size_t length = 0;
 
     if (!value)
         return 0;
     for (; value[0] > ' ' && value[1] > ' '; value += 2)
-        bytes[len++] = (uint8_t)(digit_of(value[0]) << 4 | digit_of(value[1]));
-    return len;
+        bytes[length++] = (uint8_t)(digit_of(value[0]) << 4 | digit_of(value[1]));
+    return length;
 }
 
-/* A byte 0 ends the bytes for a _str call alone. */
-static void read_input(struct input *input, const char *value, int is_str)
+static void read_input(struct input *input, const char *value)
 {
     uint8_t bytes[PAGE];
-    size_t len = bytes_of(value, bytes);
+    size_t size;
 
-    input->len = len;
-    if (is_str)
-        bytes[len++] = 0;
-    input->bytes = is_value(value, "null") ? NULL : at_end_of(input->page, bytes, len);
+    input->is_text = value && strncmp(value, TEXT, strlen(TEXT)) == 0;
+    if (input->is_text)
+        value += strlen(TEXT);
+    input->length = size = bytes_of(value, bytes);
+    if (input->is_text)
+        bytes[size++] = 0;
+    input->bytes = is_value(value, "null") ? NULL : at_end_of(input->page, bytes, size);
 }
 
-static const char *text_of(const char *row)
+static const char *stored_value_of(const char *row)
 {
     static const char *const names[] = {"stored", "field", "setting", "salt"};
     const char *value = NULL;
@@ -133,24 +140,16 @@ static const char *text_of(const char *row)
 
 static void read_row(struct arguments *given, const char *row)
 {
-    const char *call_end = strchr(row, ' ');
-    int is_str = call_end && call_end - row > 4 && strncmp(call_end - 4, "_str", 4) == 0;
-
-    read_input(&given->password, value_of(row, "password"), is_str);
-    read_input(&given->text, text_of(row), is_str);
-    given->password_str = (const char *)given->password.bytes;
-    given->text_str = (const char *)given->text.bytes;
-    given->method = (uint32_t)number_of(row, "method");
-    given->rounds = (uint32_t)number_of(row, "rounds");
+    read_input(&given->password, value_of(row, "password"));
+    read_input(&given->stored, stored_value_of(row));
+    given->policy.method = (uint32_t)number_of(row, "method");
+    given->policy.rounds = (uint32_t)number_of(row, "rounds");
+    given->policy.budget = number_of(row, "budget");
+    given->error = (uint32_t)number_of(row, "error");
     given->scheme = (uint32_t)number_of(row, "scheme");
-    given->budget = number_of(row, "budget");
-    given->first = number_of(row, "first");
-    given->second = number_of(row, "second");
-    given->third = number_of(row, "third");
-    given->password_len = (size_t)number_of(row, "password_len");
-    given->reason = (int32_t)(int64_t)number_of(row, "reason"); /* strtoull takes a minus sign */
-    given->has_out = !is_value(value_of(row, "out_len"), "null");
-    given->out_len = given->has_out ? (size_t)number_of(row, "out_len") : 100;
+    given->password_length = (size_t)number_of(row, "password_length");
+    given->has_out = !is_value(value_of(row, "out_size"), "null");
+    given->out_size = given->has_out ? (size_t)number_of(row, "out_size") : 100;
 }
 
 /* ---- calls */
@@ -158,180 +157,209 @@ static void read_row(struct arguments *given, const char *row)
 /* What a call gets, and where it writes. */
 struct call {
     struct arguments given;
+    bool has_null_policy; /* in place of one of zeros */
     uint8_t *out;
-    char *out_str;
+    char *text_out;
     struct mkpasswd_report *report;
 };
 
 typedef int32_t made_call(const struct call *call);
 
-static int32_t verify(const struct call *call)
+static struct mkpasswd_password password_of(const struct call *call)
 {
-    const struct arguments *given = &call->given;
+    const struct input *input = &call->given.password;
 
-    return mkpasswd_verify(given->password.bytes, given->password.len, given->text.bytes,
-        given->text.len, given->budget, call->report);
+    if (input->is_text)
+        return mkpasswd_password((const char *)input->bytes);
+    return mkpasswd_password_bytes(input->bytes, input->length);
 }
 
-static int32_t verify_str(const struct call *call)
+static struct mkpasswd_field field_of(const struct call *call)
 {
-    const struct arguments *given = &call->given;
+    const struct input *input = &call->given.stored;
 
-    return mkpasswd_verify_str(given->password_str, given->text_str, given->budget, call->report);
+    if (input->is_text)
+        return mkpasswd_field((const char *)input->bytes);
+    return mkpasswd_field_bytes(input->bytes, input->length);
+}
+
+static const struct mkpasswd_policy *policy_of(const struct call *call)
+{
+    const struct mkpasswd_policy *policy = &call->given.policy;
+    bool is_zero = policy->method == 0 && policy->rounds == 0 && policy->budget == 0;
+
+    return is_zero && call->has_null_policy ? NULL : policy;
 }
 
 static int32_t login(const struct call *call)
 {
-    const struct arguments *given = &call->given;
-
-    return mkpasswd_login(given->password.bytes, given->password.len, given->text.bytes,
-        given->text.len, given->method, given->rounds, given->budget, call->report);
+    return mkpasswd_login(password_of(call), field_of(call), policy_of(call), call->report);
 }
 
-static int32_t login_str(const struct call *call)
+static int32_t login_bytes(const struct call *call)
 {
-    const struct arguments *given = &call->given;
+    const struct input *password = &call->given.password, *field = &call->given.stored;
+    const struct mkpasswd_policy *policy = &call->given.policy;
 
-    return mkpasswd_login_str(given->password_str, given->text_str, given->method, given->rounds,
-        given->budget, call->report);
+    return mkpasswd_login_bytes(password->bytes, password->length, field->bytes, field->length,
+        policy->method, policy->rounds, policy->budget, call->report);
 }
 
 static int32_t new_hash(const struct call *call)
 {
-    const struct arguments *given = &call->given;
+    return mkpasswd_new(
+        password_of(call), policy_of(call), call->text_out, call->given.out_size, call->report);
+}
 
-    return mkpasswd_new(given->password.bytes, given->password.len, given->method, given->rounds,
-        given->budget, call->out, given->out_len, call->report);
+static int32_t new_bytes(const struct call *call)
+{
+    const struct input *password = &call->given.password;
+    const struct mkpasswd_policy *policy = &call->given.policy;
+
+    return mkpasswd_new_bytes(password->bytes, password->length, policy->method, policy->rounds,
+        policy->budget, call->out, call->given.out_size, call->report);
 }
 
 static int32_t new_over(const struct call *call)
 {
-    const struct arguments *given = &call->given;
+    const struct input *password = &call->given.password;
+    const struct mkpasswd_policy *policy = &call->given.policy;
 
-    memcpy(call->out, given->password.bytes, given->password.len);
-    return mkpasswd_new(call->out, given->password.len, given->method, given->rounds, given->budget,
-        call->out, given->out_len, call->report);
-}
-
-static int32_t new_str(const struct call *call)
-{
-    const struct arguments *given = &call->given;
-
-    return mkpasswd_new_str(given->password_str, given->method, given->rounds, given->budget,
-        call->out_str, given->out_len, call->report);
+    memcpy(call->out, password->bytes, password->length);
+    return mkpasswd_new_bytes(call->out, password->length, policy->method, policy->rounds,
+        policy->budget, call->out, call->given.out_size, call->report);
 }
 
 static int32_t needs_rehash(const struct call *call)
 {
-    const struct arguments *given = &call->given;
-
-    return mkpasswd_needs_rehash(
-        given->text.bytes, given->text.len, given->method, given->rounds, call->report);
+    return mkpasswd_needs_rehash(field_of(call), policy_of(call), call->report);
 }
 
-static int32_t needs_rehash_str(const struct call *call)
+static int32_t needs_rehash_bytes(const struct call *call)
 {
-    const struct arguments *given = &call->given;
+    const struct input *stored = &call->given.stored;
+    const struct mkpasswd_policy *policy = &call->given.policy;
 
-    return mkpasswd_needs_rehash_str(given->text_str, given->method, given->rounds, call->report);
+    return mkpasswd_needs_rehash_bytes(
+        stored->bytes, stored->length, policy->method, policy->rounds, call->report);
 }
 
 static int32_t audit(const struct call *call)
 {
-    const struct arguments *given = &call->given;
-
-    return mkpasswd_audit(given->text.bytes, given->text.len, given->method, given->rounds,
-        given->budget, call->report);
+    return mkpasswd_audit(field_of(call), policy_of(call), call->report);
 }
 
-static int32_t audit_str(const struct call *call)
+static int32_t audit_bytes(const struct call *call)
 {
-    const struct arguments *given = &call->given;
+    const struct input *stored = &call->given.stored;
+    const struct mkpasswd_policy *policy = &call->given.policy;
 
-    return mkpasswd_audit_str(
-        given->text_str, given->method, given->rounds, given->budget, call->report);
+    return mkpasswd_audit_bytes(stored->bytes, stored->length, policy->method, policy->rounds,
+        policy->budget, call->report);
 }
 
 static int32_t limit(const struct call *call)
 {
-    const struct arguments *given = &call->given;
+    return mkpasswd_limit(policy_of(call), call->report);
+}
 
-    return mkpasswd_limit(given->method, given->rounds, given->budget, call->report);
+static int32_t limit_bytes(const struct call *call)
+{
+    const struct mkpasswd_policy *policy = &call->given.policy;
+
+    return mkpasswd_limit_bytes(policy->method, policy->rounds, policy->budget, call->report);
 }
 
 static int32_t rounds(const struct call *call)
 {
-    const struct arguments *given = &call->given;
-
-    return mkpasswd_rounds(
-        given->password_len, given->method, given->rounds, given->budget, call->report);
+    return mkpasswd_rounds(call->given.password_length, policy_of(call), call->report);
 }
 
-static int32_t bound(const struct call *call)
+static int32_t rounds_bytes(const struct call *call)
 {
-    const struct arguments *given = &call->given;
+    const struct mkpasswd_policy *policy = &call->given.policy;
 
-    return mkpasswd_bound(given->text.bytes, given->text.len, given->password_len, call->report);
+    return mkpasswd_rounds_bytes(
+        call->given.password_length, policy->method, policy->rounds, policy->budget, call->report);
 }
 
-static int32_t bound_str(const struct call *call)
+static int32_t verify(const struct call *call)
 {
-    return mkpasswd_bound_str(call->given.text_str, call->given.password_len, call->report);
+    uint64_t budget = call->given.policy.budget;
+
+    return mkpasswd_verify(password_of(call), field_of(call), budget, call->report);
+}
+
+static int32_t verify_bytes(const struct call *call)
+{
+    const struct input *password = &call->given.password, *stored = &call->given.stored;
+
+    return mkpasswd_verify_bytes(password->bytes, password->length, stored->bytes, stored->length,
+        call->given.policy.budget, call->report);
 }
 
 static int32_t hash(const struct call *call)
 {
-    const struct arguments *given = &call->given;
-
-    return mkpasswd_hash(given->password.bytes, given->password.len, given->text.bytes,
-        given->text.len, given->budget, call->out, given->out_len, call->report);
+    return mkpasswd_hash(password_of(call), field_of(call), call->given.policy.budget,
+        call->text_out, call->given.out_size, call->report);
 }
 
-static int32_t hash_str(const struct call *call)
+static int32_t hash_bytes(const struct call *call)
 {
-    const struct arguments *given = &call->given;
+    const struct input *password = &call->given.password, *setting = &call->given.stored;
 
-    return mkpasswd_hash_str(given->password_str, given->text_str, given->budget, call->out_str,
-        given->out_len, call->report);
+    return mkpasswd_hash_bytes(password->bytes, password->length, setting->bytes, setting->length,
+        call->given.policy.budget, call->out, call->given.out_size, call->report);
 }
 
 static int32_t setting(const struct call *call)
 {
-    const struct arguments *given = &call->given;
+    const char *salt = (const char *)call->given.stored.bytes;
 
-    return mkpasswd_setting(given->method, given->rounds, given->first, given->second, given->third,
-        call->out, given->out_len, call->report);
+    return mkpasswd_setting(
+        policy_of(call), salt, call->text_out, call->given.out_size, call->report);
 }
 
-static int32_t setting_str(const struct call *call)
+static int32_t setting_bytes(const struct call *call)
 {
-    const struct arguments *given = &call->given;
+    const struct input *salt = &call->given.stored;
+    const struct mkpasswd_policy *policy = &call->given.policy;
 
-    return mkpasswd_setting_str(given->method, given->rounds, given->first, given->second,
-        given->third, call->out_str, given->out_len, call->report);
+    return mkpasswd_setting_bytes(policy->method, policy->rounds, salt->bytes, salt->length,
+        call->out, call->given.out_size, call->report);
 }
 
-static int32_t setting_with_salt(const struct call *call)
+static int32_t bound(const struct call *call)
 {
-    const struct arguments *given = &call->given;
+    return mkpasswd_bound(field_of(call), call->given.password_length, call->report);
+}
 
-    return mkpasswd_setting_with_salt(given->method, given->rounds, given->text.bytes,
-        given->text.len, call->out, given->out_len, call->report);
+static int32_t bound_bytes(const struct call *call)
+{
+    const struct input *setting = &call->given.stored;
+
+    return mkpasswd_bound_bytes(
+        setting->bytes, setting->length, call->given.password_length, call->report);
+}
+
+static int32_t message(const struct call *call)
+{
+    return mkpasswd_message(call->given.error, call->text_out, call->given.out_size);
+}
+
+static int32_t message_bytes(const struct call *call)
+{
+    return mkpasswd_message_bytes(call->given.error, call->out, call->given.out_size);
 }
 
 static int32_t scheme_name(const struct call *call)
 {
-    return mkpasswd_scheme_name(call->given.scheme, call->out, call->given.out_len);
+    return mkpasswd_scheme_name(call->given.scheme, call->text_out, call->given.out_size);
 }
 
-static int32_t words(const struct call *call)
+static int32_t scheme_name_bytes(const struct call *call)
 {
-    return mkpasswd_words(call->given.reason, call->out, call->given.out_len);
-}
-
-static int32_t words_str(const struct call *call)
-{
-    return mkpasswd_words_str(call->given.reason, call->out_str, call->given.out_len);
+    return mkpasswd_scheme_name_bytes(call->given.scheme, call->out, call->given.out_size);
 }
 
 static int32_t version(const struct call *call)
@@ -343,34 +371,36 @@ static int32_t version(const struct call *call)
 struct kind {
     const char *name;
     made_call *make;
-    int has_report, is_str;
+    bool has_report, takes_nulls;
 };
 
 static const struct kind kinds[] = {
-    {"verify", verify, 1, 0},
-    {"verify_str", verify_str, 1, 1},
-    {"login", login, 1, 0},
-    {"login_str", login_str, 1, 1},
-    {"new", new_hash, 1, 0},
-    {"new_over", new_over, 1, 0},
-    {"new_str", new_str, 1, 1},
-    {"needs_rehash", needs_rehash, 1, 0},
-    {"needs_rehash_str", needs_rehash_str, 1, 1},
-    {"audit", audit, 1, 0},
-    {"audit_str", audit_str, 1, 1},
-    {"limit", limit, 1, 0},
-    {"rounds", rounds, 1, 0},
-    {"bound", bound, 1, 0},
-    {"bound_str", bound_str, 1, 1},
-    {"hash", hash, 1, 0},
-    {"hash_str", hash_str, 1, 1},
-    {"setting", setting, 1, 0},
-    {"setting_str", setting_str, 1, 1},
-    {"setting_with_salt", setting_with_salt, 1, 0},
-    {"scheme_name", scheme_name, 0, 0},
-    {"words", words, 0, 0},
-    {"words_str", words_str, 0, 1},
-    {"version", version, 0, 0},
+    {"login", login, true, true},
+    {"login_bytes", login_bytes, true, false},
+    {"new", new_hash, true, true},
+    {"new_bytes", new_bytes, true, false},
+    {"new_over", new_over, true, false},
+    {"needs_rehash", needs_rehash, true, true},
+    {"needs_rehash_bytes", needs_rehash_bytes, true, false},
+    {"audit", audit, true, true},
+    {"audit_bytes", audit_bytes, true, false},
+    {"limit", limit, true, true},
+    {"limit_bytes", limit_bytes, true, false},
+    {"rounds", rounds, true, true},
+    {"rounds_bytes", rounds_bytes, true, false},
+    {"verify", verify, true, true},
+    {"verify_bytes", verify_bytes, true, false},
+    {"hash", hash, true, true},
+    {"hash_bytes", hash_bytes, true, false},
+    {"setting", setting, true, true},
+    {"setting_bytes", setting_bytes, true, false},
+    {"bound", bound, true, true},
+    {"bound_bytes", bound_bytes, true, false},
+    {"message", message, false, true},
+    {"message_bytes", message_bytes, false, false},
+    {"scheme_name", scheme_name, false, true},
+    {"scheme_name_bytes", scheme_name_bytes, false, false},
+    {"version", version, false, false},
 };
 
 /* The kind of a row's call; what isn't known ends the program. */
@@ -400,8 +430,8 @@ static const char *left_in(const struct job *job, const char **quote)
     const uint8_t *page = job->out_page, *out = job->call.out, *byte, *end = NULL;
 
     *quote = "";
-    if (job->call.given.out_len)
-        end = (const uint8_t *)memchr(out, 0, job->call.given.out_len);
+    if (job->call.given.out_size)
+        end = (const uint8_t *)memchr(out, 0, job->call.given.out_size);
     for (byte = page; byte < page + PAGE; byte++)
         if (*byte != PATTERN && !(end && byte >= out && byte <= end))
             return "SPILT";
@@ -418,17 +448,17 @@ static void print_answer(struct job *job, int32_t result)
     const char *quote, *left = left_in(job, &quote);
 
     (void)snprintf(job->line, sizeof job->line,
-        "result=%" PRId32 " reason=%" PRId32 " length=%" PRIu32 " cost=%" PRIu64 " digests=%" PRIu64
-        " bytes=%" PRIu64 " mixes=%" PRIu64 " table=%" PRIu64 " scratch=%" PRIu64 " rounds=%" PRIu32
-        " scheme=%" PRIu32 " n=%" PRIu64 " r=%" PRIu32 " p=%" PRIu32
-        " allocations=%ld kept=%ld drawn=%ld out=%s%s%s",
-        result, report->reason, report->length, report->cost, work->digests, work->bytes,
-        work->mixes, work->table, work->scratch, report->rounds, report->scheme, report->n,
-        report->r, report->p, allocations, blocks_kept, bytes_drawn, quote, left, quote);
+        "result=%" PRId32 " error=%" PRIu32 " outdated=%" PRIu32 " length=%" PRIu32
+        " scheme=%" PRIu32 " rounds=%" PRIu32 " n=%" PRIu32 " r=%" PRIu32 " p=%" PRIu32
+        " cost=%" PRIu64 " digests=%" PRIu64 " bytes=%" PRIu64 " mixes=%" PRIu64 " table=%" PRIu64
+        " scratch=%" PRIu64 " allocations=%ld kept=%ld drawn=%ld out=%s%s%s",
+        result, report->error, report->outdated, report->length, report->scheme, report->rounds,
+        report->n, report->r, report->p, report->cost, work->digests, work->bytes, work->mixes,
+        work->table, work->scratch, allocations, blocks_kept, bytes_drawn, quote, left, quote);
 }
 
 /* Makes the call of a job. The report is full of a byte before, or isn't given. */
-static int32_t make(struct job *job, int has_report, int byte)
+static int32_t make(struct job *job, bool has_report, int byte)
 {
     struct call *call = &job->call;
     uint8_t *out = call->out;
@@ -442,7 +472,8 @@ static int32_t make(struct job *job, int has_report, int byte)
         call->report = NULL;
     if (!call->given.has_out)
         call->out = NULL;
-    call->out_str = (char *)call->out;
+    call->has_null_policy = !has_report;
+    call->text_out = (char *)call->out;
     begin_counting();
     result = job->kind->make(call);
     end_counting();
@@ -455,22 +486,23 @@ static int32_t make(struct job *job, int has_report, int byte)
 __attribute__((noinline)) static void perform(struct job *job)
 {
     const struct kind *kind = job->kind;
-    int is_drawn = entropy == ENTROPY_REAL && strncmp(kind->name, "new", 3) == 0;
-    size_t len;
+    bool is_drawn = entropy == ENTROPY_REAL && strncmp(kind->name, "new", 3) == 0;
+    size_t length;
 
 #ifndef SANITIZED
     size_t stack_above = (size_t)((uint8_t *)&job - job->stack);
     *(volatile uint8_t *)__builtin_alloca(stack_above - STACK_LEFT) = 0;
 #endif
-    print_answer(job, make(job, 1, kind->has_report ? 0xff : 0));
+    print_answer(job, make(job, true, kind->has_report ? 0xff : 0));
     if (is_drawn) /* no salt comes twice */
         return;
     memcpy(job->first, job->line, sizeof job->first);
-    print_answer(job, make(job, !kind->is_str, 0));
+    print_answer(job, make(job, !kind->takes_nulls, 0));
     if (strcmp(job->first, job->line) == 0)
         return;
-    len = strlen(job->line);
-    (void)snprintf(job->line + len, sizeof job->line - len, " DIFFERS FROM %.4000s", job->first);
+    length = strlen(job->line);
+    (void)snprintf(
+        job->line + length, sizeof job->line - length, " DIFFERS FROM %.4000s", job->first);
 }
 
 /* ---- threads, which share the rows out among them */
@@ -491,7 +523,7 @@ static void *run(void *argument)
         pthread_mutex_unlock(&lock);
         job->kind = kind_of(rows[number]);
         read_row(&job->call.given, rows[number]);
-        job->call.out = job->out_page + PAGE - job->call.given.out_len;
+        job->call.out = job->out_page + PAGE - job->call.given.out_size;
         perform(job);
         lines[number] = (char *)allocated(strdup(job->line));
         pthread_mutex_lock(&lock);
@@ -510,7 +542,7 @@ static void prepare(struct job *job)
     job->out_page = new_pages(PAGE);
     job->report_page = new_pages(PAGE);
     job->call.given.password.page = new_pages(PAGE);
-    job->call.given.text.page = new_pages(PAGE);
+    job->call.given.stored.page = new_pages(PAGE);
     job->call.report = (struct mkpasswd_report *)(void *)(job->report_page + PAGE - size);
 }
 

@@ -2,13 +2,12 @@
  * called the pointer nonnull. Without arguments `field` is null, and the program returns 0. */
 #include <mkpasswd.h>
 
-int main(int count, char **argument)
+int main(int count, char **arguments)
 {
-    struct mkpasswd_report report;
-    const uint8_t *field = (const uint8_t *)argument[1];
-    int is_in = mkpasswd_login(field, 0, field, 0, 6, 1000, 1, &report);
+    const char *field = arguments[1];
+    bool is_in = mkpasswd_login(mkpasswd_password(field), mkpasswd_field(field), NULL, NULL);
 
     if (count == 1 && !field)
         return 0;
-    return 1 + is_in;
+    return is_in ? 2 : 1;
 }

@@ -1,24 +1,29 @@
-/* Writes the bytes of three reports, so that a test sees which field is where: of a hash, whose N
- * is 64 and r is 8, so that each count has a value of its own; of a limit, which has rounds; and of
- * an audit, which has a scheme, N, r and p. */
+/* Writes the bytes of four reports, so that a test sees which field is where: of a hash, whose N is
+ * 64 and r is 8, so that each count has a value of its own; of a limit, which has rounds; of an
+ * audit, which has a scheme, N, r and p, and an outdated hash; and of a setting that is none. */
 #include <mkpasswd.h>
 #include <stdio.h>
 
+static const char setting[] = "$7$46..../....SodiumChloride";
+static const char outdated[] =
+    "$7$C6....0....SodiumChloride$...........................................";
+
+static bool print(const struct mkpasswd_report *report)
+{
+    return fwrite(report, sizeof *report, 1, stdout) == 1;
+}
+
 int main(void)
 {
-    static const char audited[] =
-        "$7$C6..../....SodiumChloride$...........................................";
-    struct mkpasswd_report hash, limit, audit;
+    struct mkpasswd_report hash, limit, audit, bound;
     char out[MKPASSWD_TEXT_SIZE];
 
-    if (!mkpasswd_hash_str(
-            "password", "$7$46..../....SodiumChloride", 150000000, out, sizeof out, &hash))
+    if (!mkpasswd_hash(mkpasswd_password("password"), mkpasswd_field(setting), 150000000, out,
+            sizeof out, &hash))
         return 1;
-    if (mkpasswd_limit(MKPASSWD_SHA512CRYPT, 0, MKPASSWD_TWICE, &limit) != 1)
+    if (!mkpasswd_limit(NULL, &limit) || mkpasswd_audit(mkpasswd_field(outdated), NULL, &audit))
         return 1;
-    if (mkpasswd_audit_str(audited, MKPASSWD_SHA512CRYPT, 0, 0, &audit))
+    if (mkpasswd_bound(mkpasswd_field("x"), 8, &bound))
         return 1;
-    if (fwrite(&hash, sizeof hash, 1, stdout) != 1 || fwrite(&limit, sizeof limit, 1, stdout) != 1)
-        return 1;
-    return fwrite(&audit, sizeof audit, 1, stdout) != 1;
+    return !(print(&hash) && print(&limit) && print(&audit) && print(&bound));
 }

@@ -16,15 +16,16 @@
 #define CALLS 3
 
 struct held {
-    uint8_t password[MKPASSWD_PASSWORD_LIMIT], out[MKPASSWD_TEXT_SIZE];
+    uint8_t password[MKPASSWD_PASSWORD_LIMIT];
+    char out[MKPASSWD_TEXT_SIZE];
     struct mkpasswd_report report;
 };
 
 struct call {
     const char *name;
-    const uint8_t *text;
-    size_t text_len, password_len;
-    uint32_t method, rounds;
+    struct mkpasswd_field field;
+    size_t password_length;
+    struct mkpasswd_policy policy;
 };
 
 static uint32_t number_of(const char *digits)
@@ -32,30 +33,29 @@ static uint32_t number_of(const char *digits)
     return (uint32_t)strtoul(digits, NULL, 10);
 }
 
-static void write_password(struct held *held, size_t len, size_t offset)
+static void write_password(struct held *held, size_t length, size_t offset)
 {
-    for (size_t place = 0; place < len; place++)
+    for (size_t place = 0; place < length; place++)
         held->password[place] = (uint8_t)('!' + (place * place + place / 7 + offset) % 90);
 }
 
 /* Whatever the call returns, it did its work. */
 static void make(const struct call *call, struct held *held)
 {
-    const uint64_t any = UINT64_MAX;
-    int32_t result;
+    struct mkpasswd_password password = mkpasswd_password_bytes(
+        held->password, call->password_length);
+    const uint64_t any = call->policy.budget;
+    bool result;
 
     if (strcmp(call->name, "verify") == 0)
-        result = mkpasswd_verify(
-            held->password, call->password_len, call->text, call->text_len, any, &held->report);
+        result = mkpasswd_verify(password, call->field, any, &held->report);
     else if (strcmp(call->name, "login") == 0)
-        result = mkpasswd_login(held->password, call->password_len, call->text, call->text_len,
-            call->method, call->rounds, any, &held->report);
+        result = mkpasswd_login(password, call->field, &call->policy, &held->report);
     else if (strcmp(call->name, "hash") == 0)
-        result = mkpasswd_hash(held->password, call->password_len, call->text, call->text_len, any,
-            held->out, sizeof held->out, &held->report);
+        result = mkpasswd_hash(
+            password, call->field, any, held->out, sizeof held->out, &held->report);
     else
-        result = mkpasswd_new(held->password, call->password_len, call->method, call->rounds, any,
-            held->out, sizeof held->out, &held->report);
+        result = mkpasswd_new(password, &call->policy, held->out, sizeof held->out, &held->report);
     (void)result;
 }
 
@@ -73,12 +73,12 @@ int main(int argc, char **argv)
 
     if (argc != ARGUMENTS || held == MAP_FAILED)
         return 2;
-    call = (struct call){argv[1], (const uint8_t *)argv[2], strlen(argv[2]), number_of(argv[5]),
-        number_of(argv[3]), number_of(argv[4])};
+    call = (struct call){argv[1], mkpasswd_field(argv[2]), number_of(argv[5]),
+        {number_of(argv[3]), number_of(argv[4]), UINT64_MAX}};
     if (number_of(argv[6]) == 1 && mlockall(MCL_CURRENT | MCL_FUTURE) != 0)
         return 2;
     for (int number = 1; number <= CALLS; number++) {
-        write_password(held, call.password_len, number == CALLS ? 31 : 0);
+        write_password(held, call.password_length, number == CALLS ? 31 : 0);
         make(&call, held);
         if (held->report.work.digests == 0 || !has_stopped(held))
             return 1;

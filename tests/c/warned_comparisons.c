@@ -1,31 +1,31 @@
-/* Comparisons of a login's result that always hold or never do, since it is a bool. A compiler has
- * to warn about each line that says so. */
+/* Comparisons of what a call returns that always hold or never do, since it is a bool. A compiler
+ * has to warn about each line that says so. */
 #include <mkpasswd.h>
 
-static bool is_below_zero(struct mkpasswd_report *report)
+static bool login(void)
 {
-    return mkpasswd_verify_str("", "", 1, report) < 0; /* NOLINT: warns */
+    return mkpasswd_login(mkpasswd_password(""), mkpasswd_field(""), NULL, NULL);
 }
 
-static bool is_a_reason(struct mkpasswd_report *report)
+static bool verify(void)
 {
-    return mkpasswd_verify_str("", "", 1, report) == MKPASSWD_DONE; /* NOLINT: warns */
-}
-
-static bool is_zero_or_more(struct mkpasswd_report *report)
-{
-    return mkpasswd_verify_str("", "", 1, report) >= 0; /* NOLINT: warns */
-}
-
-static bool is_no_reason(struct mkpasswd_report *report)
-{
-    return mkpasswd_verify_str("", "", 1, report) != MKPASSWD_DIFFERS; /* NOLINT: warns */
+    return mkpasswd_verify(mkpasswd_password(""), mkpasswd_field(""), 1, NULL);
 }
 
 int main(void)
 {
-    struct mkpasswd_report report;
+    struct mkpasswd_password password = mkpasswd_password("");
+    struct mkpasswd_field field = mkpasswd_field("");
+    int results = 0;
 
-    return is_below_zero(&report) + is_a_reason(&report) + is_zero_or_more(&report)
-        + is_no_reason(&report);
+    results += mkpasswd_login(password, field, NULL, NULL) >= 0;  /* NOLINT: warns */
+    results += mkpasswd_login(password, field, NULL, NULL) < 0;   /* NOLINT: warns */
+    results += mkpasswd_login(password, field, NULL, NULL) != -1; /* NOLINT: warns */
+    results += mkpasswd_verify(password, field, 1, NULL) >= 0;    /* NOLINT: warns */
+    results += mkpasswd_verify(password, field, 1, NULL) != -1;   /* NOLINT: warns */
+    results += login() >= 0;                                      /* NOLINT: warns */
+    results += login() != MKPASSWD_ERROR_WRONG_PASSWORD;          /* NOLINT: warns */
+    results += login() == MKPASSWD_ERROR_WRONG_PASSWORD;          /* NOLINT: warns */
+    results += verify() != -1;                                    /* NOLINT: warns */
+    return results;
 }

@@ -4,14 +4,17 @@
 
 int main(void)
 {
-    uint8_t small[64];
+    struct mkpasswd_password password = mkpasswd_password("");
+    struct mkpasswd_field field = mkpasswd_field("");
+    uint8_t bytes[64];
     char text[64];
     int results = 0;
 
-    results += mkpasswd_new_str("", 6, 0, 1, text, 145, 0);       /* NOLINT: warns */
-    results += mkpasswd_hash_str("", "", 1, text, 145, 0);        /* NOLINT: warns */
-    results += mkpasswd_setting_str(6, 0, 1, 2, 3, text, 145, 0); /* NOLINT: warns */
-    results += mkpasswd_words_str(1, text, 145);                  /* NOLINT: warns */
-    results += mkpasswd_words(1, small, 145);                     /* NOLINT: warns */
+    results += mkpasswd_new(password, NULL, text, 145, NULL);      /* NOLINT: warns */
+    results += mkpasswd_hash(password, field, 1, text, 145, NULL); /* NOLINT: warns */
+    results += mkpasswd_setting(NULL, "salt", text, 145, NULL);    /* NOLINT: warns */
+    results += mkpasswd_message(1, text, 145);                     /* NOLINT: warns */
+    results += mkpasswd_scheme_name(1, text, 145);                 /* NOLINT: warns */
+    results += mkpasswd_message_bytes(1, bytes, 145);              /* NOLINT: warns */
     return results;
 }

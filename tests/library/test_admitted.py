@@ -8,7 +8,6 @@ import pytest
 from support.driver import Driver
 from support.model.calls import (
     GREATEST,
-    METHODS,
     Call,
     Limit,
     Login,
@@ -16,6 +15,7 @@ from support.model.calls import (
     Reason,
     Rounds,
     System,
+    in_each_form,
     method_of,
 )
 from support.model.settings import recommended_setting
@@ -43,7 +43,10 @@ VALID = (
 INVALID = (
     *INVALID_POLICIES,
     *INVALID_ROUNDS,
-    *(InvalidPolicy(policy.title, policy.method, policy.rounds, Reason.COST) for policy in CLAMPED),
+    *(
+        InvalidPolicy(policy.title, policy.method, policy.rounds, Reason.ROUNDS)
+        for policy in CLAMPED
+    ),
 )
 # The cost of a new hash of these lengths is a budget, and so are the numbers beside it.
 LENGTHS_OF_BUDGETS = (0, 8, 64, 65, 169, 1023, 1024)
@@ -54,7 +57,7 @@ RANDOM_BYTES = System(random_bytes=bytes(range(1, 25)))
 
 def budgets_of(policy: Policy) -> list[int]:
     """None of its own, the least and the greatest, and budgets on each side of some costs."""
-    setting = recommended_setting(METHODS[policy.method], policy.rounds)
+    setting = policy.setting
     costs = [cost(setting, length) for length in LENGTHS_OF_BUDGETS]
     beside = [price + step for price in costs for step in (-1, 0, 1)]
     return [0, 1, GREATEST, *beside]
@@ -66,7 +69,7 @@ def calls_by(policy: Policy, budgets: list[int]) -> list[Call]:
     for budget in budgets:
         calls.append(Limit(policy.method, policy.rounds, budget))
         calls += [Rounds(length, policy.method, policy.rounds, budget) for length in LENGTHS]
-    return calls
+    return in_each_form(*calls)
 
 
 @pytest.mark.parametrize("policy", VALID, ids=str)
@@ -85,22 +88,21 @@ def test_a_budget_has_room_for_the_longest_password_whose_hash_costs_no_more(
     driver: Driver, policy: Policy
 ) -> None:
     """Where the costs of a length and of the next one differ."""
-    setting = recommended_setting(METHODS[policy.method], policy.rounds)
+    setting = policy.setting
     for length in (0, 8, 64, 168):
         budget = cost(setting, length + 1) - 1
         if cost(setting, length) <= budget:
             call = Limit(policy.method, policy.rounds, budget)
-            driver.assert_answer(call, result=1, reason=Reason.DONE, length=length, cost=budget)
+            driver.assert_answer(call, result=1, error=0, length=length, cost=budget)
 
 
 @pytest.mark.parametrize("policy", VALID, ids=str)
 def test_a_budget_without_room_for_the_empty_password_is_reported(
     driver: Driver, policy: Policy
 ) -> None:
-    setting = recommended_setting(METHODS[policy.method], policy.rounds)
-    budget = cost(setting, 0) - 1
+    budget = cost(policy.setting, 0) - 1
     call = Limit(policy.method, policy.rounds, budget)
-    driver.assert_answer(call, result=0, reason=Reason.OVER_BUDGET, length=0, cost=budget, rounds=0)
+    driver.assert_answer(call, result=0, error=Reason.OVER_BUDGET, length=0, cost=budget, rounds=0)
 
 
 @pytest.mark.parametrize("policy", INVALID, ids=str)
@@ -113,7 +115,7 @@ def test_an_invalid_policy_has_no_limit_and_no_rounds(
             Rounds(length, policy.method, policy.rounds, budget) for length in (0, LONGEST_PASSWORD)
         ]
         for answer in driver.assert_by_the_rules(calls):
-            assert (answer.result, answer.reason) == (0, policy.reason)
+            assert (answer.result, answer.error) == (0, policy.error)
             assert (answer.length, answer.cost, answer.rounds) == (0, 0, 0)
 
 
@@ -123,7 +125,7 @@ def test_no_policy_has_rounds_for_a_password_longer_than_any(
     driver: Driver, length: int, policy: Policy
 ) -> None:
     call = Rounds(length, policy.method, policy.rounds)
-    driver.assert_answer(call, result=0, reason=Reason.PASSWORD_TOO_LONG, cost=0, rounds=0)
+    driver.assert_answer(call, result=0, error=Reason.PASSWORD_TOO_LONG, cost=0, rounds=0)
 
 
 @pytest.mark.parametrize("number", [5, 6], ids=["sha256crypt", "sha512crypt"])
@@ -135,12 +137,12 @@ def test_the_fewest_rounds_need_a_budget_of_their_cost(
     least = cost(recommended_setting(method, 1000), length)
     of_policy = cost(recommended_setting(method, 0), length)
     driver.assert_answer(
-        Rounds(length, number, 0, least), result=1, reason=Reason.DONE, cost=least, rounds=1000
+        Rounds(length, number, 0, least), result=1, error=0, cost=least, rounds=1000
     )
     driver.assert_answer(
         Rounds(length, number, 0, least - 1),
         result=0,
-        reason=Reason.OVER_BUDGET,
+        error=Reason.OVER_BUDGET,
         cost=of_policy,
         rounds=0,
     )
@@ -165,5 +167,5 @@ def test_a_hash_with_the_reported_rounds_is_made_and_gets_in_within_the_limit(
     made = new.expected(RANDOM_BYTES).out.strip('"').encode()
     calls: list[Call] = [new, Login(password, made, 6, 0, limit)]
     answers = driver.assert_by_the_rules(calls, RANDOM_BYTES, threads=2)
-    login_reason = Reason.FITS if rounds == 656_000 else Reason.OUTDATED
-    assert [answer.reason for answer in answers] == [Reason.DONE, login_reason]
+    assert [(answer.result, answer.error) for answer in answers] == [(1, 0), (1, 0)]
+    assert answers[1].outdated == int(rounds != 656_000)

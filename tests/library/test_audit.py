@@ -8,11 +8,11 @@ from typing import Any
 import pytest
 from support.driver import Driver
 from support.model.audits import is_whole
-from support.model.calls import GREATEST, Audit, Reason, audited_refusal, with_strings
+from support.model.calls import GREATEST, Audit, Reason, error_of_audit, in_each_form
 from support.model.methods import ALPHABET, SHA512CRYPT
 from support.model.settings import Refused, ScryptCost, read_setting, recommended_setting
 from support.model.work import LONGEST_PASSWORD, cost
-from support.policies import INVALID_POLICIES, INVALID_ROUNDS, POLICIES, InvalidPolicy, Policy
+from support.policies import INVALID_POLICIES, INVALID_ROUNDS, POLICIES, InvalidPolicy
 from support.stored_fields import (
     KNOWN_HASHES,
     MD5CRYPT,
@@ -22,7 +22,7 @@ from support.stored_fields import (
     Field,
 )
 
-AUDITED_BY = (*POLICIES, INVALID_POLICIES[0], INVALID_POLICIES[6])
+AUDITED_BY = (*POLICIES, INVALID_POLICIES[0], INVALID_POLICIES[-1])
 
 
 @dataclass(frozen=True)
@@ -118,25 +118,25 @@ def test_a_hash_and_its_alterations_are_judged_by_budgets(
 
 
 @pytest.mark.parametrize("stored", HASHES, ids=str)
-def test_strings_are_judged_alike(driver: Driver, stored: StoredHash) -> None:
-    calls = [Audit(field, 6, 5000, is_str=True) for field in altered(stored.text)]
+def test_the_headers_own_calls_judge_alike(driver: Driver, stored: StoredHash) -> None:
+    calls = in_each_form(*(Audit(field, 6, 5000) for field in altered(stored.text)))
     driver.assert_by_the_rules(calls)
 
 
 @pytest.mark.parametrize("field", WITHOUT_SETTING, ids=str)
-def test_a_field_without_a_setting_has_its_reason(driver: Driver, field: Field) -> None:
-    reason = audited_refusal(field.text, field.reason)
-    for call in with_strings(Audit(field.text, 6, 5000)):
-        driver.assert_answer(call, result=0, reason=reason, cost=0)
+def test_a_field_without_a_setting_has_its_error(driver: Driver, field: Field) -> None:
+    error = error_of_audit(field.text, field.error)
+    for call in in_each_form(Audit(field.text, 6, 5000)):
+        driver.assert_answer(call, result=0, error=error, cost=0)
     driver.assert_by_the_rules(audits_by_each_policy([field.text]))
     driver.assert_by_the_rules(audits_by_budgets([field.text]))
 
 
 @pytest.mark.parametrize("field", WITH_SETTING, ids=str)
 def test_a_field_that_is_no_hash_is_dead_or_over_the_budget(driver: Driver, field: Field) -> None:
-    reason = Reason.OVER_BUDGET if field in TOO_DEAR else Reason.DEAD
-    for call in with_strings(Audit(field.text, 6, 5000)):
-        driver.assert_answer(call, result=0, reason=reason)
+    error = Reason.OVER_BUDGET if field in TOO_DEAR else Reason.DEAD
+    for call in in_each_form(Audit(field.text, 6, 5000)):
+        driver.assert_answer(call, result=0, error=error)
     driver.assert_by_the_rules(audits_by_each_policy([field.text]))
     driver.assert_by_the_rules(audits_by_budgets([field.text]))
 
@@ -144,24 +144,27 @@ def test_a_field_that_is_no_hash_is_dead_or_over_the_budget(driver: Driver, fiel
 @pytest.mark.parametrize("policy", [*INVALID_POLICIES, *INVALID_ROUNDS], ids=str)
 def test_an_invalid_policy_is_refused(driver: Driver, policy: InvalidPolicy) -> None:
     call = Audit(MD5CRYPT, policy.method, policy.rounds)
-    driver.assert_answer(call, result=0, reason=policy.reason, cost=0)
+    driver.assert_answer(call, result=0, error=policy.error, cost=0)
 
 
 @pytest.mark.parametrize(
-    ("policy", "reason"),
+    ("method", "result", "outdated"),
     [
-        pytest.param(Policy("", 1, 0), Reason.DONE, id="md5crypt"),
-        pytest.param(Policy("", 6, 0), Reason.REPLACED, id="sha512crypt"),
+        pytest.param(1, 1, 0, id="current by md5crypt"),
+        pytest.param(6, 0, 1, id="outdated by sha512crypt"),
+        pytest.param(0, 0, 1, id="outdated by the recommended method"),
     ],
 )
-def test_md5crypt_is_current_or_outdated(driver: Driver, policy: Policy, reason: Reason) -> None:
-    for call in with_strings(Audit(MD5CRYPT, policy.method, policy.rounds)):
-        driver.assert_answer(call, result=int(reason > 0), reason=reason)
+def test_md5crypt_is_current_or_outdated_and_neither_is_an_error(
+    driver: Driver, method: int, result: int, outdated: int
+) -> None:
+    for call in in_each_form(Audit(MD5CRYPT, method)):
+        driver.assert_answer(call, result=result, error=0, outdated=outdated)
 
 
-def test_a_null_string_is_an_empty_field(driver: Driver) -> None:
-    call = Audit(None, is_str=True)
-    driver.assert_answer(call, result=0, reason=Reason.NO_HASH)
+def test_a_null_pointer_is_an_empty_field(driver: Driver) -> None:
+    for call in in_each_form(Audit(None)):
+        driver.assert_answer(call, result=0, error=Reason.NO_HASH)
 
 
 def test_calls_in_eight_threads_answer_as_in_one(driver: Driver) -> None:
@@ -185,9 +188,11 @@ def test_calls_in_eight_threads_answer_as_in_one(driver: Driver) -> None:
         pytest.param(b"$argon2id$v=19$m=65536", 0, id="a scheme that crypt(5) has not"),
     ],
 )
-def test_another_scheme_is_told_by_its_number(driver: Driver, field: bytes, scheme: int) -> None:
-    for call in with_strings(Audit(field)):
-        driver.assert_answer(call, result=0, reason=Reason.UNKNOWN_SCHEME, scheme=scheme)
+def test_another_scheme_is_reported_by_its_number(
+    driver: Driver, field: bytes, scheme: int
+) -> None:
+    for call in in_each_form(Audit(field)):
+        driver.assert_answer(call, result=0, error=Reason.UNKNOWN_SCHEME, scheme=scheme)
 
 
 @pytest.mark.parametrize(
@@ -206,11 +211,11 @@ def test_another_scheme_is_told_by_its_number(driver: Driver, field: bytes, sche
 def test_a_hash_has_its_scheme_and_rounds(
     driver: Driver, setting: bytes, expected: dict[str, Any]
 ) -> None:
-    for call in with_strings(Audit(made_up(setting))):
+    for call in in_each_form(Audit(made_up(setting))):
         driver.assert_answer(call, **expected)
 
 
 @pytest.mark.parametrize("field", [b"secret", b"abJnggxhB/yW", b"abJnggxhB/yWI."])
 def test_a_password_is_of_no_scheme(driver: Driver, field: bytes) -> None:
-    for call in with_strings(Audit(field)):
-        driver.assert_answer(call, result=0, reason=Reason.NO_SCHEME, scheme=0)
+    for call in in_each_form(Audit(field)):
+        driver.assert_answer(call, result=0, error=Reason.NO_SCHEME, scheme=0)

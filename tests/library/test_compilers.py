@@ -16,7 +16,7 @@ from support.needs import built
 from support.process import Word, assert_result, run
 
 RANDOM_BYTES = b"".join(number.to_bytes(8, "little") for number in (1, 2, 3))
-# With memory, with each allocation refused, and without random words.
+# With memory, with each allocation refused, and without random numbers.
 SYSTEMS = (*(System(number, RANDOM_BYTES) for number in range(5)), System())
 ARM = "aarch64-linux-gnu-gcc"
 
@@ -36,13 +36,17 @@ class Compiler:
 
 
 C = ("c99", "c11", "c17", "c2x")
-CPP = ("c++98", "c++11", "c++17", "c++20")
+CPP = ("c++98", "c++11", "c++17", "c++20", "c++2b")
 COMPILERS = (
     Compiler("gcc", "c", C),
     Compiler("clang", "c", C),
     Compiler("g++", "c++", CPP),
     Compiler("clang++", "c++", CPP),
 )
+# What a caller may ask of its own sources, where the header is one of them.
+STRICTER = ("-Wconversion", "-Wsign-conversion", "-Wcast-qual", "-Wundef")
+# g++ would say that mkpasswd_password() hides the constructor of the struct of its name.
+OF_LANGUAGES = {"c": ("-Wshadow", "-Wstrict-prototypes"), "c++": ("-Wold-style-cast",)}
 SANITIZERS = ("-fsanitize=address,undefined", "-fno-sanitize-recover=all")
 # glibc's macros for declarations, which musl hasn't.
 WITHOUT_GLIBC = ("-static", "-D__THROW=", "-D__NTH(call)=call")
@@ -78,8 +82,7 @@ def assert_makes_all_calls(driver: Driver) -> None:
         driver.assert_by_the_rules(calls, system, threads=8)
 
 
-@pytest.mark.parametrize("name", ["calls.c", "declarations.c"])
-@pytest.mark.parametrize(
+EACH_STANDARD = pytest.mark.parametrize(
     ("compiler", "standard"),
     [
         pytest.param(
@@ -92,6 +95,19 @@ def assert_makes_all_calls(driver: Driver) -> None:
         for standard in compiler.standards
     ],
 )
+
+
+@EACH_STANDARD
+def test_a_compiler_has_no_stricter_warning_about_the_header(
+    installed: Installed, compiler: Compiler, standard: str
+) -> None:
+    words = [f"-std={standard}", f"-I{installed.include}", "-O2", "-c", "-o", "/dev/null"]
+    stricter = (*STRICTER, *OF_LANGUAGES[compiler.language])
+    assert_result(run(*compiler.words, *stricter, *words, SOURCES / "declarations.c"))
+
+
+@pytest.mark.parametrize("name", ["calls.c", "declarations.c"])
+@EACH_STANDARD
 def test_a_compiler_takes_the_header_without_a_word(
     installed: Installed, compiler: Compiler, standard: str, name: str
 ) -> None:

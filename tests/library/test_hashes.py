@@ -12,14 +12,13 @@ import pytest
 from support.driver import Driver
 from support.libxcrypt import crypt
 from support.model.calls import (
-    TEXT_SIZE,
     Bound,
     Call,
     Hash,
     NeedsRehash,
     System,
     Verify,
-    with_strings,
+    in_each_form,
 )
 from support.model.hashes import hash_of
 from support.model.methods import ALPHABET
@@ -186,7 +185,7 @@ def fixture_cheap_rows() -> list[Hashed]:
 
 
 def test_the_right_password_fits(driver: Driver, rows: list[Hashed]) -> None:
-    driver.assert_by_the_rules(with_strings(*(Verify(row.password, row.text) for row in rows)))
+    driver.assert_by_the_rules(in_each_form(*(Verify(row.password, row.text) for row in rows)))
 
 
 def test_a_password_with_another_byte_differs(driver: Driver, rows: list[Hashed]) -> None:
@@ -199,7 +198,7 @@ def test_a_damaged_hash_fits_nobody(driver: Driver, rows: list[Hashed]) -> None:
 
 
 def test_a_setting_makes_the_hash(driver: Driver, rows: list[Hashed]) -> None:
-    calls = [Hash(row.password, row.setting, out_len=row.room + 49) for row in rows]
+    calls = [Hash(row.password, row.setting, out_size=row.room + 49) for row in rows]
     answers = driver.assert_by_the_rules(calls)
     expected = [f'"{row.text.decode()}"' for row in rows]
     assert [answer.out for answer in answers] == expected
@@ -208,16 +207,15 @@ def test_a_setting_makes_the_hash(driver: Driver, rows: list[Hashed]) -> None:
 def test_a_hash_as_the_setting_makes_itself_in_just_enough_room(
     driver: Driver, rows: list[Hashed]
 ) -> None:
-    driver.assert_by_the_rules([Hash(row.password, row.text, out_len=row.room) for row in rows])
+    driver.assert_by_the_rules([Hash(row.password, row.text, out_size=row.room) for row in rows])
 
 
-def test_strings_make_the_hash(driver: Driver, rows: list[Hashed]) -> None:
-    calls = [Hash(row.password, row.text, out_len=TEXT_SIZE, is_str=True) for row in rows]
-    driver.assert_by_the_rules(calls)
+def test_each_form_of_the_call_makes_the_hash(driver: Driver, rows: list[Hashed]) -> None:
+    driver.assert_by_the_rules(in_each_form(*(Hash(row.password, row.text) for row in rows)))
 
 
 def test_room_for_a_byte_less_is_too_few(driver: Driver, rows: list[Hashed]) -> None:
-    calls = [Hash(row.password, row.setting, out_len=row.room - 1) for row in rows]
+    calls = [Hash(row.password, row.setting, out_size=row.room - 1) for row in rows]
     driver.assert_by_the_rules(calls)
 
 
@@ -243,8 +241,8 @@ def hashing_calls(rows: list[Hashed]) -> list[Call]:
     """Calls that hash."""
     calls: list[Call] = []
     for row in rows:
-        calls += with_strings(Verify(row.password, row.text))
-        calls += with_strings(Hash(row.password, row.setting))
+        calls += in_each_form(Verify(row.password, row.text))
+        calls += in_each_form(Hash(row.password, row.setting))
         calls.append(Verify(row.other_password, row.text))
     return calls
 

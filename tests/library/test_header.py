@@ -9,6 +9,7 @@ from support.library import SOURCES, Builder, Installed
 from support.model.calls import (
     NUMBERS_OF_OTHERS,
     Audit,
+    Bound,
     Call,
     Hash,
     Limit,
@@ -21,32 +22,40 @@ from support.model.work import LONGEST_PASSWORD
 from support.process import run
 from support.stored_fields import SCRYPT_WITH_LONGEST_SALT
 
-# A reason with its comment, which begins with the message.
-REASON = re.compile(
-    r"^#define MKPASSWD_(?:REFUSED_)?(\w+) \(?(-?\d+)\)? +/\* ([^:,*]*?)(?:[:,].*)? \*/$",
-    re.MULTILINE,
+# An error with its comment, which begins with the message.
+ERROR = re.compile(
+    r"^ */\* ([^:\n]+?)(?::.*)? \*/\n *MKPASSWD_ERROR_(\w+) = (\d+),?$", re.MULTILINE
 )
-# The fields of struct mkpasswd_report in their order: a number of 32 bits with a sign, one without,
-# six of 64 bits, two of 32 bits, one of 64, two of 32; little-endian.
-REPORT = struct.Struct("<iI6QIIQII")
+# The fields of struct mkpasswd_report in their order: eight numbers of 32 bits, six of 64;
+# little-endian.
+REPORT = struct.Struct("<8I6Q")
 FIELDS = (
-    *("reason", "length", "cost", "digests", "bytes"),
-    *("mixes", "table", "scratch", "rounds", "scheme"),
-    *("n", "r", "p"),
+    *("error", "outdated", "length", "scheme", "rounds", "n", "r", "p"),
+    *("cost", "digests", "bytes", "mixes", "table", "scratch"),
 )
 # The calls of tests/c/report.c.
 REPORTED: tuple[Call, ...] = (
     Hash(b"password", b"$7$46..../....SodiumChloride"),
-    Limit(6, 0),
-    Audit(b"$7$C6..../....SodiumChloride$" + b"." * 43),
+    Limit(),
+    Audit(b"$7$C6....0....SodiumChloride$" + b"." * 43),
+    Bound(b"x"),
 )
 
 
-def test_the_reasons_have_their_numbers_and_messages(installed: Installed) -> None:
-    found = {
-        name: (int(number), message) for name, number, message in REASON.findall(installed.header)
-    }
-    assert found == {reason.name: (int(reason), reason.message) for reason in Reason}
+def test_the_errors_are_numbered_from_1_on_and_have_the_messages_of_their_comments(
+    installed: Installed,
+) -> None:
+    """test_messages.py compares the library's messages with the same list."""
+    found = [
+        (name, int(number), message) for message, name, number in ERROR.findall(installed.header)
+    ]
+    assert found == [(error.name, int(error), error.message) for error in Reason]
+    assert [number for _, number, _ in found] == list(range(1, len(found) + 1))
+
+
+def test_each_error_of_the_header_has_such_a_comment(installed: Installed) -> None:
+    names = re.findall(r"MKPASSWD_ERROR_(\w+) = ", installed.header)
+    assert sorted(names) == sorted(error.name for error in Reason)
 
 
 @pytest.mark.parametrize(

@@ -5,22 +5,17 @@ import re
 from pathlib import Path
 
 import pytest
+from support import ROOT
 from support.driver import Driver
 from support.library import COMPILER, Installed
 from support.model.calls import Version
 from support.process import Changes, assert_result, run
 
-FIRST_VERSION = "MKPASSWD_2"
-LATER_VERSIONS = {
-    "mkpasswd_login": "MKPASSWD_2.1",
-    "mkpasswd_audit": "MKPASSWD_2.2",
-    "mkpasswd_limit": "MKPASSWD_2.3",
-    "mkpasswd_rounds": "MKPASSWD_2.3",
-    "mkpasswd_scheme_name": "MKPASSWD_2.3",
-    "mkpasswd_setting_with_salt": "MKPASSWD_2.3",
-}
+SYMBOL_VERSION = "MKPASSWD_3"
 # A line of `objdump -T`: an address, flags, a section, and the size, version and name.
 SYMBOL = re.compile(r"^[0-9a-f]{16} (.*) (MKPASSWD_[\d.]+) +(mkpasswd_\w+)$", re.MULTILINE)
+LINKS = re.compile(r"^\.Dl ((?:musl-gcc|cc) .*)$", re.MULTILINE)
+PRINTED_BY_LOGIN = b"$6$rounds=656000\n"
 LOGIN_BY_PKG_CONFIG = """\
 cc() { command "$CC" "$@"; }
 cc -o login examples/login.c $(pkg-config --cflags --libs mkpasswd); ./login"""
@@ -56,19 +51,19 @@ def pkg_config_environment(installed: Installed) -> Changes:
 
 
 @pytest.mark.needs("objdump")
-def test_the_shared_library_has_each_declared_call_in_its_version(installed: Installed) -> None:
+def test_the_shared_library_has_each_exported_call_in_one_version(installed: Installed) -> None:
     result = run("objdump", "-T", installed.libraries / "libmkpasswd.so").required()
     symbols = SYMBOL.findall(result.stdout.decode())
     found = {name: version for flags, version, name in symbols if "*UND*" not in flags}
-    expected = {name: LATER_VERSIONS.get(name, FIRST_VERSION) for name in installed.declared()}
+    expected = dict.fromkeys(installed.exported(), SYMBOL_VERSION)
     assert found == expected, str(result)
 
 
 @pytest.mark.needs("objdump")
-def test_the_static_library_has_the_declared_calls_alone(installed: Installed) -> None:
+def test_the_static_library_has_the_exported_calls_alone(installed: Installed) -> None:
     result = run("nm", "-g", "--defined-only", installed.libraries / "libmkpasswd.a").required()
     found = re.findall(r"^\S+ \w (\S+)$", result.stdout.decode(), re.MULTILINE)
-    assert sorted(found) == installed.declared(), str(result)
+    assert sorted(found) == installed.exported(), str(result)
 
 
 @pytest.mark.needs("objdump")
@@ -130,4 +125,34 @@ def test_the_installed_example_builds_by_pkg_config(installed: Installed, tmp_pa
     (tmp_path / "examples").symlink_to(installed.root / "usr/share/doc/mkpasswd/examples")
     environment = pkg_config_environment(installed)
     result = run("bash", "-euc", LOGIN_BY_PKG_CONFIG, env=environment, cwd=tmp_path)
-    assert_result(result, stdout=b"$6$rounds=656000\n")
+    assert_result(result, stdout=PRINTED_BY_LOGIN)
+
+
+# ---- The commands of libmkpasswd(3)
+
+
+def linking_commands() -> list[str]:
+    """The commands of the manual that link login.c."""
+    return LINKS.findall((ROOT / "man/libmkpasswd.3").read_text(encoding="utf-8"))
+
+
+def test_the_manual_links_shared_and_static_programs_and_those_for_musl() -> None:
+    commands = linking_commands()
+    assert [command.split()[0] for command in commands] == ["cc", "cc", "cc", "musl-gcc"]
+    assert ["-static" in command for command in commands] == [False, True, False, True]
+
+
+@pytest.mark.needs("pkg-config", "musl-gcc")
+@pytest.mark.parametrize("command", linking_commands())
+def test_a_command_of_the_manual_links_a_login(
+    installed: Installed, tmp_path: Path, command: str
+) -> None:
+    """The prefix is the one where the library is installed here."""
+    example = installed.root / "usr/share/doc/mkpasswd/examples/login.c"
+    (tmp_path / "login.c").symlink_to(example)
+    here = command.replace("/usr/local/include", str(installed.include))
+    here = here.replace("/usr/local/lib", str(installed.libraries))
+    script = f'cc() {{ command "$CC" "$@"; }}\n{here}\n./a.out'
+    environment = pkg_config_environment(installed)
+    result = run("bash", "-euc", script, env=environment, cwd=tmp_path)
+    assert_result(result, stdout=PRINTED_BY_LOGIN)

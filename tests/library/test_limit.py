@@ -9,7 +9,7 @@ import re
 import pytest
 from support import ROOT
 from support.driver import Driver
-from support.model.calls import METHODS, Call, Limit, Login, New, Reason, System
+from support.model.calls import METHODS, Call, Limit, Login, New, System
 from support.model.work import cost, login_limit
 from support.model.settings import recommended_setting
 from support.model.methods import SHA512CRYPT
@@ -76,7 +76,8 @@ def test_a_password_up_to_the_limit_is_set_and_gets_in(
     made = new.expected(RANDOM_BYTES).out.strip('"').encode()
     calls: list[Call] = [new, Login(password, made, number, budget=0)]
     answers = driver.assert_by_the_rules(calls, RANDOM_BYTES, threads=2)
-    assert [answer.reason for answer in answers] == [Reason.DONE, Reason.FITS]
+    assert [(answer.result, answer.error) for answer in answers] == [(1, 0), (1, 0)]
+    assert answers[1].outdated == 0
 
 
 @METHOD_NUMBERS

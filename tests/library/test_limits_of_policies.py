@@ -1,7 +1,7 @@
 """mkpasswd_limit and mkpasswd_rounds of the shared library, for 100,000 policies.
 
-What they must report is computed by the formulas of docs/FORMATS.md, and neither the model nor the
-header takes part: test_admitted.py has those.
+What they must report is computed by the formulas of docs/FORMATS.md, and neither the rules of the
+model nor the header take part: test_admitted.py has those.
 """
 from __future__ import annotations
 
@@ -11,15 +11,13 @@ import struct
 from dataclasses import dataclass
 
 import pytest
+from support.model.calls import Reason
 from support.needs import built
 from support.policy_limits import (
-    DONE,
     LONGEST_PASSWORD,
     MD5CRYPT,
     METHODS,
     MOST_ROUNDS,
-    OVER_BUDGET,
-    PASSWORD_TOO_LONG,
     RECOMMENDED_ROUNDS,
     SCRYPT,
     SHA256CRYPT,
@@ -32,8 +30,9 @@ from support.policy_limits import (
 
 POLICIES = 100_000
 
-# struct mkpasswd_report: reason, length, cost, five counts, rounds, and what an audit sets
-REPORT = struct.Struct("<iIQ5QIIQII")
+# struct mkpasswd_report: error, outdated, length, scheme, rounds, n, r, p, cost and five counts
+REPORT = struct.Struct("<8I6Q")
+RECOMMENDED_METHOD = 0
 
 
 @dataclass(frozen=True)
@@ -41,7 +40,7 @@ class Answer:
     """What a call returned and reported."""
 
     returned: int
-    reason: int
+    error: int
     length: int
     cost: int
     rounds: int
@@ -52,32 +51,33 @@ def fixture_library() -> ctypes.CDLL:
     """The built library."""
     library = ctypes.CDLL(str(built("libmkpasswd.so.3", "lib")))
     number, wide, report = ctypes.c_uint32, ctypes.c_uint64, ctypes.c_char_p
-    library.mkpasswd_limit.argtypes = (number, number, wide, report)
-    library.mkpasswd_limit.restype = ctypes.c_int32
-    library.mkpasswd_rounds.argtypes = (ctypes.c_size_t, number, number, wide, report)
-    library.mkpasswd_rounds.restype = ctypes.c_int32
+    library.mkpasswd_limit_bytes.argtypes = (number, number, wide, report)
+    library.mkpasswd_limit_bytes.restype = ctypes.c_int32
+    library.mkpasswd_rounds_bytes.argtypes = (ctypes.c_size_t, number, number, wide, report)
+    library.mkpasswd_rounds_bytes.restype = ctypes.c_int32
     return library
 
 
 def answer_of(returned: int, report: bytes) -> Answer:
     """The answer of a call, which neither hashed nor audited."""
-    reason, length, cost, *others = REPORT.unpack(report)
-    rounds = others.pop(5)
-    assert others == [0] * 9
-    return Answer(returned, reason, length, cost, rounds)
+    error, outdated, length, scheme, rounds, *others = REPORT.unpack(report)
+    cost = others.pop(3)  # after n, r and p
+    assert (outdated, scheme, others) == (0, 0, [0] * 8)
+    return Answer(returned, error, length, cost, rounds)
 
 
 def limit_of(library: ctypes.CDLL, policy: Policy) -> Answer:
     """What mkpasswd_limit reports."""
     report = ctypes.create_string_buffer(REPORT.size)
-    returned = library.mkpasswd_limit(policy.method, policy.rounds, policy.budget, report)
+    returned = library.mkpasswd_limit_bytes(policy.method, policy.rounds, policy.budget, report)
     return answer_of(returned, report.raw)
 
 
 def rounds_of(library: ctypes.CDLL, length: int, policy: Policy) -> Answer:
     """What mkpasswd_rounds reports."""
     report = ctypes.create_string_buffer(REPORT.size)
-    returned = library.mkpasswd_rounds(length, policy.method, policy.rounds, policy.budget, report)
+    numbers = (policy.method, policy.rounds, policy.budget)
+    returned = library.mkpasswd_rounds_bytes(length, *numbers, report)
     return answer_of(returned, report.raw)
 
 
@@ -95,14 +95,14 @@ def is_longest(policy: Policy, length: int) -> bool:
 def assert_limit(library: ctypes.CDLL, policy: Policy) -> None:
     """Fails the test unless the limit and the longest password within it are reported."""
     answer = limit_of(library, policy)
-    if policy.refusal:
-        assert answer == Answer(0, policy.refusal, 0, 0, 0), policy
+    if policy.error is not None:
+        assert answer == Answer(0, policy.error, 0, 0, 0), policy
         return
     if new_cost(policy.method, policy.chosen_rounds, 0) > policy.limit:
-        assert answer == Answer(0, OVER_BUDGET, 0, policy.limit, 0), policy
+        assert answer == Answer(0, Reason.OVER_BUDGET, 0, policy.limit, 0), policy
         return
     rounds = 0 if policy.method == MD5CRYPT else policy.chosen_rounds
-    assert answer == Answer(1, DONE, answer.length, policy.limit, rounds), policy
+    assert answer == Answer(1, 0, answer.length, policy.limit, rounds), policy
     assert is_longest(policy, answer.length), (policy, answer)
 
 
@@ -110,17 +110,17 @@ def assert_rounds(library: ctypes.CDLL, policy: Policy, length: int) -> None:
     """Fails the test unless rounds within the limit, and their cost, are reported for a length."""
     answer = rounds_of(library, length, policy)
     if length > LONGEST_PASSWORD:
-        assert answer == Answer(0, PASSWORD_TOO_LONG, 0, 0, 0), (policy, length)
+        assert answer == Answer(0, Reason.PASSWORD_TOO_LONG, 0, 0, 0), (policy, length)
         return
-    if policy.refusal:
-        assert answer == Answer(0, policy.refusal, 0, 0, 0), (policy, length)
+    if policy.error is not None:
+        assert answer == Answer(0, policy.error, 0, 0, 0), (policy, length)
         return
     rounds = fitted_rounds(policy, length)
     if rounds is None:
         own = new_cost(policy.method, policy.chosen_rounds, length)
-        assert answer == Answer(0, OVER_BUDGET, 0, own, 0), (policy, length)
+        assert answer == Answer(0, Reason.OVER_BUDGET, 0, own, 0), (policy, length)
         return
-    expected = Answer(1, DONE, 0, new_cost(policy.method, rounds, length), rounds)
+    expected = Answer(1, 0, 0, new_cost(policy.method, rounds, length), rounds)
     assert answer == expected, (policy, length)
     assert answer.cost <= policy.limit, (policy, length)
 
@@ -144,6 +144,15 @@ def test_a_policy_with_recommended_rounds_has_the_documented_limit(
         longest,
         RECOMMENDED_ROUNDS[method],
     )
+
+
+@pytest.mark.parametrize("rounds", [0, 999, 1000, 5000, 656_000, MOST_ROUNDS])
+@pytest.mark.parametrize("budget", [0, 1, 253_921_472, 2**64 - 1])
+def test_method_0_has_the_limit_of_sha512crypt(
+    library: ctypes.CDLL, rounds: int, budget: int
+) -> None:
+    expected = limit_of(library, Policy(SHA512CRYPT, rounds, budget))
+    assert limit_of(library, Policy(RECOMMENDED_METHOD, rounds, budget)) == expected
 
 
 @pytest.mark.slow

@@ -3,7 +3,7 @@ from __future__ import annotations
 
 import pytest
 from support.driver import Driver
-from support.model.calls import GREATEST, Login, Reason, System, with_strings
+from support.model.calls import GREATEST, Form, Login, Reason, System, in_each_form
 from support.model.hashes import hash_of
 from support.model.methods import MD5CRYPT, SCRYPT, SHA256CRYPT, SHA512CRYPT, Method
 from support.model.settings import read_setting, recommended_setting
@@ -15,6 +15,7 @@ from support.stored_fields import (
     LONGEST_PASSWORD,
     NEVER_OPEN,
     OF_PASSWORD,
+    SCRYPT_OF_NOTHING,
     SCRYPT_OF_PASSWORD,
     Field,
     KnownHash,
@@ -28,7 +29,7 @@ CHEAP_POLICIES = (
 POLICIES = (Policy("md5crypt", 1, 0), *CHEAP_POLICIES, Policy("scrypt of the least cost", 7, 6))
 INVALID = (*INVALID_ROUNDS, *INVALID_POLICIES)
 INVALID_PASSWORDS = pytest.mark.parametrize(
-    ("password", "field", "reason"),
+    ("password", "field", "error"),
     [
         pytest.param(
             LONGEST_PASSWORD + b"a", OF_PASSWORD.text, Reason.PASSWORD_TOO_LONG, id="1025 bytes"
@@ -51,16 +52,16 @@ COST_OF_SHA512CRYPT = cost(recommended_setting(SHA512CRYPT, 5000), 8)
 @pytest.mark.parametrize("policy", POLICIES[:-1], ids=str)
 @pytest.mark.parametrize("known", KNOWN_FOR_LOGINS, ids=str)
 def test_the_right_password_gets_in(driver: Driver, known: KnownHash, policy: Policy) -> None:
-    reason = Reason.FITS if (known.title, policy.title) in CURRENT else Reason.OUTDATED
-    for call in with_strings(Login(known.password, known.text, policy.method, policy.rounds)):
-        driver.assert_answer(call, result=1, reason=reason)
+    outdated = int((known.title, policy.title) not in CURRENT)
+    for call in in_each_form(Login(known.password, known.text, policy.method, policy.rounds)):
+        driver.assert_answer(call, result=1, error=0, outdated=outdated)
 
 
 @pytest.mark.parametrize("known", KNOWN_FOR_LOGINS, ids=str)
 def test_the_right_password_gets_in_where_new_hashes_are_of_scrypt(
     driver: Driver, known: KnownHash
 ) -> None:
-    driver.assert_by_the_rules(with_strings(Login(known.password, known.text, 7, 6)))
+    driver.assert_by_the_rules(in_each_form(Login(known.password, known.text, 7, 6)))
 
 
 @pytest.mark.parametrize("policy", CHEAP_POLICIES, ids=str)
@@ -68,10 +69,10 @@ def test_the_right_password_gets_in_where_new_hashes_are_of_scrypt(
 def test_a_field_that_is_no_hash_of_the_password_is_refused(
     driver: Driver, field: Field, policy: Policy
 ) -> None:
-    reason = Reason.DEAD if field.reason is Reason.DIFFERS else field.reason
-    calls = with_strings(Login(b"password", field.text, policy.method, policy.rounds))
+    error = Reason.DEAD if field.error is Reason.WRONG_PASSWORD else field.error
+    calls = in_each_form(Login(b"password", field.text, policy.method, policy.rounds))
     for call in calls:
-        driver.assert_answer(call, result=0, reason=reason)
+        driver.assert_answer(call, result=0, error=error, outdated=0)
 
 
 @pytest.mark.parametrize("policy", POLICIES, ids=str)
@@ -82,33 +83,33 @@ def test_a_wrong_password_is_refused(driver: Driver, policy: Policy) -> None:
         for password in (b"", b"Password")
         if password != known.password
     ]
-    for answer in driver.assert_by_the_rules(with_strings(*calls)):
-        assert (answer.result, answer.reason) == (0, Reason.DIFFERS)
+    for answer in driver.assert_by_the_rules(in_each_form(*calls)):
+        assert (answer.result, answer.error, answer.outdated) == (0, Reason.WRONG_PASSWORD, 0)
 
 
 @INVALID_PASSWORDS
 @pytest.mark.parametrize("policy", POLICIES, ids=str)
 def test_an_invalid_password_is_refused_without_work(
-    driver: Driver, password: bytes, field: bytes, reason: Reason, policy: Policy
+    driver: Driver, password: bytes, field: bytes, error: Reason, policy: Policy
 ) -> None:
-    for call in with_strings(Login(password, field, policy.method, policy.rounds)):
-        driver.assert_answer(call, result=0, reason=reason, cost=0, digests=0)
+    for call in in_each_form(Login(password, field, policy.method, policy.rounds)):
+        driver.assert_answer(call, result=0, error=error, cost=0, digests=0)
 
 
 @pytest.mark.parametrize("policy", INVALID, ids=str)
 def test_an_invalid_policy_is_refused_without_work(driver: Driver, policy: InvalidPolicy) -> None:
     for known in KNOWN_FOR_LOGINS:
-        for call in with_strings(Login(known.password, known.text, policy.method, policy.rounds)):
-            driver.assert_answer(call, result=0, reason=policy.reason, cost=0, digests=0)
+        for call in in_each_form(Login(known.password, known.text, policy.method, policy.rounds)):
+            driver.assert_answer(call, result=0, error=policy.error, cost=0, digests=0)
 
 
 @INVALID_PASSWORDS
 @pytest.mark.parametrize("policy", INVALID, ids=str)
 def test_an_invalid_password_is_reported_before_an_invalid_policy(
-    driver: Driver, password: bytes, field: bytes, reason: Reason, policy: InvalidPolicy
+    driver: Driver, password: bytes, field: bytes, error: Reason, policy: InvalidPolicy
 ) -> None:
-    for call in with_strings(Login(password, field, policy.method, policy.rounds)):
-        driver.assert_answer(call, result=0, reason=reason)
+    for call in in_each_form(Login(password, field, policy.method, policy.rounds)):
+        driver.assert_answer(call, result=0, error=error)
 
 
 @pytest.mark.parametrize(
@@ -133,12 +134,36 @@ def test_an_invalid_password_is_reported_before_an_invalid_policy(
 )
 def test_a_budget_limits_what_is_hashed(driver: Driver, field: bytes, budget: int) -> None:
     """Also the hash that is dropped where there is none to compare with."""
-    driver.assert_by_the_rules(with_strings(Login(b"password", field, 6, 5000, budget)))
+    driver.assert_by_the_rules(in_each_form(Login(b"password", field, 6, 5000, budget)))
 
 
-def test_a_null_field_is_an_empty_one(driver: Driver) -> None:
-    call = Login(b"password", None, 6, 0, is_str=True)
-    driver.assert_answer(call, result=0, reason=Reason.NO_HASH, digests=656_004)
+def test_a_null_field_is_an_unknown_name(driver: Driver) -> None:
+    for call in in_each_form(Login(b"password", None)):
+        driver.assert_answer(call, result=0, error=Reason.NO_HASH, digests=656_004)
+
+
+@pytest.mark.parametrize(
+    "field",
+    [
+        pytest.param(OF_PASSWORD.text, id="a hash"),
+        pytest.param(None, id="an unknown name"),
+        pytest.param(SCRYPT_OF_NOTHING.text, id="a hash of the empty password"),
+    ],
+)
+def test_a_null_password_is_refused(driver: Driver, field: bytes | None) -> None:
+    for call in in_each_form(Login(None, field)):
+        driver.assert_answer(call, result=0, error=Reason.PASSWORD_ZERO_BYTE, digests=0)
+
+
+def test_a_policy_of_zeros_is_sha512crypt_of_656000_rounds(driver: Driver) -> None:
+    """So no hash of another method, or of fewer rounds, is current by it."""
+    current = recommended_setting(SHA512CRYPT, 656_000, b"salt").text
+    fewer = recommended_setting(SHA512CRYPT, 655_999, b"salt").text
+    for setting, outdated in ((current, 0), (fewer, 1)):
+        stored = hash_of(read_setting(setting), b"password")
+        assert stored is not None
+        for call in in_each_form(Login(b"password", stored, budget=0)):
+            driver.assert_answer(call, result=1, error=0, outdated=outdated)
 
 
 def test_calls_in_eight_threads_answer_as_in_one(driver: Driver) -> None:
@@ -147,13 +172,13 @@ def test_calls_in_eight_threads_answer_as_in_one(driver: Driver) -> None:
         for field in NEVER_OPEN
         for policy in CHEAP_POLICIES[:2]
     ]
-    driver.assert_by_the_rules(with_strings(*calls), threads=8)
+    driver.assert_by_the_rules(in_each_form(*calls), threads=8)
 
 
 @pytest.mark.parametrize("allocation", [1, 2, 3, 4])
 def test_an_allocation_that_fails_lets_nobody_in(driver: Driver, allocation: int) -> None:
     fields = (OF_PASSWORD.text, b"", b"!", SCRYPT_OF_PASSWORD.text)
-    calls = with_strings(*(Login(b"password", field, 7, 6) for field in fields))
+    calls = in_each_form(*(Login(b"password", field, 7, 6) for field in fields))
     driver.assert_by_the_rules(calls, System(refused_allocation=allocation))
 
 
@@ -177,14 +202,14 @@ def test_each_kind_of_field_takes_the_same_work(
         "the right hash": right,
         "a wrong hash": wrong,
         "a dead hash": right + b".",
-        "a null pointer": None,
+        "an unknown name": None,
         EMPTY.title: EMPTY.text,
         "a locked field": b"!" + OF_PASSWORD.text,
         "another scheme": b"$y$j9T$salt$hash",
         "a hash above the budget": b"$6$rounds=999999999$ab$x",
     }
     calls = [
-        Login(b"password", field, number, rounds, budget=0, is_str=True)
+        Login(b"password", field, number, rounds, budget=0, form=Form.STRINGS)
         for field in fields.values()
     ]
     works = [

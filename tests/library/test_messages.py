@@ -1,4 +1,4 @@
-"""mkpasswd_words and mkpasswd_scheme_name: a text for each number, and what doesn't fit."""
+"""mkpasswd_message and mkpasswd_scheme_name: a text for each number, and what doesn't fit."""
 from __future__ import annotations
 
 import pytest
@@ -11,10 +11,11 @@ from support.model.calls import (
     Reason,
     SchemeName,
     System,
-    with_strings,
+    in_each_form,
 )
 
-NO_REASONS = (-28, -27, -15, 0, *range(4, 9), 2**31 - 1, -(2**31))
+# No error, and those beside the known ones.
+UNKNOWN_ERRORS = (0, len(Reason) + 1, len(Reason) + 2, 2**31 - 1, 2**31, 2**32 - 1)
 
 
 def rooms_for(text: str) -> tuple[int, ...]:
@@ -23,33 +24,25 @@ def rooms_for(text: str) -> tuple[int, ...]:
 
 
 @pytest.mark.parametrize(
-    "reason",
-    [pytest.param(reason, id=reason.name.lower().replace("_", " ")) for reason in Reason],
+    "error", [pytest.param(error, id=error.name.lower().replace("_", " ")) for error in Reason]
 )
-def test_a_reason_has_its_message(driver: Driver, reason: Reason) -> None:
-    for call in with_strings(Message(reason)):
-        driver.assert_answer(call, result=1, out=f'"{reason.message}"')
-    calls = [Message(reason, room) for room in rooms_for(reason.message)]
-    driver.assert_by_the_rules([*with_strings(*calls), Message(reason, None, is_str=True)])
+def test_an_error_has_its_message(driver: Driver, error: Reason) -> None:
+    for call in in_each_form(Message(error)):
+        driver.assert_answer(call, result=1, out=f'"{error.message}"')
+    calls = [Message(error, room) for room in rooms_for(error.message)]
+    driver.assert_by_the_rules(in_each_form(*calls, Message(error, None)))
 
 
-@pytest.mark.parametrize("number", NO_REASONS)
-def test_another_number_is_an_unknown_reason(driver: Driver, number: int) -> None:
-    for call in with_strings(Message(number)):
+@pytest.mark.parametrize("number", UNKNOWN_ERRORS)
+def test_0_and_an_unknown_error_are_an_unknown_reason(driver: Driver, number: int) -> None:
+    for call in in_each_form(Message(number)):
         driver.assert_answer(call, result=0, out='"unknown reason"')
     calls = [Message(number, room) for room in rooms_for("unknown reason")]
-    driver.assert_by_the_rules([*with_strings(*calls), Message(number, None, is_str=True)])
-
-
-def test_the_numbers_are_all_from_minus_28_to_8() -> None:
-    """So that no reason is left out."""
-    between = {number for number in NO_REASONS if -28 <= number <= 8}
-    assert sorted(between | set(Reason)) == list(range(-28, 9))
-    assert len(between) + len(Reason) == len(range(-28, 9))
+    driver.assert_by_the_rules(in_each_form(*calls, Message(number, None)))
 
 
 def test_a_message_asks_the_system_for_nothing(driver: Driver) -> None:
-    answer = driver.answers([Message(Reason.DONE)], System(refused_allocation=1))[0]
+    answer = driver.answers([Message(Reason.DEAD)], System(refused_allocation=1))[0]
     assert (answer.allocations, answer.drawn) == (0, 0)
 
 
@@ -62,10 +55,12 @@ def test_a_message_asks_the_system_for_nothing(driver: Driver) -> None:
 )
 def test_a_scheme_has_its_name(driver: Driver, number: int, name: str) -> None:
     driver.assert_answer(SchemeName(number), result=1, out=f'"{name}"')
-    driver.assert_by_the_rules([SchemeName(number, room) for room in rooms_for(name)])
+    calls = [SchemeName(number, room) for room in (*rooms_for(name), None)]
+    driver.assert_by_the_rules(in_each_form(*calls))
 
 
 @pytest.mark.parametrize("number", [0, 2, 3, 4, 8, 100, 109, 2**32 - 1])
 def test_another_number_is_an_unknown_scheme(driver: Driver, number: int) -> None:
     driver.assert_answer(SchemeName(number), result=0, out='"unknown scheme"')
-    driver.assert_by_the_rules([SchemeName(number, room) for room in rooms_for("unknown scheme")])
+    calls = [SchemeName(number, room) for room in (*rooms_for("unknown scheme"), None)]
+    driver.assert_by_the_rules(in_each_form(*calls))

@@ -1,4 +1,4 @@
-"""mkpasswd_new and mkpasswd_setting: hashes and settings with a salt of random words."""
+"""mkpasswd_new: hashes with a salt of random numbers."""
 from __future__ import annotations
 
 import re
@@ -9,24 +9,21 @@ from support.libxcrypt import crypt
 from support.model.calls import (
     BUDGET,
     GREATEST,
-    METHODS,
     TEXT_SIZE,
-    MakeSetting,
     New,
     NewOver,
     Reason,
     System,
     length_of_hash,
     salt_of,
-    with_strings,
+    in_each_form,
 )
-from support.model.settings import Setting, recommended_setting
 from support.model.work import cost
 from support.policies import CLAMPED, INVALID_POLICIES, POLICIES, InvalidPolicy, Policy
 
 LOWEST_DIGITS = System(random_bytes=b"\x81" + b"\0" * 23)
 MANY_DIGITS = System(random_bytes=bytes((place * 37 + 1) % 256 for place in range(24)))
-NO_WORDS = System()
+NO_NUMBERS = System()
 REAL = System(is_real=True)
 
 SYSTEMS = pytest.mark.parametrize(
@@ -41,19 +38,14 @@ PASSWORDS = (b"password", b"a" * 1025, b"pass\0")
 DEAR = 10_000_000
 
 
-def setting_by(policy: Policy) -> Setting:
-    """The setting of new hashes, with another salt."""
-    return recommended_setting(METHODS[policy.method], policy.rounds)
-
-
 def affordable() -> list[Policy]:
     """The policies whose hashes cost no more than the header's budget."""
-    return [policy for policy in POLICIES if cost(setting_by(policy), 8) <= BUDGET]
+    return [policy for policy in POLICIES if cost(policy.setting, 8) <= BUDGET]
 
 
 def new_by(policy: Policy) -> list[New]:
     """Calls with each password, room and budget; where one hashes for long, fewer."""
-    length, price = length_of_hash(setting_by(policy)), cost(setting_by(policy), 8)
+    length, price = length_of_hash(policy.setting), cost(policy.setting, 8)
     calls = []
     for room in (0, 1, 2, 3, length, length + 1, TEXT_SIZE):
         budgets = [0, 1, price - 1, price, GREATEST]
@@ -67,36 +59,10 @@ def new_by(policy: Policy) -> list[New]:
     return calls
 
 
-def settings_by(policy: Policy, system: System, length: int) -> list[MakeSetting]:
-    """Calls with each room, as bytes and as a string."""
-    rooms = (0, 1, 2, 3, length, length + 1, length + 20)
-    first, second, third = system.words
-    calls = [
-        MakeSetting(policy.method, policy.rounds, first, second, third, room) for room in rooms
-    ]
-    null = MakeSetting(policy.method, policy.rounds, first, second, third, None, is_str=True)
-    return [*with_strings(*calls), null]
-
-
 def test_a_salt_is_made_of_the_lowest_bits_first(driver: Driver) -> None:
     assert salt_of((129, 0, 0), 8) == b"/0......"
-    driver.assert_answer(MakeSetting(1, 0, 129, 0, 0), result=1, out='"$1$/0......"')
-
-
-@SYSTEMS
-@pytest.mark.parametrize("policy", POLICIES, ids=str)
-def test_words_make_a_setting(driver: Driver, policy: Policy, system: System) -> None:
-    driver.assert_by_the_rules(settings_by(policy, system, len(setting_by(policy).text)))
-
-
-@SYSTEMS
-@pytest.mark.parametrize("policy", INVALID_POLICIES, ids=str)
-def test_an_invalid_policy_makes_no_setting(
-    driver: Driver, policy: InvalidPolicy, system: System
-) -> None:
-    calls = settings_by(policy, system, 3)
-    answers = driver.assert_by_the_rules(calls)
-    assert {(answer.result, answer.reason) for answer in answers} == {(0, policy.reason)}
+    made = crypt(b"password", b"$1$/0......").decode()
+    driver.assert_answer(New(b"password", 1), LOWEST_DIGITS, result=1, out=f'"{made}"')
 
 
 @SYSTEMS
@@ -110,43 +76,45 @@ def test_the_first_of_several_refusals_of_a_new_hash_is_reported(
 
 @SYSTEMS
 @pytest.mark.parametrize("policy", affordable(), ids=str)
-def test_strings_make_a_new_hash(driver: Driver, policy: Policy, system: System) -> None:
-    price = cost(setting_by(policy), 8)
-    calls = [
-        New(b"password", policy.method, policy.rounds, price, TEXT_SIZE, is_str=True),
-        New(b"password", policy.method, policy.rounds, price, None, is_str=True),
-        New(None, policy.method, policy.rounds, price, TEXT_SIZE, is_str=True),
-    ]
-    driver.assert_by_the_rules(calls, system, threads=3)
+def test_each_form_makes_a_new_hash_and_takes_null_pointers(
+    driver: Driver, policy: Policy, system: System
+) -> None:
+    price = cost(policy.setting, 8)
+    calls = in_each_form(
+        New(b"password", policy.method, policy.rounds, price),
+        New(b"password", policy.method, policy.rounds, price, None),
+        New(None, policy.method, policy.rounds, price),
+    )
+    driver.assert_by_the_rules(calls, system, threads=4)
 
 
 @pytest.mark.parametrize("policy", INVALID_POLICIES, ids=str)
 def test_an_invalid_policy_makes_no_hash(driver: Driver, policy: InvalidPolicy) -> None:
     call = New(b"password", policy.method, policy.rounds)
-    driver.assert_answer(call, result=0, reason=policy.reason, drawn=0, out='"*0"')
+    driver.assert_answer(call, result=0, error=policy.error, drawn=0, out='"*0"')
     calls = [
         New(password, policy.method, policy.rounds, budget, room)
         for password in PASSWORDS
         for room in (0, 1, 2, 3, 4, TEXT_SIZE)
         for budget in (0, 1, 8, 9, GREATEST)
     ]
-    driver.assert_by_the_rules(with_strings(*calls), MANY_DIGITS)
+    driver.assert_by_the_rules(in_each_form(*calls), MANY_DIGITS)
 
 
 @pytest.mark.parametrize("policy", CLAMPED, ids=str)
 def test_rounds_that_would_be_clamped_make_no_hash(driver: Driver, policy: Policy) -> None:
     call = New(b"password", policy.method, policy.rounds)
-    driver.assert_answer(call, result=0, reason=Reason.COST, drawn=0, out='"*0"')
+    driver.assert_answer(call, result=0, error=Reason.ROUNDS, drawn=0, out='"*0"')
 
 
 @pytest.mark.parametrize("policy", VALID, ids=str)
-def test_without_random_words_there_is_no_hash(driver: Driver, policy: Policy) -> None:
+def test_without_random_numbers_there_is_no_hash(driver: Driver, policy: Policy) -> None:
     calls = [call for call in new_by(policy) if call.budget in (0, 1, GREATEST)]
-    driver.assert_by_the_rules(calls, NO_WORDS)
+    driver.assert_by_the_rules(calls, NO_NUMBERS)
     driver.assert_answer(
         New(b"password", policy.method, policy.rounds, GREATEST),
         result=0,
-        reason=Reason.NO_RANDOM_WORDS,
+        error=Reason.NO_RANDOM_NUMBERS,
         digests=0,
         drawn=24,
         out='"*0"',
@@ -194,11 +162,17 @@ def test_the_longest_password_gets_a_hash(driver: Driver, method: int, system: S
 
 def test_10000_salts_of_the_system_differ(driver: Driver) -> None:
     answers = driver.answers([New(b"a", 1)] * 10_000, REAL)
-    assert {(answer.result, answer.reason, answer.drawn) for answer in answers} == {
-        (1, Reason.DONE, 24)
-    }
+    assert {(answer.result, answer.error, answer.drawn) for answer in answers} == {(1, 0, 24)}
     salts = {match[0] for answer in answers if (match := re.match(r'"\$1\$[^$]{8}\$', answer.out))}
     assert len(salts) == 10_000
+
+
+def test_a_policy_of_zeros_is_sha512crypt_of_656000_rounds(driver: Driver) -> None:
+    """A null policy too: each call of the header is made with one."""
+    for call in in_each_form(New(b"password")):
+        made = driver.answers([call], REAL)[0].out.strip('"').encode()
+        assert made.startswith(b"$6$rounds=656000$"), call.row
+        assert crypt(b"password", made) == made
 
 
 def test_libxcrypt_agrees_with_a_hash_whose_salt_is_the_systems(driver: Driver) -> None:

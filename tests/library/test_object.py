@@ -17,15 +17,17 @@ USUAL_LEVEL = "x86-64-v2"
 LEVELS = ("x86-64", USUAL_LEVEL, "x86-64-v3")
 CALLED = {
     "hash_anew": ["getentropy", "mkpasswd_proved_new_from", "mkpasswd_proved_new_from"],
-    "mkpasswd_new": ["hash_anew", "wiped"],
-    "mkpasswd_verify": ["mkpasswd_proved_verify", "wiped"],
-    "mkpasswd_login": ["mkpasswd_proved_login", "wiped"],
-    "mkpasswd_hash": ["mkpasswd_proved_hash", "wiped"],
+    "mkpasswd_new_bytes": ["hash_anew", "wipe_stack"],
+    "mkpasswd_verify_bytes": ["mkpasswd_proved_verify", "wipe_stack"],
+    "mkpasswd_login_bytes": ["mkpasswd_proved_login", "wipe_stack"],
+    "mkpasswd_hash_bytes": ["mkpasswd_proved_hash", "wipe_stack"],
 }
 # A call of another object, or of a static function of this one.
-CALL = re.compile(r"PLT32\s+(\w+)|\t(?:call|jmp) .*<(wiped|hash_anew)>$", re.MULTILINE)
+CALL = re.compile(r"PLT32\s+(\w+)|\t(?:call|jmp) .*<(wipe_stack|hash_anew)>$", re.MULTILINE)
 FUNCTION = re.compile(r"^\w+ <(\S+)>:\n(.*?)\n(?=\n|\Z)", re.MULTILINE | re.DOTALL)
-COMPARISON = re.compile(r"call_core::verify::compare\b")
+# The call that makes the hash, and a byte of it beside one of the stored hash.
+HASHED = re.compile(r"^.*\bcrypt_core::hash::hash_by\b.*\n", re.MULTILINE)
+BYTE_COMPARED = re.compile(r"\txor +[^\n]*\([^\n]*,1\),%\w+\n")
 JUMP_ON_A_TEST = re.compile(r"\t((?:test|cmp)\w* [^\n]*)\n[^\n]*\tj")
 # A test of a whole register, or by a number above 0, is one of a length.
 OF_A_LENGTH = re.compile(r"[ ,]%r(?:[a-d]x|[sd]i|[sb]p|\d+)\b| \$0x[1-9a-f]\w*,")
@@ -50,12 +52,16 @@ def fixture_functions(folder: Path) -> dict[str, str]:
     return dict(FUNCTION.findall(result.stdout.decode()))
 
 
-@pytest.fixture(scope="module", name="comparison")
-def fixture_comparison(functions: dict[str, str]) -> str:
-    """The instructions of the function that compares hashes."""
-    found = [body for name, body in functions.items() if COMPARISON.match(name)]
-    assert len(found) == 1, "one function compares hashes"
-    return found[0]
+@pytest.fixture(scope="module", name="comparisons")
+def fixture_comparisons(functions: dict[str, str]) -> dict[str, str]:
+    """What each function that compares a hash with a stored one does once it has the hash."""
+    found = {}
+    for name, body in functions.items():
+        _, *parts = HASHED.split(body)
+        if parts and BYTE_COMPARED.search(parts[-1]):
+            found[name] = parts[-1]
+    assert found, "no function compares hashes"
+    return found
 
 
 def sections_of(file: Path) -> str:
@@ -82,11 +88,13 @@ def test_a_function_calls_its_proved_one_and_wipes(functions: dict[str, str], na
     assert sorted(calls) == CALLED[name], f"the instructions of {name}:\n{functions[name]}"
 
 
-def test_a_comparison_jumps_by_lengths_and_by_its_result_alone(comparison: str) -> None:
+def test_a_comparison_jumps_by_lengths_and_by_its_result_alone(comparisons: dict[str, str]) -> None:
     """By whether there is a hash, and at the end by whether a byte differs."""
-    tests = [test for test in JUMP_ON_A_TEST.findall(comparison) if not OF_A_LENGTH.search(test)]
-    assert len(tests) == 2, "\n".join([*tests, comparison])
+    for name, body in comparisons.items():
+        tests = [test for test in JUMP_ON_A_TEST.findall(body) if not OF_A_LENGTH.search(test)]
+        assert len(tests) == 2, "\n".join([name, *tests, body])
 
 
-def test_a_comparison_compares_no_words(comparison: str) -> None:
-    assert COMPARES_WORDS.findall(comparison) == []
+def test_a_comparison_compares_no_words(comparisons: dict[str, str]) -> None:
+    for name, body in comparisons.items():
+        assert COMPARES_WORDS.findall(body) == [], name

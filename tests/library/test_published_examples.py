@@ -36,7 +36,7 @@ def test_scrypt_counts_only_what_it_got_before_the_refused(
         OF_THE_THIRD_VECTOR,
         System(refused_allocation=refused),
         result=0,
-        reason=Reason.OUT_OF_MEMORY,
+        error=Reason.OUT_OF_MEMORY,
         digests=0,
         bytes=0,
         mixes=0,
@@ -77,7 +77,7 @@ def test_memory_that_is_refused_is_not_counted(
         Hash(b"", b"$7$//..../....", GREATEST),
         System(refused_allocation=refused),
         result=0,
-        reason=Reason.OUT_OF_MEMORY,
+        error=Reason.OUT_OF_MEMORY,
         digests=0,
         table=table,
         scratch=scratch,
@@ -114,7 +114,7 @@ def test_md5crypt_needs_no_memory(driver: Driver, refused: int) -> None:
 LARGEST_ROUNDS = 11
 LARGEST = b"$7$GU..../....ab$usU8J1uEK/M/.nHi2It6aoypY36zRdBmdiCRjefMUs."
 NEEDED_KILOBYTES = 3 * 2**19
-TWICE_A_NEW_HASH = 0  # as a budget
+OF_THE_POLICY = 0  # as a budget
 
 
 @pytest.fixture(name="driver_with_memory")
@@ -131,7 +131,7 @@ def test_a_hash_with_a_table_of_1_gib_is_verified(driver_with_memory: Driver) ->
     driver_with_memory.assert_answer(
         Verify(b"password", LARGEST, GREATEST),
         result=1,
-        reason=Reason.FITS,
+        error=0,
         digests=258,
         bytes=25508,
         mixes=524288,
@@ -143,9 +143,9 @@ def test_a_hash_with_a_table_of_1_gib_is_verified(driver_with_memory: Driver) ->
 @pytest.mark.slow
 def test_a_login_with_a_table_of_1_gib_gets_in(driver_with_memory: Driver) -> None:
     driver_with_memory.assert_answer(
-        Login(b"password", LARGEST, SCRYPT, LARGEST_ROUNDS, TWICE_A_NEW_HASH),
+        Login(b"password", LARGEST, SCRYPT, LARGEST_ROUNDS, OF_THE_POLICY),
         result=1,
-        reason=Reason.FITS,
+        error=0,
         digests=258,
         table=1073741824,
     )
@@ -155,9 +155,9 @@ def test_a_login_with_a_table_of_1_gib_gets_in(driver_with_memory: Driver) -> No
 def test_a_dummy_hash_with_a_table_of_1_gib_is_made(driver_with_memory: Driver) -> None:
     """A new hash has a salt of 22 bytes, so more is digested than of a hash with 2."""
     driver_with_memory.assert_answer(
-        Login(b"password", b"!", SCRYPT, LARGEST_ROUNDS, TWICE_A_NEW_HASH),
+        Login(b"password", b"!", SCRYPT, LARGEST_ROUNDS, OF_THE_POLICY),
         result=0,
-        reason=Reason.LOCKED,
+        error=Reason.LOCKED,
         digests=258,
         bytes=28068,
         mixes=524288,

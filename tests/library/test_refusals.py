@@ -17,7 +17,7 @@ from support.model.calls import (
     NeedsRehash,
     Reason,
     length_of_hash,
-    with_strings,
+    in_each_form,
 )
 from support.model.settings import Refused, read_setting
 from support.model.work import cost
@@ -82,74 +82,74 @@ def test_the_first_of_several_refusals_of_a_hash_is_reported(driver: Driver, tex
 
 
 @pytest.mark.parametrize("text", TEXTS, ids=str)
-def test_the_first_of_several_refusals_of_strings_is_reported(driver: Driver, text: Text) -> None:
+def test_the_first_of_several_refusals_is_reported_in_each_form(driver: Driver, text: Text) -> None:
     rooms = (0, 1, 2, 3, text.length_of_hash, text.length_of_hash + 1, TEXT_SIZE)
     calls = [
         call
         for password in PASSWORDS
         for room in rooms
-        for call in with_strings(Hash(password, text.text, text.cost, room))
+        for call in in_each_form(Hash(password, text.text, text.cost, room))
     ]
     driver.assert_by_the_rules(calls)
 
 
 @pytest.mark.parametrize(
-    ("call", "reason", "out"),
+    ("call", "error", "out"),
     [
         pytest.param(
             Hash(b"a", b"$1$a", budget=0), Reason.OVER_BUDGET, '"*0"', id="a hash of $1$a"
         ),
         pytest.param(Hash(b"a", b"*0"), Reason.BAD_CHARACTER, '"*1"', id="a hash of *0"),
         pytest.param(Hash(b"a", b"*1"), Reason.BAD_CHARACTER, '"*0"', id="a hash of *1"),
-        pytest.param(Hash(b"a", b"*0", out_len=2), Reason.BAD_CHARACTER, '"*"', id="two bytes"),
-        pytest.param(Hash(b"a", b"*0", out_len=1), Reason.BAD_CHARACTER, '""', id="one byte"),
-        pytest.param(Hash(b"a", b"*0", out_len=0), Reason.BAD_CHARACTER, "unchanged", id="none"),
+        pytest.param(Hash(b"a", b"*0", out_size=2), Reason.BAD_CHARACTER, '"*"', id="two bytes"),
+        pytest.param(Hash(b"a", b"*0", out_size=1), Reason.BAD_CHARACTER, '""', id="one byte"),
+        pytest.param(Hash(b"a", b"*0", out_size=0), Reason.BAD_CHARACTER, "unchanged", id="none"),
     ],
 )
 def test_after_a_refusal_out_has_what_no_password_matches(
-    driver: Driver, call: Hash, reason: Reason, out: str
+    driver: Driver, call: Hash, error: Reason, out: str
 ) -> None:
-    driver.assert_answer(call, result=0, reason=reason, length=0, out=out)
+    driver.assert_answer(call, result=0, error=error, length=0, out=out)
 
 
 @pytest.mark.parametrize(
-    ("call", "reason"),
+    ("call", "error"),
     [
         pytest.param(Hash(None, MD5CRYPT), Reason.PASSWORD_ZERO_BYTE, id="password"),
         pytest.param(Hash(b"a", None), Reason.UNKNOWN_SCHEME, id="setting"),
         pytest.param(Hash(None, None), Reason.PASSWORD_ZERO_BYTE, id="password and setting"),
-        pytest.param(Hash(b"a", b"$1$a", out_len=None), Reason.TOO_FEW_BYTES, id="out"),
-        pytest.param(Hash(b"a", b"*0", out_len=None), Reason.BAD_CHARACTER, id="out, for *0"),
+        pytest.param(Hash(b"a", b"$1$a", out_size=None), Reason.TOO_FEW_BYTES, id="out"),
+        pytest.param(Hash(b"a", b"*0", out_size=None), Reason.BAD_CHARACTER, id="out, for *0"),
         pytest.param(Bound(None), Reason.UNKNOWN_SCHEME, id="stored hash, for its bound"),
         pytest.param(NeedsRehash(None), Reason.UNKNOWN_SCHEME, id="stored hash, for its age"),
     ],
 )
-def test_a_null_pointer_for_a_string_is_refused(
-    driver: Driver, call: Hash | Bound | NeedsRehash, reason: Reason
+def test_a_null_pointer_is_refused(
+    driver: Driver, call: Hash | Bound | NeedsRehash, error: Reason
 ) -> None:
-    as_string = with_strings(call)[1]
-    driver.assert_answer(as_string, result=0, reason=reason)
+    for each in in_each_form(call):
+        driver.assert_answer(each, result=0, error=error)
 
 
 @pytest.mark.parametrize("text", TEXTS, ids=str)
 def test_a_bound_has_its_first_refusal(driver: Driver, text: Text) -> None:
     calls = [Bound(text.text, length) for length in (0, 1024, 1025, GREATEST)]
-    driver.assert_by_the_rules([*calls, *with_strings(Bound(text.text, 8))])
+    driver.assert_by_the_rules([*calls, *in_each_form(Bound(text.text, 8))])
 
 
 @pytest.mark.parametrize("text", TEXTS, ids=str)
 def test_the_age_of_a_hash_has_its_first_refusal(driver: Driver, text: Text) -> None:
     policies: list[Policy] = [*POLICIES, *INVALID_POLICIES]
     calls = [NeedsRehash(text.text, policy.method, policy.rounds) for policy in policies]
-    driver.assert_by_the_rules([*calls, *with_strings(NeedsRehash(text.text, 6, 0))])
+    driver.assert_by_the_rules([*calls, *in_each_form(NeedsRehash(text.text, 6, 0))])
 
 
 @pytest.mark.parametrize("policy", INVALID_POLICIES, ids=str)
-def test_the_age_of_a_hash_is_not_told_by_an_invalid_policy(
+def test_an_invalid_policy_says_nothing_of_the_age_of_a_hash(
     driver: Driver, policy: InvalidPolicy
 ) -> None:
     call = NeedsRehash(MD5CRYPT, policy.method, policy.rounds)
-    driver.assert_answer(call, result=0, reason=policy.reason)
+    driver.assert_answer(call, result=0, error=policy.error)
 
 
 @pytest.mark.parametrize(
@@ -165,4 +165,20 @@ def test_the_age_of_a_hash_is_not_told_by_an_invalid_policy(
 def test_a_setting_is_outdated_by_a_stronger_policy(
     driver: Driver, setting: bytes, policy: Policy
 ) -> None:
-    driver.assert_by_the_rules([NeedsRehash(setting, policy.method, policy.rounds)])
+    calls = in_each_form(NeedsRehash(setting, policy.method, policy.rounds))
+    driver.assert_by_the_rules(calls)
+
+
+@pytest.mark.parametrize(
+    ("method", "result"),
+    [
+        pytest.param(1, 0, id="current by md5crypt"),
+        pytest.param(6, 1, id="outdated by sha512crypt"),
+        pytest.param(0, 1, id="outdated by the recommended method"),
+    ],
+)
+def test_md5crypt_is_current_or_outdated_and_neither_is_an_error(
+    driver: Driver, method: int, result: int
+) -> None:
+    for call in in_each_form(NeedsRehash(MD5CRYPT, method)):
+        driver.assert_answer(call, result=result, error=0, outdated=result)

@@ -1,6 +1,7 @@
-"""What compilers warn of in a careless caller, and that they keep quiet about a careful one.
+"""What compilers say to a careless caller, and that they keep quiet about a careful one.
 
-The callers are tests/c/warned_*.c. Each line there that a compiler has to warn about says so.
+The careless callers are tests/c/warned_*.c, where each line that a compiler has to warn about says
+so, and statements of this file that no compiler may take.
 """
 from __future__ import annotations
 
@@ -77,21 +78,21 @@ def compiled_with_warnings(
 
 def warnings_by_line(result: Result, source: Path) -> dict[int, str]:
     """What a compiler warned of in each line of a file."""
-    told: dict[int, str] = {}
+    found: dict[int, str] = {}
     pattern = rf"^{re.escape(str(source))}:(\d+):\d+: (?:warning|error): (.*)$"
     for number, text in re.findall(pattern, result.stderr.decode(), re.MULTILINE):
-        told[int(number)] = told.get(int(number), "") + text + "\n"
-    return told
+        found[int(number)] = found.get(int(number), "") + text + "\n"
+    return found
 
 
 def assert_warned(caller: Caller, result: Result) -> None:
     """Fails the test unless just the marked lines got the warning."""
     assert caller.marked_lines
     lines = caller.path.read_text(encoding="ascii").splitlines()
-    told = warnings_by_line(result, caller.path)
+    found = warnings_by_line(result, caller.path)
     wrong = []
-    for number in sorted({*caller.marked_lines, *told}):
-        warning = told.get(number, "")
+    for number in sorted({*caller.marked_lines, *found}):
+        warning = found.get(number, "")
         expected = caller.warning if number in caller.marked_lines else "no warning"
         if number not in caller.marked_lines or caller.warning not in warning:
             wrong.append(f"of {lines[number - 1].strip()}\nexpected: {expected}\nits: {warning}")
@@ -120,21 +121,26 @@ def test_gcc_warns_of_an_out_that_is_too_small(
     )
 
 
-def test_each_call_with_a_reason_is_ignored_in_that_file(installed: Installed) -> None:
-    """The calls that only give a text or a number have none: their results may be ignored."""
+def test_each_call_that_can_fail_is_ignored_in_that_file(installed: Installed) -> None:
+    """The results of those that give a text or a number may be ignored, and of what makes one."""
     text = IGNORED_RESULTS.path.read_text(encoding="ascii")
     ignored = re.findall(rf"(mkpasswd_\w+)\(.*{re.escape(MARK)}", text)
-    calls = {*installed.declared(), *installed.inline()}
-    names = ("words", "words_str", "scheme_name", "version")
+    calls = {*installed.exported(), *installed.inline()}
+    names = (
+        *("message", "message_bytes", "scheme_name", "scheme_name_bytes", "version"),
+        *("password", "password_bytes", "field", "field_bytes"),
+    )
     may_be_ignored = {f"mkpasswd_{name}" for name in names}
     assert sorted(ignored) == sorted(calls - may_be_ignored)
 
 
 @ALL_COMPILERS
-def test_strings_may_be_null(installed: Installed, tmp_path: Path, compiler: str) -> None:
-    """No compiler says a word, and no call does anything: the program returns 0."""
+def test_the_headers_own_calls_take_null_pointers(
+    installed: Installed, tmp_path: Path, compiler: str
+) -> None:
+    """No compiler says a word, and each call does what the header says: the program returns 0."""
     program = tmp_path / "caller"
-    assert_result(compiled_with_warnings(compiler, SOURCES / "null_strings.c", installed, program))
+    assert_result(compiled_with_warnings(compiler, SOURCES / "null_pointers.c", installed, program))
     assert_result(run(program))
 
 
@@ -146,3 +152,70 @@ def test_a_callers_own_test_for_null_is_kept(
     source = SOURCES / "null_test.c"
     assert_result(compiled(compiler, source, installed, program, "-O2"))
     assert_result(run(program))
+
+
+# ---- What no compiler takes
+
+FUNCTION = """\
+#include <mkpasswd.h>
+
+bool answer_of(struct mkpasswd_password password, struct mkpasswd_field field,
+    const char *typed, const char *stored, struct mkpasswd_report *report);
+
+bool answer_of(struct mkpasswd_password password, struct mkpasswd_field field,
+    const char *typed, const char *stored, struct mkpasswd_report *report)
+{
+    char out[MKPASSWD_TEXT_SIZE];
+
+    (void)password, (void)field, (void)typed, (void)stored, (void)out;
+    return STATEMENT;
+}
+"""
+RIGHT_ORDER = {
+    "mkpasswd_login": "mkpasswd_login(password, field, NULL, report)",
+    "mkpasswd_verify": "mkpasswd_verify(password, field, 1, report)",
+    "mkpasswd_hash": "mkpasswd_hash(password, field, 1, out, sizeof out, report)",
+    "mkpasswd_new": "mkpasswd_new(password, NULL, out, sizeof out, report)",
+    "mkpasswd_audit": "mkpasswd_audit(field, NULL, report)",
+}
+REFUSED = {
+    "an exchanged password and field of a login": "mkpasswd_login(field, password, NULL, report)",
+    "the same of a check": "mkpasswd_verify(field, password, 1, report)",
+    "the same of a hash": "mkpasswd_hash(field, password, 1, out, sizeof out, report)",
+    "two passwords": "mkpasswd_login(password, password, NULL, report)",
+    "two fields": "mkpasswd_login(field, field, NULL, report)",
+    "a field as a new password": "mkpasswd_new(field, NULL, out, sizeof out, report)",
+    "a password as a stored hash": "mkpasswd_audit(password, NULL, report)",
+    "strings": "mkpasswd_login(typed, stored, NULL, report)",
+    "a string as the password": "mkpasswd_login(typed, field, NULL, report)",
+    "a string as the field": "mkpasswd_login(password, stored, NULL, report)",
+}
+
+
+def compiled_statement(compiler: str, statement: str, installed: Installed, folder: Path) -> Result:
+    """How a compiler takes a function that returns what a statement gives."""
+    source = folder / "caller.c"
+    source.write_text(FUNCTION.replace("STATEMENT", statement), encoding="ascii")
+    words = ["-Wall", "-Wextra", "-fsyntax-only", f"-I{installed.include}"]
+    return run(compiler, *words, "-x", "c++" if "+" in compiler else "c", source)
+
+
+@ALL_COMPILERS
+@pytest.mark.parametrize("statement", RIGHT_ORDER.values(), ids=list(RIGHT_ORDER))
+def test_a_compiler_takes_arguments_in_their_order(
+    installed: Installed, tmp_path: Path, compiler: str, statement: str
+) -> None:
+    assert_result(compiled_statement(compiler, statement, installed, tmp_path))
+
+
+@ALL_COMPILERS
+@pytest.mark.parametrize("statement", REFUSED.values(), ids=list(REFUSED))
+def test_no_compiler_takes(
+    installed: Installed, tmp_path: Path, compiler: str, statement: str
+) -> None:
+    result = compiled_statement(compiler, statement, installed, tmp_path)
+    line = FUNCTION.splitlines().index("    return STATEMENT;") + 1
+    errors = re.findall(
+        rf"^\S+caller\.c:{line}:\d+: error: .*", result.stderr.decode(), re.MULTILINE
+    )
+    assert result.status != 0 and errors, f"expected: an error in line {line}\n{result}"

@@ -14,7 +14,7 @@ from support.release import Archive, processor_of_build
 pytestmark = pytest.mark.xdist_group("archive")  # so that it is packed once
 
 FIELD = "$1$xxxxxxxx$UYCIxa628.9qXjpQCjM4a."  # of `password`, as libxcrypt hashes it
-SOURCE = SOURCES / "login_of_words.c"
+SOURCE = SOURCES / "log_in.c"
 IN_PYTHON = "import sys, mkpasswd; sys.exit(not mkpasswd.login(sys.argv[1], field=sys.argv[2]))"
 STRICT = ("-Wall", "-Wextra", "-Werror")
 SHARED = "libmkpasswd.so.3"

@@ -8,15 +8,19 @@ from .model.calls import (
     Audit,
     Bound,
     Call,
+    Form,
     Hash,
     Limit,
     Login,
     MakeSetting,
+    Message,
+    NeedsRehash,
     New,
     Reason,
     Rounds,
+    SchemeName,
     Verify,
-    with_strings,
+    in_each_form,
 )
 from .model.settings import read_setting
 from .model.work import cost
@@ -34,11 +38,11 @@ CHEAP_SCRYPT = b"$7$2/..../....ab"
 
 @dataclass(frozen=True)
 class WrongPassword:
-    """What is not "password", and the reason with which it is refused."""
+    """What is not "password", and the error with which it is refused."""
 
     title: str
     password: bytes
-    reason: Reason = Reason.DIFFERS
+    error: Reason = Reason.WRONG_PASSWORD
 
     def __str__(self) -> str:
         return self.title
@@ -60,30 +64,34 @@ def careless_logins() -> list[Verify]:
     calls = [Verify(b"password", field) for field in fields]
     calls += [Verify(b"password", MD5CRYPT, budget) for budget in (0, COST - 1, COST, GREATEST)]
     calls += [Verify(wrong.password, MD5CRYPT) for wrong in WRONG_PASSWORDS]
-    return with_strings(*calls)
+    return in_each_form(*calls)
 
 
 def calls_of_each_kind() -> list[Call]:
     """Some of the calls above, and each other one: what a build of a caller has to do."""
     calls: list[Call] = [
-        call for call in careless_logins() if call.is_str or call.stored == MD5CRYPT
+        call for call in careless_logins() if call.form is Form.STRINGS or call.stored == MD5CRYPT
     ]
-    calls += [
-        Bound(MD5CRYPT, is_str=True),
-        Audit(MD5CRYPT, 1, is_str=True),
-        Limit(6, 0),
-        Rounds(200, 6, 0),
-        MakeSetting(6, 0, 1, 2, 3, is_str=True),
-        Hash(b"password", b"!", is_str=True),
+    calls += in_each_form(
+        Bound(MD5CRYPT),
+        Audit(MD5CRYPT, 1),
+        NeedsRehash(MD5CRYPT),
+        Limit(),
+        Rounds(200),
+        MakeSetting(6, 0, b"salt"),
+        Hash(b"password", b"!"),
         Verify(b"", SCRYPT_OF_NOTHING.text),
-        Verify(b"x", SCRYPT_OF_NOTHING.text, is_str=True),
+        Verify(b"x", SCRYPT_OF_NOTHING.text),
         Hash(b"password", CHEAP_SCRYPT),
-        Hash(b"password", CHEAP_SCRYPT, GREATEST, is_str=True),
-        New(b"password", 1, is_str=True),
-        New(b"password", 7, 6, budget=0),
+        Hash(b"password", CHEAP_SCRYPT, GREATEST),
+        New(b"password", 1),
         New(b"password", 7, 6),
-    ]
-    fields = (b"", b"!", b"*", b"!" + b"a" * 399, b"$y$x", b"$6$rounds=999999999$ab$x", MD5CRYPT)
-    calls += with_strings(*(Login(b"password", field, 6, 1000) for field in fields))
-    calls.append(Login(b"password", None, 6, 1000, is_str=True))
+        Message(Reason.DEAD),
+        SchemeName(7),
+    )
+    fields = (
+        *(None, b"", b"!", b"*", b"!" + b"a" * 399),
+        *(b"$y$x", b"$6$rounds=999999999$ab$x", MD5CRYPT),
+    )
+    calls += in_each_form(*(Login(b"password", field, 6, 1000) for field in fields))
     return calls

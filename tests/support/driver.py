@@ -16,7 +16,7 @@ COUNTED_FUNCTIONS = ("malloc", "realloc", "free", "getentropy")
 # functions before those; in a program with the shared one they take the place of those.
 COUNTS_STATIC = ("-DWRAP", *(f"-Wl,--wrap={name}" for name in COUNTED_FUNCTIONS))
 COUNTS_SHARED = ("-DREPLACE",)
-BY_THE_REASON = {int(reason): reason.message for reason in Reason}
+MESSAGES = {int(reason): reason.message for reason in Reason}
 
 
 def answer_of(line: str) -> Answer:
@@ -35,9 +35,9 @@ def system_row(system: System, threads: int) -> str:
 
 
 def shown_value(name: str, value: object) -> str:
-    """A value of an answer, with the message of a reason."""
-    if name == "reason" and isinstance(value, int):
-        return f"{int(value)} ({BY_THE_REASON.get(value, 'no reason')})"
+    """A value of an answer, with the message of an error."""
+    if name == "error" and isinstance(value, int):
+        return f"{int(value)} ({MESSAGES.get(value, 'no error')})"
     return str(value)
 
 

@@ -48,20 +48,20 @@ class Installed:
 
     def defined(self, name: str) -> int:
         """The number that the header defines a name as."""
-        pattern = rf"^#define MKPASSWD_{name} \(*(?:uint64_t\))?(-?\d+)"
+        pattern = rf"^#define MKPASSWD_{name} (\d+)"
         found = re.search(pattern, self.header, re.MULTILINE)
         assert found is not None, f"the header doesn't define MKPASSWD_{name}"
         return int(found[1])
 
-    def declared(self) -> list[str]:
-        """The names of the calls that the library has."""
-        pattern = r"^MKPASSWD_EXPORT[^;]*?int32_t (mkpasswd_\w+)\("
+    def exported(self) -> list[str]:
+        """The names of the functions that the library has."""
+        pattern = r"^MKPASSWD_EXPORT[^;]*?int32_t\s+(mkpasswd_\w+)\("
         return sorted(re.findall(pattern, self.header, re.MULTILINE))
 
     def inline(self) -> list[str]:
-        """The names of the calls for strings, which the header has itself."""
-        pattern = r"^(?:MKPASSWD_\w+(?:\(\d, \d\))? )*static inline bool (mkpasswd_\w+_str)\("
-        return sorted(re.findall(pattern, self.header, re.MULTILINE))
+        """The names of the calls that the header has itself and declares for its users."""
+        pattern = r"static inline (?:bool|struct \w+) (mkpasswd_\w+)\([^{;]*\);"
+        return sorted(re.findall(pattern, self.header))
 
 
 def install(folder: Path) -> Installed:

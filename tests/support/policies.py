@@ -1,9 +1,10 @@
-"""Methods and rounds of new hashes, as the calls take them: 0 stands for the recommended rounds."""
+"""Methods and rounds of new hashes, as the calls take them: 0 stands for what is recommended."""
 from __future__ import annotations
 
 from dataclasses import dataclass
 
-from .model.calls import Reason
+from .model.calls import METHODS, RECOMMENDED_METHOD, Reason
+from .model.settings import Setting, recommended_setting
 
 GREATEST_32 = 2**32 - 1
 
@@ -19,15 +20,20 @@ class Policy:
     def __str__(self) -> str:
         return self.title
 
+    @property
+    def setting(self) -> Setting:
+        """The setting of new hashes, but for the salt."""
+        return recommended_setting(METHODS[self.method or RECOMMENDED_METHOD], self.rounds)
+
 
 @dataclass(frozen=True)
 class InvalidPolicy(Policy):
-    """A method or rounds that calls refuse, and the reason."""
+    """A method or rounds that calls refuse, and the error."""
 
-    reason: Reason
+    error: Reason
 
 
-RECOMMENDED = Policy("sha512crypt as recommended", 6, 0)
+RECOMMENDED = Policy("the recommended one", 0, 0)
 # The formats clamp rounds of SHA-crypt, and so does mkpasswd_needs_rehash, alone of the calls.
 CLAMPED = (
     Policy("sha512crypt of 10 rounds", 6, 10),
@@ -39,26 +45,28 @@ POLICIES = (
     Policy("sha256crypt as recommended", 5, 0),
     Policy("sha256crypt of 5000 rounds", 5, 5000),
     RECOMMENDED,
+    Policy("the recommended method of 5000 rounds", 0, 5000),
+    Policy("sha512crypt as recommended", 6, 0),
     *CLAMPED,
     Policy("scrypt as recommended", 7, 0),
     Policy("scrypt of the least cost", 7, 6),
     Policy("scrypt of the highest cost", 7, 11),
 )
 INVALID_POLICIES = (
-    InvalidPolicy("method 0", 0, 0, Reason.UNKNOWN_METHOD),
     InvalidPolicy("method 2", 2, 0, Reason.UNKNOWN_METHOD),
     InvalidPolicy("method 3", 3, 5, Reason.UNKNOWN_METHOD),
     InvalidPolicy("method 4", 4, 0, Reason.UNKNOWN_METHOD),
     InvalidPolicy("method 8", 8, 0, Reason.UNKNOWN_METHOD),
     InvalidPolicy("the greatest number as the method", GREATEST_32, 7, Reason.UNKNOWN_METHOD),
-    InvalidPolicy("scrypt of cost 1", 7, 1, Reason.COST),
-    InvalidPolicy("scrypt of cost 5", 7, 5, Reason.COST),
-    InvalidPolicy("scrypt of cost 12", 7, 12, Reason.COST),
-    InvalidPolicy("scrypt of the greatest number as the cost", 7, GREATEST_32, Reason.COST),
+    InvalidPolicy("scrypt of cost 1", 7, 1, Reason.ROUNDS),
+    InvalidPolicy("scrypt of cost 5", 7, 5, Reason.ROUNDS),
+    InvalidPolicy("scrypt of cost 12", 7, 12, Reason.ROUNDS),
+    InvalidPolicy("scrypt of the greatest number as the cost", 7, GREATEST_32, Reason.ROUNDS),
 )
 # What the other calls with a method refuse, since they clamp nothing.
 INVALID_ROUNDS = (
-    InvalidPolicy("sha512crypt of 999 rounds", 6, 999, Reason.COST),
-    InvalidPolicy("sha256crypt of one round", 5, 1, Reason.COST),
-    InvalidPolicy("sha512crypt of 1000000000 rounds", 6, 1_000_000_000, Reason.COST),
+    InvalidPolicy("the recommended method of 999 rounds", 0, 999, Reason.ROUNDS),
+    InvalidPolicy("sha512crypt of 999 rounds", 6, 999, Reason.ROUNDS),
+    InvalidPolicy("sha256crypt of one round", 5, 1, Reason.ROUNDS),
+    InvalidPolicy("sha512crypt of 1000000000 rounds", 6, 1_000_000_000, Reason.ROUNDS),
 )

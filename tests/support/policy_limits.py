@@ -1,6 +1,6 @@
 """What a policy of new hashes admits, by the formulas of docs/FORMATS.md, and policies to try.
 
-Neither the model nor the header takes part in it.
+Of the model this has the numbers of errors alone.
 """
 from __future__ import annotations
 
@@ -8,16 +8,12 @@ import random
 from dataclasses import dataclass, replace
 from typing import Iterator
 
+from .model.calls import Reason
+
 LONGEST_PASSWORD = 1024
 LIMIT_FLOOR = 150_000_000
 FEWEST_ROUNDS = 1000
 MOST_ROUNDS = 999_999_999
-
-DONE = 3
-PASSWORD_TOO_LONG = -1
-UNKNOWN_METHOD = -13
-REFUSED_COST = -14
-OVER_BUDGET = -16
 
 MD5CRYPT = 1
 SHA256CRYPT = 5
@@ -31,7 +27,7 @@ SALT_LENGTH = {MD5CRYPT: 8, SHA256CRYPT: 16, SHA512CRYPT: 16, SCRYPT: 22}
 
 @dataclass(frozen=True)
 class Policy:
-    """What a service gives mkpasswd_login() and mkpasswd_new()."""
+    """What a service gives mkpasswd_login() and mkpasswd_new(), with a method that is named."""
 
     method: int
     rounds: int
@@ -43,16 +39,16 @@ class Policy:
         return self.rounds or RECOMMENDED_ROUNDS[self.method]
 
     @property
-    def refusal(self) -> int:
-        """The reason why no new hash has the method and the rounds, or 0."""
+    def error(self) -> Reason | None:
+        """Why no new hash has the method and the rounds."""
         if self.method not in METHODS:
-            return UNKNOWN_METHOD
+            return Reason.UNKNOWN_METHOD
         if self.method == SCRYPT and self.rounds not in (0, *range(6, 12)):
-            return REFUSED_COST
+            return Reason.ROUNDS
         is_sha = self.method in (SHA256CRYPT, SHA512CRYPT)
         if is_sha and self.rounds and not FEWEST_ROUNDS <= self.rounds <= MOST_ROUNDS:
-            return REFUSED_COST
-        return 0
+            return Reason.ROUNDS
+        return None
 
     @property
     def limit(self) -> int:
@@ -138,7 +134,7 @@ def random_budget(source: random.Random, policy: Policy) -> int:
     kind = source.random()
     if kind < 0.4:
         return 0
-    if kind < 0.8 and not policy.refusal:
+    if kind < 0.8 and policy.error is None:
         length = source.randrange(LONGEST_PASSWORD + 1)
         cost = new_cost(policy.method, policy.chosen_rounds, length)
         return max(1, cost + source.randrange(-1, 2))
@@ -149,7 +145,7 @@ def random_policies(seed: int, count: int) -> Iterator[Policy]:
     """Policies of each method, and some of none."""
     source = random.Random(seed)
     for _ in range(count):
-        method = source.choice(METHODS) if source.random() < 0.97 else source.randrange(2**32)
+        method = source.choice(METHODS) if source.random() < 0.97 else source.randrange(1, 2**32)
         rounds = random_rounds(source, method)
         without_budget = Policy(method, rounds, 0)
         yield replace(without_budget, budget=random_budget(source, without_budget))

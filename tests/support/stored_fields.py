@@ -27,11 +27,11 @@ class KnownHash:
 
 @dataclass(frozen=True)
 class Field:
-    """What is stored for a name, and the reason with which "password" is refused."""
+    """What is stored for a name, and the error with which "password" is refused."""
 
     title: str
     text: bytes
-    reason: Reason
+    error: Reason
 
     def __str__(self) -> str:
         return self.title
@@ -173,14 +173,14 @@ WITHOUT_SETTING = (
 )
 # Fields that have a setting, and are no hash of "password", or cost too much.
 DIFFERENT = (
-    Field("a hash without its last character", MD5CRYPT[:-1], Reason.DIFFERS),
-    Field("a hash with a dot behind it", MD5CRYPT + b".", Reason.DIFFERS),
-    Field("a hash with a dollar sign behind it", MD5CRYPT + b"$", Reason.DIFFERS),
-    Field("a prefix alone", b"$1$", Reason.DIFFERS),
-    Field("a setting alone", b"$1$xxxxxxxx", Reason.DIFFERS),
-    Field("a setting with its dollar sign", b"$1$xxxxxxxx$", Reason.DIFFERS),
-    Field("fewer rounds than there are", b"$6$rounds=10$ab$x", Reason.DIFFERS),
-    Field("a salt up to the longest field", b"$1$" + b"a" * 381, Reason.DIFFERS),
+    Field("a hash without its last character", MD5CRYPT[:-1], Reason.WRONG_PASSWORD),
+    Field("a hash with a dot behind it", MD5CRYPT + b".", Reason.WRONG_PASSWORD),
+    Field("a hash with a dollar sign behind it", MD5CRYPT + b"$", Reason.WRONG_PASSWORD),
+    Field("a prefix alone", b"$1$", Reason.WRONG_PASSWORD),
+    Field("a setting alone", b"$1$xxxxxxxx", Reason.WRONG_PASSWORD),
+    Field("a setting with its dollar sign", b"$1$xxxxxxxx$", Reason.WRONG_PASSWORD),
+    Field("fewer rounds than there are", b"$6$rounds=10$ab$x", Reason.WRONG_PASSWORD),
+    Field("a salt up to the longest field", b"$1$" + b"a" * 381, Reason.WRONG_PASSWORD),
 )
 TOO_DEAR = (
     Field("scrypt at the ceiling", b"$7$GU..../....ab$x", Reason.OVER_BUDGET),

@@ -1,8 +1,8 @@
 """The calls for C: what each returns, reports and leaves in `out`, by the rules in mkpasswd.h.
 
-A call has the arguments of the header by their names. None stands for a null pointer, which only
-the calls for strings take: they count a null password as one with a zero byte, a null string as
-an empty one, and a null `out` as one without room.
+A call has the arguments of the header by their names, and a policy is its three numbers. None
+stands for a null pointer, which an exported call doesn't take. For the others a null password is
+one with a zero byte, a null field or salt is empty, and a null `out` has no room.
 """
 from __future__ import annotations
 
@@ -12,7 +12,7 @@ import functools
 import re
 from abc import ABC, abstractmethod
 from dataclasses import dataclass
-from typing import ClassVar, TypeVar
+from typing import Any, ClassVar, TypeVar
 
 from .audits import audit_policy, is_locked, is_whole, other_scheme, rounds_text, state_of
 from .hashes import hash_of
@@ -50,60 +50,71 @@ TEXT_SIZE = 145  # bytes, for any hash, setting or message
 BUDGET = 150_000_000  # some budget, which admits the hashes of these tests
 GREATEST = 2**64 - 1  # number of 64 bits
 DRAWN = 24  # bytes that mkpasswd_new asks the system for
-WORD = 8  # bytes
-DIGITS_OF_WORD = 10  # of a salt, that a word makes
+NUMBER_SIZE = 8  # bytes of a random number
+DIGITS_OF_NUMBER = 10  # of a salt, that a random number makes
 
 
 class Reason(enum.IntEnum):
-    """Why a call returned what it did: its name and number in the header, and its message."""
+    """Why a call failed: its name in the header and its message, numbered from 1 on."""
 
-    def __new__(cls, number: int, _message: str) -> Reason:
+    def __new__(cls, _message: str) -> Reason:
+        number = len(cls.__members__) + 1
         member = int.__new__(cls, number)
         member._value_ = number
         return member
 
-    def __init__(self, _number: int, message: str) -> None:
+    def __init__(self, message: str) -> None:
         self.message = message
 
-    DONE = 3, "done"
-    OUTDATED = 2, "outdated"
-    FITS = 1, "fits"
-    PASSWORD_TOO_LONG = -1, "password too long"
-    PASSWORD_ZERO_BYTE = -2, "password has a zero byte"
-    SETTING_TOO_LONG = -3, "setting too long"
-    BAD_CHARACTER = -4, "bad character"
-    UNKNOWN_SCHEME = -5, "unknown scheme"
-    BAD_ROUNDS = -6, "bad rounds"
-    BAD_COST = -7, "bad cost"
-    SCRYPT_RANGE = -8, "scrypt range"
-    ABOVE_CEILING = -9, "above ceiling"
-    BAD_SALT = -10, "bad salt"
-    OUT_OF_MEMORY = -11, "out of memory"
-    TOO_FEW_BYTES = -12, "too few bytes"
-    UNKNOWN_METHOD = -13, "unknown method"
-    COST = -14, "cost"
-    OVER_BUDGET = -16, "over budget"
-    DIFFERS = -17, "differs"
-    CURRENT = -18, "current"
-    NO_RANDOM_WORDS = -19, "no random words"
-    LOCKED = -20, "locked"
-    NO_HASH = -21, "no hash"
-    DEAD = -22, "dead"
-    REPLACED = -23, "outdated"
-    SALT_LENGTH = -24, "salt length"
-    SALT_CHARACTER = -25, "salt character"
-    NO_SCHEME = -26, "no scheme"
+    PASSWORD_TOO_LONG = "password too long"
+    PASSWORD_ZERO_BYTE = "password has a zero byte"
+    SETTING_TOO_LONG = "setting too long"
+    BAD_CHARACTER = "bad character"
+    UNKNOWN_SCHEME = "unknown scheme"
+    BAD_ROUNDS = "bad rounds"
+    BAD_COST = "bad cost"
+    SCRYPT_RANGE = "scrypt range"
+    ABOVE_CEILING = "above ceiling"
+    BAD_SALT = "bad salt"
+    UNKNOWN_METHOD = "unknown method"
+    SALT_LENGTH = "salt length"
+    SALT_CHARACTER = "salt character"
+    ROUNDS = "rounds out of range"
+    LOCKED = "locked"
+    NO_HASH = "no hash"
+    NO_SCHEME = "no scheme"
+    OVER_BUDGET = "over budget"
+    TOO_FEW_BYTES = "too few bytes"
+    NO_RANDOM_NUMBERS = "no random numbers"
+    OUT_OF_MEMORY = "out of memory"
+    WRONG_PASSWORD = "wrong password"
+    DEAD = "dead"
 
 
-OF_A_SETTING = {reason.message: reason for reason in Reason if -10 <= reason <= -3}
+class Form(enum.Enum):
+    """How a call is made: by the exported function, or by the header's own in one of two ways."""
+
+    EXPORTED = "pointers and lengths"
+    LENGTHS = "a password and a field made of bytes"
+    STRINGS = "a password and a field made of strings"
+
+
+OF_A_SETTING = {
+    reason.message: reason
+    for reason in (
+        Reason.SETTING_TOO_LONG,
+        Reason.BAD_CHARACTER,
+        Reason.UNKNOWN_SCHEME,
+        Reason.BAD_ROUNDS,
+        Reason.BAD_COST,
+        Reason.SCRYPT_RANGE,
+        Reason.ABOVE_CEILING,
+        Reason.BAD_SALT,
+    )
+}
 # A login whose field has one of these reasons hashes the password all the same.
 WITHOUT_A_HASH = {*OF_A_SETTING.values(), Reason.OVER_BUDGET, Reason.LOCKED, Reason.NO_HASH}
-REASONS_OF_AUDITS = {
-    "over budget": Reason.OVER_BUDGET,
-    "dead": Reason.DEAD,
-    "outdated": Reason.REPLACED,
-    "current": Reason.DONE,
-}
+ERRORS_OF_AUDITS = {"over budget": Reason.OVER_BUDGET, "dead": Reason.DEAD}
 AnyCall = TypeVar("AnyCall", bound="Call")
 # The numbers in the header of other schemes of crypt(5), by their names.
 NUMBERS_OF_OTHERS: dict[str | None, int] = {
@@ -117,10 +128,11 @@ NUMBERS_OF_OTHERS: dict[str | None, int] = {
     "descrypt": 108,
 }
 METHODS = {1: MD5CRYPT, 5: SHA256CRYPT, 6: SHA512CRYPT, 7: SCRYPT}
+RECOMMENDED_METHOD = 6
 
 
 class CallRefused(Exception):
-    """A call returns 0 with this reason."""
+    """A call returns 0 for this reason."""
 
     def __init__(self, reason: Reason) -> None:
         super().__init__(reason.message)
@@ -136,13 +148,14 @@ class System:
     is_real: bool = False  # so that random bytes are not known
 
     @property
-    def words(self) -> tuple[int, int, int]:
+    def numbers(self) -> tuple[int, int, int]:
         """The random bytes as numbers."""
         text = self.random_bytes
         if text is None:
-            raise CallRefused(Reason.NO_RANDOM_WORDS)
+            raise CallRefused(Reason.NO_RANDOM_NUMBERS)
         first, second, third = (
-            int.from_bytes(text[place : place + WORD], "little") for place in (0, WORD, 2 * WORD)
+            int.from_bytes(text[place : place + NUMBER_SIZE], "little")
+            for place in (0, NUMBER_SIZE, 2 * NUMBER_SIZE)
         )
         return first, second, third
 
@@ -152,7 +165,8 @@ class Answer:
     """What a call returned, reported and left in `out`, and what it asked the system for."""
 
     result: int
-    reason: int = 0
+    error: int = 0
+    outdated: int = 0
     length: int = 0
     cost: int = 0
     digests: int = 0
@@ -181,6 +195,7 @@ class Report:
     scratch: int = 0
     allocations: int = 0
     drawn: int = 0
+    is_outdated: bool = False
     length: int = 0
     rounds: int = 0
     scheme: int = 0
@@ -223,11 +238,12 @@ class Report:
         if self.allocations == self.system.refused_allocation:
             raise CallRefused(Reason.OUT_OF_MEMORY)
 
-    def answer(self, reason: Reason, out: str) -> Answer:
-        """The answer with this reason."""
+    def answer(self, result: bool, error: int, out: str) -> Answer:
+        """The answer of a call that returns this result."""
         return Answer(
-            result=int(reason > 0),
-            reason=reason,
+            result=int(result),
+            error=error,
+            outdated=int(self.is_outdated),
             length=self.length,
             cost=self.cost,
             digests=self.work.digests,
@@ -283,7 +299,7 @@ def setting_of_field(field: bytes | None) -> Setting:
 
 def method_of(number: int, rounds: int, *, are_clamped: bool) -> Method:
     """The method of new hashes, if its rounds are valid, or need not be since they are clamped."""
-    method = METHODS.get(number)
+    method = METHODS.get(number or RECOMMENDED_METHOD)
     if method is None:
         raise CallRefused(Reason.UNKNOWN_METHOD)
     if rounds == 0 or method is MD5CRYPT:
@@ -293,14 +309,14 @@ def method_of(number: int, rounds: int, *, are_clamped: bool) -> Method:
     else:
         is_valid = are_clamped or LEAST_ROUNDS <= rounds <= MOST_ROUNDS
     if not is_valid:
-        raise CallRefused(Reason.COST)
+        raise CallRefused(Reason.ROUNDS)
     return method
 
 
-def salt_of(words: tuple[int, int, int], length: int) -> bytes:
-    """The salt that words make: each has its digits in its lowest bits, the lowest first."""
+def salt_of(numbers: tuple[int, int, int], length: int) -> bytes:
+    """The salt that numbers make: each has its digits in its lowest bits, the lowest first."""
     digits = [
-        words[place // DIGITS_OF_WORD] >> BITS_OF_DIGIT * (place % DIGITS_OF_WORD) & 63
+        numbers[place // DIGITS_OF_NUMBER] >> BITS_OF_DIGIT * (place % DIGITS_OF_NUMBER) & 63
         for place in range(length)
     ]
     return bytes(ALPHABET[digit] for digit in digits)
@@ -315,63 +331,79 @@ class Call(ABC):
     """A call with its arguments."""
 
     name: ClassVar[str]
-    is_str: bool
+    forms: ClassVar[tuple[Form, ...]] = tuple(Form)
+    form: Form
+
+    @property
+    def values(self) -> dict[str, Any]:
+        """The arguments by their names."""
+        names = [field.name for field in dataclasses.fields(self) if field.name != "form"]
+        return {name: getattr(self, name) for name in names}
 
     @property
     def row(self) -> str:
         """The call as tests/c/calls.c reads it."""
-        words = [self.name + ("_str" if self.is_str else "")]
-        for field in dataclasses.fields(self):
-            value = getattr(self, field.name)
-            if field.name == "is_str":
-                continue
-            if value is None:
-                value = "null"
-            elif isinstance(value, bytes):
-                value = value.hex()
-            words.append(f"{field.name}={value}")
+        words = [self.name + ("_bytes" if self.form is Form.EXPORTED else "")]
+        for name, value in self.values.items():
+            shown = "null" if value is None else str(value)
+            if isinstance(value, bytes):
+                shown = value.hex()
+            if self.form is Form.STRINGS and name in NAMES_OF_BYTES:
+                shown = f"text:{shown}"
+            words.append(f"{name}={shown}")
         return " ".join(words)
+
+    def can_have(self, form: Form) -> bool:
+        """Whether a form can pass these arguments."""
+        values = self.values.values()
+        if form is Form.EXPORTED:
+            return None not in values
+        has_zero_byte = any(isinstance(value, bytes) and b"\0" in value for value in values)
+        return not (form is Form.STRINGS and has_zero_byte)
 
     def expected(self, system: System) -> Answer:
         """The answer by the rules."""
         report = Report(system)
+        result, error = False, 0
         try:
-            reason = self.judged(report)
+            result = self.judged(report)
         except CallRefused as refusal:
-            reason = refusal.reason
-        return report.answer(reason, self.left_in_out(reason, report.result_text))
+            error = refusal.reason
+        return report.answer(result, error, self.left_in_out(result, report.result_text))
 
-    def left_in_out(self, reason: Reason, text: bytes) -> str:
+    def left_in_out(self, result: bool, text: bytes) -> str:
         """What the call leaves in `out`, which some calls don't have."""
-        del reason, text
+        del result, text
         return "unchanged"
 
     @abstractmethod
-    def judged(self, report: Report) -> Reason:
-        """The reason; the report gets what is to be reported."""
+    def judged(self, report: Report) -> bool:
+        """What is returned; the report gets what is to be reported."""
 
 
-def with_strings(*calls: AnyCall) -> list[AnyCall]:
-    """Calls, and behind each one the same for strings where no bytes have a zero byte."""
-    both = []
-    for call in calls:
-        both.append(call)
-        values = [getattr(call, field.name) for field in dataclasses.fields(call)]
-        if not any(isinstance(value, bytes) and b"\0" in value for value in values):
-            both.append(dataclasses.replace(call, is_str=True))
-    return both
+NAMES_OF_BYTES = ("password", "field", "stored", "setting", "salt")
+
+
+def in_each_form(*calls: AnyCall) -> list[AnyCall]:
+    """Calls, each in the forms that there are of it and that can pass its arguments."""
+    return [
+        dataclasses.replace(call, form=form)
+        for call in calls
+        for form in call.forms
+        if call.can_have(form)
+    ]
 
 
 class CallWithOut(Call):
     """A call that writes a string."""
 
-    out_len: int | None
+    out_size: int | None
     token: ClassVar[bytes] = b"*0"
 
-    def left_in_out(self, reason: Reason, text: bytes) -> str:
-        if not self.out_len:
+    def left_in_out(self, result: bool, text: bytes) -> str:
+        if not self.out_size:
             return "unchanged"
-        return quoted(text if reason > 0 else self.token_for_refusal[: self.out_len - 1])
+        return quoted(text if result else self.token_for_refusal[: self.out_size - 1])
 
     @property
     def token_for_refusal(self) -> bytes:
@@ -380,7 +412,7 @@ class CallWithOut(Call):
 
     def require_room(self, length: int) -> None:
         """Refuses a text of so many bytes that `out` has no room for."""
-        if (self.out_len or 0) <= length:
+        if (self.out_size or 0) <= length:
             raise CallRefused(Reason.TOO_FEW_BYTES)
 
 
@@ -402,15 +434,15 @@ class Verify(Call):
     password: bytes | None
     stored: bytes | None
     budget: int = BUDGET
-    is_str: bool = False
+    form: Form = Form.EXPORTED
 
-    def judged(self, report: Report) -> Reason:
+    def judged(self, report: Report) -> bool:
         password = checked_password(self.password)
         setting = setting_of_field(self.stored)
         report.limit_cost(setting, len(password), self.budget)
         if report.hashed(setting, password) != self.stored:
-            raise CallRefused(Reason.DIFFERS)
-        return Reason.FITS
+            raise CallRefused(Reason.WRONG_PASSWORD)
+        return True
 
 
 @dataclass(frozen=True)
@@ -420,12 +452,12 @@ class Login(Call):
     name = "login"
     password: bytes | None
     field: bytes | None
-    method: int = 6
+    method: int = 0
     rounds: int = 0
     budget: int = BUDGET
-    is_str: bool = False
+    form: Form = Form.EXPORTED
 
-    def judged(self, report: Report) -> Reason:
+    def judged(self, report: Report) -> bool:
         password = checked_password(self.password)
         method = method_of(self.method, self.rounds, are_clamped=False)
         policy = recommended_setting(method, self.rounds)
@@ -437,14 +469,15 @@ class Login(Call):
                 hash_and_drop(report, policy, password)
             raise
 
-    def judged_field(self, report: Report, password: bytes, policy: Setting, limit: int) -> Reason:
-        """The reason of mkpasswd_verify, but for dead and for outdated hashes."""
+    def judged_field(self, report: Report, password: bytes, policy: Setting, limit: int) -> bool:
+        """The result of mkpasswd_verify, with errors for dead hashes, and whether it's outdated."""
         setting = setting_of_field(self.field)
         report.limit_cost(setting, len(password), limit)
         if report.hashed(setting, password) == self.field:
-            return Reason.OUTDATED if setting.is_replaced_by(policy) else Reason.FITS
+            report.is_outdated = setting.is_replaced_by(policy)
+            return True
         is_dead = not is_whole(setting, self.field or b"")
-        raise CallRefused(Reason.DEAD if is_dead else Reason.DIFFERS)
+        raise CallRefused(Reason.DEAD if is_dead else Reason.WRONG_PASSWORD)
 
 
 def hash_and_drop(report: Report, policy: Setting, password: bytes) -> None:
@@ -462,13 +495,13 @@ class New(CallWithOut):
 
     name = "new"
     password: bytes | None
-    method: int = 6
+    method: int = 0
     rounds: int = 0
     budget: int = 0
-    out_len: int | None = TEXT_SIZE
-    is_str: bool = False
+    out_size: int | None = TEXT_SIZE
+    form: Form = Form.EXPORTED
 
-    def judged(self, report: Report) -> Reason:
+    def judged(self, report: Report) -> bool:
         password = checked_password(self.password)
         method = method_of(self.method, self.rounds, are_clamped=False)
         setting = recommended_setting(method, self.rounds)
@@ -476,10 +509,10 @@ class New(CallWithOut):
         report.limit_cost(setting, len(password), limit)
         self.require_room(length_of_hash(setting))
         report.drawn = DRAWN
-        salt = salt_of(report.system.words, method.drawn_salt)
+        salt = salt_of(report.system.numbers, method.drawn_salt)
         setting = recommended_setting(method, self.rounds, salt)
         report.give(report.hashed(setting, password))
-        return Reason.DONE
+        return True
 
 
 @dataclass(frozen=True)
@@ -487,6 +520,11 @@ class NewOver(New):
     """mkpasswd_new with a password that stands in `out`."""
 
     name = "new_over"
+    forms = ()
+
+    @property
+    def row(self) -> str:
+        return super().row.replace("new_over_bytes", "new_over", 1)
 
 
 @dataclass(frozen=True)
@@ -495,20 +533,19 @@ class NeedsRehash(Call):
 
     name = "needs_rehash"
     stored: bytes | None
-    method: int = 6
+    method: int = 0
     rounds: int = 0
-    is_str: bool = False
+    form: Form = Form.EXPORTED
 
-    def judged(self, report: Report) -> Reason:
+    def judged(self, report: Report) -> bool:
         setting = setting_of(self.stored)
         method = method_of(self.method, self.rounds, are_clamped=True)
-        if not setting.is_replaced_by(recommended_setting(method, self.rounds)):
-            raise CallRefused(Reason.CURRENT)
-        return Reason.OUTDATED
+        report.is_outdated = setting.is_replaced_by(recommended_setting(method, self.rounds))
+        return report.is_outdated
 
 
-def audited_refusal(stored: bytes, reason: Reason) -> Reason:
-    """The reason of an audit of a field that has no setting for this one."""
+def error_of_audit(stored: bytes, reason: Reason) -> Reason:
+    """The error of an audit of a field that has no setting for this reason."""
     if reason in (Reason.NO_HASH, Reason.LOCKED):
         return reason
     if stored.startswith(b"$"):
@@ -522,12 +559,12 @@ class Audit(Call):
 
     name = "audit"
     stored: bytes | None
-    method: int = 6
+    method: int = 0
     rounds: int = 0
     budget: int = 0
-    is_str: bool = False
+    form: Form = Form.EXPORTED
 
-    def judged(self, report: Report) -> Reason:
+    def judged(self, report: Report) -> bool:
         method = method_of(self.method, self.rounds, are_clamped=False)
         policy = audit_policy(method, self.rounds, self.budget)
         stored = self.stored or b""
@@ -536,13 +573,20 @@ class Audit(Call):
         except CallRefused as refusal:
             name = None if is_locked(stored) else other_scheme(stored)
             report.scheme = NUMBERS_OF_OTHERS.get(name, 0)
-            return audited_refusal(stored, refusal.reason)
+            raise CallRefused(error_of_audit(stored, refusal.reason)) from None
         report.cost = cost(setting, LONGEST_PASSWORD)
         report.scheme = int(setting.text[1:2])
         report.scrypt = setting.scrypt
         if setting.scrypt is None:
             report.rounds = int(rounds_text(setting))
-        return REASONS_OF_AUDITS[state_of(policy, setting, stored)]
+        state = state_of(policy, setting, stored)
+        if state in ERRORS_OF_AUDITS:
+            raise CallRefused(ERRORS_OF_AUDITS[state])
+        report.is_outdated = state == "outdated"
+        return not report.is_outdated
+
+
+WITHOUT_BYTES = (Form.EXPORTED, Form.LENGTHS)
 
 
 @functools.cache
@@ -560,15 +604,16 @@ def rounds_of(setting: Setting) -> int:
 
 @dataclass(frozen=True)
 class Limit(Call):
-    """mkpasswd_limit, which has no call for strings."""
+    """mkpasswd_limit, which has no bytes."""
 
     name = "limit"
-    method: int = 6
+    forms = WITHOUT_BYTES
+    method: int = 0
     rounds: int = 0
     budget: int = 0
-    is_str: bool = False
+    form: Form = Form.EXPORTED
 
-    def judged(self, report: Report) -> Reason:
+    def judged(self, report: Report) -> bool:
         method = method_of(self.method, self.rounds, are_clamped=False)
         setting = recommended_setting(method, self.rounds)
         report.cost = limit_of(method, self.rounds, self.budget, b"")
@@ -578,32 +623,33 @@ class Limit(Call):
             raise CallRefused(Reason.OVER_BUDGET)
         report.length = max(within)
         report.rounds = rounds_of(setting)
-        return Reason.DONE
+        return True
 
 
 @dataclass(frozen=True)
 class Rounds(Call):
-    """mkpasswd_rounds, which has no call for strings."""
+    """mkpasswd_rounds, which has no bytes."""
 
     name = "rounds"
-    password_len: int
-    method: int = 6
+    forms = WITHOUT_BYTES
+    password_length: int
+    method: int = 0
     rounds: int = 0
     budget: int = 0
-    is_str: bool = False
+    form: Form = Form.EXPORTED
 
-    def judged(self, report: Report) -> Reason:
-        if self.password_len > LONGEST_PASSWORD:
+    def judged(self, report: Report) -> bool:
+        if self.password_length > LONGEST_PASSWORD:
             raise CallRefused(Reason.PASSWORD_TOO_LONG)
         method = method_of(self.method, self.rounds, are_clamped=False)
         setting = recommended_setting(method, self.rounds)
         limit = limit_of(method, self.rounds, self.budget, b"")
-        fitted = fitted_setting(setting, limit, self.password_len)
-        report.cost = cost(fitted or setting, self.password_len)
+        fitted = fitted_setting(setting, limit, self.password_length)
+        report.cost = cost(fitted or setting, self.password_length)
         if fitted is None:
             raise CallRefused(Reason.OVER_BUDGET)
         report.rounds = rounds_of(fitted)
-        return Reason.DONE
+        return True
 
 
 @dataclass(frozen=True)
@@ -611,18 +657,18 @@ class Bound(Call):
     """mkpasswd_bound."""
 
     name = "bound"
-    stored: bytes | None
-    password_len: int = 8
-    is_str: bool = False
+    setting: bytes | None
+    password_length: int = 8
+    form: Form = Form.EXPORTED
 
-    def judged(self, report: Report) -> Reason:
-        if self.password_len > LONGEST_PASSWORD:
+    def judged(self, report: Report) -> bool:
+        if self.password_length > LONGEST_PASSWORD:
             raise CallRefused(Reason.PASSWORD_TOO_LONG)
-        setting = setting_of(self.stored)
-        report.cost = cost(setting, self.password_len)
-        report.work = work_of_length(setting, self.password_len, HIGHEST_BYTE)
+        setting = setting_of(self.setting)
+        report.cost = cost(setting, self.password_length)
+        report.work = work_of_length(setting, self.password_length, HIGHEST_BYTE)
         report.scratch = scratch_of(setting)
-        return Reason.DONE
+        return True
 
 
 @dataclass(frozen=True)
@@ -633,16 +679,16 @@ class Hash(CallWithOut):
     password: bytes | None
     setting: bytes | None
     budget: int = BUDGET
-    out_len: int | None = TEXT_SIZE
-    is_str: bool = False
+    out_size: int | None = TEXT_SIZE
+    form: Form = Form.EXPORTED
 
-    def judged(self, report: Report) -> Reason:
+    def judged(self, report: Report) -> bool:
         password = checked_password(self.password)
         setting = setting_of(self.setting)
         report.limit_cost(setting, len(password), self.budget)
         self.require_room(length_of_hash(setting))
         report.give(report.hashed(setting, password))
-        return Reason.DONE
+        return True
 
     @property
     def token_for_refusal(self) -> bytes:
@@ -651,95 +697,90 @@ class Hash(CallWithOut):
 
 @dataclass(frozen=True)
 class MakeSetting(CallWithOut):
-    """mkpasswd_setting."""
+    """mkpasswd_setting, whose salt the header's own call takes as a string."""
 
     name = "setting"
+    forms = (Form.EXPORTED, Form.STRINGS)
     method: int
     rounds: int
-    first: int
-    second: int
-    third: int
-    out_len: int | None = TEXT_SIZE
-    is_str: bool = False
+    salt: bytes | None
+    out_size: int | None = TEXT_SIZE
+    form: Form = Form.EXPORTED
 
-    def judged(self, report: Report) -> Reason:
-        method = method_of(self.method, self.rounds, are_clamped=False)
-        salt = salt_of((self.first, self.second, self.third), method.drawn_salt)
+    def judged(self, report: Report) -> bool:
+        method = METHODS.get(self.method or RECOMMENDED_METHOD)
+        if method is None:
+            raise CallRefused(Reason.UNKNOWN_METHOD)
+        salt = self.salt or b""
+        if not 1 <= len(salt) <= method.longest_salt:
+            raise CallRefused(Reason.SALT_LENGTH)
+        if not re.fullmatch(rb"%b*" % DIGIT, salt):
+            raise CallRefused(Reason.SALT_CHARACTER)
+        method_of(self.method, self.rounds, are_clamped=False)
         text = recommended_setting(method, self.rounds, salt).text
         self.require_room(len(text))
         report.give(text)
-        return Reason.DONE
+        return True
+
+
+class Text(Call):
+    """A call without a report, which puts a text into `out`."""
+
+    forms = WITHOUT_BYTES
+    texts: ClassVar[dict[int, str]]  # by their numbers
+    unknown: ClassVar[str]
+    out_size: int | None
+
+    @property
+    @abstractmethod
+    def number(self) -> int:
+        """The number whose text it is."""
+
+    def judged(self, report: Report) -> bool:
+        raise NotImplementedError
+
+    def expected(self, system: System) -> Answer:
+        text = self.texts.get(self.number, self.unknown).encode()
+        if not self.out_size:
+            return Answer(0)
+        has_room = self.out_size > len(text)
+        is_known = self.number in self.texts
+        return Answer(int(is_known and has_room), out=quoted(text[: self.out_size - 1]))
 
 
 @dataclass(frozen=True)
-class MakeSettingWithSalt(CallWithOut):
-    """mkpasswd_setting_with_salt, which has no call for strings."""
-
-    name = "setting_with_salt"
-    method: int
-    rounds: int
-    salt: bytes
-    out_len: int | None = TEXT_SIZE
-    is_str: bool = False
-
-    def judged(self, report: Report) -> Reason:
-        method = METHODS.get(self.method)
-        if method is None:
-            raise CallRefused(Reason.UNKNOWN_METHOD)
-        if not 1 <= len(self.salt) <= method.longest_salt:
-            raise CallRefused(Reason.SALT_LENGTH)
-        if not re.fullmatch(rb"%b*" % DIGIT, self.salt):
-            raise CallRefused(Reason.SALT_CHARACTER)
-        method_of(self.method, self.rounds, are_clamped=False)
-        text = recommended_setting(method, self.rounds, self.salt).text
-        self.require_room(len(text))
-        report.give(text)
-        return Reason.DONE
-
-
-@dataclass(frozen=True)
-class SchemeName(Call):
-    """mkpasswd_scheme_name, which has no report and no call for strings."""
+class SchemeName(Text):
+    """mkpasswd_scheme_name."""
 
     name = "scheme_name"
+    texts = {
+        **{number: method.name for number, method in METHODS.items()},
+        **{number: name for name, number in NUMBERS_OF_OTHERS.items() if name},
+    }
+    unknown = "unknown scheme"
     scheme: int
-    out_len: int | None = TEXT_SIZE
-    is_str: bool = False
+    out_size: int | None = TEXT_SIZE
+    form: Form = Form.EXPORTED
 
-    def judged(self, report: Report) -> Reason:
-        raise NotImplementedError
-
-    def expected(self, system: System) -> Answer:
-        known = {number: method.name for number, method in METHODS.items()}
-        known.update({number: name for name, number in NUMBERS_OF_OTHERS.items() if name})
-        text = known.get(self.scheme, "unknown scheme").encode()
-        if not self.out_len:
-            return Answer(0)
-        has_room = self.out_len > len(text)
-        is_known = self.scheme in known
-        return Answer(int(is_known and has_room), out=quoted(text[: self.out_len - 1]))
+    @property
+    def number(self) -> int:
+        return self.scheme
 
 
 @dataclass(frozen=True)
-class Message(Call):
-    """mkpasswd_words, which has no report."""
+class Message(Text):
+    """mkpasswd_message."""
 
-    name = "words"
-    reason: int
-    out_len: int | None = TEXT_SIZE
-    is_str: bool = False
+    name = "message"
+    texts = {int(reason): reason.message for reason in Reason}
+    unknown = "unknown reason"
+    error: int
+    out_size: int | None = TEXT_SIZE
+    form: Form = Form.EXPORTED
 
-    def judged(self, report: Report) -> Reason:
-        raise NotImplementedError
-
-    def expected(self, system: System) -> Answer:
-        known = {int(reason): reason.message for reason in Reason}
-        text = known.get(self.reason, "unknown reason").encode()
-        if not self.out_len:
-            return Answer(0)
-        has_room = self.out_len > len(text)
-        is_known = self.reason in known
-        return Answer(int(is_known and has_room), out=quoted(text[: self.out_len - 1]))
+    @property
+    def number(self) -> int:
+        return self.error
 
 
 @dataclass(frozen=True)
@@ -747,7 +788,11 @@ class Version(Call):
     """mkpasswd_version."""
 
     name = "version"
-    is_str: bool = False
+    form: Form = Form.EXPORTED
 
-    def judged(self, report: Report) -> Reason:
+    @property
+    def row(self) -> str:
+        return self.name
+
+    def judged(self, report: Report) -> bool:
         raise NotImplementedError

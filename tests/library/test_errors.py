@@ -1,0 +1,98 @@
+"""Each error, by calls that fail with it: none lets anybody in, whatever the report was before.
+
+The driver makes each call with a report full of ones and with one of zeros, or with none.
+"""
+from __future__ import annotations
+
+from dataclasses import dataclass
+
+import pytest
+from support.careless_logins import CHEAP_SCRYPT, careless_logins
+from support.driver import Driver
+from support.model.calls import (
+    Audit,
+    Call,
+    Hash,
+    Login,
+    MakeSetting,
+    New,
+    Reason,
+    System,
+    Verify,
+    in_each_form,
+)
+from support.stored_fields import MD5CRYPT, NEVER_OPEN, SCRYPT_OF_PASSWORD, Field
+
+WITHOUT_MEMORY = System(refused_allocation=1)
+ONE_OF_EACH_ERROR = {field.error: field for field in reversed(NEVER_OPEN)}.values()
+
+
+@dataclass(frozen=True)
+class Failure:
+    """A call that fails, and its error."""
+
+    title: str
+    call: Call
+    error: Reason
+    system: System = System()
+
+    def __str__(self) -> str:
+        return self.title
+
+
+def failures_by(field: Field) -> list[Failure]:
+    """A check and a login of a field that never lets "password" in."""
+    is_dead = field.error is Reason.WRONG_PASSWORD
+    return [
+        Failure(f"a check of {field.title}", Verify(b"password", field.text), field.error),
+        Failure(
+            f"a login by {field.title}",
+            Login(b"password", field.text, 1),
+            Reason.DEAD if is_dead else field.error,
+        ),
+    ]
+
+
+FAILURES = (
+    *(failure for field in ONE_OF_EACH_ERROR for failure in failures_by(field)),
+    Failure("a login with 1025 bytes", Login(b"a" * 1025, MD5CRYPT), Reason.PASSWORD_TOO_LONG),
+    Failure("a login with a zero byte", Login(b"password\0", MD5CRYPT), Reason.PASSWORD_ZERO_BYTE),
+    Failure("a login with a null password", Login(None, MD5CRYPT), Reason.PASSWORD_ZERO_BYTE),
+    Failure("a login of an unknown name", Login(b"password", None, 1), Reason.NO_HASH),
+    Failure("a login with a wrong password", Login(b"passw0rd", MD5CRYPT), Reason.WRONG_PASSWORD),
+    Failure("a login by an unknown method", Login(b"password", MD5CRYPT, 2), Reason.UNKNOWN_METHOD),
+    Failure("a login by 12 rounds", Login(b"password", MD5CRYPT, 6, 12), Reason.ROUNDS),
+    Failure(
+        "a login without memory",
+        Login(b"password", SCRYPT_OF_PASSWORD.text),
+        Reason.OUT_OF_MEMORY,
+        WITHOUT_MEMORY,
+    ),
+    Failure("an audit of a password", Audit(b"secret"), Reason.NO_SCHEME),
+    Failure("a setting without a salt", MakeSetting(0, 0, b""), Reason.SALT_LENGTH),
+    Failure("a setting with a bad salt", MakeSetting(0, 0, b"a_b"), Reason.SALT_CHARACTER),
+    Failure(
+        "a hash for which there is no room",
+        Hash(b"password", CHEAP_SCRYPT, out_size=8),
+        Reason.TOO_FEW_BYTES,
+    ),
+    Failure("a new hash without a salt", New(b"password", 1), Reason.NO_RANDOM_NUMBERS),
+)
+
+
+@pytest.mark.parametrize("failure", FAILURES, ids=str)
+def test_whoever_gets_an_error_gets_no(driver: Driver, failure: Failure) -> None:
+    for call in in_each_form(failure.call):
+        driver.assert_answer(call, failure.system, result=0, error=failure.error, outdated=0)
+
+
+def test_a_test_of_the_error_lets_in_whom_the_result_does(driver: Driver) -> None:
+    calls: list[Call] = [*careless_logins()]
+    calls += in_each_form(*(Login(b"password", field.text, 6, 1000) for field in NEVER_OPEN))
+    calls += in_each_form(Login(b"password", MD5CRYPT, 6, 1000), Login(b"passw0rd", MD5CRYPT, 1))
+    for call, answer in zip(calls, driver.answers(calls, threads=4)):
+        assert (answer.error == 0) == (answer.result == 1), f"{call.row}\n{answer}"
+
+
+def test_each_error_is_that_of_a_call_here() -> None:
+    assert {failure.error for failure in FAILURES} == set(Reason)
