@@ -1,66 +1,113 @@
-/* What the fuzzing targets share: pages that nobody may touch, and what each report and `out` must
- * be. */
+/* What fuzzing targets of the library share: pages that nobody may touch, and what each report and
+ * each `out` must be. */
 #include <crypt.h>
 #include <mkpasswd.h>
 #include <sys/mman.h>
 
-#define PAGE 4096
-#define MUST(holds) ((holds) ? (void)0 : __builtin_trap())
+#define PAGE ((size_t)4096)
+#define PATTERN 0xa5 /* of `out` before a call */
+#define LONGEST_CRYPTED 511
+
+/* Memory between two pages that nobody may touch. */
+enum place {
+    PASSWORD_PAGE,
+    FIELD_PAGE,
+    OUT_PAGE,
+    PAGES
+};
 
 int LLVMFuzzerTestOneInput(const uint8_t *data, size_t size);
-/* The library is as it is built, without counters: the fuzzer goes by methods and reasons. */
+
+/* The library is as it is built, without counters: the fuzzer goes by methods and errors. */
 __attribute__((section("__libfuzzer_extra_counters"))) static uint8_t seen[8 * 32];
-static struct mkpasswd_report report;
-static uint8_t *pages[3];
+static uint8_t *pages[PAGES];
 
-/* Bytes at the end of a page between two that nobody may touch. */
-static uint8_t *at_end(int number, const void *bytes, size_t len)
+static void must(bool holds)
 {
-    if (!pages[number]) {
-        const int kind = MAP_PRIVATE | MAP_ANONYMOUS;
-        uint8_t *first = mmap(NULL, (size_t)3 * PAGE, PROT_NONE, kind, -1, 0);
-
-        pages[number] = first + PAGE;
-        MUST(mprotect(pages[number], PAGE, PROT_READ | PROT_WRITE) == 0);
-    }
-    return memcpy(pages[number] + PAGE - len, bytes, len);
+    if (!holds)
+        __builtin_trap();
 }
 
-static uint8_t *new_out(size_t room)
+static uint8_t *page_of(enum place place)
 {
-    static uint8_t pattern[PAGE];
+    if (!pages[place]) {
+        uint8_t *first = mmap(NULL, 3 * PAGE, PROT_NONE, MAP_PRIVATE | MAP_ANONYMOUS, -1, 0);
+
+        pages[place] = first + PAGE;
+        must(mprotect(pages[place], PAGE, PROT_READ | PROT_WRITE) == 0);
+    }
+    return pages[place];
+}
+
+/* Puts bytes at the end of a page. */
+static uint8_t *at_end(enum place place, const void *bytes, size_t length)
+{
+    uint8_t *end = page_of(place) + PAGE;
+
+    memcpy(end - length, bytes, length);
+    return end - length;
+}
+
+/* The place for a string, with so many bytes up to the end of a page. */
+static char *new_out(size_t room)
+{
+    uint8_t *page = page_of(OUT_PAGE);
+
+    memset(page, PATTERN, PAGE);
+    return (char *)page + PAGE - room;
+}
+
+/* A report that no call has filled. */
+static struct mkpasswd_report unfilled_report(void)
+{
+    struct mkpasswd_report report;
 
     memset(&report, 0xff, sizeof report);
-    memset(pattern, 0xa5, PAGE);
-    return at_end(2, pattern, PAGE) + PAGE - room;
+    return report;
 }
 
-/* Tests the report, and that `out` has a text of its length or the token, and nothing else is
- * written. */
-static int checked(int32_t result, const uint8_t *out, size_t room, const char *token)
+/* Returns the result of a call with a report, of which each must hold: an error is a known one, and
+ * means no; and whether a hash is outdated is 0 or 1. */
+static bool checked(bool result, const struct mkpasswd_report *report)
 {
-    size_t len = room ? strlen((const char *)out) : 0, place;
+    char message[MKPASSWD_TEXT_SIZE];
 
-    MUST(result == (report.reason > 0) && report.reason && report.reason >= -26
-        && report.reason <= 3);
-    MUST(result ? len == report.length : report.length == 0);
-    MUST(result || room == 0 || !token
-        || (len == (room < 3 ? room - 1 : 2) && memcmp(out, token, len) == 0));
-    for (place = 0; place < PAGE; place++)
-        MUST(pages[2][place] == 0xa5
-            || (room && place >= PAGE - room && place <= PAGE - room + len));
+    if (report->error != 0)
+        must(!result && mkpasswd_message(report->error, message, sizeof message));
+    must(report->outdated <= 1);
     return result;
 }
 
-/* What libxcrypt makes of the two, or NULL if it doesn't take them. */
-static const char *crypted(const uint8_t *password, size_t len, const char *setting)
+/* Tests that `out` has a string of the reported length, or after an error the token as far as it
+ * fits, and that no other byte of the page was written. */
+static void check_out(const struct mkpasswd_report *report, size_t room, const char *token)
+{
+    const uint8_t *page = pages[OUT_PAGE];
+    const char *out = (const char *)page + PAGE - room;
+    size_t length = room == 0 ? 0 : strlen(out);
+
+    if (report->error == 0)
+        must(length == report->length && length < room);
+    else
+        must(report->length == 0);
+    if (report->error != 0 && room != 0)
+        must(length == (room < 3 ? room - 1 : 2) && memcmp(out, token, length) == 0);
+    for (size_t place = 0; place < PAGE - room; place++)
+        must(page[place] == PATTERN);
+    for (size_t place = length + 1; place < room; place++)
+        must((uint8_t)out[place] == PATTERN);
+}
+
+/* What libxcrypt makes of a password and a setting, or NULL if it doesn't take them. */
+static const char *crypted(struct mkpasswd_password password, const char *setting)
 {
     static struct crypt_data crypt_data;
-    char string[512] = "";
+    char text[LONGEST_CRYPTED + 1] = "";
+    const char *hash;
 
-    if (len > 511 || memchr(password, 0, len))
+    if (password.length > LONGEST_CRYPTED || memchr(password.bytes, 0, password.length))
         return NULL;
-    memcpy(string, password, len);
-    setting = crypt_r(string, setting, &crypt_data);
-    return setting && setting[0] == '$' ? setting : NULL;
+    memcpy(text, password.bytes, password.length);
+    hash = crypt_r(text, setting, &crypt_data);
+    return hash && hash[0] == '$' ? hash : NULL;
 }

@@ -1,121 +1,265 @@
-/* mkpasswd_hash, mkpasswd_verify, mkpasswd_login, mkpasswd_audit and mkpasswd_bound, with any password and any text, beside
- * libxcrypt. */
+/* Each call that hashes or reads a stored hash, with any password, any field and some policies.
+ * What it does must be what libxcrypt does, and what the other calls say of the same field. */
 #include "fuzz.h"
 
-/* Methods and rounds, of which one is chosen by a byte. */
-static const uint32_t chosen[][2] = {{1, 0}, {5, 1000}, {6, 5000}, {6, 1001}, {6, 999}, {5, 1000000000}, {7, 5}, {2, 0}};
+#define HEAD ((size_t)5) /* bytes of the input before the password */
+#define LONGEST_INPUT 1600
+#define LONGEST_FIELD 2048
+#define CHEAP 300000 /* a cost that takes little time */
 
-/* Whether a field is a dead hash. An audit finds what mkpasswd_bound and mkpasswd_needs_rehash do, and hashes nothing. */
-static int is_dead(const uint8_t *field, size_t field_len, const uint32_t *of, uint64_t budget)
+/* What the input of the fuzzer stands for. */
+struct chosen {
+    struct mkpasswd_password password;
+    struct mkpasswd_field field;
+    char text[LONGEST_FIELD]; /* the field, as a string */
+    struct mkpasswd_policy policy;
+    uint64_t budget;
+    size_t room; /* of `out` */
+    uint8_t byte;
+};
+
+static const struct mkpasswd_policy policies[] = {
+    {0, 1001, 0},
+    {MKPASSWD_MD5CRYPT, 0, 0},
+    {MKPASSWD_SHA256CRYPT, 1000, 0},
+    {MKPASSWD_SHA512CRYPT, 5000, 0},
+    {MKPASSWD_SHA512CRYPT, 999, 0},
+    {MKPASSWD_SHA256CRYPT, 1000000000, 0},
+    {MKPASSWD_SCRYPT, 5, 0},
+    {2, 0, 0},
+};
+
+/* With these many fields begin, since no chance finds them. */
+static const char *const fronts[] = {"", "$1$", "$5$", "$6$", "$5$rounds=", "$6$rounds=1000$",
+    "$7$", "$7$2/..../....", "*0", "$1$xxxxxxxx$UYCIxa628.9qXjpQCjM4a.", "$7$4/....0....", "!$1$"};
+
+static struct mkpasswd_field field_of(const char *text)
 {
-    struct mkpasswd_report bound;
-    int has_setting = mkpasswd_bound(field, field_len, MKPASSWD_PASSWORD_LIMIT, &bound), is_refused;
-    int is_outdated = mkpasswd_needs_rehash(field, field_len, of[0], of[1], &report);
-    uint8_t *out = new_out(0);
-    int is_current = checked(mkpasswd_audit(field, field_len, of[0], of[1], budget, &report), out, 0, NULL);
-
-    is_refused = report.reason == MKPASSWD_REFUSED_UNKNOWN_METHOD || report.reason == MKPASSWD_REFUSED_COST;
-    MUST(!report.work.digests && !report.work.scratch && report.cost == (is_refused ? 0 : bound.cost));
-    MUST(is_current <= (has_setting && !is_outdated) && (report.reason == MKPASSWD_REPLACED) <= is_outdated);
-    MUST(has_setting || is_refused || report.reason == bound.reason || report.reason == MKPASSWD_LOCKED
-        || report.reason == MKPASSWD_NO_HASH || report.reason == MKPASSWD_NO_SCHEME
-        || (report.reason == MKPASSWD_REFUSED_UNKNOWN_SCHEME && report.scheme != 0));
-    MUST(has_setting || is_refused || (!report.rounds && !report.n && !report.r && !report.p));
-    MUST(!has_setting || is_refused || (report.scheme == field[1] - (uint32_t)'0' && !report.rounds == (report.n > 0)));
-    MUST(is_refused || !budget || (report.reason == MKPASSWD_OVER_BUDGET) == (bound.cost > budget));
-    is_current = mkpasswd_audit(field, field_len, 1, 0, (uint64_t)-1, &report);
-    return !is_current && report.reason == MKPASSWD_DEAD;
+    return mkpasswd_field_bytes(at_end(FIELD_PAGE, text, strlen(text)), strlen(text));
 }
 
-/* What a login with this budget may cost: what mkpasswd_limit reports, but with MKPASSWD_TWICE nothing if a new hash of this
- * password costs more. */
-static uint64_t limit_of(const uint32_t *of, size_t len, uint64_t budget)
+/* The input is a budget, a room with a policy, the password's length in two bytes, a front, the
+ * password and the rest of the field. */
+static void choose(struct chosen *chosen, const uint8_t *data, size_t size)
 {
-    struct mkpasswd_report limit;
-    int has_limit = mkpasswd_limit(of[0], of[1], budget, &limit);
+    size_t length = (data[2] * 256u + data[3]) % (size - HEAD);
+    const char *front = fronts[data[4] % (sizeof fronts / sizeof *fronts)];
+    size_t rest = size - HEAD - length;
 
-    MUST(!has_limit || !budget || limit.cost == budget);
-    if (budget)
-        return budget;
-    return has_limit && len <= limit.length ? limit.cost : 0;
+    memset(chosen, 0, sizeof *chosen);
+    chosen->byte = data[1];
+    chosen->budget = data[0] & 1 ? CHEAP : data[0] * UINT64_C(1000);
+    chosen->room = data[1] & 1 ? MKPASSWD_TEXT_SIZE : data[1];
+    chosen->policy = policies[data[1] / 2 % (sizeof policies / sizeof *policies)];
+    chosen->password = mkpasswd_password_bytes(at_end(PASSWORD_PAGE, data + HEAD, length), length);
+    memcpy(chosen->text, front, strlen(front));
+    memcpy(chosen->text + strlen(front), data + HEAD + length, rest);
+    chosen->field = mkpasswd_field_bytes(
+        at_end(FIELD_PAGE, chosen->text, strlen(front) + rest), strlen(front) + rest);
 }
 
-/* A login does what mkpasswd_verify, mkpasswd_needs_rehash and mkpasswd_audit say, and hashes if it is not refused: within the
- * budget, and for a field that can't be checked as much as for an unknown name. */
-static void log_in(const uint8_t *password, size_t len, const uint8_t *field, size_t field_len, uint8_t choice, uint64_t budget)
+static struct mkpasswd_report bound_of(const struct chosen *chosen, size_t length)
 {
-    const uint32_t *of = chosen[choice >> 1 & 7];
-    struct mkpasswd_report verified, unknown;
-    int has_no_match = is_dead(field, field_len, of, budget);
-    uint64_t limit = limit_of(of, len, budget);
-    int32_t opens = mkpasswd_verify(password, len, field, field_len, limit, &verified);
-    int32_t never = mkpasswd_login(password, len, field, 0, of[0], of[1], budget, &unknown);
-    uint8_t *out = new_out(0);
-    int32_t is_in = checked(mkpasswd_login(password, len, field, field_len, of[0], of[1], budget, &report), out, 0, NULL);
-    struct mkpasswd_report told = report;
+    struct mkpasswd_report report = unfilled_report();
 
-    MUST(!never && told.work.bytes <= limit && unknown.work.bytes <= limit);
-    if (unknown.reason != MKPASSWD_NO_HASH) {
-        MUST(!is_in && memcmp(&told, &unknown, sizeof told) == 0 && told.cost == 0 && told.work.digests == 0);
+    checked(mkpasswd_bound(chosen->field, length, &report), &report);
+    return report;
+}
+
+static bool is_dead(struct mkpasswd_field field)
+{
+    const struct mkpasswd_policy any = {MKPASSWD_MD5CRYPT, 0, UINT64_MAX};
+    struct mkpasswd_report report = unfilled_report();
+    bool is_current = checked(mkpasswd_audit(field, &any, &report), &report);
+
+    return !is_current && report.error == MKPASSWD_ERROR_DEAD;
+}
+
+static bool is_outdated(const struct chosen *chosen)
+{
+    struct mkpasswd_report report = unfilled_report();
+    bool result = checked(mkpasswd_needs_rehash(chosen->field, &chosen->policy, &report), &report);
+
+    must(report.outdated == result);
+    return result;
+}
+
+static bool is_invalid_policy(const struct mkpasswd_report *report)
+{
+    return report->error == MKPASSWD_ERROR_UNKNOWN_METHOD || report->error == MKPASSWD_ERROR_ROUNDS;
+}
+
+/* Whether an audit may report this error of a field without a setting. */
+static bool is_explained(const struct mkpasswd_report *audit, const struct mkpasswd_report *bound)
+{
+    switch (audit->error) {
+    case MKPASSWD_ERROR_LOCKED:
+    case MKPASSWD_ERROR_NO_HASH:
+    case MKPASSWD_ERROR_NO_SCHEME:
+        return true;
+    case MKPASSWD_ERROR_UNKNOWN_SCHEME:
+        return bound->error == audit->error || audit->scheme != 0;
+    default:
+        return bound->error == audit->error;
+    }
+}
+
+/* An audit hashes nothing, and finds what mkpasswd_bound and mkpasswd_needs_rehash do. */
+static void audit(const struct chosen *chosen)
+{
+    struct mkpasswd_policy policy = chosen->policy;
+    struct mkpasswd_report bound = bound_of(chosen, MKPASSWD_PASSWORD_LIMIT);
+    struct mkpasswd_report report = unfilled_report();
+    bool is_current, is_old = is_outdated(chosen);
+
+    policy.budget = chosen->budget;
+    is_current = checked(mkpasswd_audit(chosen->field, &policy, &report), &report);
+    must(report.work.digests == 0 && report.work.scratch == 0);
+    must(is_current == (report.error == 0 && report.outdated == 0));
+    must(report.outdated <= is_old && !(is_current && is_old));
+    if (is_invalid_policy(&report)) {
+        must(report.cost == 0);
         return;
     }
-    MUST(is_in == opens && told.cost == verified.cost);
-    MUST((told.reason == MKPASSWD_OUTDATED) == (is_in && mkpasswd_needs_rehash(field, field_len, of[0], of[1], &report)));
-    MUST(is_in ? !has_no_match : told.reason
-        == (has_no_match && verified.reason == MKPASSWD_DIFFERS ? MKPASSWD_DEAD : verified.reason));
-    if (verified.work.digests)
-        MUST(memcmp(&told.work, &verified.work, sizeof told.work) == 0);
+    must(report.cost == bound.cost);
+    if (bound.error != 0) {
+        must(is_explained(&report, &bound));
+        must(report.rounds == 0 && report.n == 0 && report.r == 0 && report.p == 0);
+        return;
+    }
+    must(report.scheme == chosen->field.bytes[1] - (uint32_t)'0');
+    must((report.rounds == 0) == (report.n > 0));
+    if (policy.budget != 0)
+        must((report.error == MKPASSWD_ERROR_OVER_BUDGET) == (bound.cost > policy.budget));
+}
+
+/* What a login by this policy may cost: what mkpasswd_limit reports, but without a budget of its
+ * own nothing if a new hash of this password costs more. */
+static uint64_t limit_of(const struct mkpasswd_policy *policy, size_t length)
+{
+    struct mkpasswd_report report = unfilled_report();
+    bool has_limit = checked(mkpasswd_limit(policy, &report), &report);
+
+    if (policy->budget != 0) {
+        must(!has_limit || report.cost == policy->budget);
+        return policy->budget;
+    }
+    return has_limit && length <= report.length ? report.cost : 0;
+}
+
+/* A login does what mkpasswd_verify, mkpasswd_needs_rehash and mkpasswd_audit say, and where there
+ * is nothing to compare with, the work of a login of an unknown name. */
+static void check_login(const struct chosen *chosen, uint64_t limit,
+    const struct mkpasswd_report *login, const struct mkpasswd_report *unknown)
+{
+    struct mkpasswd_report verified = unfilled_report();
+    bool is_in = login->error == 0;
+    bool matches = checked(
+        mkpasswd_verify(chosen->password, chosen->field, limit, &verified), &verified);
+    bool has_no_match = is_dead(chosen->field);
+    const struct mkpasswd_report *same_work = verified.work.digests != 0 ? &verified : unknown;
+
+    must(is_in == matches && login->cost == verified.cost);
+    must(login->outdated == (is_in && is_outdated(chosen)));
+    must(!(is_in && has_no_match));
+    if (has_no_match && verified.error == MKPASSWD_ERROR_WRONG_PASSWORD)
+        must(login->error == MKPASSWD_ERROR_DEAD);
     else
-        MUST(memcmp(&told.work, &unknown.work, sizeof told.work) == 0);
+        must(login->error == verified.error);
+    must(memcmp(&login->work, &same_work->work, sizeof login->work) == 0);
+}
+
+/* A login hashes if it isn't refused: within the limit, and for a field that can't be checked as
+ * much as for an unknown name. */
+static void log_in(const struct chosen *chosen, const struct mkpasswd_policy *policy)
+{
+    struct mkpasswd_report login = unfilled_report(), unknown = unfilled_report();
+    struct mkpasswd_field none = mkpasswd_field(NULL);
+    uint64_t limit = limit_of(policy, chosen->password.length);
+
+    must(!checked(mkpasswd_login(chosen->password, none, policy, &unknown), &unknown));
+    must(checked(mkpasswd_login(chosen->password, chosen->field, policy, &login), &login)
+        == (login.error == 0));
+    must(login.work.bytes <= limit && unknown.work.bytes <= limit);
+    if (unknown.error == MKPASSWD_ERROR_NO_HASH) {
+        check_login(chosen, limit, &login, &unknown);
+        return;
+    }
+    must(memcmp(&login, &unknown, sizeof login) == 0);
+    must(login.cost == 0 && login.work.digests == 0);
+}
+
+/* A hash that was made is libxcrypt's, lets its password in for its cost and for no less, and no
+ * longer after a bit of it was changed. */
+static void check_hash(const struct chosen *chosen, const char *hash, uint64_t cost)
+{
+    const char *by_crypt = crypted(chosen->password, chosen->text);
+    const char *end = hash[1] == '7' ? strchr(chosen->text + 3, '$') : NULL;
+    /* libxcrypt's salt of $7$ goes on to the last dollar sign. */
+    bool has_other_salt = end && end != strrchr(chosen->text, '$');
+    struct mkpasswd_report report = unfilled_report();
+    char changed[MKPASSWD_TEXT_SIZE];
+
+    must(!by_crypt || has_other_salt || strcmp(by_crypt, hash) == 0);
+    must(checked(mkpasswd_verify(chosen->password, field_of(hash), cost, &report), &report));
+    must(!mkpasswd_verify(chosen->password, field_of(hash), cost - 1, &report));
+    must(report.error == MKPASSWD_ERROR_OVER_BUDGET);
+    must(!is_dead(field_of(hash)));
+    memcpy(changed, hash, strlen(hash) + 1);
+    changed[chosen->byte % strlen(hash)] ^= 1;
+    must(!mkpasswd_verify(chosen->password, field_of(changed), chosen->budget, &report));
+}
+
+static void hash(const struct chosen *chosen)
+{
+    const char *token = strncmp(chosen->text, "*0", 2) == 0 ? "*1" : "*0";
+    struct mkpasswd_report report = unfilled_report();
+    char *out = new_out(chosen->room), made[MKPASSWD_TEXT_SIZE];
+    bool is_made = checked(
+        mkpasswd_hash(chosen->password, chosen->field, chosen->budget, out, chosen->room, &report),
+        &report);
+
+    must(is_made == (report.error == 0));
+    check_out(&report, chosen->room, token);
+    seen[(chosen->text[1] & 7) * 32 + (report.error & 31)]++;
+    if (!is_made)
+        return;
+    must(report.cost <= chosen->budget && report.work.bytes <= report.cost);
+    memcpy(made, out, strlen(out) + 1);
+    check_hash(chosen, made, report.cost);
+}
+
+static void verify(const struct chosen *chosen)
+{
+    struct mkpasswd_report report = unfilled_report();
+    bool matches = checked(
+        mkpasswd_verify(chosen->password, chosen->field, chosen->budget, &report), &report);
+    const char *by_crypt = NULL;
+
+    must(matches == (report.error == 0));
+    if (matches || report.error == MKPASSWD_ERROR_WRONG_PASSWORD)
+        by_crypt = crypted(chosen->password, chosen->text);
+    if (by_crypt)
+        must(matches == (strcmp(by_crypt, chosen->text) == 0));
 }
 
 int LLVMFuzzerTestOneInput(const uint8_t *data, size_t size)
 {
-    static const char *const fronts[] = {"", "$1$", "$5$", "$6$", "$5$rounds=", "$6$rounds=1000$", "$7$", "$7$2/..../....",
-        "*0", "$1$xxxxxxxx$UYCIxa628.9qXjpQCjM4a.", "$7$4/....0....", "!$1$"};
-    char text[2048] = "", hash[MKPASSWD_TEXT_SIZE];
-    const char *by_crypt, *front;
-    const uint8_t *password, *stored;
-    size_t len, text_len, room;
-    uint64_t budget, cost;
-    uint8_t *out;
+    static struct chosen chosen;
+    struct mkpasswd_policy policy;
 
-    if (size < 6 || size > 1600)
+    if (size <= HEAD || size > LONGEST_INPUT)
         return 0;
-    budget = data[0] & 1 ? 300000 : (uint64_t)data[0] * 1000;
-    room = data[1] & 1 ? MKPASSWD_TEXT_SIZE : data[1];
-    len = (data[2] * 256u + data[3]) % (size - 5);
-    front = fronts[data[4] % (sizeof fronts / sizeof *fronts)];
-    text_len = strlen(front) + size - 5 - len;
-    memcpy(strcpy(text, front) + strlen(front), data + 5 + len, size - 5 - len);
-    password = at_end(0, data + 5, len);
-    stored = at_end(1, text, text_len);
-
-    out = new_out(room);
-    if (checked(mkpasswd_hash(password, len, stored, text_len, budget, out, room, &report), out, room,
-            strncmp(text, "*0", 2) == 0 ? "*1" : "*0")) {
-        cost = report.cost;
-        MUST(report.reason == MKPASSWD_DONE && cost <= budget && report.work.bytes <= cost);
-        MUST(!mkpasswd_verify(password, len, stored, text_len, cost - 1, &report) && report.reason == MKPASSWD_OVER_BUDGET);
-        strcpy(hash, (const char *)out);
-        by_crypt = crypted(password, len, text); /* its salt of $7$ goes on to the last $ */
-        MUST(!by_crypt || strcmp(by_crypt, hash) == 0 || (text[1] == '7' && strchr(text + 3, '$') != strrchr(text, '$')));
-        MUST(mkpasswd_verify((const uint8_t *)password, len, (uint8_t *)hash, strlen(hash), cost, &report));
-        MUST(!is_dead((uint8_t *)hash, strlen(hash), chosen[0], budget));
-        hash[data[1] % strlen(hash)] ^= 1;
-        MUST(!mkpasswd_verify(password, len, (uint8_t *)hash, strlen(hash), budget, &report));
-    }
-    seen[(text[1] & 7) * 32 + (report.reason & 31)]++;
-
-    out = new_out(0);
-    if (checked(mkpasswd_verify(password, len, stored, text_len, budget, &report), out, 0, NULL))
-        MUST(report.reason == MKPASSWD_FITS && (!(by_crypt = crypted(password, len, text)) || strcmp(by_crypt, text) == 0));
-    else if (report.reason == MKPASSWD_DIFFERS)
-        MUST(!(by_crypt = crypted(password, len, text)) || strcmp(by_crypt, text) != 0);
-    /* Not within 0, which admits much, what takes long. */
-    log_in(password, len, stored, text_len, data[1],
-        !budget && mkpasswd_bound(stored, text_len, len, &report) && report.cost > 300000 ? 1 : budget);
-    out = new_out(0);
-    checked(mkpasswd_bound(stored, text_len, len, &report), out, 0, NULL);
+    choose(&chosen, data, size);
+    hash(&chosen);
+    choose(&chosen, data, size); /* hash() has used its page */
+    verify(&chosen);
+    audit(&chosen);
+    policy = chosen.policy;
+    policy.budget = chosen.budget;
+    /* A budget of 0 is the policy's limit, within which a hash can take long. */
+    if (policy.budget == 0 && bound_of(&chosen, chosen.password.length).cost > CHEAP)
+        policy.budget = 1;
+    log_in(&chosen, &policy);
     return 0;
 }
