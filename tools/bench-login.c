@@ -1,19 +1,120 @@
-/* Measures mkpasswd_login for each kind of field, alternating, and prints the median of each in processor time, and the
- * quartiles:
+/* Measures mkpasswd_login for each kind of field, alternating, and prints the median of each in
+ * processor time, and the quartiles:
  *
- *     make lib && cc -O2 -Ic tools/bench-login.c libmkpasswd.a -o build/bench-login && build/bench-login \
- *         [ROUNDS [LOGINS [METHOD [LENGTH]]]]
+ *     make lib && cc -O2 -Ic tools/bench-login.c libmkpasswd.a -o build/bench-login
+ *     build/bench-login [ROUNDS [LOGINS [METHOD [LENGTH]]]]
  *
- * LOGINS is the number for each kind (default 200), METHOD the number of the method (default 6, sha512crypt), ROUNDS its rounds
- * (default 0, the recommended), LENGTH that of the password (default 8). A password that is too long for MKPASSWD_TWICE gets a
- * budget that admits it. Only the right password may return 1; the others should take the same time. */
+ * LOGINS is the number for each kind (default 200), METHOD the number of the method, ROUNDS its
+ * rounds (default 0 for both, which is what is recommended), LENGTH that of the password (default
+ * 8). A password that is too long for the policy's limit gets a budget that admits it. Only the
+ * right password gets in; the others should take the same time. */
 #define _POSIX_C_SOURCE 199309L
 #include <mkpasswd.h>
 #include <stdio.h>
 #include <stdlib.h>
 #include <time.h>
 
-#define MOST 10000
+#define MOST_LOGINS 10000
+#define FIELD_SIZE (MKPASSWD_TEXT_SIZE + 1) /* of a hash with a character more */
+
+enum kind {
+    RIGHT,
+    WRONG,
+    DEAD,
+    UNKNOWN,
+    EMPTY,
+    LOCKED,
+    YESCRYPT,
+    ABOVE_BUDGET,
+    KINDS
+};
+
+static const char *const titles[KINDS] = {
+    [RIGHT] = "right password",
+    [WRONG] = "wrong password",
+    [DEAD] = "dead",
+    [UNKNOWN] = "unknown name",
+    [EMPTY] = "empty",
+    [LOCKED] = "locked",
+    [YESCRYPT] = "yescrypt",
+    [ABOVE_BUDGET] = "above the budget",
+};
+static const char yescrypt[] =
+    "$y$j9T$F5Jx5fExrKuPp53xLKQ..1$X3DX6M94c7o.9agCG9G317fhZg9SqC.5i5rd.RhAtQ7";
+static const char costly[] = "$6$rounds=999999999$saltsaltsaltsalt$x";
+
+struct options {
+    struct mkpasswd_policy policy;
+    size_t logins;
+    size_t length;
+};
+
+/* The fields of which a login takes its time; NULL is that of an unknown name. */
+struct fields {
+    char right[MKPASSWD_TEXT_SIZE];
+    char wrong[MKPASSWD_TEXT_SIZE];
+    char dead[FIELD_SIZE];
+    char locked[FIELD_SIZE];
+    const char *of_kind[KINDS];
+};
+
+static uint64_t number_of(char **argv, int argc, int place, uint64_t otherwise)
+{
+    return argc > place ? strtoull(argv[place], NULL, 10) : otherwise;
+}
+
+static struct options read_options(int argc, char **argv)
+{
+    struct options options = {{0, 0, 0}, 0, 0};
+
+    options.policy.rounds = (uint32_t)number_of(argv, argc, 1, 0);
+    options.logins = (size_t)number_of(argv, argc, 2, 200);
+    options.policy.method = (uint32_t)number_of(argv, argc, 3, 0);
+    options.length = (size_t)number_of(argv, argc, 4, 8);
+    return options;
+}
+
+static bool are_valid(const struct options *options)
+{
+    return options->logins >= 1 && options->logins <= MOST_LOGINS && options->length >= 1
+        && options->length <= MKPASSWD_PASSWORD_LIMIT;
+}
+
+/* Hashes a password of one letter. */
+static bool make_hash(
+    char letter, const struct options *options, char *hash, struct mkpasswd_report *report)
+{
+    char password[MKPASSWD_PASSWORD_LIMIT];
+
+    memset(password, letter, options->length);
+    return mkpasswd_new(mkpasswd_password_bytes(password, options->length), &options->policy, hash,
+        MKPASSWD_TEXT_SIZE, report);
+}
+
+/* Makes the fields, and where the policy has no room for the password, a budget. */
+static bool make_fields(struct fields *fields, struct options *options)
+{
+    struct mkpasswd_report report;
+    bool is_made = make_hash('a', options, fields->right, &report);
+
+    if (!is_made && report.error == MKPASSWD_ERROR_OVER_BUDGET) {
+        options->policy.budget = report.cost;
+        is_made = make_hash('a', options, fields->right, NULL);
+    }
+    if (!is_made || !make_hash('b', options, fields->wrong, NULL))
+        return false;
+    (void)snprintf(fields->dead, sizeof fields->dead, "%s.", fields->right);
+    (void)snprintf(fields->locked, sizeof fields->locked, "!%s", fields->right);
+    fields->of_kind[RIGHT] = fields->right;
+    fields->of_kind[WRONG] = fields->wrong;
+    fields->of_kind[DEAD] = fields->dead;
+    fields->of_kind[UNKNOWN] = NULL;
+    fields->of_kind[EMPTY] = "";
+    fields->of_kind[LOCKED] = fields->locked;
+    fields->of_kind[YESCRYPT] = yescrypt;
+    fields->of_kind[ABOVE_BUDGET] = costly;
+    return true;
+}
 
 static double now(void)
 {
@@ -23,55 +124,58 @@ static double now(void)
     return (double)time.tv_sec * 1e3 + (double)time.tv_nsec / 1e6;
 }
 
-static int by_time(const void *a, const void *b)
+/* Logs in with each kind of field in turn, and keeps the times. Returns whether only the right
+ * password got in. */
+static bool measure(
+    const struct options *options, const struct fields *fields, double times[KINDS][MOST_LOGINS])
 {
-    double x = *(const double *)a, y = *(const double *)b;
+    char letters[MKPASSWD_PASSWORD_LIMIT];
+    struct mkpasswd_password password;
 
-    return (x > y) - (x < y);
+    memset(letters, 'a', sizeof letters);
+    password = mkpasswd_password_bytes(letters, options->length);
+    for (size_t login = 0; login < options->logins; login++)
+        for (int kind = 0; kind < KINDS; kind++) {
+            struct mkpasswd_field field = mkpasswd_field(fields->of_kind[kind]);
+            double before = now();
+            bool is_in = mkpasswd_login(password, field, &options->policy, NULL);
+
+            times[kind][login] = now() - before;
+            if (is_in != (kind == RIGHT))
+                return false;
+        }
+    return true;
+}
+
+static int compare_times(const void *first, const void *second)
+{
+    double left = *(const double *)first, right = *(const double *)second;
+
+    return (left > right) - (left < right);
+}
+
+static void print_times(const char *title, double *times, size_t count)
+{
+    qsort(times, count, sizeof *times, compare_times);
+    printf("%-16s %9.4f ms (%.4f to %.4f)\n", title, times[count / 2], times[count / 4],
+        times[count * 3 / 4]);
 }
 
 int main(int argc, char **argv)
 {
-    static double times[8][MOST];
-    uint32_t rounds = argc > 1 ? (uint32_t)atol(argv[1]) : 0;
-    long logins = argc > 2 ? atol(argv[2]) : 200, place;
-    uint32_t method = argc > 3 ? (uint32_t)atol(argv[3]) : MKPASSWD_SHA512CRYPT;
-    size_t len = argc > 4 ? (size_t)atol(argv[4]) : 8;
-    char password[MKPASSWD_PASSWORD_LIMIT + 1] = "", other[sizeof password] = "";
-    char right[MKPASSWD_TEXT_SIZE], wrong[MKPASSWD_TEXT_SIZE], locked[MKPASSWD_TEXT_SIZE + 1], dead[MKPASSWD_TEXT_SIZE + 1];
-    const char *fields[] = {right, wrong, dead, NULL, "", locked, "$y$j9T$F5Jx5fExrKuPp53xLKQ..1$X3DX6M94c7o.9agCG9G317fhZg9SqC.5i5rd.RhAtQ7",
-        "$6$rounds=999999999$saltsaltsaltsalt$x"};
-    const char *names[] = {"right password", "wrong password", "dead", "unknown name", "empty", "locked", "yescrypt", "above the budget"};
-    struct mkpasswd_report report;
-    uint64_t budget = MKPASSWD_TWICE;
-    int kind;
+    static double times[KINDS][MOST_LOGINS];
+    struct options options = read_options(argc, argv);
+    struct fields fields;
 
-    memset(password, 'a', len < sizeof password ? len : 0);
-    memset(other, 'b', len < sizeof other ? len : 0);
-    if (!mkpasswd_new_str(password, method, rounds, budget, right, sizeof right, &report)
-        && report.reason == MKPASSWD_OVER_BUDGET)
-        budget = report.cost;
-    if (logins < 1 || logins > MOST || len < 1 || len >= sizeof password
-        || !mkpasswd_new_str(password, method, rounds, budget, right, sizeof right, NULL)
-        || !mkpasswd_new_str(other, method, rounds, budget, wrong, sizeof wrong, NULL)) {
-        fprintf(stderr, "usage: bench-login [ROUNDS [LOGINS [METHOD [LENGTH]]]]\n");
+    if (!are_valid(&options) || !make_fields(&fields, &options)) {
+        (void)fprintf(stderr, "usage: bench-login [ROUNDS [LOGINS [METHOD [LENGTH]]]]\n");
         return 2;
     }
-    snprintf(locked, sizeof locked, "!%s", right);
-    snprintf(dead, sizeof dead, "%s.", right);
-    for (place = 0; place < logins; place++)
-        for (kind = 0; kind < 8; kind++) {
-            double before = now();
-            int is_in = mkpasswd_login_str(password, fields[kind], method, rounds, budget, NULL);
-
-            times[kind][place] = now() - before;
-            if (is_in != (kind == 0))
-                return 1;
-        }
-    for (kind = 0; kind < 8; kind++) {
-        qsort(times[kind], (size_t)logins, sizeof **times, by_time);
-        printf("%-16s %9.4f ms (%.4f to %.4f)\n", names[kind], times[kind][logins / 2], times[kind][logins / 4],
-            times[kind][logins * 3 / 4]);
+    if (!measure(&options, &fields, times)) {
+        (void)fprintf(stderr, "bench-login: not just the right password gets in\n");
+        return 1;
     }
+    for (int kind = 0; kind < KINDS; kind++)
+        print_times(titles[kind], times[kind], options.logins);
     return 0;
 }
