@@ -12,16 +12,16 @@ static void replace(const char *field, const char *hash)
     printf("%s %s\n", field, hash);
 }
 
-static bool counted_login(const char *password, const char *field, uint32_t method, uint32_t rounds,
-    uint64_t budget, struct mkpasswd_report *report)
+static bool counted_login(struct mkpasswd_password password, struct mkpasswd_field field,
+    const struct mkpasswd_policy *policy, struct mkpasswd_report *report)
 {
-    bool is_in = mkpasswd_login_str(password, field, method, rounds, budget, report);
+    bool is_in = mkpasswd_login(password, field, policy, report);
 
     (void)fprintf(stderr, "%" PRIu64 "\n", report->work.digests);
     return is_in;
 }
 
-#define mkpasswd_login_str counted_login
+#define mkpasswd_login counted_login
 #include "login.h"
 
 int main(int argc, char **argv)
