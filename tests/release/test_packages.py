@@ -44,7 +44,7 @@ def test_they_have_the_version(packages: Packages, version: str) -> None:
     assert {packages.field(name, "Version") for name in PACKAGES} == {version}
 
 
-@pytest.mark.parametrize("name", ["mkpasswd", "libmkpasswd2", "libpam-mkpasswd"])
+@pytest.mark.parametrize("name", ["mkpasswd", "libmkpasswd3", "libpam-mkpasswd"])
 def test_a_package_with_code_refuses_older_processors(packages: Packages, name: str) -> None:
     assert "sse4.2-support" in packages.field(name, "Depends").split(", ")
 
@@ -133,12 +133,12 @@ def code_of(file: Path, scratch: Path) -> bytes:
         pytest.param("mkpasswd", "mkpasswd/usr/bin/mkpasswd.proved", id="the program"),
         pytest.param(
             "libmkpasswd.so.3",
-            f"libmkpasswd2/{LIBRARIES}/libmkpasswd.so.3",
+            f"libmkpasswd3/{LIBRARIES}/libmkpasswd.so.3",
             id="the library",
         ),
         pytest.param(
             NEWER_LIBRARY,
-            f"libmkpasswd2/{LIBRARIES}/glibc-hwcaps/x86-64-v3/libmkpasswd.so.3",
+            f"libmkpasswd3/{LIBRARIES}/glibc-hwcaps/x86-64-v3/libmkpasswd.so.3",
             id="the library for x86-64-v3",
         ),
     ],

@@ -19,7 +19,7 @@ from .process import Result, Word, run
 
 PACKAGES = (
     "libmkpasswd-dev",
-    "libmkpasswd2",
+    "libmkpasswd3",
     "libpam-mkpasswd",
     "mkpasswd",
     "mkpasswd-default",
