@@ -21,27 +21,30 @@ from support.debian import (
 )
 from support.release import Archive, packed, processor_of_build, version
 
-# What 1.3.0 did: the package mkpasswd had the three names itself.
-AS_1_3_0 = r"""
-sed -i 's/^Version: .*/Version: 1.3.0/; /^Breaks:/d' control
-rm postinst
-cat > preinst <<'PREINST'
-#!/bin/sh
-set -e
-divert() { dpkg-divert --package mkpasswd --rename --divert "/usr/$2" --add "/usr/$1"; }
-divert bin/mkpasswd bin/mkpasswd.whois
-divert share/man/man1/mkpasswd.1.gz share/man/man1/mkpasswd.whois.1.gz
-divert share/bash-completion/completions/mkpasswd \
-    share/bash-completion/completions/mkpasswd.bash.whois
-PREINST
-chmod 755 preinst
-cd ../usr
-mv bin/mkpasswd.proved bin/mkpasswd
-mv share/man/man1/mkpasswd.proved.1.gz share/man/man1/mkpasswd.1.gz
-mv share/bash-completion/completions/mkpasswd.proved share/bash-completion/completions/mkpasswd
+OF_2_0_1 = Path(__file__).parent / "of_2_0_1"  # scripts of its packages
+# The package mkpasswd as it was in 2.0.1, and mkpasswd-default, which had whois' names.
+AS_2_0_1 = r"""
+sed -i 's/^Version: .*/Version: 2.0.1/; /^Conflicts:/d; /^Replaces:/d' control
+install -m 755 "$0/postrm" postinst
+install -m 755 "$0/postrm" postrm
 """
-LATER_VERSION = 'sed -i "s/^Version: .*/&.1/" control'
-BREAKS_OFF = 'echo "exit 1" >> preinst'
+DEFAULT_OF_2_0_1 = r"""
+sed -i 's/^Package: .*/&-default/; s/^Version: .*/Version: 2.0.1/; /^Suggests:/d' control
+sed -i 's/^Depends: .*/Pre-Depends: mkpasswd (>= 2.0.1)/; /^Conflicts:/d; /^Replaces:/d' control
+install -m 755 "$0/preinst" "$0/postrm" .
+rm -r ../usr
+completions=usr/share/bash-completion/completions
+mkdir -p ../usr/bin ../usr/share/man/man1 ../$completions
+ln -s mkpasswd.proved ../usr/bin/mkpasswd
+ln -s mkpasswd.proved.1.gz ../usr/share/man/man1/mkpasswd.1.gz
+echo 'complete -W --rehash mkpasswd' > ../$completions/mkpasswd
+cd ..
+md5sum $completions/mkpasswd > DEBIAN/md5sums
+"""
+BREAKS_OFF = r"""
+printf '#!/bin/sh\nexit 1\n' > preinst
+chmod 755 preinst
+"""
 
 
 @pytest.fixture(scope="session", name="version")
@@ -73,9 +76,10 @@ def fixture_base(
     shutil.copytree(ROOT / "debian", folder / "source/debian")
     changed = folder / "changed"
     changed.mkdir()
-    change_package(packages.file("mkpasswd"), changed / "of_1_3_0", AS_1_3_0)
-    change_package(packages.file("mkpasswd-default"), changed / "later", LATER_VERSION)
-    change_package(packages.file("mkpasswd-default"), changed / "broken", BREAKS_OFF)
+    program = packages.file("mkpasswd")
+    change_package(program, changed / "mkpasswd", AS_2_0_1, OF_2_0_1)
+    change_package(program, changed / "mkpasswd-default", DEFAULT_OF_2_0_1, OF_2_0_1)
+    change_package(program, changed / "broken", BREAKS_OFF)
     yield folder
     shutil.rmtree(folder)
 

@@ -1,7 +1,8 @@
-"""Beside whois: its command stays mkpasswd, but where mkpasswd-default is installed.
+"""Beside whois: its command stays mkpasswd, whatever of ours is installed, upgraded or purged.
 
-Whenever mkpasswd-default goes, the files of whois come back, nothing of ours is left, and nothing
-of an administrator's is touched. Each test begins in a root that other tests don't change.
+In 2.0.1, mkpasswd-default took the name from whois. An upgrade removes that package, the files of
+whois come back, and what is an administrator's stays as it was. Each test begins in a root that
+other tests don't change.
 """
 from __future__ import annotations
 
@@ -18,18 +19,19 @@ pytestmark = [pytest.mark.needs("root", "mmdebstrap", "dpkg-checkbuilddeps"), py
 
 CopyOf = Callable[[Root], Root]
 
-DEFAULT = "/debs/mkpasswd-default_*.deb"
 PROGRAM = "/debs/mkpasswd_*.deb"
-ALL_BUT_DEFAULT = " ".join(f"/debs/{name}_*.deb" for name in PACKAGES if name != "mkpasswd-default")
-OF_1_3_0 = "/changed/of_1_3_0/changed.deb"
-LATER_DEFAULT = "/changed/later/changed.deb"
-BROKEN_DEFAULT = "/changed/broken/changed.deb"
+ALL = " ".join(f"/debs/{name}_*.deb" for name in PACKAGES)
+PROGRAM_2_0_1 = "/changed/mkpasswd/changed.deb"
+DEFAULT_2_0_1 = "/changed/mkpasswd-default/changed.deb"
+# dpkg fails, as it should.
+FAILS = "if dpkg -i /changed/broken/changed.deb; then exit 1; fi"
+IS_REFUSED = f'if dpkg -i {DEFAULT_2_0_1}; then exit 1; fi; test -z "$(dpkg --audit)"'
 COMMAND = "/usr/bin/mkpasswd"
-SET_ASIDE = "/usr/bin/mkpasswd.whois"  # where whois' command is, while ours has its name
+SET_ASIDE = "/usr/bin/mkpasswd.whois"  # where 2.0.1 put whois' command
 LOCAL = "/usr/local/bin/mkpasswd"
+UPGRADES = f"{APT} install {PROGRAM}"
+PURGES = "dpkg --purge mkpasswd mkpasswd-default"  # also where there is no mkpasswd-default
 PURGES_ALL = f"{APT} purge {' '.join(PACKAGES)}"
-# dpkg fails, and leaves no package half installed.
-IS_STOPPED = f'if dpkg -i {DEFAULT}; then exit 1; fi; test -z "$(dpkg --audit)"'
 
 OURS = "ours"
 OF_WHOIS = "whois"
@@ -95,271 +97,243 @@ def fixture_copy_of(tmp_path: Path) -> Iterator[CopyOf]:
 
 @pytest.fixture(scope="module", name="beside_whois")
 def fixture_beside_whois(base: Path, tmp_path_factory: pytest.TempPathFactory) -> Iterator[Root]:
-    """All of ours but mkpasswd-default."""
-    with layer_over(base, folder=tmp_path_factory.mktemp("beside")) as root:
-        root.output_of(f"{APT} install {ALL_BUT_DEFAULT}")
-        yield root
-
-
-@pytest.fixture(scope="module", name="over_whois")
-def fixture_over_whois(
-    beside_whois: Root, tmp_path_factory: pytest.TempPathFactory
-) -> Iterator[Root]:
     """All of ours."""
-    with above(beside_whois, tmp_path_factory.mktemp("over")) as root:
-        root.output_of(f"{APT} install {DEFAULT}")
+    with layer_over(base, folder=tmp_path_factory.mktemp("beside")) as root:
+        root.output_of(f"{APT} install {ALL}")
         yield root
 
 
-@pytest.fixture(scope="module", name="without_whois")
-def fixture_without_whois(
-    beside_whois: Root, tmp_path_factory: pytest.TempPathFactory
-) -> Iterator[Root]:
-    """All of ours but mkpasswd-default, where whois was."""
-    with above(beside_whois, tmp_path_factory.mktemp("without")) as root:
-        root.output_of(f"{APT} remove whois")
-        yield root
-
-
-@pytest.fixture(scope="module", name="with_1_3_0")
-def fixture_with_1_3_0(base: Path, tmp_path_factory: pytest.TempPathFactory) -> Iterator[Root]:
-    """Version 1.3.0, which had the names itself."""
+@pytest.fixture(scope="module", name="with_2_0_1")
+def fixture_with_2_0_1(base: Path, tmp_path_factory: pytest.TempPathFactory) -> Iterator[Root]:
+    """The program of 2.0.1."""
     with layer_over(base, folder=tmp_path_factory.mktemp("older")) as root:
-        root.output_of(f"{APT} install {OF_1_3_0}")
+        root.output_of(f"{APT} install {PROGRAM_2_0_1}")
         yield root
 
 
-# ---- Without mkpasswd-default
+@pytest.fixture(scope="module", name="with_default")
+def fixture_with_default(
+    with_2_0_1: Root, tmp_path_factory: pytest.TempPathFactory
+) -> Iterator[Root]:
+    """The program of 2.0.1 and mkpasswd-default."""
+    with above(with_2_0_1, tmp_path_factory.mktemp("default")) as root:
+        root.output_of(f"{APT} install {DEFAULT_2_0_1}")
+        yield root
+
+
+# ---- Installed for the first time
 
 
 def test_whois_has_the_name_at_first(root: Root) -> None:
     assert names_in(root) == BEFORE
 
 
-def test_whois_keeps_the_name_beside_all_packages_but_mkpasswd_default(beside_whois: Root) -> None:
+def test_whois_keeps_the_name_beside_all_of_ours(beside_whois: Root) -> None:
     assert names_in(beside_whois) == BEFORE
 
 
-def test_the_program_has_another_name_too(copy_of: CopyOf, beside_whois: Root) -> None:
+def test_the_program_has_another_name(copy_of: CopyOf, beside_whois: Root) -> None:
     root = copy_of(beside_whois)
     assert root.output_of("mkpasswd.proved -m md5crypt -S xxxxxxxx password").startswith("$1$")
 
 
-def test_the_name_is_nobodys_once_whois_is_removed(without_whois: Root) -> None:
-    assert names_in(without_whois) == all_of(OF_NOBODY)
-
-
-# ---- mkpasswd-default
-
-
-def test_mkpasswd_default_takes_the_name_from_whois(over_whois: Root) -> None:
-    assert names_in(over_whois) == OURS_OVER_WHOIS
-
-
-def test_the_command_of_whois_is_called_mkpasswd_whois(copy_of: CopyOf, over_whois: Root) -> None:
-    root = copy_of(over_whois)
-    assert root.output_of("mkpasswd.whois -m yescrypt x").startswith("$y$")
-
-
-def test_the_manual_of_whois_is_called_mkpasswd_whois(copy_of: CopyOf, over_whois: Root) -> None:
-    root = copy_of(over_whois)
-    assert root.output_of("man -w mkpasswd.whois").endswith("/mkpasswd.whois.1.gz\n")
-
-
-def test_whois_installed_again_leaves_the_name_to_mkpasswd_default(
-    copy_of: CopyOf, over_whois: Root
-) -> None:
-    root = copy_of(over_whois)
-    root.output_of(f"{APT} install --reinstall whois")
-    assert names_in(root) == OURS_OVER_WHOIS
-
-
-def test_an_upgrade_of_mkpasswd_default_keeps_the_name(copy_of: CopyOf, over_whois: Root) -> None:
-    root = copy_of(over_whois)
-    root.output_of(f"{APT} install {LATER_DEFAULT}")
-    assert names_in(root) == OURS_OVER_WHOIS
-
-
-def test_whois_gets_the_name_back_when_mkpasswd_default_is_removed(
-    copy_of: CopyOf, over_whois: Root
-) -> None:
-    root = copy_of(over_whois)
-    root.output_of(f"{APT} remove mkpasswd-default")
-    assert names_in(root) == BEFORE
-
-
-def test_whois_gets_the_name_back_when_an_upgraded_mkpasswd_default_is_removed(
-    copy_of: CopyOf, over_whois: Root
-) -> None:
-    root = copy_of(over_whois)
-    root.output_of(f"{APT} install {LATER_DEFAULT}; {APT} remove mkpasswd-default")
-    assert names_in(root) == BEFORE
-
-
-def test_whois_gets_the_name_back_when_mkpasswd_is_purged(
-    copy_of: CopyOf, over_whois: Root
-) -> None:
-    root = copy_of(over_whois)
-    root.output_of(f"{APT} purge mkpasswd")
-    assert names_in(root) == BEFORE
-
-
-def test_whois_gets_the_name_back_when_the_installation_breaks_off(
-    copy_of: CopyOf, beside_whois: Root
-) -> None:
+def test_the_name_is_nobodys_once_whois_is_removed(copy_of: CopyOf, beside_whois: Root) -> None:
     root = copy_of(beside_whois)
-    root.output_of(f"! dpkg -i {BROKEN_DEFAULT}")
+    root.output_of(f"{APT} remove whois")
+    assert names_in(root) == all_of(OF_NOBODY)
+
+
+def test_a_whois_that_comes_later_has_the_name(copy_of: CopyOf, beside_whois: Root) -> None:
+    root = copy_of(beside_whois)
+    root.output_of(f"{APT} remove whois; {APT} install whois")
     assert names_in(root) == BEFORE
 
 
-def test_mkpasswd_default_has_the_name_without_whois(copy_of: CopyOf, without_whois: Root) -> None:
-    root = copy_of(without_whois)
-    root.output_of(f"{APT} install {DEFAULT}")
-    assert names_in(root) == all_of(OURS, diverted=3)
+def test_a_local_link_gives_the_program_the_name(copy_of: CopyOf, beside_whois: Root) -> None:
+    root = copy_of(beside_whois)
+    root.output_of(f"ln -s /usr/bin/mkpasswd.proved {LOCAL}")
+    hashed = root.output_of("PATH=/usr/local/bin:$PATH; mkpasswd -m md5crypt -S xxxxxxxx password")
+    assert hashed.startswith("$1$")
+    assert names_in(root) == BEFORE
 
 
-def test_mkpasswd_default_keeps_the_name_when_whois_comes_later(
-    copy_of: CopyOf, without_whois: Root
+# ---- Upgrades from 2.0.1
+
+
+def test_whois_had_the_name_without_mkpasswd_default(with_2_0_1: Root) -> None:
+    assert names_in(with_2_0_1) == BEFORE
+
+
+def test_whois_keeps_the_name_in_an_upgrade(copy_of: CopyOf, with_2_0_1: Root) -> None:
+    root = copy_of(with_2_0_1)
+    root.output_of(f"{UPGRADES}; mkpasswd.proved -V")
+    assert names_in(root) == BEFORE
+
+
+def test_mkpasswd_default_had_the_name(with_default: Root) -> None:
+    assert names_in(with_default) == OURS_OVER_WHOIS
+
+
+@pytest.mark.parametrize(
+    "upgrade",
+    [
+        pytest.param(UPGRADES, id="by apt"),
+        pytest.param(f"{APT} install {ALL}", id="by apt of all packages"),
+        pytest.param(f"dpkg -i {PROGRAM}", id="by dpkg"),
+        pytest.param(f"{APT} remove mkpasswd-default; {UPGRADES}", id="once it is removed"),
+        pytest.param(f"{APT} purge mkpasswd-default; {UPGRADES}", id="once it is purged"),
+        pytest.param(f"{APT} install --reinstall whois; {UPGRADES}", id="once whois came again"),
+        pytest.param(f"{UPGRADES}; {APT} install --reinstall whois", id="before whois comes again"),
+        pytest.param(f"{UPGRADES}; {PURGES}", id="and a purge"),
+        pytest.param(f"dpkg --unpack {PROGRAM}; dpkg --purge mkpasswd", id="purged half way"),
+        pytest.param(f"{FAILS}; {UPGRADES}", id="after one that failed"),
+    ],
+)
+def test_whois_gets_the_name_back_from_mkpasswd_default_in_an_upgrade(
+    copy_of: CopyOf, with_default: Root, upgrade: str
 ) -> None:
-    root = copy_of(without_whois)
-    root.output_of(f"{APT} install {DEFAULT}; {APT} install whois")
+    root = copy_of(with_default)
+    root.output_of(upgrade)
+    assert names_in(root) == BEFORE
+
+
+def test_the_command_that_comes_back_is_that_of_whois(copy_of: CopyOf, with_default: Root) -> None:
+    root = copy_of(with_default)
+    root.output_of(UPGRADES)
+    assert root.output_of("mkpasswd -m yescrypt x").startswith("$y$")
+
+
+def test_an_upgrade_that_fails_leaves_the_name_to_mkpasswd_default(
+    copy_of: CopyOf, with_default: Root
+) -> None:
+    root = copy_of(with_default)
+    root.output_of(FAILS)
     assert names_in(root) == OURS_OVER_WHOIS
 
 
-def test_a_later_whois_gets_the_name_when_ours_are_purged(
-    copy_of: CopyOf, without_whois: Root
+def test_mkpasswd_default_is_not_installed_beside_the_new_program(
+    copy_of: CopyOf, with_default: Root
 ) -> None:
-    root = copy_of(without_whois)
-    root.output_of(f"{APT} install {DEFAULT}; {APT} install whois; {APT} purge mkpasswd")
+    root = copy_of(with_default)
+    root.output_of(f"{UPGRADES}; {IS_REFUSED}")
+    assert names_in(root) == BEFORE
+
+
+def test_mkpasswd_default_has_the_name_when_2_0_1_comes_back(
+    copy_of: CopyOf, with_default: Root
+) -> None:
+    root = copy_of(with_default)
+    root.output_of(f"{UPGRADES}; dpkg -i {PROGRAM_2_0_1}; dpkg -i {DEFAULT_2_0_1}")
+    assert names_in(root) == OURS_OVER_WHOIS
+
+
+def test_the_name_is_nobodys_after_an_upgrade_without_whois(
+    copy_of: CopyOf, with_default: Root
+) -> None:
+    root = copy_of(with_default)
+    root.output_of(f"{APT} remove whois; {UPGRADES}")
+    assert names_in(root) == all_of(OF_NOBODY)
+
+
+@pytest.mark.parametrize(
+    "steps",
+    [
+        pytest.param(f"{APT} install whois; {UPGRADES}", id="before the upgrade"),
+        pytest.param(f"{UPGRADES}; {APT} install whois", id="after the upgrade"),
+        pytest.param(f"{UPGRADES}; {PURGES}; {APT} install whois", id="after the purge"),
+    ],
+)
+def test_a_whois_that_went_has_the_name_when_it_comes(
+    copy_of: CopyOf, with_default: Root, steps: str
+) -> None:
+    root = copy_of(with_default)
+    root.output_of(f"{APT} remove whois; {steps}")
     assert names_in(root) == BEFORE
 
 
 # ---- What is an administrator's
 
-
-def test_a_local_diversion_stops_mkpasswd_default(copy_of: CopyOf, beside_whois: Root) -> None:
-    root = copy_of(beside_whois)
-    root.output_of(f"dpkg-divert --local --rename --add {COMMAND}; {IS_STOPPED}")
-    assert names_in(root) == Names(OF_NOBODY, OF_WHOIS, OF_WHOIS, aside=0, diverted=1)
+STATE = f"ls -l --full-time {COMMAND}; cat {COMMAND} || true"
 
 
-def test_a_local_diversion_that_has_stopped_mkpasswd_default_can_be_removed(
-    copy_of: CopyOf, beside_whois: Root
+@pytest.mark.parametrize(
+    "put",
+    [
+        pytest.param(f"rm -f {COMMAND}; echo mine > {COMMAND}", id="a program"),
+        pytest.param(f"ln -sf nowhere {COMMAND}", id="a link to nothing"),
+    ],
+)
+@pytest.mark.parametrize(
+    "prepare",
+    [
+        pytest.param("true", id="with whois"),
+        pytest.param(f"{APT} remove whois", id="without whois"),
+    ],
+)
+@pytest.mark.parametrize(
+    "steps",
+    [
+        pytest.param((f"{APT} install {ALL}", PURGES_ALL), id="when ours come and go"),
+        pytest.param((f"{APT} install {PROGRAM_2_0_1}", UPGRADES, PURGES), id="in an upgrade"),
+    ],
+)
+def test_what_an_administrator_has_by_the_name_stays(
+    root: Root, put: str, prepare: str, steps: tuple[str, ...]
 ) -> None:
-    root = copy_of(beside_whois)
-    root.output_of(f"dpkg-divert --local --rename --add {COMMAND}; {IS_STOPPED}")
-    root.output_of(f"test -e {COMMAND}.distrib; dpkg-divert --local --rename --remove {COMMAND}")
-    assert names_in(root) == BEFORE
+    root.output_of(f"{prepare}; {put}")
+    before = root.output_of(STATE)
+    for step in steps:
+        root.output_of(step)
+        assert root.output_of(STATE) == before, step
 
 
-def test_a_program_of_an_administrator_stops_mkpasswd_default_and_stays(
-    copy_of: CopyOf, without_whois: Root
+def test_a_program_in_the_place_of_whois_stays_in_an_upgrade(
+    copy_of: CopyOf, with_default: Root
 ) -> None:
-    root = copy_of(without_whois)
-    root.output_of(f"echo mine > {COMMAND}; {IS_STOPPED}")
-    assert root.output_of(f"cat {COMMAND}") == "mine\n"
-    assert names_in(root) == all_of(OF_NOBODY)
-
-
-def test_a_link_of_an_administrator_to_nothing_stops_mkpasswd_default_and_stays(
-    copy_of: CopyOf, without_whois: Root
-) -> None:
-    root = copy_of(without_whois)
-    root.output_of(f"ln -s nowhere {COMMAND}; {IS_STOPPED}")
-    assert root.output_of(f"readlink {COMMAND}") == "nowhere\n"
-    assert names_in(root) == all_of(OF_NOBODY)
-
-
-def test_mkpasswd_default_has_the_name_beside_a_program_in_the_place_of_whois(
-    copy_of: CopyOf, without_whois: Root
-) -> None:
-    root = copy_of(without_whois)
-    root.output_of(f"echo mine > {SET_ASIDE}; {APT} install {DEFAULT}")
-    assert names_in(root) == all_of(OURS, aside=1, diverted=3)
-
-
-def test_a_program_in_the_place_of_whois_stays_when_ours_are_purged(
-    copy_of: CopyOf, without_whois: Root
-) -> None:
-    root = copy_of(without_whois)
-    root.output_of(f"echo mine > {SET_ASIDE}; {APT} install {DEFAULT}; {APT} purge mkpasswd")
+    root = copy_of(with_default)
+    root.output_of(f"{APT} remove whois; echo mine > {SET_ASIDE}; {UPGRADES}")
     assert root.output_of(f"test ! -e {COMMAND}; cat {SET_ASIDE}") == "mine\n"
     assert names_in(root) == all_of(OF_NOBODY, aside=1)
 
 
-def test_a_local_command_stays(copy_of: CopyOf, beside_whois: Root) -> None:
-    root = copy_of(beside_whois)
-    root.output_of(f"echo mine > {LOCAL}; {APT} install {DEFAULT}; {PURGES_ALL}")
+def test_a_local_diversion_stays(copy_of: CopyOf, with_2_0_1: Root) -> None:
+    root = copy_of(with_2_0_1)
+    root.output_of(f"dpkg-divert --local --rename --add {COMMAND}")
+    diverted = names_in(root)
+    assert diverted == Names(OF_NOBODY, OF_WHOIS, OF_WHOIS, aside=0, diverted=1)
+    for step in (UPGRADES, PURGES):
+        root.output_of(step)
+        assert names_in(root) == diverted, step
+    root.output_of(f"dpkg-divert --local --rename --remove {COMMAND}")
+    assert names_in(root) == BEFORE
+
+
+def test_a_local_command_stays(copy_of: CopyOf, with_default: Root) -> None:
+    root = copy_of(with_default)
+    root.output_of(f"echo mine > {LOCAL}; {UPGRADES}; {PURGES}")
     assert root.output_of(f"cat {LOCAL}") == "mine\n"
-
-
-# ---- Upgrades from 1.3.0
-
-
-def test_1_3_0_had_the_name(with_1_3_0: Root) -> None:
-    assert names_in(with_1_3_0) == OURS_OVER_WHOIS
-
-
-def test_whois_gets_the_name_back_by_an_upgrade(copy_of: CopyOf, with_1_3_0: Root) -> None:
-    root = copy_of(with_1_3_0)
-    root.output_of(f"{APT} install {PROGRAM}; mkpasswd.proved -V")
-    assert names_in(root) == BEFORE
-
-
-def test_an_upgrade_with_mkpasswd_default_keeps_the_name(copy_of: CopyOf, with_1_3_0: Root) -> None:
-    root = copy_of(with_1_3_0)
-    root.output_of(f"{APT} install {PROGRAM} {DEFAULT}; mkpasswd.proved -V")
-    assert names_in(root) == OURS_OVER_WHOIS
-
-
-def test_1_3_0_has_the_name_when_it_comes_back(copy_of: CopyOf, with_1_3_0: Root) -> None:
-    root = copy_of(with_1_3_0)
-    root.output_of(f"{APT} install {PROGRAM} {DEFAULT}")
-    root.output_of(f"{APT} remove mkpasswd-default; dpkg -i {OF_1_3_0}")
-    assert names_in(root) == OURS_OVER_WHOIS
-
-
-def test_whois_gets_the_name_back_when_an_upgrade_is_removed_half_way(
-    copy_of: CopyOf, with_1_3_0: Root
-) -> None:
-    root = copy_of(with_1_3_0)
-    root.output_of(f"dpkg --unpack {PROGRAM}; dpkg --purge mkpasswd")
-    assert names_in(root) == BEFORE
-
-
-def test_1_3_0_had_the_name_beside_a_program_in_the_place_of_whois(root: Root) -> None:
-    root.output_of(f"{APT} remove whois; echo mine > {SET_ASIDE}; {APT} install {OF_1_3_0}")
-    assert names_in(root) == all_of(OURS, aside=1, diverted=3)
-
-
-def test_a_program_in_the_place_of_whois_stays_in_an_upgrade(root: Root) -> None:
-    root.output_of(f"{APT} remove whois; echo mine > {SET_ASIDE}; {APT} install {OF_1_3_0}")
-    root.output_of(f"{APT} install {PROGRAM}")
-    assert root.output_of(f"cat {SET_ASIDE}") == "mine\n"
-    assert names_in(root) == all_of(OF_NOBODY, aside=1)
 
 
 # ---- Nothing of ours is left
 
 
-def test_no_file_is_left_or_missing_when_all_of_ours_are_purged(root: Root) -> None:
+@pytest.mark.parametrize(
+    "steps",
+    [
+        pytest.param(f"{APT} install {ALL}; {PURGES_ALL}", id="all of ours are purged"),
+        pytest.param(
+            f"{APT} install {PROGRAM_2_0_1} {DEFAULT_2_0_1}; {UPGRADES}; {PURGES}",
+            id="an upgrade from 2.0.1 is purged",
+        ),
+        pytest.param(
+            f"{APT} install {PROGRAM_2_0_1} {DEFAULT_2_0_1}; {APT} remove whois; {UPGRADES};"
+            f"{PURGES}; {APT} install whois",
+            id="an upgrade is purged and whois went and came back",
+        ),
+    ],
+)
+def test_no_file_is_left_or_missing_when(root: Root, steps: str) -> None:
     before = root.files()
-    root.output_of(f"{APT} install {ALL_BUT_DEFAULT} {DEFAULT}; {PURGES_ALL}")
-    assert sorted(root.files() ^ before) == []
-    assert names_in(root) == BEFORE
-
-
-def test_no_file_is_left_or_missing_when_an_upgrade_from_1_3_0_is_purged(root: Root) -> None:
-    before = root.files()
-    root.output_of(f"{APT} install {OF_1_3_0}; {APT} install {PROGRAM} {DEFAULT}")
-    root.output_of(f"{APT} purge mkpasswd mkpasswd-default")
-    assert sorted(root.files() ^ before) == []
-    assert names_in(root) == BEFORE
-
-
-def test_no_file_is_left_or_missing_when_whois_went_and_came_back(root: Root) -> None:
-    before = root.files()
-    root.output_of(f"{APT} install {ALL_BUT_DEFAULT} {DEFAULT}; {APT} remove whois")
-    root.output_of(f"{PURGES_ALL}; {APT} install whois")
+    root.output_of(steps)
     assert sorted(root.files() ^ before) == []
     assert names_in(root) == BEFORE

@@ -31,12 +31,12 @@ pytestmark = [
 NEWER_LIBRARY = "build/x86-64-v3/libmkpasswd.so.3"
 LIBRARIES = "usr/lib/x86_64-linux-gnu"
 LEAST_CODE = 10_000  # bytes; with less, the sections are not found
-OWN_TESTS = ("program", "library", "python", "pam", "default")
+OWN_TESTS = ("program", "library", "python", "pam")
 COPY = 'umask 077; mkdir "$1"; cd "$0"; tar -c --exclude=./.git --exclude=out . | tar -x -C "$1"'
 BUILD = 'umask 077; "$1/tools/deb" "$1/packages"'
 
 
-def test_there_are_seven_packages(packages: Packages) -> None:
+def test_each_package_is_built_and_no_other(packages: Packages) -> None:
     assert packages.names() == sorted(PACKAGES)
 
 

@@ -22,7 +22,6 @@ PACKAGES = (
     "libmkpasswd3",
     "libpam-mkpasswd",
     "mkpasswd",
-    "mkpasswd-default",
     "pwhash",
     "python3-mkpasswd",
 )
@@ -120,12 +119,15 @@ def build_packages(folder: Path) -> Packages:
     return Packages(folder)
 
 
-def change_package(package: Path, folder: Path, script: str) -> Path:
-    """A copy of a package in a folder, which a script changes that runs in its DEBIAN."""
+def change_package(package: Path, folder: Path, script: str, *words: Word) -> Path:
+    """A copy of a package in a folder, which a script changes that runs in its DEBIAN.
+
+    The script gets the words as $0, $1 and so on.
+    """
     tree, changed = folder / "tree", folder / "changed.deb"
     folder.mkdir()
     run("dpkg-deb", "-R", package, tree).required()
-    run("sh", "-euc", script, cwd=tree / "DEBIAN").required()
+    run("sh", "-euc", script, *words, cwd=tree / "DEBIAN").required()
     run("dpkg-deb", "-b", tree, changed).required()
     shutil.rmtree(tree)
     return changed
