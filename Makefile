@@ -130,10 +130,14 @@ build/%/libmkpasswd.so.3: build/%/mkpasswd.o c/libmkpasswd.map
 	$(COMPILE) -shared -Wl,-soname,$(@F) -Wl,--version-script=c/libmkpasswd.map \
 		-Wl,--no-undefined-version -Wl,-z,defs $(LINKED) $<
 
+PAM_SOURCES := $(wildcard c/pam/*.c)
+
 # The library is in it, and offers nothing to the service that loads the module.
-build/%/pam_mkpasswd.so: build/%/libmkpasswd.a c/pam_mkpasswd.c c/mkpasswd.h
-	$(COMPILE) -fPIC -fstack-protector-strong -D_FORTIFY_SOURCE=2 -shared -Ic \
-		-Wl,--exclude-libs,ALL -Wl,-z,defs $(LINKED) c/pam_mkpasswd.c $< -lpam
+build/%/pam_mkpasswd.so: build/%/libmkpasswd.a $(PAM_SOURCES) $(wildcard c/pam/*.h) \
+		c/pam/module.map c/mkpasswd.h
+	$(COMPILE) -std=gnu11 -fPIC -fstack-protector-strong -D_FORTIFY_SOURCE=2 -shared -Ic \
+		-Wl,--version-script=c/pam/module.map -Wl,--no-undefined-version -Wl,-z,defs $(LINKED) \
+		$(PAM_SOURCES) $< -lpam
 
 # The calls for a page, as a module of WebAssembly, and what is made around it.
 web:
@@ -169,10 +173,14 @@ pictures: web
 # Each target keeps what it found in build/fuzz, from where the next run begins.
 FUZZERS := $(patsubst tests/c/fuzz_%.c,build/fuzz/%,$(wildcard tests/c/fuzz_*.c))
 
-build/fuzz/%: tests/c/fuzz_%.c tests/c/fuzz.h c/pam_mkpasswd.c c/mkpasswd.h libmkpasswd.a
+# What is fuzzed besides the library.
+build/fuzz/pam: FUZZED = $(PAM_SOURCES)
+
+build/fuzz/%: tests/c/fuzz_%.c tests/c/fuzz.h $(PAM_SOURCES) $(wildcard c/pam/*.h) c/mkpasswd.h \
+		libmkpasswd.a
 	@mkdir -p $@.corpus
 	clang -std=gnu11 -Wall -Wextra -Werror -g -O1 -fsanitize=fuzzer,address,undefined \
-		-fno-sanitize-recover=all -Ic $< libmkpasswd.a -Wl,--no-as-needed -lcrypt -o $@
+		-fno-sanitize-recover=all -Ic $< $(FUZZED) libmkpasswd.a -Wl,--no-as-needed -lcrypt -o $@
 
 fuzz: $(FUZZERS)
 	for fuzzer in $(FUZZERS); do \

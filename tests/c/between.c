@@ -1,34 +1,92 @@
-/* Loaded before the C library: before a file is renamed to or exchanged with PATH, somebody else
-   renames PATH.1 over it, the second time PATH.2, and so on, where they are there. With NO_EXCHANGE
-   the file system can't exchange; with KILL a file is never synced. */
+/* Loaded before the C library: somebody else, or another file system, between a program that
+   replaces a file and the system. Before PATH is exchanged with another file, somebody renames
+   PATH.1 over it, the second time PATH.2, and so on, where they are there.
+
+   NO_EXCHANGE=1   the file system can't exchange files
+   NO_TMPFILE=1    it has no files without a name
+   CHMOD=1         somebody changes PATH's mode before the first exchange
+   KILL=fsync      the program is killed before its file is on the disk
+   KILL=linkat     when the file has its name
+   KILL=exchange   when it is in PATH's place
+   KILL=unlinkat   when what came out would be removed */
 #define _GNU_SOURCE
 #include <errno.h>
+#include <fcntl.h>
 #include <limits.h>
 #include <signal.h>
+#include <stdarg.h>
+#include <stdbool.h>
 #include <stdio.h>
 #include <stdlib.h>
+#include <string.h>
+#include <sys/stat.h>
 #include <sys/syscall.h>
 #include <unistd.h>
+
+static void kill_at(const char *call)
+{
+    const char *wanted = getenv("KILL");
+
+    if (wanted != NULL && strcmp(wanted, call) == 0)
+        (void)raise(SIGKILL);
+}
+
+static int refused(int error)
+{
+    errno = error;
+    return -1;
+}
 
 int renameat2(int from_folder, const char *from, int to_folder, const char *to, unsigned int flags)
 {
     static int calls;
     char other[PATH_MAX];
+    int result;
 
     if (snprintf(other, sizeof other, "%s.%d", to, ++calls) >= (int)sizeof other)
         abort();
-    syscall(SYS_renameat2, to_folder, other, to_folder, to, 0);
-    if (flags && getenv("NO_EXCHANGE"))
-        return errno = EINVAL, -1;
-    return (int)syscall(SYS_renameat2, from_folder, from, to_folder, to, flags);
+    (void)syscall(SYS_renameat2, to_folder, other, to_folder, to, 0);
+    if (calls == 1 && getenv("CHMOD") != NULL)
+        (void)fchmodat(to_folder, to, S_IRUSR | S_IWUSR | S_IROTH, 0);
+    if (flags != 0 && getenv("NO_EXCHANGE") != NULL)
+        return refused(EINVAL);
+    result = (int)syscall(SYS_renameat2, from_folder, from, to_folder, to, flags);
+    kill_at("exchange");
+    return result;
 }
 
-int rename(const char *from, const char *to)
+int openat(int folder, const char *path, int flags, ...)
 {
-    return renameat2(-100, from, -100, to, 0); /* AT_FDCWD */
+    va_list arguments;
+    mode_t mode;
+
+    va_start(arguments, flags);
+    mode = va_arg(arguments, mode_t);
+    va_end(arguments);
+    if ((flags & O_TMPFILE) == O_TMPFILE && getenv("NO_TMPFILE") != NULL)
+        return refused(EOPNOTSUPP);
+    return (int)syscall(SYS_openat, folder, path, flags, mode);
+}
+
+int linkat(int from_folder, const char *from, int to_folder, const char *to, int flags)
+{
+    int result = (int)syscall(SYS_linkat, from_folder, from, to_folder, to, flags);
+
+    kill_at("linkat");
+    return result;
+}
+
+int unlinkat(int folder, const char *path, int flags)
+{
+    struct stat status;
+
+    if (fstatat(folder, path, &status, AT_SYMLINK_NOFOLLOW) == 0)
+        kill_at("unlinkat");
+    return (int)syscall(SYS_unlinkat, folder, path, flags);
 }
 
 int fsync(int file)
 {
-    return getenv("KILL") ? raise(SIGKILL) : (int)syscall(SYS_fsync, file);
+    kill_at("fsync");
+    return (int)syscall(SYS_fsync, file);
 }

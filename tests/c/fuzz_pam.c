@@ -1,63 +1,268 @@
-/* pam_mkpasswd.so with any file or account of the system, password and arguments: who gets in, and what a renewal leaves. */
-#define _GNU_SOURCE
+/* pam_mkpasswd.so with any file, conversation and arguments: who gets in, and what a renewal or a
+ * change of password leaves. PAM itself is played here: what users type and services say is input
+ * too. */
+#define _GNU_SOURCE /* for memmem */
+#include <mkpasswd.h>
 #include <security/pam_ext.h>
 #include <security/pam_modules.h>
-#include <shadow.h>
+#include <security/pam_modutil.h>
+#include <stdarg.h>
 #include <stdio.h>
-#define pam_get_user(pam, name, prompt) (*(name) = "ann", 0)
-#define pam_get_authtok(pam, item, password, prompt) (*(password) = parts[3], 0)
-#define pam_syslog(pam, priority, ...) ((void)(pam), (void)snprintf(left, sizeof left, __VA_ARGS__))
-#define getspnam_r(name, room, buffer, size, entry) ((void)(buffer), (room)->sp_pwdp = field_of_ann, *(entry) = (room), 0)
-static char parts[5][2048], text[8192], left[8192]; /* lines before ann's, the field, what follows it, the password, an argument */
-static char field_of_ann[8192];
-#include "../../c/pam_mkpasswd.c"
+#include <stdlib.h>
+#include <string.h>
+#include <unistd.h>
 
 #define MUST(holds) ((holds) ? (void)0 : __builtin_trap())
+#define PART_SIZE 2048
+#define SEPARATOR 0xff
+#define BUDGET 300000
+
+/* The parts of the input, each up to a separator. */
+struct input {
+    char lines_before[PART_SIZE];
+    char field[PART_SIZE];
+    char behind[PART_SIZE];
+    char old_password[PART_SIZE];
+    char new_password[PART_SIZE];
+    char argument[PART_SIZE];
+    char item[PART_SIZE]; /* of PAM, such as the remote host */
+};
+
+/* The password file, and where ann's field is in it. */
+struct content {
+    char text[4 * PART_SIZE];
+    size_t before;
+    size_t field;
+    size_t after;
+};
+
+static struct input input;
+static char path[64];
 
 int LLVMFuzzerTestOneInput(const uint8_t *data, size_t size);
 
+/* ---- PAM */
+
+int pam_get_user(pam_handle_t *pam, const char **user, const char *prompt)
+{
+    (void)pam;
+    (void)prompt;
+    *user = "ann";
+    return PAM_SUCCESS;
+}
+
+int pam_get_authtok(pam_handle_t *pam, int item, const char **password, const char *prompt)
+{
+    const int *is_change = (const int *)pam;
+
+    (void)prompt;
+    *password = item == PAM_AUTHTOK && *is_change ? input.new_password : input.old_password;
+    return PAM_SUCCESS;
+}
+
+int pam_get_item(const pam_handle_t *pam, int kind, const void **item)
+{
+    (void)pam;
+    (void)kind;
+    *item = *input.item != '\0' ? input.item : NULL;
+    return PAM_SUCCESS;
+}
+
+const char *pam_modutil_getlogin(pam_handle_t *pam)
+{
+    (void)pam;
+    return input.item;
+}
+
+int pam_prompt(pam_handle_t *pam, int style, char **response, const char *format, ...)
+{
+    (void)pam;
+    (void)style;
+    (void)response;
+    MUST(strcmp(format, "%s") == 0);
+    return PAM_SUCCESS;
+}
+
+/* No entry for a failed login has a blank or line feed of somebody's: its words are counted. */
+void pam_syslog(const pam_handle_t *pam, int priority, const char *format, ...)
+{
+    char entry[8 * PART_SIZE];
+    va_list arguments;
+    size_t words = 1;
+
+    (void)pam;
+    (void)priority;
+    va_start(arguments, format);
+    MUST(vsnprintf(entry, sizeof entry, format, arguments) > 0);
+    va_end(arguments);
+    if (strncmp(entry, "authentication failure; ", 24) != 0)
+        return;
+    MUST(strchr(entry, '\n') == NULL);
+    for (const char *place = entry; *place != '\0'; place++)
+        words += *place == ' ';
+    MUST(words == 10); /* two of them, one empty, are before user= */
+}
+
+/* ---- The input */
+
+/* Cuts the input into its parts, in which no zero byte can be. */
+static void cut_into_parts(const uint8_t *data, size_t size)
+{
+    char *part = (char *)&input;
+    char *end = part + sizeof input;
+    size_t place = 0;
+
+    memset(&input, 0, sizeof input);
+    for (; size > 0 && part < end; data++, size--) {
+        if (*data == SEPARATOR || place == PART_SIZE - 1) {
+            part += PART_SIZE;
+            place = 0;
+        } else {
+            part[place++] = (char)*data;
+        }
+    }
+}
+
+/* Makes the field a hash of the old password, which no chance finds. */
+static void make_matching_field(uint8_t kind)
+{
+    static const char *const settings[] = {
+        "$1$abcdefgh", "$5$rounds=1000$abcd", "$6$rounds=1000$abcd"};
+    char hash[MKPASSWD_TEXT_SIZE];
+
+    if (mkpasswd_hash(mkpasswd_password(input.old_password), mkpasswd_field(settings[kind % 3]),
+            BUDGET, hash, sizeof hash, NULL))
+        (void)snprintf(input.field, sizeof input.field, "%s", hash);
+}
+
+static void put_together(struct content *content)
+{
+    content->before = (size_t)snprintf(
+        content->text, sizeof content->text, "%s\nann:", input.lines_before);
+    (void)snprintf(content->text + content->before, sizeof content->text - content->before, "%s%s",
+        input.field, input.behind);
+    content->field = strcspn(content->text + content->before, ":\n");
+    content->after = strlen(content->text) - content->before - content->field;
+}
+
+static void write_file(const char *text)
+{
+    FILE *file = fopen(path, "w");
+
+    MUST(file != NULL && fputs(text, file) >= 0 && fclose(file) == 0);
+}
+
+static void read_file(char *text, size_t size)
+{
+    FILE *file = fopen(path, "r");
+
+    MUST(file != NULL);
+    text[fread(text, 1, size - 1, file)] = '\0';
+    (void)fclose(file);
+}
+
+/* ---- What must hold */
+
+static int is_password(const char *password, const char *field, size_t len)
+{
+    return mkpasswd_verify(
+        mkpasswd_password(password), mkpasswd_field_bytes(field, len), UINT64_MAX, NULL);
+}
+
+/* All but the field stays, and the new one is a hash of the password. */
+static void check_file(const struct content *before, int may_change, const char *password)
+{
+    char text[sizeof before->text + MKPASSWD_TEXT_SIZE];
+    size_t len;
+
+    read_file(text, sizeof text);
+    if (strcmp(text, before->text) == 0)
+        return;
+    len = strlen(text);
+    MUST(may_change && memcmp(text, before->text, before->before) == 0);
+    MUST(strcmp(text + len - before->after, before->text + before->before + before->field) == 0);
+    MUST(is_password(password, text + before->before, len - before->before - before->after));
+}
+
+static void check_account(const struct content *content, int status)
+{
+    char first = content->text[content->before];
+    int expected = first == '!' || first == '*' ? PAM_PERM_DENIED : PAM_SUCCESS;
+
+    MUST(status == PAM_SERVICE_ERR || status == expected);
+}
+
+static void check_login(const struct content *content, int status)
+{
+    int is_right = is_password(input.old_password, content->text + content->before, content->field);
+
+    MUST(
+        status == PAM_SERVICE_ERR || status == PAM_AUTH_ERR || (status == PAM_SUCCESS && is_right));
+}
+
+static void change_password(pam_handle_t *pam, int count, const char **arguments)
+{
+    const int expired = PAM_CHANGE_EXPIRED_AUTHTOK;
+    struct content content;
+    int status;
+
+    put_together(&content);
+    write_file(content.text);
+    status = pam_sm_chauthtok(pam, PAM_PRELIM_CHECK | expired, count, arguments);
+    if (status != PAM_SERVICE_ERR)
+        check_login(&content, status);
+    check_file(&content, 0, "");
+    if (status == PAM_SUCCESS)
+        status = pam_sm_chauthtok(pam, PAM_UPDATE_AUTHTOK | expired, count, arguments);
+    MUST(status != PAM_SUCCESS || *input.new_password != '\0');
+    check_file(&content, status == PAM_SUCCESS, input.new_password);
+}
+
+static void log_in(pam_handle_t *pam, int count, const char **arguments)
+{
+    struct content content;
+    int status;
+
+    put_together(&content);
+    write_file(content.text);
+    check_account(&content, pam_sm_acct_mgmt(pam, 0, count, arguments));
+    status = pam_sm_authenticate(pam, 0, count, arguments);
+    check_login(&content, status);
+    check_file(&content, status == PAM_SUCCESS, input.old_password);
+}
+
+/* A folder of its own in memory, where no renewal of another process is. */
+static void make_folder(void)
+{
+    char folder[] = "/dev/shm/fuzz_pam.XXXXXX";
+
+    MUST(mkdtemp(folder) != NULL);
+    (void)snprintf(path, sizeof path, "%s/passwords", folder);
+}
+
 int LLVMFuzzerTestOneInput(const uint8_t *data, size_t size)
 {
-    static const char *const arguments[] = {"debug", "method=md5crypt", "method=scrypt", "rounds=6", "rounds=1001", "budget=300000", "budget=1000000"};
-    static const char *const settings[] = {"$1$abcdefgh", "$5$rounds=1000$abcd", "$6$rounds=1000$abcd"};
-    static char folder[] = "/dev/shm/fuzz_pam.XXXXXX", path[64], own[80];
-    uint8_t kind = size ? data[0] : 0;
-    const char *given[] = {own, "renew", "rounds=1000", "budget=300000", arguments[kind % 7], parts[4]}, *password = parts[3];
-    size_t part = 0, place = 0, before, len, after;
-    int has_file = kind < 128, count, status;
-    struct mkpasswd_report report;
-    FILE *file;
+    static const char *const others[] = {"debug", "method=md5crypt", "method=scrypt", "rounds=6",
+        "rounds=1001", "budget=300000", "budget=1000000"};
+    char file[80];
+    uint8_t kind = size > 0 ? data[0] : 0;
+    const char *arguments[] = {
+        file, "renew", "rounds=1000", "budget=300000", others[kind % 7], input.argument};
+    int count = 5, is_change = 0;
 
-    if (!*path)
-        MUST(mkdtemp(folder) && sprintf(path, "%s/file", folder) > 0 && sprintf(own, "file=%s", path) > 0);
-    memset(parts, 0, sizeof parts);
-    for (; size > 0 && part < 5; data++, size--)
-        if (*data == 0xff || place == sizeof *parts - 1)
-            part++, place = 0;
-        else
-            parts[part][place++] = (char)*data;
-    if (strstr(parts[0], "ann:") || (!has_file && strncmp(parts[4], "file=", 5) == 0))
+    if (*path == '\0')
+        make_folder();
+    (void)snprintf(file, sizeof file, "file=%s", path);
+    cut_into_parts(data, size);
+    if (strstr(input.lines_before, "ann:") != NULL)
         return 0;
-    if (kind & 64 && mkpasswd_hash_str(password, settings[kind % 3], 300000, parts[1], sizeof parts[1], NULL))
-        kind = 0; /* a hash that matches, which no chance finds */
-    before = (size_t)sprintf(text, "%s\nann:", parts[0]);
-    len = strcspn(strcat(strcpy(text + before, parts[1]), parts[2]), ":\n");
-    after = strlen(text) - before - len;
-    sprintf(field_of_ann, "%.*s", (int)len, text + before);
-    MUST((file = fopen(path, "w")) && fputs(text, file) >= 0 && fclose(file) == 0);
-    count = 3 + 2 * has_file + (*parts[4] != 0);
-    status = pam_sm_acct_mgmt((void *)left, 0, count, given + 2 * !has_file);
-    MUST(status == PAM_SERVICE_ERR || status == (text[before] == '!' || text[before] == '*' ? PAM_PERM_DENIED : PAM_SUCCESS));
-    status = pam_sm_authenticate((void *)left, 0, count, given + 2 * !has_file);
-    MUST(status == PAM_SERVICE_ERR || status == PAM_AUTH_ERR || (status == PAM_IGNORE && len > 1 && !has_file)
-        || (status == PAM_SUCCESS
-            && mkpasswd_verify((uint8_t *)password, strlen(password), (uint8_t *)text + before, len, UINT64_MAX, &report)));
-    MUST((file = fopen(path, "r")));
-    left[fread(left, 1, sizeof left - 1, file)] = 0;
-    fclose(file);
-    /* All but the field stays, and a new hash lets its owner in. */
-    if (strcmp(left, text) != 0)
-        MUST(status == PAM_SUCCESS && memcmp(left, text, before) == 0 && strcmp(left + strlen(left) - after, text + before + len) == 0
-            && mkpasswd_verify((uint8_t *)password, strlen(password), (uint8_t *)left + before, strlen(left) - before - after, UINT64_MAX, &report));
+    if ((kind & 0x40) != 0)
+        make_matching_field(kind);
+    if (*input.argument != '\0')
+        count++;
+    log_in((pam_handle_t *)&is_change, count, arguments);
+    is_change = 1;
+    if ((kind & 0x20) != 0)
+        change_password((pam_handle_t *)&is_change, count, arguments);
     return 0;
 }

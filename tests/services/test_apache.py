@@ -72,7 +72,7 @@ class TestLoginsByFile(LoginTests):
 class TestLoginsByPam(PamLoginTests):
     """Logins to Apache, which asks PAM."""
 
-    let_in = frozenset({"a b"})
+    takes_blank = True
 
     @pytest.fixture(scope="class", name="door")
     def fixture_door(

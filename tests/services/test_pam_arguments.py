@@ -5,7 +5,7 @@ from dataclasses import dataclass
 
 import pytest
 from support.libxcrypt import crypt
-from support.pam import Answer, Login, Pam
+from support.pam import Answer, Login, Pam, failure_of
 from support.pam_fields import CURRENT, FILE, PASSWORD, SHA512
 
 pytestmark = [pytest.mark.needs("namespaces", "pamtester"), pytest.mark.xdist_group("pam")]
@@ -40,10 +40,10 @@ def invalid_together(arguments: str, reason: str) -> InvalidArguments:
     return InvalidArguments(f"file={FILE} {arguments}", Answer.BROKEN, log)
 
 
-def renewing_shadow(path: str) -> InvalidArguments:
-    """The system's own file, which nothing may renew."""
-    log = "invalid argument: renew, of /etc/shadow"
-    return InvalidArguments(f"file={path} renew", Answer.BROKEN, log)
+def shadow(path: str) -> InvalidArguments:
+    """The system's own file, which the module doesn't serve."""
+    log = f"invalid argument: file={path} is /etc/shadow"
+    return InvalidArguments(f"file={path}", Answer.BROKEN, log)
 
 
 def unreadable(path: str, reason: str) -> InvalidArguments:
@@ -54,16 +54,19 @@ def unreadable(path: str, reason: str) -> InvalidArguments:
 VALID = [
     "",
     "budget=0",
+    "budget=18446744073709551615",
     "method=scrypt",
     "debug",
     "rounds=1000 budget=300000",
     "rounds=1000 try_first_pass renew",
+    "use_authtok authtok_type=FTP",
 ]
 INVALID = [
     invalid_together("budget=1", "over budget"),
     invalid_together("rounds=1000 budget=100000", "over budget"),
-    invalid_together("rounds=999", "cost"),
-    InvalidArguments("renew", Answer.BROKEN, "invalid argument: renew, without file="),
+    invalid_together("rounds=999", "rounds out of range"),
+    InvalidArguments("", Answer.BROKEN, "invalid arguments: file= is missing"),
+    InvalidArguments("renew debug", Answer.BROKEN, "invalid arguments: file= is missing"),
     InvalidArguments("file=passwords", Answer.BROKEN, "invalid argument: file=passwords"),
     InvalidArguments("file=", Answer.BROKEN, "invalid argument: file="),
     invalid("budget="),
@@ -78,12 +81,14 @@ INVALID = [
     invalid("renew=1"),
     invalid("budge=1"),
     invalid("nullok"),
+    invalid("use_authtok=1"),
+    invalid("debug1"),
     invalid("file=passwords"),  # for the second time
     invalid("file="),
     invalid(f"file={FILE}"),
-    renewing_shadow("/etc/shadow"),
-    renewing_shadow("/srv/shadow"),
-    renewing_shadow("/etc/other"),
+    shadow("/etc/shadow"),
+    shadow("/srv/shadow"),
+    shadow("/etc/other"),
     unreadable(f"{FILE}.gone", "No such file or directory"),
     unreadable("/etc", "Is a directory"),
 ]
@@ -117,11 +122,6 @@ def test_nobody_gets_in_by_invalid_arguments_which_the_log_names(
     assert pam.login("six", PASSWORD) == expected
 
 
-def test_without_a_file_its_names_are_unknown(pam: Pam) -> None:
-    pam.set_arguments("")
-    assert pam.login("six", PASSWORD) == Login(Answer.REFUSED)
-
-
 @pytest.mark.parametrize(
     ("size", "answer"),
     [
@@ -140,13 +140,14 @@ def test_scrypt_without_its_memory_is_refused(pam: Pam) -> None:
     pam.set_arguments(f"file={FILE}")
     pam.machine.write(FILE, b"seven:" + crypt(PASSWORD, NEEDS_64_MIB))
     login = pam.login("seven", PASSWORD, through=TOO_LITTLE_MEMORY)
-    assert login == Login(Answer.REFUSED, ("out of memory",))
+    assert login == Login(Answer.REFUSED, ("out of memory", failure_of("seven")))
 
 
 def test_an_unknown_name_is_logged_for_debugging(pam: Pam) -> None:
     pam.set_arguments(f"{CURRENT} debug")
     login = pam.login("nobody", PASSWORD)
-    assert login == Login(Answer.REFUSED, (f"{FILE}: line 0: no hash",))
+    expected = (f"{FILE}: no line has this name", failure_of(None))
+    assert login == Login(Answer.REFUSED, expected)
 
 
 @pytest.mark.parametrize(

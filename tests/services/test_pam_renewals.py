@@ -10,7 +10,7 @@ import re
 import stat
 from collections.abc import Callable, Iterator, Sequence
 from contextlib import AbstractContextManager
-from dataclasses import dataclass
+from dataclasses import dataclass, replace
 from pathlib import Path
 
 import pytest
@@ -24,10 +24,11 @@ from support.services import wait_until
 
 pytestmark = [pytest.mark.needs("namespaces", "pamtester"), pytest.mark.xdist_group("pam")]
 
-LOCK = f"{FILE}.pam_mkpasswd.lock"
+LOCK = f"{FILE}.mkpasswd.lock"
 ARGUMENTS = f"file={FILE} rounds=1001 budget=1000000 renew"
 RENEWED = re.compile(rb"\w+:(\$6\$rounds=1001\$[^:\n]*)")
 LINE = b"two:" + SHA512 + b"\n"
+NAME_OF_LOCK = Path(LOCK).name
 
 
 @pytest.fixture(autouse=True)
@@ -54,7 +55,7 @@ def is_renewed(line: bytes) -> bool:
 def others_beside(machine: Namespaces) -> list[str]:
     """What logins have left beside the file and its lock."""
     names = [file.name for file in machine.path(FILE).parent.glob("passwords.*")]
-    return sorted(name for name in names if name != Path(LOCK).name)
+    return sorted(name for name in names if name != NAME_OF_LOCK)
 
 
 # ---- What a renewal keeps
@@ -103,6 +104,53 @@ def test_the_link_stays(pam: Pam) -> None:
     assert pam.machine.path(FILE).is_file() and not pam.machine.path(FILE).is_symlink()
 
 
+# ---- What a new file has besides its bytes
+
+
+@pytest.mark.needs("setfacl", "setfattr")
+def test_acls_and_attributes_stay_and_no_others_come(pam: Pam) -> None:
+    folder = "/srv/attributes"
+    file = f"{folder}/passwords"
+    pam.machine.make_folder(folder)
+    pam.machine.write(file, LINE, 0o640)
+    pam.set_arguments(ARGUMENTS.replace(FILE, file))
+    pam.machine.run("setfacl", "-d", "-m", "u:games:rwx", folder).required()
+    pam.machine.run("setfacl", "-m", "u:daemon:r", file).required()
+    pam.machine.run("setfattr", "-n", "trusted.other", "-v", "value", file).required()
+    show = f"getfacl -cp {file}; getfattr -d -m - --absolute-names {file}"
+    before = pam.machine.run("sh", "-euc", show).required().stdout
+    assert b"daemon" in before and b"trusted.other" in before, before
+    assert pam.login("two", PASSWORD) == Login(Answer.ACCEPTED)
+    assert is_renewed(pam.machine.read(file))
+    assert pam.machine.run("sh", "-euc", show).required().stdout == before
+
+
+@pytest.mark.needs("setfacl", "setfattr")
+def test_a_file_with_an_attribute_that_the_service_may_not_set_stays(pam: Pam) -> None:
+    folder = "/srv/unprivileged"
+    file = f"{folder}/passwords"
+    pam.machine.make_folder(folder)
+    pam.machine.write(file, LINE, 0o600)
+    pam.set_arguments(ARGUMENTS.replace(FILE, file))
+    pam.machine.run("chown", "-R", "4242:4242", folder).required()
+    pam.machine.run("setfattr", "-n", "security.other", "-v", "value", file).required()
+    other_user = ("setpriv", "--reuid=4242", "--regid=4242", "--clear-groups")
+    login = pam.login("two", PASSWORD, through=other_user)
+    entry = f"{file}: not renewed: Operation not permitted"
+    assert login == Login(Answer.ACCEPTED, (entry,))
+    assert pam.machine.read(file) == LINE
+
+
+@pytest.mark.parametrize("missing", ["NO_TMPFILE=1"])
+def test_a_hash_is_renewed_where_files_without_a_name_are_missing(
+    pam: Pam, between: tuple[str, str], missing: str
+) -> None:
+    pam.machine.write(FILE, LINE)
+    assert pam.login("two", PASSWORD, through=(*between, missing)) == Login(Answer.ACCEPTED)
+    assert is_renewed(pam.machine.read(FILE))
+    assert others_beside(pam.machine) == []
+
+
 # ---- Somebody else renames files over it, as the new file takes its place
 
 
@@ -145,9 +193,78 @@ def test_a_login_that_is_killed_before_its_file_is_whole_changes_nothing(
     pam: Pam, between: tuple[str, str]
 ) -> None:
     pam.machine.write(FILE, LINE)
-    killed = pam.login_result("two", PASSWORD, through=(*between, "KILL=1"))
-    assert killed.status == 128 + 9, killed
+    killed = pam.login_result("two", PASSWORD, through=(*between, "KILL=fsync"))
+    assert killed.status == KILLED, killed
     assert (pam.machine.read(FILE), others_beside(pam.machine)) == (LINE, [])
+
+
+# ---- A login that is killed, and the next one that ends what it began
+
+KILLED = 128 + 9
+SECOND = b"six:" + SHA512 + b"\n"
+MOMENTS = ["fsync", "linkat", "exchange", "unlinkat"]
+
+
+def kill_login(pam: Pam, between: tuple[str, ...], moment: str) -> None:
+    """Has the user `two` log in, and kills that at a moment of the renewal."""
+    killed = pam.login_result("two", PASSWORD, through=(*between, f"KILL={moment}"))
+    assert killed.status == KILLED, killed
+
+
+@pytest.mark.parametrize("no_tmpfile", [(), ("NO_TMPFILE=1",)], ids=["without a name", "named"])
+@pytest.mark.parametrize("moment", MOMENTS)
+def test_the_next_renewal_clears_up_after_one_that_was_killed(
+    pam: Pam, between: tuple[str, str], moment: str, no_tmpfile: tuple[str, ...]
+) -> None:
+    if no_tmpfile and moment == "linkat":
+        moment = "fsync"  # such a file has its name from the beginning
+    pam.machine.write(FILE, LINE + SECOND)
+    kill_login(pam, (*between, *no_tmpfile), moment)
+    assert len(pam.machine.read(FILE).splitlines()) == 2
+    assert pam.login("six", PASSWORD, through=(*between, *no_tmpfile)) == Login(Answer.ACCEPTED)
+    pam.login("two", PASSWORD)
+    lines = pam.machine.read(FILE).splitlines(keepends=True)
+    assert [is_renewed(line) for line in lines] == [True, True], lines
+    assert others_beside(pam.machine) == []
+
+
+def test_the_next_renewal_puts_back_what_one_took_out_that_was_killed(
+    pam: Pam, between: tuple[str, str]
+) -> None:
+    locked = b"two:!" + SHA512 + b"\n"
+    pam.machine.write(FILE, LINE + SECOND)
+    pam.machine.write(f"{FILE}.1", locked + SECOND)
+    kill_login(pam, between, "exchange")
+    assert is_renewed(pam.machine.read(FILE))
+    assert pam.login("six", PASSWORD) == Login(Answer.ACCEPTED)
+    lines = pam.machine.read(FILE).splitlines(keepends=True)
+    assert (lines[0], is_renewed(lines[1]), len(lines)) == (locked, True, 2), lines
+    assert others_beside(pam.machine) == []
+
+
+def test_a_version_of_somebody_that_two_have_met_stays_until_somebody_looks(
+    pam: Pam, between: tuple[str, str]
+) -> None:
+    version, newer = LINE + SECOND + b"# 1\n", LINE + SECOND + b"# 2\n"
+    pam.machine.write(FILE, LINE + SECOND)
+    pam.machine.write(f"{FILE}.1", version)
+    kill_login(pam, between, "exchange")
+    pam.machine.write(f"{FILE}.newer", newer)
+    pam.machine.path(f"{FILE}.newer").rename(pam.machine.path(FILE))
+    login = pam.login("six", PASSWORD)
+    assert login == Login(Answer.ACCEPTED, (f"{FILE}: not renewed: File exists",))
+    assert pam.machine.read(f"{FILE}.mkpasswd.new") == version
+    assert pam.machine.read(FILE) == newer
+
+
+def test_a_mode_that_somebody_changes_at_the_last_moment_stays(
+    pam: Pam, between: tuple[str, str]
+) -> None:
+    pam.machine.write(FILE, LINE, 0o600)
+    login = pam.login("two", PASSWORD, through=(*between, "CHMOD=1"))
+    assert login == Login(Answer.ACCEPTED)
+    assert stat.S_IMODE(pam.machine.path(FILE).stat().st_mode) == 0o604
+    assert others_beside(pam.machine) == []
 
 
 # ---- What keeps a file as it is
@@ -214,6 +331,7 @@ class Obstacle:
     reason: str
     blocking: Blocking
     through: tuple[Word, ...] = ()
+    variables: tuple[str, ...] = ()  # for the library between
 
     def __str__(self) -> str:
         return self.title
@@ -222,32 +340,30 @@ class Obstacle:
 FULL = Obstacle("a full disk", "No space left on device", remounted("size=60k", "size=10m"))
 READ_ONLY = Obstacle("a read-only disk", "Read-only file system", remounted("ro", "rw"))
 LINKED_LOCK = Obstacle("a link for a lock", "Too many levels of symbolic links", lock_is_link)
-HELD_LOCK = Obstacle("a lock that is held", "Resource temporarily unavailable", lock_is_held)
+HELD_LOCK = Obstacle("a lock that is held", "another process keeps the lock", lock_is_held)
 LIMITED = Obstacle(
     "a limit of a file's size that is one byte too small",
     "File too large",
     nothing,
     ("prlimit", f"--fsize={NEW_SIZE - 1}"),
 )
-ACL = Obstacle(
-    "an ACL",
-    "Operation not supported",
-    between_commands(["setfacl", "-m", "u:daemon:r", FILE], ["setfacl", "-b", FILE]),
+NO_EXCHANGE = Obstacle(
+    "a file system that can't exchange files",
+    "Invalid argument",
+    nothing,
+    variables=("NO_EXCHANGE=1",),
 )
-ATTRIBUTE = Obstacle(
-    "an attribute of the superuser",
-    "Operation not supported",
-    between_commands(
-        ["setfattr", "-n", "trusted.other", FILE], ["setfattr", "-x", "trusted.other", FILE]
-    ),
-)
-NO_EXCHANGE = Obstacle("a file system that can't exchange files", "Invalid argument", nothing)
 
-OBSTACLES = [
-    *(FULL, READ_ONLY, LINKED_LOCK, HELD_LOCK, LIMITED, NO_EXCHANGE),
-    pytest.param(ACL, marks=pytest.mark.needs("setfacl")),
-    pytest.param(ATTRIBUTE, marks=pytest.mark.needs("setfattr")),
-]
+OBSTACLES = [FULL, READ_ONLY, LINKED_LOCK, HELD_LOCK, LIMITED, NO_EXCHANGE]
+
+
+def without_nameless_files(obstacle: Obstacle) -> Obstacle:
+    """The same on a file system that has no files without a name."""
+    title = f"{obstacle.title}, and no files without a name"
+    return replace(obstacle, title=title, variables=(*obstacle.variables, "NO_TMPFILE=1"))
+
+
+OBSTACLES += [without_nameless_files(obstacle) for obstacle in (FULL, LIMITED, NO_EXCHANGE)]
 
 
 @dataclass(frozen=True)
@@ -266,8 +382,8 @@ def fixture_blocked(pam: Pam, between: tuple[str, str], request: pytest.FixtureR
     obstacle: Obstacle = request.param
     pam.machine.write(FILE, LONG)
     through = obstacle.through
-    if obstacle is NO_EXCHANGE:
-        through = (*between, "NO_EXCHANGE=1")
+    if obstacle.variables:
+        through = (*through, *between, *obstacle.variables)
     with obstacle.blocking(pam.machine):
         login = pam.login("two", PASSWORD, through=through)
     content, others = pam.machine.read(FILE), others_beside(pam.machine)

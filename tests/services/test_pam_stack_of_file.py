@@ -9,7 +9,7 @@ from dataclasses import dataclass, field
 from pathlib import Path
 
 import pytest
-from support.pam import Answer, Login, Pam, stacks_of_manual
+from support.pam import Answer, Login, Pam, failure_of, stacks_of_manual
 from support.pam_fields import (
     CUT,
     HASHES,
@@ -108,13 +108,15 @@ def test_a_field_that_no_password_matches_is_logged(visited: Visited, name: str)
     if name in REASONS:
         line = list(FIELDS).index(name) + 1
         expected = [f"{visited.stack.file()}: line {line}: {REASONS[name]}"]
+    if name not in GET_IN:
+        expected.append(failure_of(name if name in FIELDS else None))
     assert list(visited.logins[name].log) == expected
 
 
 def test_another_password_is_refused(pam: Pam, visited: Visited) -> None:
     pam.machine.write(visited.stack.file(), CONTENT)
     pam.set_stack(visited.stack.lines())
-    assert pam.login("current", b"x") == Login(Answer.REFUSED)
+    assert pam.login("current", b"x") == Login(Answer.REFUSED, (failure_of("current"),))
 
 
 def test_an_outdated_hash_is_renewed_if_renew_says_so(visited: Visited) -> None:

@@ -1,10 +1,9 @@
-"""pam_mkpasswd.so under valgrind, with each kind of field and of arguments.
+"""pam_mkpasswd.so under valgrind, with each kind of field, call and arguments.
 
 `make fuzz` has the sanitizers.
 """
 from __future__ import annotations
 
-from collections.abc import Mapping
 from pathlib import Path
 
 import pytest
@@ -18,7 +17,8 @@ pytestmark = [
 ]
 
 UNKNOWN = "nobodyhere"
-IN_SHADOW = {
+FIELDS = {
+    "bad": b"$6$\0",
     "costly": HOSTILE,
     "empty": b"",
     "locked": b"!",
@@ -27,7 +27,8 @@ IN_SHADOW = {
     "six": SHA512,
     "yes": HASHES["yescrypt"],
 }
-IN_FILE = {"bad": b"$6$\0", **IN_SHADOW}
+ARGUMENTS = f"file={FILE} rounds=1000 renew debug budget=300000000"
+NEW = b"another password"
 ERROR = 99  # valgrind's status where it finds something
 VALGRIND = (
     *("valgrind", "-q", "--leak-check=full", "--show-leak-kinds=definite"),
@@ -35,44 +36,42 @@ VALGRIND = (
 )
 
 
-def lines_of(fields: Mapping[str, bytes], rest: bytes) -> bytes:
-    """Lines of a file, each with the rest behind its field. The last line doesn't end."""
-    return b"\n".join(b"%b:%b%b" % (name.encode(), field, rest) for name, field in fields.items())
+@pytest.fixture(autouse=True)
+def _file(pam: Pam) -> None:
+    """The file has all fields. The last line doesn't end."""
+    lines = [b"%b:%b" % (name.encode(), field) for name, field in FIELDS.items()]
+    pam.machine.write(FILE, b"\n".join(lines))
 
 
-@pytest.fixture(scope="module", autouse=True)
-def _shadow(pam: Pam) -> None:
-    """The system's own file has the fields too."""
-    pam.machine.append("/etc/shadow", lines_of(IN_SHADOW, b":19000:0:99999:7:::"))
-
-
-def assert_nothing_found(pam: Pam, name: str, folder: Path) -> None:
-    """Fails the test where valgrind finds something while a user logs in."""
+def assert_nothing_found(pam: Pam, folder: Path, *words: str, typed: tuple[bytes, ...]) -> None:
+    """Fails the test where valgrind finds something while pamtester runs."""
     found = folder / "found"
-    through = (*VALGRIND, f"--log-file={found}")
-    result = pam.login_result(name, PASSWORD, through=through)
+    pam.log.entries()
+    stdin = b"".join(line + b"\n" for line in typed)
+    command = (*VALGRIND, f"--log-file={found}", "pamtester", "example", *words)
+    result = pam.machine.run(*command, stdin=stdin)
     assert found.read_text() == "", f"{result}\n{pam.log.entries()}"
     assert result.status != ERROR, result
 
 
-@pytest.mark.parametrize("name", [UNKNOWN, *IN_FILE])
-def test_valgrind_finds_nothing_in_a_login_by_a_file(pam: Pam, name: str, tmp_path: Path) -> None:
-    pam.machine.write(FILE, lines_of(IN_FILE, b""))
-    pam.set_arguments(f"file={FILE} rounds=1000 renew budget=300000000")
-    assert_nothing_found(pam, name, tmp_path)
+@pytest.mark.parametrize("name", [UNKNOWN, *FIELDS])
+def test_valgrind_finds_nothing_in_a_login(pam: Pam, name: str, tmp_path: Path) -> None:
+    pam.set_arguments(ARGUMENTS)
+    assert_nothing_found(pam, tmp_path, name, "authenticate", "acct_mgmt", typed=(PASSWORD,))
 
 
-@pytest.mark.parametrize("name", [UNKNOWN, *IN_SHADOW])
-def test_valgrind_finds_nothing_in_a_login_of_an_account(
+@pytest.mark.parametrize("name", [UNKNOWN, *FIELDS])
+def test_valgrind_finds_nothing_in_a_change_of_a_password(
     pam: Pam, name: str, tmp_path: Path
 ) -> None:
-    pam.set_arguments("method=md5crypt debug")
-    assert_nothing_found(pam, name, tmp_path)
+    pam.set_arguments(ARGUMENTS)
+    assert_nothing_found(pam, tmp_path, name, "chauthtok", typed=(NEW, NEW))
 
 
-@pytest.mark.parametrize("arguments", ["file=/gone", "rounds=x"])
-def test_valgrind_finds_nothing_in_a_login_that_reads_no_field(
-    pam: Pam, arguments: str, tmp_path: Path
+@pytest.mark.parametrize("operation", ["authenticate", "chauthtok"])
+@pytest.mark.parametrize("arguments", ["file=/gone", f"file={FILE} rounds=x", "debug"])
+def test_valgrind_finds_nothing_in_a_call_that_reads_no_field(
+    pam: Pam, arguments: str, operation: str, tmp_path: Path
 ) -> None:
     pam.set_arguments(arguments)
-    assert_nothing_found(pam, "six", tmp_path)
+    assert_nothing_found(pam, tmp_path, "six", operation, typed=(PASSWORD, NEW, NEW))

@@ -1,17 +1,17 @@
-"""sshd asks the PAM module by the stack that its manual has for the system's accounts."""
+"""sshd asks the PAM module, by the stack of its recipe, for users who have accounts."""
 from __future__ import annotations
 
 from collections.abc import Iterator
 from pathlib import Path
 
 import pytest
+from support.documents import marked
 from support.logins import Door, PamLoginTests, Verdict, verdict_of
-from support.pam import stacks_of_manual
 from support.recipes import Site
 from support.services import serving
 
 pytestmark = [
-    pytest.mark.needs("namespaces", "sshd", "ssh", "chpasswd"),
+    pytest.mark.needs("namespaces", "sshd", "ssh"),
     pytest.mark.xdist_group("services"),
 ]
 
@@ -48,9 +48,7 @@ def fixture_folder(tmp_path_factory: pytest.TempPathFactory) -> Path:
 def fixture_door(site_with_module: Site, folder: Path) -> Iterator[Door]:
     site = site_with_module
     site.add_accounts()
-    site.load_hashes("pam_unix")
-    # By default pam_unix waits about two seconds after a wrong password.
-    stack = stacks_of_manual().of_accounts.replace("pam_unix.so try", "pam_unix.so nodelay try")
+    stack = marked("pam_mkpasswd", "pam").code
     site.machine.write("/etc/pam.d/sshd", f"{stack}session required pam_permit.so\n")
     site.machine.make_folder("/run/sshd")
     site.run("ssh-keygen", "-q", "-t", "ed25519", "-N", "", "-f", f"{folder}/key").required()
@@ -72,5 +70,3 @@ def fixture_door(site_with_module: Site, folder: Path) -> Iterator[Door]:
 
 class TestLogins(PamLoginTests):
     """Logins to sshd."""
-
-    let_in = frozenset({"yescrypt"})  # by pam_unix

@@ -19,19 +19,22 @@ LONGEST_ENTRY = 2048  # bytes
 
 
 class Answer(enum.Enum):
-    """How PAM answers a login, in pam_strerror(3)'s words."""
+    """How PAM answers a call, in pam_strerror(3)'s words."""
 
     ACCEPTED = "Success"
     REFUSED = "Authentication failure"
     DENIED = "Permission denied"
     BROKEN = "Error in service module"
     UNAVAILABLE = "Authentication service cannot retrieve authentication info"
-    UNKNOWN_MODULE = "Module is unknown"
+    UNKNOWN_NAME = "User not known to the underlying authentication module"
+    NO_OLD_PASSWORD = "Authentication information cannot be recovered"
+    NOT_CHANGED = "Authentication token manipulation error"
+    IN_USE = "Authentication token lock busy"
 
 
 @dataclass(frozen=True)
 class Login:
-    """How PAM answered a login, and what was logged meanwhile."""
+    """How PAM answered a login or another call, and what was logged meanwhile."""
 
     answer: Answer
     log: tuple[str, ...] = ()
@@ -42,20 +45,22 @@ class Stacks:
     """The stacks that the module's manual shows."""
 
     of_file: str
-    of_accounts: str
-    with_faillock: str
+    with_pwquality: str  # the lines for changes of passwords alone
+
+
+def displays_of_manual() -> list[str]:
+    """The blocks of the module's manual that are shown as they are."""
+    pattern = r"^\.Bd -literal.*\n((?:.*\n)*?)^\.Ed"
+    return re.findall(pattern, MANUAL.read_text("ascii"), re.MULTILINE)
 
 
 def stacks_of_manual() -> Stacks:
-    """The stacks that the module's manual shows, in the order that it has."""
-    displays = re.findall(
-        r"^\.Bd -literal -offset 2n\n(.*?)^\.Ed",
-        MANUAL.read_text("ascii"),
-        re.DOTALL | re.MULTILINE,
-    )
-    stacks = [display for display in displays if display.startswith("auth")]
-    assert len(stacks) == 3, f"{MANUAL}: expected: three stacks\n{stacks}"
-    return Stacks(*stacks)
+    """The stacks of the manual's examples."""
+    displays = displays_of_manual()
+    of_file = [display for display in displays if display.startswith("auth  ")]
+    with_pwquality = [display for display in displays if "pam_pwquality" in display]
+    assert len(of_file) == 2 and len(with_pwquality) == 1, displays
+    return Stacks(of_file[1], with_pwquality[0])
 
 
 def answer_of(result: Result) -> Answer:
@@ -69,28 +74,44 @@ def answer_of(result: Result) -> Answer:
     raise AssertionError(f"expected: an answer of PAM\n{result}")
 
 
+def failure_of(name: str | None, rhost: str = "") -> str:
+    """The entry for a failed login of the superuser's service, by a name that the file has."""
+    items = f"logname= uid=0 euid=0 tty= ruser= rhost={rhost} "
+    user = f" user={name}" if name is not None else ""
+    return f"authentication failure; {items}{user}"
+
+
 class SystemLog:
     """The system log of a machine, in place of its daemon."""
 
     def __init__(self, receiver: socket.socket) -> None:
         self.receiver = receiver
 
-    def entries(self) -> tuple[str, ...]:
-        """What has been logged since the last call, the entries of pam_mkpasswd by their text."""
+    def raw_entries(self) -> tuple[str, ...]:
+        """What has been logged since the last call, as programs write it."""
         entries = []
         with contextlib.suppress(BlockingIOError):
             while True:
-                entry = self.receiver.recv(LONGEST_ENTRY).decode(errors="backslashreplace")
-                beginning = re.match(r".*?pam_mkpasswd\([\w-]+:\w+\): ", entry, re.DOTALL)
-                entries.append(entry[beginning.end() :] if beginning else entry)
+                entry = self.receiver.recv(LONGEST_ENTRY)
+                entries.append(entry.decode(errors="backslashreplace"))
         return tuple(entries)
+
+    def entries(self) -> tuple[str, ...]:
+        """The same, the entries of pam_mkpasswd by their text."""
+        texts = []
+        for entry in self.raw_entries():
+            beginning = re.match(r".*?pam_mkpasswd\([\w-]+:\w+\): ", entry, re.DOTALL)
+            texts.append(entry[beginning.end() :] if beginning else entry)
+        return tuple(texts)
 
 
 @contextlib.contextmanager
 def system_log(machine: Namespaces) -> Iterator[SystemLog]:
     """Keeps the log of a machine that has its own devices."""
     with socket.socket(socket.AF_UNIX, socket.SOCK_DGRAM) as receiver:
-        receiver.bind(str(machine.path("/dev/log")))
+        path = machine.path("/dev/log")
+        receiver.bind(str(path))
+        path.chmod(0o666)
         receiver.setblocking(False)
         yield SystemLog(receiver)
 
@@ -109,7 +130,7 @@ class Pam:
     def set_arguments(self, arguments: str) -> None:
         """Gives the service `example` the module alone, with these arguments."""
         line = f"required pam_mkpasswd.so {arguments}"
-        self.set_stack(f"auth {line}\naccount {line}\n")
+        self.set_stack(f"auth {line}\naccount {line}\npassword {line}\n")
 
     def login(
         self,
@@ -139,8 +160,11 @@ class Pam:
         command = (*through, "pamtester", service, name, "authenticate", "acct_mgmt")
         return self.machine.run(*command, stdin=password + b"\n")
 
-    def has_account(self, name: str) -> bool:
-        """Whether a name may log in, whatever its password is."""
-        result = self.machine.run("pamtester", "example", name, "acct_mgmt")
-        assert result.status in (0, 1), f"expected: an answer of PAM\n{result}"
-        return result.status == 0
+    def call(
+        self, name: str, operation: str, *lines: bytes, through: tuple[Word, ...] = ()
+    ) -> Login:
+        """Makes one call for a name, as of pam_chauthtok(3), where somebody types these lines."""
+        self.log.entries()
+        stdin = b"".join(line + b"\n" for line in lines)
+        result = self.machine.run(*through, "pamtester", "example", name, operation, stdin=stdin)
+        return Login(answer_of(result), self.log.entries())

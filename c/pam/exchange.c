@@ -1,0 +1,181 @@
+/* Exchanges the new file for the old one. Whatever comes out has a name until somebody knows what
+ * it is, so no version of the file is lost, also if this process is killed in between. */
+#define _GNU_SOURCE /* for O_PATH and renameat2 */
+#include "exchange.h"
+#include <errno.h>
+#include <fcntl.h>
+#include <inttypes.h>
+#include <stdio.h>
+#include <stdlib.h>
+#include <unistd.h>
+
+/* Each one after the first needs somebody else, who changed the file between two calls. */
+#define MOST_EXCHANGES 8
+
+/* The inodes of the two files that are exchanged. */
+struct pair {
+    uintmax_t old;
+    uintmax_t new;
+};
+
+#define NOTE_SIZE sizeof "18446744073709551615 18446744073709551615"
+
+/* Notes which files are exchanged, in the target of a link: the name and what it says are there at
+ * the same moment, and no other file can be written by mistake. */
+static bool write_note(const struct place *place, const struct pair *pair)
+{
+    char note[NOTE_SIZE];
+
+    (void)snprintf(note, sizeof note, "%ju %ju", pair->old, pair->new);
+    return symlinkat(note, place->folder, place->exchange_name) == 0;
+}
+
+static bool read_note(const struct place *place, struct pair *pair)
+{
+    char note[NOTE_SIZE];
+    char *end;
+    ssize_t len = readlinkat(place->folder, place->exchange_name, note, sizeof note - 1);
+
+    if (len < 0)
+        return false;
+    note[len] = '\0';
+    pair->old = strtoumax(note, &end, 10);
+    pair->new = strtoumax(end, NULL, 10);
+    return true;
+}
+
+static bool swap(const struct place *place)
+{
+    return renameat2(place->folder, place->new_name, place->folder, place->name, RENAME_EXCHANGE)
+        == 0;
+}
+
+static bool look(const struct place *place, const char *name, struct stat *status)
+{
+    return fstatat(place->folder, name, status, AT_SYMLINK_NOFOLLOW) == 0;
+}
+
+/* Removes what has new_name if it is one of the pair: the file that was replaced, or the one that
+ * didn't replace it. Any other file is somebody's version. */
+static bool remove_one_of(const struct place *place, const struct pair *pair)
+{
+    struct stat left;
+
+    if (!look(place, place->new_name, &left))
+        return errno == ENOENT;
+    if (left.st_ino != pair->old && left.st_ino != pair->new) {
+        errno = EEXIST;
+        return false;
+    }
+    return unlinkat(place->folder, place->new_name, 0) == 0;
+}
+
+/* Puts back what was exchanged by mistake, if the new file is still in its place. */
+static bool put_back(const struct place *place, const struct pair *pair)
+{
+    struct stat left, file;
+
+    if (!look(place, place->new_name, &left) || !look(place, place->name, &file))
+        return errno == ENOENT; /* then there is nothing to put back, or nowhere */
+    if (left.st_ino == pair->old || left.st_ino == pair->new || file.st_ino != pair->new)
+        return true;
+    return swap(place);
+}
+
+bool end_earlier_exchange(const struct place *place)
+{
+    struct pair pair;
+
+    /* Without a note nothing was exchanged: a new file was not yet whole. */
+    if (!read_note(place, &pair))
+        return unlinkat(place->folder, place->new_name, 0) == 0 || errno == ENOENT;
+    return put_back(place, &pair) && remove_one_of(place, &pair)
+        && unlinkat(place->folder, place->exchange_name, 0) == 0;
+}
+
+/* Whether a file is still as it was: the same file, and nobody has written to it or changed its
+ * owner or mode. The exchange itself sets the time of the last change. */
+static bool is_unchanged(const struct stat *now, const struct stat *before)
+{
+    return is_same_file(now, before) && now->st_size == before->st_size
+        && now->st_mtim.tv_sec == before->st_mtim.tv_sec
+        && now->st_mtim.tv_nsec == before->st_mtim.tv_nsec && now->st_mode == before->st_mode
+        && now->st_uid == before->st_uid && now->st_gid == before->st_gid;
+}
+
+/* Whether the password file is still the old one, with the same time of the last change. */
+static bool is_still_in_place(const struct place *place, const struct stat *old)
+{
+    struct stat file;
+
+    return look(place, place->name, &file) && is_same_file(&file, old)
+        && file.st_ctim.tv_sec == old->st_ctim.tv_sec
+        && file.st_ctim.tv_nsec == old->st_ctim.tv_nsec;
+}
+
+/* Opens what has come out. Until it is closed, no later file gets its inode, by which this process
+ * goes. */
+static int hold(const struct place *place)
+{
+    return openat(place->folder, place->new_name, O_PATH | O_NOFOLLOW | O_CLOEXEC);
+}
+
+static void release(int held)
+{
+    if (held >= 0)
+        (void)close(held);
+}
+
+/* Exchanges what has new_name and the password file until that comes out which was expected: at
+ * first the old file, and whenever somebody's version came out, what was put in before, since that
+ * version goes back. So the newest of somebody's versions stays. */
+static enum outcome exchange_until_expected(
+    const struct place *place, const struct stat *old, const struct stat *new)
+{
+    struct stat expected = *old, inside = *new, out;
+    int held[MOST_EXCHANGES], count = 0;
+    enum outcome outcome = FAILED;
+
+    errno = EBUSY; /* if the calls succeed, and somebody changes the file again and again */
+    while (outcome == FAILED && count < MOST_EXCHANGES) {
+        if (!swap(place) || !look(place, place->new_name, &out))
+            break;
+        held[count++] = hold(place);
+        if (is_unchanged(&out, &expected))
+            outcome = is_same_file(&inside, new) ? DONE : FILE_CHANGED;
+        expected = inside;
+        inside = out;
+    }
+    while (count > 0)
+        release(held[--count]);
+    return outcome;
+}
+
+/* Removes what the exchange has left under new_name, and then the note. If the exchange ended
+ * early, that may be somebody's version, which stays. */
+static void clear_up(const struct place *place, const struct pair *pair, enum outcome outcome)
+{
+    int error = errno;
+    bool is_clear = outcome == FAILED ? remove_one_of(place, pair)
+                                      : unlinkat(place->folder, place->new_name, 0) == 0;
+
+    if (is_clear)
+        (void)unlinkat(place->folder, place->exchange_name, 0);
+    errno = error;
+}
+
+enum outcome exchange_files(
+    const struct place *place, const struct stat *old, const struct stat *new)
+{
+    const struct pair pair = {old->st_ino, new->st_ino};
+    enum outcome outcome;
+
+    if (!write_note(place, &pair))
+        outcome = FAILED;
+    else if (!is_still_in_place(place, old))
+        outcome = FILE_CHANGED;
+    else
+        outcome = exchange_until_expected(place, old, new);
+    clear_up(place, &pair, outcome);
+    return outcome;
+}

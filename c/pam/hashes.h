@@ -1,0 +1,52 @@
+/* What the module asks of the proved library: hashes.c has each call that it makes of mkpasswd.h.
+ */
+#ifndef PAM_MKPASSWD_HASHES_H
+#define PAM_MKPASSWD_HASHES_H
+
+#include <mkpasswd.h>
+#include <stdbool.h>
+#include <stdint.h>
+
+struct hash {
+    char text[MKPASSWD_TEXT_SIZE];
+};
+
+struct message {
+    char text[MKPASSWD_TEXT_SIZE];
+};
+
+/* What came of checking a password. */
+struct check {
+    bool matches;
+    bool is_outdated;  /* the password matches, and a new hash would replace the stored one */
+    bool lacks_memory; /* nothing was checked */
+};
+
+/* Finds the number of a method by its name. */
+bool find_method(const char *name, uint32_t *method);
+
+/* Whether the policy is valid, and its budget admits a new hash of each password of up to 64 bytes.
+ * If not, the message says why. */
+bool allows_new_hashes(const struct mkpasswd_policy *policy, struct message *message);
+
+/* Checks a password against a field, which is empty for an unknown name. A field that no password
+ * can match takes as long as a new hash. */
+struct check check_password(
+    const struct mkpasswd_policy *policy, const char *password, struct mkpasswd_field field);
+
+/* Hashes a new password. If that can't be done, the message says why. */
+bool make_hash(const struct mkpasswd_policy *policy, const char *password, struct hash *hash,
+    struct message *message);
+
+enum field_problem {
+    NO_PROBLEM,        /* some password may match */
+    CLOSED_ON_PURPOSE, /* the field is empty or locked */
+    NEEDS_NEW_HASH,    /* no password matches what it has */
+};
+
+/* Finds out why no password can match a field, which the message then says. It gets no password, so
+ * nothing of this tells which one was given. */
+enum field_problem problem_of_field(
+    const struct mkpasswd_policy *policy, struct mkpasswd_field field, struct message *message);
+
+#endif

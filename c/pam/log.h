@@ -1,0 +1,24 @@
+/* What the module writes to the system log, so that an administrator can correct it, or fail2ban
+ * can match it. No entry depends on the password that was given. */
+#ifndef PAM_MKPASSWD_LOG_H
+#define PAM_MKPASSWD_LOG_H
+
+#include "options.h"
+#include "password_file.h"
+#include "replacement.h"
+
+/* Logs a failed login in pam_unix's form, which has the name only if a line of the file has it:
+ * users type passwords there. */
+void log_failure(pam_handle_t *pam, const char *name, const struct line *line);
+
+/* Logs why no password can match a line; one that was closed on purpose only for debugging. */
+void log_field(pam_handle_t *pam, const struct options *options, const struct line *line);
+
+/* Logs whose password was changed. */
+void log_change(const pam_handle_t *pam, const char *name);
+
+/* Logs why a field was not replaced, unless somebody else changed it meanwhile. */
+void log_replacement(
+    pam_handle_t *pam, const struct options *options, const char *what, enum outcome outcome);
+
+#endif

@@ -1,0 +1,20 @@
+/* The arguments that follow pam_mkpasswd.so in a file of /etc/pam.d. */
+#ifndef PAM_MKPASSWD_OPTIONS_H
+#define PAM_MKPASSWD_OPTIONS_H
+
+#include "hashes.h"
+#include <security/pam_modules.h>
+#include <stdbool.h>
+
+struct options {
+    const char *file; /* an absolute path */
+    struct mkpasswd_policy policy;
+    bool renews;
+    bool is_debugging;
+};
+
+/* Reads all arguments. If one is invalid, missing, or allows no new hashes, it logs which one and
+ * returns false. */
+bool read_options(pam_handle_t *pam, int count, const char **arguments, struct options *options);
+
+#endif

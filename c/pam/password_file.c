@@ -1,0 +1,109 @@
+/* Reads a password file, and finds a name's line in it. */
+#include "password_file.h"
+#include <errno.h>
+#include <fcntl.h>
+#include <stdlib.h>
+#include <string.h>
+#include <unistd.h>
+
+/* Opens a file without waiting for anything, as a FIFO would make it. */
+static int open_regular(int folder, const char *path, struct password_file *file)
+{
+    file->fd = openat(folder, path, O_RDONLY | O_CLOEXEC | O_NOCTTY | O_NONBLOCK);
+    if (file->fd < 0 || fstat(file->fd, &file->status) != 0)
+        return errno;
+    if (S_ISDIR(file->status.st_mode))
+        return EISDIR;
+    return S_ISREG(file->status.st_mode) ? 0 : EINVAL;
+}
+
+/* Reads as many bytes as the file had when it was opened. */
+static int read_bytes(struct password_file *file)
+{
+    size_t size = (size_t)file->status.st_size;
+
+    file->bytes = malloc(size + 1); /* malloc(0) may return NULL */
+    if (file->bytes == NULL)
+        return ENOMEM;
+    while (file->size < size) {
+        ssize_t len = read(file->fd, file->bytes + file->size, size - file->size);
+
+        if (len < 0)
+            return errno;
+        if (len == 0) /* it has become shorter */
+            break;
+        file->size += (size_t)len;
+    }
+    return 0;
+}
+
+int read_password_file(int folder, const char *path, struct password_file *file)
+{
+    int error;
+
+    *file = (struct password_file){.fd = -1};
+    error = open_regular(folder, path, file);
+    if (error == 0)
+        error = read_bytes(file);
+    if (error != 0)
+        file->size = 0;
+    return error;
+}
+
+void close_password_file(struct password_file *file)
+{
+    int error = errno;
+
+    free(file->bytes);
+    if (file->fd >= 0)
+        (void)close(file->fd);
+    errno = error;
+}
+
+/* The place of a character, or the end if it isn't there. */
+static const char *find(const char *start, const char *end, char character)
+{
+    const char *place = memchr(start, character, (size_t)(end - start));
+
+    return place != NULL ? place : end;
+}
+
+/* Whether a line begins with this name and a colon. */
+static bool has_name(const char *line, const char *line_end, const char *name, size_t name_len)
+{
+    const char *colon = find(line, line_end, ':');
+
+    return colon < line_end && name_len > 0 && (size_t)(colon - line) == name_len
+        && memcmp(line, name, name_len) == 0;
+}
+
+struct line find_line(const struct password_file *file, const char *name)
+{
+    struct line found = {0, mkpasswd_field(NULL)};
+    const char *line = file->bytes;
+    const char *end = file->bytes + file->size;
+    size_t name_len = strlen(name);
+
+    for (unsigned long number = 1; line < end; number++) {
+        const char *line_end = find(line, end, '\n');
+
+        if (found.number == 0 && has_name(line, line_end, name, name_len)) {
+            const char *field = line + name_len + 1;
+
+            found.number = number;
+            found.field = mkpasswd_field_bytes(field, (size_t)(find(field, line_end, ':') - field));
+        }
+        line = line_end < end ? line_end + 1 : end;
+    }
+    return found;
+}
+
+bool is_locked(struct mkpasswd_field field)
+{
+    return field.length > 0 && (field.bytes[0] == '!' || field.bytes[0] == '*');
+}
+
+bool is_same_field(struct mkpasswd_field one, struct mkpasswd_field other)
+{
+    return one.length == other.length && memcmp(one.bytes, other.bytes, one.length) == 0;
+}

@@ -1,0 +1,27 @@
+/* Replaces one field of a password file. REPLACING A FIELD in pam_mkpasswd(8) describes the
+ * protocol, which pwhash follows too. */
+#ifndef PAM_MKPASSWD_REPLACEMENT_H
+#define PAM_MKPASSWD_REPLACEMENT_H
+
+#include "password_file.h"
+
+enum outcome {
+    DONE,
+    LOCK_IS_HELD, /* by another process, for longer than this one waits */
+    FILE_CHANGED, /* by somebody else, or the field is another one by now */
+    FAILED,       /* errno says why */
+};
+
+struct replacement {
+    const char *name;
+    struct mkpasswd_field checked; /* the field that is replaced, if the line still has it */
+    const char *hash;              /* the new field */
+};
+
+/* Replaces a field. Unless this is done, the file stays as it is. */
+enum outcome replace_field(const char *path, const struct replacement *replacement);
+
+/* Whether this process may replace the file. If not, errno says why. */
+bool can_replace(const char *path);
+
+#endif
