@@ -1,0 +1,93 @@
+"""pam_mkpasswd.so under cachegrind: a refused login takes as long for each field and name.
+
+What is counted is instructions of the processor, which another machine's load doesn't change.
+"""
+from __future__ import annotations
+
+import re
+from dataclasses import dataclass
+
+import pytest
+from support.libxcrypt import crypt
+from support.pam import Answer, Pam, answer_of
+from support.pam_fields import FILE, HASHES, HOSTILE, WRONG
+
+pytestmark = [
+    pytest.mark.needs("namespaces", "pamtester", "valgrind"),
+    pytest.mark.slow,
+    pytest.mark.xdist_group("pam stacks"),
+]
+
+ROUNDS = 200_000  # so many that what surrounds a hash is less than the tolerance
+ARGUMENTS = f"rounds={ROUNDS} debug"
+TOLERANCE = 0.0002
+TOLERANCE_OF_UNREADABLE = 0.01
+CACHEGRIND = ("valgrind", "--tool=cachegrind", "--cache-sim=no", "--cachegrind-out-file=/dev/null")
+
+CURRENT = crypt(b"pass word", f"$6$rounds={ROUNDS}$abcdefghijklmnop".encode())
+FIELDS = {
+    "current": CURRENT,
+    "cut": CURRENT[:-1],
+    "costly": HOSTILE,
+    "yescrypt": HASHES["yescrypt"],
+    "malformed": b"$6$rounds=x$abcdefghijklmnop",
+    "word": b"x",
+    "empty": b"",
+    "locked": b"!" + CURRENT,
+}
+UNKNOWN = ["nobodyhere", "", "a:b"]
+UNREADABLE = [f"{FILE}.gone", "/etc"]
+
+
+@dataclass(frozen=True)
+class Counted:
+    """How PAM answered a login with a wrong password, and after how many instructions."""
+
+    answer: Answer
+    instructions: int
+
+
+def counted(pam: Pam, name: str) -> Counted:
+    """Logs in with a wrong password."""
+    pam.log.entries()
+    command = (*CACHEGRIND, "pamtester", "example", name, "authenticate")
+    result = pam.machine.run(*command, stdin=WRONG + b"\n")
+    found = re.search(rb"I +refs: +([\d,]+)", result.stderr)
+    assert found, result
+    return Counted(answer_of(result), int(found[1].replace(b",", b"")))
+
+
+@pytest.fixture(scope="module", autouse=True)
+def _file(pam: Pam) -> None:
+    """The file has all fields."""
+    lines = [b"%b:%b\n" % (name.encode(), field) for name, field in FIELDS.items()]
+    pam.machine.write(FILE, b"".join(lines))
+
+
+@pytest.fixture(scope="module", name="expected")
+def fixture_expected(pam: Pam) -> int:
+    """The instructions of a login by a current hash."""
+    pam.set_arguments(f"file={FILE} {ARGUMENTS}")
+    return counted(pam, "current").instructions
+
+
+@pytest.mark.parametrize(
+    "name", [*FIELDS, *[pytest.param(name, id=name or "empty name") for name in UNKNOWN]]
+)
+def test_a_wrong_password_takes_as_long_for_each_field_and_unknown_name(
+    pam: Pam, expected: int, name: str
+) -> None:
+    pam.set_arguments(f"file={FILE} {ARGUMENTS}")
+    found = counted(pam, name)
+    assert found.answer is Answer.REFUSED
+    assert found.instructions == pytest.approx(expected, rel=TOLERANCE)
+
+
+@pytest.mark.parametrize("path", UNREADABLE)
+def test_it_takes_as_long_while_the_file_can_not_be_read(
+    pam: Pam, expected: int, path: str
+) -> None:
+    pam.set_arguments(f"file={path} {ARGUMENTS}")
+    found = counted(pam, "current")
+    assert found.answer is Answer.UNAVAILABLE
+    assert found.instructions == pytest.approx(expected, rel=TOLERANCE_OF_UNREADABLE)
