@@ -70,8 +70,8 @@ int32_t mkpasswd_hash_bytes(const uint8_t *password, size_t password_length, con
 }
 
 /* Hashes without random numbers first: the report then has the first error that comes before them,
- * or that they are missing. Only then are they drawn. The trial writes to memory of its own, since
- * `out` may hold the password, and so the call that writes to `out` comes last. */
+ * or that they are missing. Only then are they drawn. The trial writes to memory of its own, so
+ * that `out` is written once, by the call that comes last. */
 __attribute__((noinline)) static int32_t hash_anew(const uint8_t *password, size_t password_length,
     uint32_t method, uint32_t rounds, uint64_t budget, uint8_t *out, size_t out_size,
     struct mkpasswd_report *report)

@@ -144,8 +144,8 @@ struct allocation rattle_alloc(size_t size, size_t alignment)
 
     (void)alignment;
     if (KEEPS && size >= HUGE_PAGE) {
-        mallopt(
-            M_MMAP_THRESHOLD, HUGE_PAGE); /* glibc would come to hold on to blocks below 32 MiB */
+        /* Otherwise glibc would come to hold on to blocks below 32 MiB. */
+        mallopt(M_MMAP_THRESHOLD, HUGE_PAGE);
         head = take_kept(size);
     }
     return block_behind(head ? head : allocate(size));

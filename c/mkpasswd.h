@@ -16,9 +16,14 @@
  * mkpasswd_audit(), the limit is reported, or `out` has what was asked for. False covers everything
  * else. What a call returns is the whole answer; the report only says why, for a log.
  *
- * A password and a field are values of their own types, so they can't be exchanged. A null pointer
- * is never a password, and as a field it is an unknown name. A null policy is the recommended one.
- * A report may be null.
+ * A password and a field are values of their own types, so they can't be exchanged. But if what was
+ * typed is made a field, and what is stored a password, whoever types a hash of the field gets in:
+ * of
+ * `!`, of a stored hash, or of nothing.
+ *
+ * Pointers may be null. A null password is refused as one with a zero byte, a null field is an
+ * unknown name, a null salt is empty, a null policy is the recommended one, a null `out` has no
+ * room, and a null report is not written.
  *
  * If several errors apply, the first one in this order is reported: password, setting, method,
  * salt, rounds, budget, room in `out`, random numbers, memory. For mkpasswd_login() and
@@ -62,17 +67,18 @@
 extern "C" {
 #endif
 
-/* gcc and clang warn about an ignored result, and about a null pointer that they see where an
- * exported function wants none. gcc warns about an `out` that it sees to have fewer bytes than
- * `out_size`. */
+/* gcc and clang warn about an ignored result, and about a null report or `out` that they see where
+ * an exported function wants none. Input isn't declared nonnull: a compiler could then drop a
+ * caller's own test for null after a call. gcc warns about an `out` that it sees to have fewer
+ * bytes than `out_size`. */
 #if defined __GNUC__ || defined __clang__
 #define MKPASSWD_EXPORT __attribute__((visibility("default"), nothrow))
 #define MKPASSWD_CHECKED __attribute__((warn_unused_result))
-#define MKPASSWD_NONNULL __attribute__((nonnull))
+#define MKPASSWD_NONNULL(place) __attribute__((nonnull(place)))
 #else
 #define MKPASSWD_EXPORT
 #define MKPASSWD_CHECKED
-#define MKPASSWD_NONNULL
+#define MKPASSWD_NONNULL(place)
 #endif
 #if defined __GNUC__ && !defined __clang__ && __GNUC__ >= 10
 #define MKPASSWD_WRITES(out, size) __attribute__((access(write_only, out, size)))
@@ -201,11 +207,13 @@ struct mkpasswd_work {
 /* What a call reports. Each call that has a report writes all of it. */
 struct mkpasswd_report {
     /* 0, or one of enum mkpasswd_error: the reason why the call did not do what its name says.
-     * mkpasswd_needs_rehash() and mkpasswd_audit() report 0 for both of their answers. */
+     * mkpasswd_needs_rehash() reports 0 for a yes and for a no, and mkpasswd_audit() for a current
+     * hash and for an outdated one. */
     uint32_t error;
-    /* 1 if a new hash by the policy would replace the stored one, else 0. After mkpasswd_login() it
-     * is 1 only if that returned true: then store what mkpasswd_new() makes of the password, if the
-     * field is still the one that was checked. */
+    /* 1 if mkpasswd_login(), mkpasswd_needs_rehash() or mkpasswd_audit() reports no error and a new
+     * hash by the policy would replace the stored one, else 0. After mkpasswd_login() it is 1 only
+     * if that returned true: then store what mkpasswd_new() makes of the password, if the field is
+     * still the one that was checked. */
     uint32_t outdated;
     /* The number of bytes in `out`, without the zero byte; of mkpasswd_limit() that of the longest
      * password. Otherwise, and after an error, 0. */
@@ -248,9 +256,10 @@ static inline struct mkpasswd_field mkpasswd_field_bytes(const void *bytes, size
 /* ---- What a service calls ---- */
 
 /* Checks the password of a login. Returns true exactly if the policy's method and rounds are valid,
- * the password matches the stored hash, and that hash costs at most the policy's limit; with scrypt
- * it may run out of memory and return false instead. Give it the policy that the service gives
- * mkpasswd_new(): what that makes, this call opens, and it isn't outdated.
+ * the password matches the stored hash, and that hash costs at most the policy's limit, as a new
+ * hash of the password must too with a budget of 0; with scrypt it may run out of memory and return
+ * false instead. Give it the policy that the service gives mkpasswd_new(): what that makes, this
+ * call opens, and it isn't outdated.
  *
  * If the field is empty, locked, of another scheme or without a valid setting, or can cost more
  * than the limit, the call hashes the password by the policy with a fixed salt, drops the hash, and
@@ -278,7 +287,9 @@ MKPASSWD_CHECKED MKPASSWD_WRITES(3, 4) static inline bool mkpasswd_new(
     size_t out_size, struct mkpasswd_report *report);
 
 /* Returns whether a new hash by the policy would replace the stored one: its method is another one,
- * or the same with more rounds, or for scrypt with a greater N * r * p. The policy's rounds of
+ * or the same with more rounds, or for scrypt with a greater N * r * p. It is false, with an error,
+ * if the field has no valid setting or the method or rounds are not valid. A locked field has a bad
+ * character then, or is too long, and an empty one is of an unknown scheme. The policy's rounds of
  * SHA-crypt are clamped here, and its budget makes no difference. */
 MKPASSWD_CHECKED static inline bool mkpasswd_needs_rehash(struct mkpasswd_field stored,
     const struct mkpasswd_policy *policy, struct mkpasswd_report *report);
@@ -291,14 +302,14 @@ MKPASSWD_CHECKED static inline bool mkpasswd_needs_rehash(struct mkpasswd_field 
  *
  * - MKPASSWD_ERROR_LOCKED, MKPASSWD_ERROR_NO_HASH;
  * - of a field that begins with "$", what is wrong with the setting;
- * - MKPASSWD_ERROR_UNKNOWN_SCHEME: it is of another scheme, whose number is in `scheme`, or 0 if
- * none is known by its form;
+ * - MKPASSWD_ERROR_UNKNOWN_SCHEME: the field is of another scheme. Its number is in `scheme`, or 0
+ *   if none is known by the field's form;
  * - MKPASSWD_ERROR_NO_SCHEME: it is of none, and so a password, say, or a damaged hash;
  * - MKPASSWD_ERROR_OVER_BUDGET: some password can cost more than the budget, or with a budget of 0
  *   each password too much for a login;
  * - MKPASSWD_ERROR_DEAD: it is not a whole hash, so no password matches it. It was cut, there is
- * more behind it, a character of it is in no digest, its salt is too long, or its rounds are out of
- *   range.
+ *   more behind it, a character of it is in no digest, its salt is too long, or its rounds are out
+ *   of range.
  *
  * A budget of 0 stands here for the most that a new hash by the policy can cost, and at least for
  * 1297572512, the most that the recommended rounds of sha512crypt can. By it a hash is over budget
@@ -334,7 +345,8 @@ MKPASSWD_CHECKED static inline bool mkpasswd_verify(struct mkpasswd_password pas
     struct mkpasswd_field stored, uint64_t budget, struct mkpasswd_report *report);
 
 /* Hashes a password with the setting in a field, which may be a stored hash, as crypt(3) does. A
- * budget of 0 admits no hash. A change of password calls mkpasswd_new(). */
+ * locked and an empty field are invalid settings, as for mkpasswd_needs_rehash(). A budget of 0
+ * admits no hash. A change of password calls mkpasswd_new(). */
 MKPASSWD_CHECKED MKPASSWD_WRITES(4, 5) static inline bool mkpasswd_hash(
     struct mkpasswd_password password, struct mkpasswd_field setting, uint64_t budget, char *out,
     size_t out_size, struct mkpasswd_report *report);
@@ -353,10 +365,10 @@ MKPASSWD_CHECKED static inline bool mkpasswd_bound(
 
 /* ---- Texts ---- */
 
-/* Puts the message for an error and a zero byte into `out`, and returns true. For any other number
- * it puts "unknown reason" and returns false. If `out` is too small, it puts as much as fits, with
- * the zero byte, and returns false. So whatever it returns, `out` holds a string, unless it has no
- * room at all. */
+/* Puts the message for an error and a zero byte into `out`, and returns true. For any other number,
+ * also for 0, which is no error, it puts "unknown reason" and returns false. If `out` is too small,
+ * it puts as much as fits, with the zero byte, and returns false. So whatever it returns, `out`
+ * holds a string, unless it has no room at all. */
 MKPASSWD_WRITES(2, 3)
 static inline bool mkpasswd_message(uint32_t error, char *out, size_t out_size);
 
@@ -374,49 +386,51 @@ static inline bool mkpasswd_scheme_name(uint32_t scheme, char *out, size_t out_s
 /* MKPASSWD_VERSION of the library that is linked. */
 MKPASSWD_EXPORT uint32_t mkpasswd_version(void);
 
-MKPASSWD_EXPORT MKPASSWD_CHECKED MKPASSWD_NONNULL int32_t mkpasswd_login_bytes(
+MKPASSWD_EXPORT MKPASSWD_CHECKED MKPASSWD_NONNULL(8) int32_t mkpasswd_login_bytes(
     const uint8_t *password, size_t password_length, const uint8_t *field, size_t field_length,
     uint32_t method, uint32_t rounds, uint64_t budget, struct mkpasswd_report *report);
 
-MKPASSWD_EXPORT MKPASSWD_CHECKED MKPASSWD_NONNULL MKPASSWD_WRITES(6, 7) int32_t mkpasswd_new_bytes(
-    const uint8_t *password, size_t password_length, uint32_t method, uint32_t rounds,
-    uint64_t budget, uint8_t *out, size_t out_size, struct mkpasswd_report *report);
+MKPASSWD_EXPORT MKPASSWD_CHECKED MKPASSWD_NONNULL(6) MKPASSWD_NONNULL(8)
+    MKPASSWD_WRITES(6, 7) int32_t mkpasswd_new_bytes(const uint8_t *password,
+        size_t password_length, uint32_t method, uint32_t rounds, uint64_t budget, uint8_t *out,
+        size_t out_size, struct mkpasswd_report *report);
 
-MKPASSWD_EXPORT MKPASSWD_CHECKED MKPASSWD_NONNULL int32_t mkpasswd_needs_rehash_bytes(
-    const uint8_t *stored, size_t stored_length, uint32_t method, uint32_t rounds,
-    struct mkpasswd_report *report);
+MKPASSWD_EXPORT MKPASSWD_CHECKED MKPASSWD_NONNULL(5) int32_t
+    mkpasswd_needs_rehash_bytes(const uint8_t *stored, size_t stored_length, uint32_t method,
+        uint32_t rounds, struct mkpasswd_report *report);
 
-MKPASSWD_EXPORT MKPASSWD_CHECKED MKPASSWD_NONNULL int32_t mkpasswd_audit_bytes(
-    const uint8_t *stored, size_t stored_length, uint32_t method, uint32_t rounds, uint64_t budget,
-    struct mkpasswd_report *report);
+MKPASSWD_EXPORT MKPASSWD_CHECKED MKPASSWD_NONNULL(6) int32_t
+    mkpasswd_audit_bytes(const uint8_t *stored, size_t stored_length, uint32_t method,
+        uint32_t rounds, uint64_t budget, struct mkpasswd_report *report);
 
-MKPASSWD_EXPORT MKPASSWD_CHECKED MKPASSWD_NONNULL int32_t mkpasswd_limit_bytes(
+MKPASSWD_EXPORT MKPASSWD_CHECKED MKPASSWD_NONNULL(4) int32_t mkpasswd_limit_bytes(
     uint32_t method, uint32_t rounds, uint64_t budget, struct mkpasswd_report *report);
 
-MKPASSWD_EXPORT MKPASSWD_CHECKED MKPASSWD_NONNULL int32_t mkpasswd_rounds_bytes(
-    size_t password_length, uint32_t method, uint32_t rounds, uint64_t budget,
-    struct mkpasswd_report *report);
+MKPASSWD_EXPORT MKPASSWD_CHECKED MKPASSWD_NONNULL(5) int32_t
+    mkpasswd_rounds_bytes(size_t password_length, uint32_t method, uint32_t rounds, uint64_t budget,
+        struct mkpasswd_report *report);
 
-MKPASSWD_EXPORT MKPASSWD_CHECKED MKPASSWD_NONNULL int32_t mkpasswd_verify_bytes(
-    const uint8_t *password, size_t password_length, const uint8_t *stored, size_t stored_length,
-    uint64_t budget, struct mkpasswd_report *report);
+MKPASSWD_EXPORT MKPASSWD_CHECKED MKPASSWD_NONNULL(6) int32_t
+    mkpasswd_verify_bytes(const uint8_t *password, size_t password_length, const uint8_t *stored,
+        size_t stored_length, uint64_t budget, struct mkpasswd_report *report);
 
-MKPASSWD_EXPORT MKPASSWD_CHECKED MKPASSWD_NONNULL MKPASSWD_WRITES(6, 7) int32_t mkpasswd_hash_bytes(
-    const uint8_t *password, size_t password_length, const uint8_t *setting, size_t setting_length,
-    uint64_t budget, uint8_t *out, size_t out_size, struct mkpasswd_report *report);
+MKPASSWD_EXPORT MKPASSWD_CHECKED MKPASSWD_NONNULL(6) MKPASSWD_NONNULL(8)
+    MKPASSWD_WRITES(6, 7) int32_t mkpasswd_hash_bytes(const uint8_t *password,
+        size_t password_length, const uint8_t *setting, size_t setting_length, uint64_t budget,
+        uint8_t *out, size_t out_size, struct mkpasswd_report *report);
 
-MKPASSWD_EXPORT MKPASSWD_CHECKED MKPASSWD_NONNULL MKPASSWD_WRITES(5, 6) int32_t
-    mkpasswd_setting_bytes(uint32_t method, uint32_t rounds, const uint8_t *salt,
-        size_t salt_length, uint8_t *out, size_t out_size, struct mkpasswd_report *report);
+MKPASSWD_EXPORT MKPASSWD_CHECKED MKPASSWD_NONNULL(5) MKPASSWD_NONNULL(7) MKPASSWD_WRITES(
+    5, 6) int32_t mkpasswd_setting_bytes(uint32_t method, uint32_t rounds, const uint8_t *salt,
+    size_t salt_length, uint8_t *out, size_t out_size, struct mkpasswd_report *report);
 
-MKPASSWD_EXPORT MKPASSWD_CHECKED MKPASSWD_NONNULL int32_t mkpasswd_bound_bytes(
-    const uint8_t *setting, size_t setting_length, size_t password_length,
-    struct mkpasswd_report *report);
+MKPASSWD_EXPORT MKPASSWD_CHECKED MKPASSWD_NONNULL(4) int32_t
+    mkpasswd_bound_bytes(const uint8_t *setting, size_t setting_length, size_t password_length,
+        struct mkpasswd_report *report);
 
-MKPASSWD_EXPORT MKPASSWD_NONNULL MKPASSWD_WRITES(2, 3) int32_t
+MKPASSWD_EXPORT MKPASSWD_NONNULL(2) MKPASSWD_WRITES(2, 3) int32_t
     mkpasswd_message_bytes(uint32_t error, uint8_t *out, size_t out_size);
 
-MKPASSWD_EXPORT MKPASSWD_NONNULL MKPASSWD_WRITES(2, 3) int32_t
+MKPASSWD_EXPORT MKPASSWD_NONNULL(2) MKPASSWD_WRITES(2, 3) int32_t
     mkpasswd_scheme_name_bytes(uint32_t scheme, uint8_t *out, size_t out_size);
 
 /* ---- The calls in terms of these ---- */
@@ -474,6 +488,8 @@ static inline bool mkpasswd_login(struct mkpasswd_password password, struct mkpa
     struct mkpasswd_policy own = mkpasswd_policy_or_recommended(policy);
     struct mkpasswd_report unread;
 
+    password = mkpasswd_password_bytes(password.bytes, password.length);
+    field = mkpasswd_field_bytes(field.bytes, field.length);
     return mkpasswd_login_bytes(password.bytes, password.length, field.bytes, field.length,
                own.method, own.rounds, own.budget, report ? report : &unread)
         == 1;
@@ -487,6 +503,7 @@ static inline bool mkpasswd_new(struct mkpasswd_password password,
     struct mkpasswd_report unread;
     uint8_t none;
 
+    password = mkpasswd_password_bytes(password.bytes, password.length);
     return mkpasswd_new_bytes(password.bytes, password.length, own.method, own.rounds, own.budget,
                out ? MKPASSWD_OUT(out) : &none, out ? out_size : 0, report ? report : &unread)
         == 1;
@@ -498,6 +515,7 @@ static inline bool mkpasswd_needs_rehash(struct mkpasswd_field stored,
     struct mkpasswd_policy own = mkpasswd_policy_or_recommended(policy);
     struct mkpasswd_report unread;
 
+    stored = mkpasswd_field_bytes(stored.bytes, stored.length);
     return mkpasswd_needs_rehash_bytes(
                stored.bytes, stored.length, own.method, own.rounds, report ? report : &unread)
         == 1;
@@ -509,6 +527,7 @@ static inline bool mkpasswd_audit(struct mkpasswd_field stored,
     struct mkpasswd_policy own = mkpasswd_policy_or_recommended(policy);
     struct mkpasswd_report unread;
 
+    stored = mkpasswd_field_bytes(stored.bytes, stored.length);
     return mkpasswd_audit_bytes(stored.bytes, stored.length, own.method, own.rounds, own.budget,
                report ? report : &unread)
         == 1;
@@ -539,6 +558,8 @@ static inline bool mkpasswd_verify(struct mkpasswd_password password, struct mkp
 {
     struct mkpasswd_report unread;
 
+    password = mkpasswd_password_bytes(password.bytes, password.length);
+    stored = mkpasswd_field_bytes(stored.bytes, stored.length);
     return mkpasswd_verify_bytes(password.bytes, password.length, stored.bytes, stored.length,
                budget, report ? report : &unread)
         == 1;
@@ -550,6 +571,8 @@ static inline bool mkpasswd_hash(struct mkpasswd_password password, struct mkpas
     struct mkpasswd_report unread;
     uint8_t none;
 
+    password = mkpasswd_password_bytes(password.bytes, password.length);
+    setting = mkpasswd_field_bytes(setting.bytes, setting.length);
     return mkpasswd_hash_bytes(password.bytes, password.length, setting.bytes, setting.length,
                budget, out ? MKPASSWD_OUT(out) : &none, out ? out_size : 0,
                report ? report : &unread)
@@ -574,6 +597,7 @@ static inline bool mkpasswd_bound(
 {
     struct mkpasswd_report unread;
 
+    setting = mkpasswd_field_bytes(setting.bytes, setting.length);
     return mkpasswd_bound_bytes(
                setting.bytes, setting.length, password_length, report ? report : &unread)
         == 1;

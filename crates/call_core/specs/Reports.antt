@@ -24,7 +24,8 @@ failed reason most counts = record (succeeded 0 most counts) { error = (reason_r
 abbrev pub refused : Reason → ℕ → Report
 refused reason most = failed reason most no_work
 
--- The report of a stored hash that was found, or that the password matches: `outdated` is 1 if a new hash would replace it, else 0.
+-- The report of a stored hash that was found, or that the password matches: `outdated` is 1 if a new hash by the policy would
+-- replace it, else 0. A check without a policy has 0.
 abbrev pub found : ℕ → ℕ → Work → Report
 found outdated most counts = record (succeeded 0 most counts) { outdated = outdated }
 

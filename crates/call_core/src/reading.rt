@@ -9,7 +9,7 @@ ghost use Rattle.crypt_core.specs.Settings.{SettingValue, Spells};
 ghost use Rattle.crypt_core.specs.StoredFields.{IsHashOf};
 ghost use Rattle.crypt_core.specs.declared.password.PasswordFault.{PasswordFault as Fault};
 ghost use Rattle.crypt_core.specs.declared.scheme.Scheme.{Scheme as Made};
-ghost use Rattle.crypt_core.specs.declared.setting.fault.SettingFault.{SettingFault as Refusal};
+ghost use Rattle.crypt_core.specs.declared.setting.fault.SettingFault.{SettingFault as Broken};
 ghost use Rattle.call_core.specs.Arguments.{IsFieldRefusal, IsGivenReading, IsSchemeMade, IsSchemeReading, TakesNewRounds, chosen_method};
 ghost use Rattle.call_core.specs.Limits.{limit_in};
 ghost use Rattle.call_core.specs.Private.Hashes.{IsRequestRefused};
@@ -45,7 +45,7 @@ pub(crate) fn read_password(bytes: &[u8]) -> Result<Password, Reason>
 /// The reason for which [`Setting::read`] refuses it.
 pub(crate) fn read_setting(text: &[u8]) -> Result<Setting, Reason>
     ensures spelled { IfOk result (λ setting. Spells text.now setting) }
-    ensures refused { IfErr result (λ reason. (fault : Refusal) × IsRefused text.now fault × (reason ≡ setting_reason fault)) }
+    ensures refused { IfErr result (λ reason. (fault : Broken) × IsRefused text.now fault × (reason ≡ setting_reason fault)) }
     ensures each_setting { (kept : SettingValue) → Spells text.now kept → IsOkAnd result (λ setting. setting ≡ kept) }
 {
     Ok(Setting::read(text)?)
@@ -170,7 +170,7 @@ pub(crate) fn read_request(
 ///
 /// - `NoHash`: the field is empty.
 /// - `Locked`: the field begins with `!` or `*`, whatever follows.
-/// - `Setting`: the first rule that any other field breaks as a setting.
+/// - the reason for the first rule that any other field breaks as a setting.
 pub(crate) fn stored_hash(field: &[u8]) -> Result<StoredHash<'_>, Reason>
     ensures spelled { IfOk result (IsHashOf field.now) }
     ensures refused { IfErr result (IsFieldRefusal field.now) }

@@ -20,10 +20,11 @@ pub const NO_WORK: Work = Work {
 #[repr(C)]
 #[derive(Clone, Copy, Debug, PartialEq, Eq)]
 pub struct Report {
-    /// 0 if the call did what its name says, or else the number of the reason why not. Of a call that asks whether a stored
-    /// hash is outdated or current it is 0 for both answers.
+    /// 0 if the call did what its name says, or else the number of the reason why not. A call that asks whether a stored hash is
+    /// outdated reports 0 for both answers, and an audit for a current hash and for an outdated one.
     pub error: u32,
-    /// 1 if a new hash by the policy would replace the stored one, or else 0. After a login it is 1 only if the password matches.
+    /// 1 if a login, an audit, or a call that asks for it reports no error and a new hash by the policy would replace the stored
+    /// one, or else 0. After a login it is 1 only if the password matches.
     pub outdated: u32,
     /// The number of bytes written to `out`, without the byte 0, if the error is 0. In the report of a limit it is that of
     /// the longest password.
@@ -86,7 +87,8 @@ impl Report {
         Report::failed(reason, cost, NO_WORK)
     }
 
-    /// Returns the report of a stored hash that was found, or that the password matches.
+    /// Returns the report of a stored hash that was found, or that the password matches; a check without a policy reports none as
+    /// outdated.
     pub fn found(is_outdated: bool, cost: u64, work: Work) -> Report
         ensures { result ≡ found (if is_outdated then 1 else 0) cost work }
     {

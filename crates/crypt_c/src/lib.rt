@@ -62,7 +62,7 @@ use std::alloc::Global;
 ///
 /// - `PasswordTooLong`, `PasswordZeroByte`: the password is invalid.
 /// - `Locked`, `NoHash`: the stored hash begins with `!` or `*`, or is empty.
-/// - of a setting: any other stored hash is invalid.
+/// - `SettingTooLong` to `BadSalt`: any other stored hash is invalid.
 /// - `OverBudget`: the hash can cost more than the budget.
 /// - `WrongPassword`: the password does not match.
 /// - `OutOfMemory`: scrypt could not allocate.
@@ -105,7 +105,7 @@ pub extern "C" fn mkpasswd_proved_verify(
 /// - `UnknownMethod`, `Rounds`: no method has the number, or a new hash cannot have the rounds. Here too the field makes no
 ///   difference.
 /// - `Locked`, `NoHash`: the field begins with `!` or `*`, or is empty.
-/// - of a setting, `OverBudget`: any other field has no valid hash, or one that can cost more than the budget. After these
+/// - `SettingTooLong` to `BadSalt`, `OverBudget`: any other field has no valid hash, or one that can cost more than the budget. After these
 ///   four the work is that of the new hash: none if that can cost more than the budget, and if scrypt could not allocate
 ///   for it, that of the allocations before.
 /// - `WrongPassword`: the password does not match.
@@ -206,7 +206,7 @@ pub extern "C" fn mkpasswd_proved_new_from(
 ///
 /// # Errors
 ///
-/// - of a setting: the stored hash is invalid.
+/// - `SettingTooLong` to `BadSalt`: the stored hash is invalid.
 /// - `UnknownMethod`, `Rounds`: no method has the number, or the method does not accept the rounds.
 #[unsafe(no_mangle)]
 pub extern "C" fn mkpasswd_needs_rehash_bytes(
@@ -235,7 +235,7 @@ pub extern "C" fn mkpasswd_needs_rehash_bytes(
 ///
 /// - `UnknownMethod`, `Rounds`: no method has the number, or a new hash cannot have the rounds.
 /// - `Locked`, `NoHash`: the field begins with `!` or `*`, or is empty.
-/// - of a setting: any other field begins with `$`, and has no valid hash; or with `UnknownScheme` it has the form of another scheme
+/// - `SettingTooLong` to `BadSalt`: any other field begins with `$`, and has no valid hash; or with `UnknownScheme` it has the form of another scheme
 ///   of crypt(5).
 /// - `NoScheme`: any other field has the form of no scheme: it is a password, say, or a damaged hash.
 /// - `OverBudget`: the hash is over the budget.
@@ -324,7 +324,7 @@ pub extern "C" fn mkpasswd_rounds_bytes(
 /// # Errors
 ///
 /// - `PasswordTooLong`: the length exceeds that of any password.
-/// - of a setting: the stored hash is invalid.
+/// - `SettingTooLong` to `BadSalt`: the stored hash is invalid.
 #[unsafe(no_mangle)]
 pub extern "C" fn mkpasswd_bound_bytes(
     stored: &[u8],
@@ -344,7 +344,7 @@ pub extern "C" fn mkpasswd_bound_bytes(
 ///
 /// # Errors
 ///
-/// - of a password or a setting: it is invalid.
+/// - `PasswordTooLong` to `BadSalt`: the password or the setting is invalid.
 /// - `OverBudget`: the hash can cost more than the budget.
 /// - `TooFewBytes`: the hash and the byte 0 do not fit into `out`.
 /// - `OutOfMemory`: scrypt could not allocate.

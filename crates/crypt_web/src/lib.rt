@@ -57,7 +57,7 @@ use prims_core::meter::Meter;
 ///
 /// - `PasswordTooLong`, `PasswordZeroByte`: the password is invalid.
 /// - `Locked`, `NoHash`: the stored hash begins with `!` or `*`, or is empty.
-/// - of a setting: any other stored hash is invalid.
+/// - `SettingTooLong` to `BadSalt`: any other stored hash is invalid.
 /// - `OverBudget`: the hash can cost more than the budget.
 /// - `OutOfMemory`: the method is scrypt.
 /// - `WrongPassword`: the password does not match.
@@ -83,8 +83,8 @@ pub extern "C" fn web_verify(
 }
 
 /// Checks the password of a login, as `mkpasswd_login` does for C. Returns 1 exactly if a new hash can have the method and the
-/// rounds, and [`web_verify`] with the same limit returns 1. The report's
-/// `outdated` then tells whether [`web_needs_rehash`] would return 1. After a 0 it is 0.
+/// rounds, and [`web_verify`] with the same limit returns 1. The report's `outdated` then tells whether [`web_needs_rehash`]
+/// would return 1. After a 0 it is 0.
 ///
 /// If the field has no setting, or one above the limit, the call hashes the password with the method, the rounds and a
 /// fixed salt, and returns 0. So such a name does the work of a new hash. A name that is not known has an empty field. The
@@ -101,7 +101,7 @@ pub extern "C" fn web_verify(
 /// - `UnknownMethod`, `Rounds`: no method has the number, or a new hash cannot have the rounds. Here too the field makes no
 ///   difference.
 /// - `Locked`, `NoHash`: the field begins with `!` or `*`, or is empty.
-/// - of a setting, `OverBudget`: any other field has no valid hash, or one that can cost more than the budget. After these
+/// - `SettingTooLong` to `BadSalt`, `OverBudget`: any other field has no valid hash, or one that can cost more than the budget. After these
 ///   four the work is that of the new hash: none if that can cost more than the budget, or is of scrypt.
 /// - `OutOfMemory`: the stored hash is of scrypt.
 /// - `WrongPassword`: the password does not match.
@@ -151,7 +151,7 @@ pub extern "C" fn web_login(
 ///
 /// # Errors
 ///
-/// - of a setting: the stored hash is invalid.
+/// - `SettingTooLong` to `BadSalt`: the stored hash is invalid.
 /// - `UnknownMethod`, `Rounds`: no method has the number, or the method does not accept the rounds.
 #[unsafe(no_mangle)]
 pub extern "C" fn web_needs_rehash(
@@ -174,7 +174,7 @@ pub extern "C" fn web_needs_rehash(
 ///
 /// # Errors
 ///
-/// - of a password or a setting: it is invalid.
+/// - `PasswordTooLong` to `BadSalt`: the password or the setting is invalid.
 /// - `OverBudget`: the hash can cost more than the budget.
 /// - `TooFewBytes`: the hash and the byte 0 do not fit into `out`.
 /// - `OutOfMemory`: the method is scrypt.
@@ -243,7 +243,7 @@ pub extern "C" fn web_setting(
 ///
 /// - `UnknownMethod`, `Rounds`: no method has the number, or a new hash cannot have the rounds.
 /// - `Locked`, `NoHash`: the field begins with `!` or `*`, or is empty.
-/// - of a setting: any other field begins with `$`, and has no valid hash; or with `UnknownScheme` it has the form of another scheme
+/// - `SettingTooLong` to `BadSalt`: any other field begins with `$`, and has no valid hash; or with `UnknownScheme` it has the form of another scheme
 ///   of crypt(5).
 /// - `NoScheme`: any other field has the form of no scheme.
 /// - `OverBudget`, `Dead`: the hash is over the budget; no password matches it, because it is not whole.
@@ -326,7 +326,7 @@ pub extern "C" fn web_rounds(
 /// # Errors
 ///
 /// - `PasswordTooLong`: the length exceeds that of any password.
-/// - of a setting: the setting is invalid.
+/// - `SettingTooLong` to `BadSalt`: the setting is invalid.
 #[unsafe(no_mangle)]
 pub extern "C" fn web_cost(setting: &[u8], password_len: usize, report: &mut Report) -> i32
     ensures answers { Answers result report.new }
