@@ -19,12 +19,12 @@ def fixture_digests(monkeypatch: pytest.MonkeyPatch) -> list[int]:
     from mkpasswd import _library
 
     numbers: list[int] = []
-    for name in ("mkpasswd_hash", "mkpasswd_login", "mkpasswd_new", "mkpasswd_verify"):
+    for name in ("hash_by", "login", "new"):
 
-        def counted(*arguments: Any, call: Any = getattr(_library.lib, name)) -> int:
-            returned: int = call(*arguments)
-            numbers.append(arguments[-1].work.digests)
-            return returned
+        def counted(*arguments: Any, call: Any = getattr(_library, name)) -> Any:
+            answer = call(*arguments)
+            numbers.append(answer.report.work.digests)
+            return answer
 
-        monkeypatch.setattr(_library.lib, name, counted)
+        monkeypatch.setattr(_library, name, counted)
     return numbers

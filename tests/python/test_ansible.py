@@ -42,7 +42,11 @@ TASKS = {
     "longest_kept": f"it is {{{{ (fresh | {HASH}(current=fresh_hash)) == fresh_hash }}}}",
     "too_long": f"{{{{ ('x' * 169) | {HASH} }}}}",
     "hash_within": f"{{{{ 'password' | {HASH}(budget=1) }}}}",
-    "verify_within": f"{{{{ 'password' | {VERIFY}(stored, budget=1) }}}}",
+    "verify_within": f"it is {{{{ 'password' | {VERIFY}(stored, budget=1) }}}}",
+    "verify_locked": f"it is {{{{ 'password' | {VERIFY}('!' + stored) }}}}",
+    "verify_another": f"{{{{ 'password' | {VERIFY}('$y$j9T$x$x') }}}}",
+    "verify_malformed": f"{{{{ 'password' | {VERIFY}('$6$rounds=0$x$x') }}}}",
+    "verify_password": f"{{{{ 'password' | {VERIFY}('password') }}}}",
 }
 LONGEST = "x" * 168
 
@@ -86,7 +90,15 @@ def test_a_current_hash_is_kept(messages: dict[str, str]) -> None:
     assert messages["kept"] == MD5
 
 
-@pytest.mark.parametrize(("task", "answer"), [("right", "it is True"), ("wrong", "it is False")])
+@pytest.mark.parametrize(
+    ("task", "answer"),
+    [
+        pytest.param("right", "it is True", id="the right password"),
+        pytest.param("wrong", "it is False", id="a wrong password"),
+        pytest.param("verify_within", "it is False", id="a stored hash above a budget"),
+        pytest.param("verify_locked", "it is False", id="a lock"),
+    ],
+)
 def test_a_password_is_checked(messages: dict[str, str], task: str, answer: str) -> None:
     assert messages[task] == answer
 
@@ -116,7 +128,7 @@ def test_a_new_hash_is_made_for(
     messages: dict[str, str], task: str, password: str, front: str
 ) -> None:
     made = messages[task]
-    assert made.startswith(front) and mkpasswd.verify(password, field=made)
+    assert made.startswith(front) and mkpasswd.login(password, field=made)
 
 
 @pytest.mark.parametrize("task", ["longest", "longest_kept"])
@@ -131,7 +143,9 @@ def test_the_longest_password_of_the_recommended_policy_is_taken(
     [
         pytest.param("too_long", "more than 253921472", id="a password that costs too much"),
         pytest.param("hash_within", "can cost more than 1", id="a new hash above a budget"),
-        pytest.param("verify_within", "can cost more than 1", id="a stored hash above a budget"),
+        pytest.param("verify_another", "hash is yescrypt:unknown", id="another scheme"),
+        pytest.param("verify_malformed", "hash is malformed:bad rounds", id="a bad setting"),
+        pytest.param("verify_password", "hash is no scheme", id="a password in the hash's place"),
         pytest.param("weak", "rounds must be 1000 to 999999999, or 0 for 656000", id="few rounds"),
         pytest.param("refused", "password has a zero byte", id="a zero byte"),
         pytest.param("number", "must be str or bytes, not int", id="a number as the password"),

@@ -3,10 +3,8 @@ from __future__ import annotations
 
 import array
 import math
-import runpy
 from collections.abc import Callable
 from dataclasses import dataclass
-from pathlib import Path
 from typing import Any
 
 import pytest
@@ -15,7 +13,7 @@ from support.stored_strings import COSTLY, MD5, SHA512
 
 with tried_package():
     import mkpasswd
-    from mkpasswd import Policy, Reason, Refused, cost, describe, needs_rehash, verify
+    from mkpasswd import Policy, Reason, Refused, cost, describe, needs_rehash
     from mkpasswd.crypt import crypt as crypt_call
     from mkpasswd.crypt import mksalt
 
@@ -31,20 +29,19 @@ class Call:
         return self.title
 
 
+MD5CRYPT = Policy("md5crypt")
 WITH_PASSWORD = [
     Call("hash(..)", mkpasswd.hash),
-    Call("verify(.., a hash)", lambda password: verify(password, field=MD5)),
-    Call("verify(.., a lock)", lambda password: verify(password, field="!")),
     Call("crypt(.., a hash)", lambda password: crypt_call(password, MD5)),
 ]
 WITH_FIELD = [
-    Call("verify(a password, ..)", lambda field: verify("x", field=field)),
     Call("needs_rehash(..)", needs_rehash),
     Call("cost(.., 8)", lambda field: cost(field, 8)),
 ]
 A_NUMBER: Any = 0
-# These take None besides, and the second also an empty setting.
+# These take None besides, and the last also an empty setting.
 WITH_FIELD_OR_NONE = [
+    Call("setting(..)", lambda salt: Policy().setting(A_NUMBER if salt is None else salt)),
     Call("describe(..)", lambda field: describe(A_NUMBER if field is None else field)),
     Call("crypt(a password, ..)", lambda setting: crypt_call("x", setting or A_NUMBER)),
 ]
@@ -97,6 +94,7 @@ NO_NUMBERS = [
         Call("Policy(budget=..)", lambda number: Policy(budget=number)),
         Call("crypt(budget=..)", lambda number: crypt_call("x", MD5, budget=number)),
         Call("cost(a hash, ..)", lambda number: cost(MD5, number)),
+        Call("for_length(..)", Policy().for_length),
     ],
     ids=str,
 )
@@ -161,9 +159,9 @@ def test_an_unknown_method_is_refused_by_its_argument(method: str) -> None:
 
 @pytest.mark.parametrize("rounds", [1, 5, 12, 2**32 - 1])
 def test_a_cost_that_scrypt_does_not_take_is_refused_by_its_argument(rounds: int) -> None:
-    """The library says "cost", and Python names the argument."""
+    """The library's message names no number, and Python's names the argument too."""
     error = error_of(Policy, "scrypt", rounds)
-    assert isinstance(error, Refused) and error.reason is Reason.COST
+    assert isinstance(error, Refused) and error.reason is Reason.ROUNDS
     assert str(error) == "rounds must be 6 to 11, or 0 for 7"
 
 
@@ -202,7 +200,7 @@ def test_a_password_that_no_hash_can_have_is_refused(
     ],
 )
 def test_any_other_password_is_taken(password: str | bytes) -> None:
-    assert verify(password, field=Policy("md5crypt").hash(password))
+    assert MD5CRYPT.login(password, field=MD5CRYPT.hash(password)) is True
 
 
 @pytest.mark.parametrize("setting", ["$1$salt", "$5$rounds=1000$salt", "$6$rounds=1000$salt"])
@@ -210,8 +208,8 @@ def test_any_other_password_is_taken(password: str | bytes) -> None:
 def test_str_is_its_utf8(password: str, setting: str) -> None:
     expected = crypt(password, setting)
     assert crypt_call(password, setting) == crypt_call(password.encode(), setting) == expected
-    assert verify(password, field=expected)
-    assert not verify(password.encode()[: len(password)], field=expected)
+    assert MD5CRYPT.login(password, field=expected) is True
+    assert MD5CRYPT.login(password.encode()[: len(password)], field=expected) is False
 
 
 def test_bytes_of_a_surrogate_are_taken() -> None:
@@ -219,90 +217,24 @@ def test_bytes_of_a_surrogate_are_taken() -> None:
     assert crypt_call(b"\xed\xa0", "$1$salt") == crypt(b"\xed\xa0", "$1$salt")
 
 
-# ---- Arguments by place, and those that were once
-
-SWAPPED = [
-    pytest.param(("x", COSTLY), id="both by place"),
-    pytest.param(("x",), id="no field"),
-    pytest.param((), id="nothing"),
-    pytest.param((COSTLY, "x", "md5crypt"), id="three by place"),
-]
-
-
-@pytest.mark.parametrize("given", SWAPPED)
-@pytest.mark.parametrize("name", ["login", "verify"])
-def test_a_field_is_named(name: str, given: tuple[str, ...]) -> None:
-    """Swapped, password and field would open accounts. Nothing is hashed then."""
-    error = error_of(getattr(mkpasswd, name), *given)
-    assert error.__class__ is TypeError and f"{name}(password, field=stored)" in str(error)
-
-
-OF_A_POLICY = "mkpasswd.Policy(method, rounds, budget)."
+# ---- Arguments by place, and names that were once
 
 
 @pytest.mark.parametrize(
-    "option",
-    [{"method": "md5crypt"}, {"rounds": 5000}, {"budget": 5}, {"stored": MD5}],
-    ids=["method", "rounds", "budget", "stored"],
-)
-@pytest.mark.parametrize("name", ["login", "verify"])
-def test_a_policy_has_what_login_and_verify_once_took(name: str, option: dict[str, object]) -> None:
-    named: dict[str, object] = {"field": COSTLY}
-    named.update(option)
-    error = error_of(getattr(mkpasswd, name), "x", **named)
-    assert error.__class__ is TypeError
-    assert f"{OF_A_POLICY}{name}(password, field=stored)" in str(error)
-
-
-@pytest.mark.parametrize(
-    ("given", "option"),
+    "given",
     [
-        pytest.param(("md5crypt",), {}, id="a method by place"),
-        pytest.param((), {"rounds": 5000}, id="rounds"),
-        pytest.param((), {"budget": 5}, id="a budget"),
+        pytest.param(("x", COSTLY), id="both by place"),
+        pytest.param(("x",), id="no field"),
+        pytest.param((), id="nothing"),
+        pytest.param((COSTLY, "x", "md5crypt"), id="three by place"),
     ],
 )
-@pytest.mark.parametrize("name", ["hash", "needs_rehash", "describe"])
-def test_a_policy_has_what_other_calls_once_took(
-    name: str, given: tuple[str, ...], option: dict[str, object]
-) -> None:
-    error = error_of(getattr(mkpasswd, name), "x" if name == "hash" else MD5, *given, **option)
-    assert error.__class__ is TypeError and f"{OF_A_POLICY}{name}(" in str(error)
+def test_a_login_takes_its_field_by_name(given: tuple[str, ...]) -> None:
+    """Swapped, password and field would open accounts. Nothing is hashed then."""
+    error = error_of(mkpasswd.login, *given)
+    assert error.__class__ is TypeError
 
 
-GONE = [
-    pytest.param("verify_and_update", "mkpasswd.login(password, field=stored)", id="the old login"),
-    pytest.param("work", "mkpasswd.cost(stored, password_len)", id="work"),
-    pytest.param("DEFAULT_BUDGET", "mkpasswd.Policy(budget=None)", id="the old budget"),
-    pytest.param("mksalt", "mkpasswd.crypt.mksalt", id="mksalt"),
-    pytest.param("methods", "mkpasswd.crypt.methods", id="methods"),
-    pytest.param("METHOD_SHA512", "mkpasswd.crypt.METHOD_SHA512", id="a method"),
-    pytest.param("METHOD_CRYPT", "mkpasswd.crypt.METHOD_CRYPT", id="a method that isn't ours"),
-]
-
-
-def run_line(line: str, folder: Path) -> None:
-    """Runs a line of Python here."""
-    path = folder / "line.py"
-    path.write_text(line, encoding="ascii")
-    runpy.run_path(str(path))
-
-
-@pytest.mark.parametrize(("name", "new"), GONE)
-def test_a_name_that_went_says_what_stands_in_its_place(
-    name: str, new: str, tmp_path: Path
-) -> None:
-    assert not hasattr(mkpasswd, name)
-    assert new in str(error_of(getattr, mkpasswd, name))
-    error = error_of(run_line, f"from mkpasswd import {name}", tmp_path)
-    assert error.__class__ is ImportError and new in str(error)
-
-
-def test_the_module_crypt_is_no_call() -> None:
-    module: Any = mkpasswd.crypt
-    error = error_of(module, "x", MD5)
-    assert "mkpasswd.crypt.crypt(word, salt)" in str(error)
-
-
-def test_a_name_that_never_was_is_unknown(tmp_path: Path) -> None:
-    assert kind_raised(run_line, "from mkpasswd import other", tmp_path) is ImportError
+@pytest.mark.parametrize("name", ["Verdict", "verify", "verify_and_update", "work", "mksalt"])
+def test_a_name_of_an_earlier_version_is_unknown(name: str) -> None:
+    assert kind_raised(getattr, mkpasswd, name) is AttributeError

@@ -20,9 +20,7 @@ from support.stored_strings import (
 )
 
 with tried_package():
-    from mkpasswd import Policy, Reason, Refused, TooCostly, _library, cost, describe, needs_rehash
-    from mkpasswd import verify
-    from mkpasswd.crypt import crypt as crypt_call
+    from mkpasswd import Description, Policy, Reason, Refused, State, cost, describe, needs_rehash
 
 NO_BUDGET = 2**42  # more than any hash costs
 
@@ -37,8 +35,8 @@ EACH_LOCKED = pytest.mark.parametrize("field", LOCKED, ids=title)
 @FORMS
 @EACH_LOCKED
 def test_an_empty_or_locked_field_matches_no_password(field: str, form: Any) -> None:
-    assert verify("password", field=form(field)) is False
-    assert Policy(budget=1).verify("password", field=form(field)) is False
+    assert Policy(rounds=1000).login("password", field=form(field)) is False
+    assert Policy(budget=1).login("password", field=form(field)) is False
 
 
 @FORMS
@@ -50,11 +48,11 @@ def test_an_empty_or_locked_field_needs_no_new_hash(field: str, form: Any) -> No
 @FORMS
 @EACH_LOCKED
 def test_an_empty_or_locked_field_is_described(field: str, form: Any) -> None:
-    assert describe(form(field)) == (None, None, "locked" if field else "none", None)
+    assert describe(form(field)) == Description(State.LOCKED if field else State.NONE)
 
 
 def test_a_name_without_a_field_is_described_as_one_without_a_hash() -> None:
-    assert describe(None) == (None, None, "none", None)
+    assert describe(None) == Description(State.NONE)
 
 
 @FORMS
@@ -70,27 +68,23 @@ def test_an_empty_or_locked_field_has_no_cost(field: str, form: Any) -> None:
 @pytest.mark.parametrize(
     "call",
     [
-        pytest.param(lambda field: verify("x", field=field), id="verify"),
         pytest.param(needs_rehash, id="needs_rehash"),
         pytest.param(lambda field: cost(field, 8), id="cost"),
-        pytest.param(
-            lambda field: Policy(budget=1).verify("password", field=field), id="verify of a policy"
-        ),
     ],
 )
 def test_a_refused_field_is_refused_by_its_first_broken_rule(call: Any, field: StoredField) -> None:
     error = error_of(call, field.text)
     assert isinstance(error, Refused) and error.__class__ is Refused
-    assert error.reason.value == field.reason and str(error) == field.reason.message
+    assert error.reason is Reason[field.reason.name] and str(error) == field.reason.message
 
 
 @pytest.mark.parametrize("field", REFUSED, ids=str)
 def test_a_refused_field_is_described_by_what_it_lacks(field: StoredField) -> None:
-    expected: tuple[object, ...] = (None, None, "malformed", Reason(int(field.reason)))
+    expected = Description(State.MALFORMED, reason=Reason[field.reason.name])
     if field.is_of_another_scheme:
-        expected = (None, None, "unknown", None)
+        expected = Description(State.UNKNOWN, field.scheme)
     elif not field.text.startswith("$"):
-        expected = (None, None, "no scheme", None)
+        expected = Description(State.NO_SCHEME)
     assert describe(field.text) == expected
 
 
@@ -155,22 +149,22 @@ def test_a_cost_is_as_documented(stored: str, length: int, expected: int) -> Non
 SETTINGS = pytest.mark.parametrize(
     ("setting", "state"),
     [
-        pytest.param("$1$salt", "current", id="md5crypt"),
-        pytest.param("$5$salt", "outdated", id="sha256crypt"),
-        pytest.param("$6$rounds=656000$saltsaltsaltsalt", "outdated", id="sha512crypt"),
-        pytest.param("$7$BU..../....salt", "outdated", id="scrypt"),
+        pytest.param("$1$salt", State.CURRENT, id="md5crypt"),
+        pytest.param("$5$salt", State.OUTDATED, id="sha256crypt"),
+        pytest.param("$6$rounds=656000$saltsaltsaltsalt", State.OUTDATED, id="sha512crypt"),
+        pytest.param("$7$BU..../....salt", State.OUTDATED, id="scrypt"),
     ],
 )
 AUDIT = Policy("md5crypt", budget=NO_BUDGET)
 
 
 @SETTINGS
-def test_a_whole_hash_is_current_or_outdated(setting: str, state: str) -> None:
+def test_a_whole_hash_is_current_or_outdated(setting: str, state: State) -> None:
     assert AUDIT.describe(crypt("password", setting)).state == state
 
 
 @SETTINGS
-def test_a_hash_is_dead_once_its_form_is_changed(setting: str, state: str) -> None:
+def test_a_hash_is_dead_once_its_form_is_changed(setting: str, state: State) -> None:
     stored = crypt("password", setting)
     whole = AUDIT.describe(stored)
     assert whole.state == state
@@ -178,7 +172,37 @@ def test_a_hash_is_dead_once_its_form_is_changed(setting: str, state: str) -> No
     shorter = [stored[:length] for length in range(len(setting), len(stored))]
     for field in longer + shorter:
         found = AUDIT.describe(field)
-        assert found == (whole.method, whole.cost, "dead", None), field
+        assert found == whole._replace(state=State.DEAD), field
+
+
+@pytest.mark.parametrize(
+    ("field", "scheme"),
+    [
+        pytest.param("$y$j9T$salt$x", "yescrypt", id="yescrypt"),
+        pytest.param("$2b$05$abcdefghijklmnopqrstuu", "bcrypt", id="bcrypt"),
+        pytest.param("ab0Z8yq2hBQEo", "descrypt", id="descrypt"),
+        pytest.param("$argon2id$v=19$m=65536,t=3,p=4$x$x", None, id="none of crypt(5)"),
+    ],
+)
+def test_another_scheme_has_its_name_in_crypt_5(field: str, scheme: str | None) -> None:
+    assert describe(field) == Description(State.UNKNOWN, scheme)
+
+
+@pytest.mark.parametrize(
+    ("field", "numbers"),
+    [
+        pytest.param(MD5, (1000, None, None, None), id="md5crypt"),
+        pytest.param(SHA512, (5000, None, None, None), id="no rounds given"),
+        pytest.param(COSTLY, (2_500_000, None, None, None), id="rounds given"),
+        pytest.param(SCRYPT, (None, 16384, 32, 1), id="scrypt"),
+    ],
+)
+def test_a_description_has_the_rounds_or_the_cost_of_scrypt(
+    field: str, numbers: tuple[object, ...]
+) -> None:
+    """As crypt(5) says: 1,000 of md5crypt, 5,000 where the field has no rounds; N=2^14 is C."""
+    found = describe(field)
+    assert (found.rounds, found.n, found.r, found.p) == numbers
 
 
 THREE_ROUNDS = (655_999, 656_000, 656_001)
@@ -187,18 +211,24 @@ THREE_ROUNDS = (655_999, 656_000, 656_001)
 @pytest.mark.parametrize(
     ("policy", "states"),
     [
-        pytest.param(Policy(), ["outdated", "current", "over budget"], id="recommended"),
-        pytest.param(Policy(rounds=0), ["outdated", "current", "over budget"], id="0"),
-        pytest.param(Policy(rounds=656_000), ["outdated", "current", "over budget"], id="656000"),
+        pytest.param(
+            Policy(), [State.OUTDATED, State.CURRENT, State.OVER_BUDGET], id="recommended"
+        ),
+        pytest.param(Policy(rounds=0), [State.OUTDATED, State.CURRENT, State.OVER_BUDGET], id="0"),
+        pytest.param(
+            Policy(rounds=656_000), [State.OUTDATED, State.CURRENT, State.OVER_BUDGET], id="656000"
+        ),
         pytest.param(
             Policy(rounds=656_001, budget=NO_BUDGET),
-            ["outdated", "outdated", "current"],
+            [State.OUTDATED, State.OUTDATED, State.CURRENT],
             id="656001 with a budget",
         ),
-        pytest.param(Policy("scrypt"), ["outdated", "outdated", "over budget"], id="scrypt"),
+        pytest.param(
+            Policy("scrypt"), [State.OUTDATED, State.OUTDATED, State.OVER_BUDGET], id="scrypt"
+        ),
     ],
 )
-def test_an_audit_takes_the_recommended_rounds(policy: Policy, states: list[str]) -> None:
+def test_an_audit_takes_the_recommended_rounds(policy: Policy, states: list[State]) -> None:
     """By default it takes 656000 rounds, or 7 with scrypt, and admits what they can cost."""
     fields = [f"$6$rounds={rounds}$saltsaltsaltsalt${'.' * 86}" for rounds in THREE_ROUNDS]
     assert [policy.describe(field).state for field in fields] == states
@@ -212,17 +242,13 @@ DEAR = f"$7$DU..../....{'a' * 22}${'.' * 43}"
 @pytest.mark.parametrize(
     ("policy", "state"),
     [
-        pytest.param(Policy(), "over budget", id="sha512crypt"),
-        pytest.param(Policy(budget=NO_BUDGET), "outdated", id="sha512crypt with a budget"),
-        pytest.param(Policy("scrypt"), "current", id="scrypt"),
+        pytest.param(Policy(), State.OVER_BUDGET, id="sha512crypt"),
+        pytest.param(Policy(budget=NO_BUDGET), State.OUTDATED, id="sha512crypt with a budget"),
+        pytest.param(Policy("scrypt"), State.CURRENT, id="scrypt"),
     ],
 )
-def test_a_dear_hash_is_described_by_the_limit_of_the_policy(policy: Policy, state: str) -> None:
+def test_a_dear_hash_is_described_by_the_limit_of_the_policy(policy: Policy, state: State) -> None:
     assert policy.describe(DEAR).state == state
-
-
-def test_a_dear_hash_is_not_verified() -> None:
-    assert kind_raised(verify, "", field=DEAR) is TooCostly
 
 
 DESCRIBED = [*LOCKED, *DEAD, *(field.text for field in REFUSED), MD5, SHA512, SCRYPT, COSTLY]
@@ -230,24 +256,14 @@ DESCRIBED.append("$6$rounds=656001$salt$" + "." * 86)
 MOST_OF_MD5CRYPT = 1_927_022  # what md5crypt digests of 1,024 bytes
 
 
-def states_by_the_command(program: Path, policy: Policy, fields: list[str]) -> list[str]:
-    """What the command's audit prints, without rounds and the names of other schemes."""
+def findings_of_the_command(program: Path, policy: Policy, fields: list[str]) -> list[str]:
+    """What the command's audit prints behind each name."""
     lines = "".join(f"ann:{field}\n" for field in fields).encode()
     words: list[Word] = ["--audit", "-m", policy.method, "-R", policy.rounds or 0]
     words += ["--budget", policy.budget or 0]
     result = run(program, *words, stdin=lines)
     assert result.stderr == b"", result
-    return [shortened(line) for line in result.stdout.decode().splitlines()]
-
-
-def shortened(line: str) -> str:
-    """A line of an audit as describe() says the same."""
-    parts = line.removeprefix("ann:").split(":")
-    if parts[-1] == "unknown":
-        return "unknown"
-    if len(parts) == 4:  # a method, rounds, a cost and a state
-        del parts[1]
-    return ":".join(parts)
+    return [line.removeprefix("ann:") for line in result.stdout.decode().splitlines()]
 
 
 @pytest.mark.parametrize("form", [str, str.encode], ids=["str", "bytes"])
@@ -275,50 +291,5 @@ def test_a_description_is_what_the_command_prints(
 ) -> None:
     policy = Policy(method, rounds, budget)
     fields = [field for field in DESCRIBED if not set(field) & set(":\n\ud800")]
-    expected = states_by_the_command(program, policy, fields)
+    expected = findings_of_the_command(program, policy, fields)
     assert [str(policy.describe(form(field))) for field in fields] == expected
-
-
-# ---- Reasons that no argument brings about
-
-KINDS: dict[int, type[Exception]] = {
-    -11: MemoryError,
-    -19: OSError,
-    **dict.fromkeys((0, -12, -15, 1, 2, 3, 4), RuntimeError),
-}
-NAMES = ("hash", "verify", "needs_rehash", "cost", "crypt", "describe")
-# An audit reports DONE of a hash that is as it should be.
-REPORTED = [
-    (name, number)
-    for name in NAMES
-    for number in KINDS
-    if (name, number) != ("describe", Reason.DONE.value)
-]
-
-
-def report_as(number: int) -> Any:
-    """A call of the library that does nothing but report a reason."""
-
-    def call(*arguments: Any) -> None:
-        arguments[-1].reason = number
-
-    return call
-
-
-@pytest.mark.parametrize(("name", "number"), REPORTED)
-def test_a_reason_of_the_library_is_an_error(
-    monkeypatch: pytest.MonkeyPatch, name: str, number: int
-) -> None:
-    """Those of memory and random bytes, and those that no call should report."""
-    policy = Policy(budget=10**6)
-    for call in "verify", "new", "hash", "needs_rehash", "bound", "audit":
-        monkeypatch.setattr(_library.lib, f"mkpasswd_{call}", report_as(number))
-    calls = {
-        "hash": lambda: policy.hash("x"),
-        "verify": lambda: policy.verify("x", field=MD5),
-        "needs_rehash": lambda: policy.needs_rehash(MD5),
-        "cost": lambda: cost(MD5, 8),
-        "crypt": lambda: crypt_call("x", MD5, budget=10**6),
-        "describe": lambda: policy.describe(MD5),
-    }
-    assert kind_raised(calls[name]) is KINDS[number]

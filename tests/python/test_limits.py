@@ -17,7 +17,7 @@ from support.policy_limits import (
 
 with tried_package():
     import mkpasswd
-    from mkpasswd import _calls
+    from mkpasswd import _library
 
 POLICIES = 100_000
 NAMES = {
@@ -44,10 +44,11 @@ def test_the_limit_and_the_longest_password_are_those_of_the_formulas() -> None:
     for policy in random_policies(7, POLICIES):
         if policy.method not in METHODS or policy.refusal:
             continue
-        admitted = _calls.admitted((policy.method, policy.rounds), policy.budget or None)
-        longest = longest_within(policy)
-        assert (admitted.cost, admitted.length) == (policy.limit, longest or 0), policy
-        assert (admitted.reason > 0) == (longest is not None), policy
+        numbers = _library.Numbers(policy.method, policy.rounds, policy.budget)
+        answer, longest = _library.limit(numbers), longest_within(policy)
+        admitted = answer.report.cost, answer.report.length
+        assert admitted == (policy.limit, longest or 0), policy
+        assert answer.is_yes == (longest is not None), policy
 
 
 @pytest.mark.parametrize("seed", range(3))

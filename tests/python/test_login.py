@@ -1,4 +1,4 @@
-"""login: who gets in, what it costs, and what the log says."""
+"""login: who gets in, what it costs, and what the log says; and which hash is then renewed."""
 from __future__ import annotations
 
 from typing import Any
@@ -9,7 +9,7 @@ from support.stored_strings import COSTLY, MD5, NEVER_OPEN, SHA512, title
 
 with tried_package():
     import mkpasswd
-    from mkpasswd import Policy, Reason, _library
+    from mkpasswd import Policy, _library
 
 QUICK = Policy(rounds=1000)
 
@@ -39,25 +39,25 @@ def test_the_right_password_gets_in_and_an_outdated_hash_is_renewed(
     setting: str, policy: Policy, front: str | None, form: Any
 ) -> None:
     stored = crypt("pässword", setting)
-    matches, new = policy.login("pässword", field=form(stored))
-    assert matches is True
-    if front is None:
-        assert new is None
-    else:
+    assert policy.login("pässword", field=form(stored)) is True
+    assert policy.needs_rehash(form(stored)) is (front is not None)
+    if front is not None:
+        new = policy.hash("pässword")
         assert new.startswith(front) and new == crypt("pässword", new)
+        assert policy.login("pässword", field=new) is True and not policy.needs_rehash(new)
 
 
 @STORED
 @pytest.mark.parametrize("password", ["password", "pässword ", "", "!"])
 def test_another_password_stays_outside(setting: str, policy: Policy, password: str) -> None:
     stored = crypt("pässword", setting)
-    assert tuple(policy.login(password, field=stored)) == (False, None)
+    assert policy.login(password, field=stored) is False
 
 
 @STORED
 def test_the_stored_hash_is_no_password(setting: str, policy: Policy) -> None:
     stored = crypt("pässword", setting)
-    assert tuple(policy.login(stored, field=stored)) == (False, None)
+    assert policy.login(stored, field=stored) is False
 
 
 @pytest.mark.parametrize(
@@ -66,7 +66,7 @@ def test_the_stored_hash_is_no_password(setting: str, policy: Policy) -> None:
 def test_no_field_that_may_be_stored_raises_or_lets_in(field: str | None) -> None:
     as_bytes = None if field is None else field.encode("utf-8", "surrogatepass")
     for stored in field, as_bytes:
-        assert tuple(QUICK.login("password", field=stored)) == (False, None)
+        assert QUICK.login("password", field=stored) is False
 
 
 @pytest.mark.parametrize(
@@ -89,11 +89,11 @@ def test_no_field_that_may_be_stored_raises_or_lets_in(field: str | None) -> Non
 def test_no_password_that_may_be_typed_raises_or_lets_in(
     password: str | bytes, field: str | None
 ) -> None:
-    assert tuple(QUICK.login(password, field=field)) == (False, None)
+    assert QUICK.login(password, field=field) is False
 
 
 def test_a_hash_above_the_budget_lets_nobody_in() -> None:
-    assert tuple(Policy(budget=1).login("password", field=MD5)) == (False, None)
+    assert Policy(budget=1).login("password", field=MD5) is False
 
 
 @pytest.mark.parametrize(
@@ -112,31 +112,22 @@ def test_a_login_tells_its_programmer(password: object, field: object) -> None:
     assert kind_raised(mkpasswd.login, password, field=field) is TypeError
 
 
-# ---- New hashes
+# ---- Hashes that cost more
 
 
-def test_each_of_the_two_hashes_of_a_login_has_the_budget() -> None:
+def test_a_hash_that_costs_up_to_the_budget_lets_in_by_a_policy_that_costs_as_much() -> None:
     """So a service can move to a method which costs more than half of its budget."""
     stored = crypt("password", "$6$rounds=900000$salt")
     policy = Policy("scrypt", budget=mkpasswd.cost("$7$CU..../....salt", 8) + 5000)
     assert policy.budget is not None and policy.budget < 2 * mkpasswd.cost(stored, 8)
-    new = policy.login("password", field=stored).new
-    assert new is not None and new.startswith("$7$CU")
+    assert policy.login("password", field=stored) is True
+    assert policy.hash("password").startswith("$7$CU")
 
 
 def test_a_login_goes_on_where_a_new_hash_would_cost_too_much() -> None:
-    stored = crypt("x" * 83, "$1$salt")
-    assert tuple(Policy(budget=150_000_000).login("x" * 83, field=stored)) == (True, None)
-
-
-def test_a_login_goes_on_where_the_system_has_no_random_bytes(
-    monkeypatch: pytest.MonkeyPatch,
-) -> None:
-    def without_random_bytes(*arguments: Any) -> None:
-        arguments[-1].reason = Reason.NO_RANDOM_WORDS.value
-
-    monkeypatch.setattr(_library.lib, "mkpasswd_new", without_random_bytes)
-    assert tuple(mkpasswd.login("password", field=MD5)) == (True, None)
+    policy, password = Policy(budget=150_000_000), "x" * 83
+    assert policy.login(password, field=crypt(password, "$1$salt")) is True
+    assert kind_raised(policy.hash, password) is mkpasswd.TooCostly
 
 
 # ---- What it costs
@@ -155,14 +146,14 @@ UNCHECKED = [None, "", "!" + SHA512, "$y$j9T$salt$x", "$5$rounds=0$a$x", COSTLY]
 def fixture_works(monkeypatch: pytest.MonkeyPatch) -> list[Any]:
     """What each login reports that it did, from now on."""
     works = []
-    call = _library.lib.mkpasswd_login
+    call = _library.login
 
-    def counted(*arguments: Any) -> int:
-        returned: int = call(*arguments)
-        works.append(arguments[-1].work)
-        return returned
+    def counted(*arguments: Any) -> Any:
+        answer = call(*arguments)
+        works.append(answer.report.work)
+        return answer
 
-    monkeypatch.setattr(_library.lib, "mkpasswd_login", counted)
+    monkeypatch.setattr(_library, "login", counted)
     return works
 
 
@@ -208,10 +199,13 @@ def messages_of(caplog: pytest.LogCaptureFixture) -> list[str]:
     return [record.getMessage() for record in caplog.records]
 
 
+WRONG_PASSWORD = mkpasswd.Reason.WRONG_PASSWORD.message
+
+
 @pytest.mark.parametrize(
     ("password", "field", "reason"),
     [
-        pytest.param("x", MD5, "differs", id="another password"),
+        pytest.param("x", MD5, WRONG_PASSWORD, id="another password"),
         pytest.param("password", None, "no hash", id="no name"),
         pytest.param("password", "", "no hash", id="no hash"),
         pytest.param("password", "!", "locked", id="a lock"),
@@ -229,13 +223,6 @@ def test_the_log_says_why_a_login_is_refused(
     caplog.set_level("DEBUG", "mkpasswd")
     assert not Policy(budget=150_000_000).login(password, field=field)
     assert messages_of(caplog) == [f"login refused: {reason}"]
-
-
-def test_the_log_says_why_there_is_no_new_hash(caplog: pytest.LogCaptureFixture) -> None:
-    caplog.set_level("DEBUG", "mkpasswd")
-    assert Policy(budget=150_000_000).login("x" * 83, field=crypt("x" * 83, "$1$salt"))
-    expected = "no new hash: over budget: the hash can cost more than 150000000"
-    assert messages_of(caplog) == [expected]
 
 
 def test_the_log_says_nothing_of_a_login_that_succeeds(caplog: pytest.LogCaptureFixture) -> None:

@@ -1,4 +1,4 @@
-"""The package over a later library, which reports a reason that the package has no name for."""
+"""The package over a later library, whose errors have numbers that the package does not know."""
 from __future__ import annotations
 
 from pathlib import Path
@@ -11,13 +11,12 @@ from support.package import SONAME, environment_of, run_python
 from support.process import run
 from support.stored_strings import MD5
 
-FITS = "1"
-UNKNOWN_REASON = "99"
+NO_ERROR = "0"
+UNKNOWN = "9999"
 LOGIN = f"""
 import logging, sys, mkpasswd
-logging.basicConfig(stream=sys.stdout, format="%(levelname)s %(message)s")
-result = mkpasswd.login("password", field={MD5!r})
-print(bool(result), result.new)
+logging.basicConfig(stream=sys.stdout, level="DEBUG", format="%(levelname)s %(message)s")
+print(mkpasswd.login("password", field={MD5!r}))
 """
 
 pytestmark = pytest.mark.needs("objdump", "cc")
@@ -25,31 +24,32 @@ pytestmark = pytest.mark.needs("objdump", "cc")
 
 @pytest.fixture(scope="module", name="newer_library")
 def fixture_newer_library(tmp_path_factory: pytest.TempPathFactory) -> Path:
-    """A libmkpasswd.so.3 whose logins answer as the environment says."""
+    """A library whose logins answer as the environment says."""
     folder = tmp_path_factory.mktemp("newer")
     older, library = folder / "older.a", folder / SONAME
     of_tree = built("libmkpasswd.a", "lib")
-    run("objcopy", "--redefine-sym", "mkpasswd_login=older_login", of_tree, older).required()
+    renamed = "mkpasswd_login_bytes=older_login"
+    run("objcopy", "--redefine-sym", renamed, of_tree, older).required()
     flags = ("-std=c99", *WARNINGS, "-fPIC", "-shared", f"-Wl,-soname,{SONAME}", "-I", ROOT / "c")
     sources = (ROOT / "tests/c/newer_library.c", "-Wl,--whole-archive", older)
     run("cc", *flags, *sources, "-Wl,--no-whole-archive", "-o", library).required()
     return library
 
 
-def login_over(library: Path, answer: str, reason: str) -> list[str]:
+def login_over(library: Path, answer: str, error: str) -> list[str]:
     """What a login prints and logs."""
-    answers = {"NEWER_ANSWER": answer, "NEWER_REASON": reason}
+    answers = {"NEWER_ANSWER": answer, "NEWER_ERROR": error}
     result = run_python(LOGIN, env={**environment_of(library), **answers}).required()
     return result.stdout.decode().splitlines()
 
 
-def test_a_known_reason_is_answered_as_ever(newer_library: Path) -> None:
-    assert login_over(newer_library, "1", FITS) == ["True None"]
+@pytest.mark.parametrize("error", [NO_ERROR, UNKNOWN], ids=["no error", "an unknown error"])
+def test_what_the_call_returns_is_the_answer(newer_library: Path, error: str) -> None:
+    assert login_over(newer_library, "1", error) == ["True"]
 
 
-@pytest.mark.parametrize("answer", ["1", "0", "-1"])
-def test_an_unknown_reason_lets_nobody_in_and_is_logged(newer_library: Path, answer: str) -> None:
-    assert login_over(newer_library, answer, UNKNOWN_REASON) == [
-        "ERROR login refused: the library reports 99, an unknown reason",
-        "False None",
-    ]
+@pytest.mark.parametrize("answer", ["0", "-1", "2"])
+@pytest.mark.parametrize("error", [NO_ERROR, UNKNOWN], ids=["no error", "an unknown error"])
+def test_everything_but_1_lets_nobody_in(newer_library: Path, answer: str, error: str) -> None:
+    *log, printed = login_over(newer_library, answer, error)
+    assert printed == "False" and len(log) == 1 and log[0].startswith("DEBUG login refused: ")

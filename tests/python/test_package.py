@@ -1,6 +1,7 @@
 """The package as a whole: its numbers, its examples, and its types."""
 from __future__ import annotations
 
+import ctypes
 import doctest
 import re
 from pathlib import Path
@@ -8,12 +9,12 @@ from types import ModuleType
 
 import pytest
 from support import ROOT
-from support.package import PACKAGE, tried_package
-from support.process import Result, run
+from support.package import PACKAGE, run_python, tried_package
+from support.process import Result, assert_result, run
 
 with tried_package():
     import mkpasswd
-    from mkpasswd import _calls, _library
+    from mkpasswd import _calls, _library, _loaded, _policy, crypt
 
 HEADER = (ROOT / "c/mkpasswd.h").read_text(encoding="ascii")
 
@@ -23,33 +24,30 @@ HEADER = (ROOT / "c/mkpasswd.h").read_text(encoding="ascii")
 
 def defined() -> dict[str, int]:
     """The numbers that the header defines, by their names without the prefix."""
-    pattern = r"^#define MKPASSWD_(\w+) \(*(?:uint64_t\))?(-?\d+)\)?"
+    pattern = r"^#define MKPASSWD_(\w+) (\d+)"
     return {name: int(number) for name, number in re.findall(pattern, HEADER, re.MULTILINE)}
 
 
 def test_the_sizes_are_the_headers() -> None:
-    assert defined()["TEXT_SIZE"] == _library.TEXT_SIZE
+    assert defined()["TEXT_SIZE"] == _loaded.TEXT_SIZE
     assert defined()["PASSWORD_LIMIT"] == _library.PASSWORD_LIMIT
 
 
 def test_the_recommended_rounds_are_those_of_new_salts() -> None:
-    rounds = _calls.recommended_rounds("sha512crypt")
-    assert mkpasswd.crypt.mksalt().split("$")[2] == f"rounds={rounds}"
+    assert crypt.mksalt().split("$")[2] == f"rounds={mkpasswd.limit().rounds}"
 
 
 def test_the_reasons_are_the_headers() -> None:
     """With their names, numbers and messages."""
-    pattern = r"^#define MKPASSWD_(?:REFUSED_)?(\w+) \(?(-?\d+)\)? +/\* ([a-z ]+?)(?::| \*/)"
-    expected = {
-        (name, int(number), words)
-        for name, number, words in re.findall(pattern, HEADER, re.MULTILINE)
-    }
-    assert {(each.name, each.value, each.words) for each in mkpasswd.Reason} == expected
+    pattern = r"/\* ([a-z ]+?)(?:: .*)? \*/\n +MKPASSWD_ERROR_(\w+) = (\d+)"
+    expected = {(name, int(number), words) for words, name, number in re.findall(pattern, HEADER)}
+    assert expected
+    assert {(each.name, each.value, each.message) for each in mkpasswd.Reason} == expected
 
 
 def test_the_numbers_of_methods_are_the_headers() -> None:
-    expected = {name: defined()[name.upper()] for name in _calls.NUMBERS}
-    assert _calls.NUMBERS == expected
+    expected = {name: defined()[name.upper()] for name in _calls.METHODS}
+    assert _calls.METHODS == expected
 
 
 def test_the_fields_of_a_report_are_the_headers() -> None:
@@ -57,7 +55,7 @@ def test_the_fields_of_a_report_are_the_headers() -> None:
     assert found
     names = re.findall(r"^    (?:\w+_t|struct \w+) (\w+);", found[1], re.MULTILINE)
     fields: list[tuple[str, object]] = getattr(_library.Report, "_fields_")
-    assert [name for name, *_ in fields] == names
+    assert [name for name, *_ in fields] == names and ctypes.sizeof(_library.Report) == 80
 
 
 def test_the_version_is_that_of_the_tree() -> None:
@@ -71,47 +69,53 @@ def test_the_version_is_that_of_the_tree() -> None:
 @pytest.mark.parametrize(
     ("module", "least"),
     [
-        pytest.param(mkpasswd, 15, id="mkpasswd"),
-        pytest.param(mkpasswd.crypt, 3, id="mkpasswd.crypt"),
+        pytest.param(mkpasswd, 4, id="mkpasswd"),
+        pytest.param(_policy, 15, id="its calls"),
+        pytest.param(crypt, 3, id="mkpasswd.crypt"),
     ],
 )
 def test_the_examples_of_a_module_are_right(module: ModuleType, least: int) -> None:
-    result = doctest.testmod(module)
-    assert result.failed == 0 and result.attempted > least
+    result = doctest.testmod(module, extraglobs={"mkpasswd": mkpasswd})
+    assert result.failed == 0 and result.attempted >= least
 
 
 # ---- Types
 
 RIGHT = """
+from typing import Optional
 import mkpasswd
 from mkpasswd import crypt
 policy = mkpasswd.Policy("scrypt", 6, budget=2**42)
 stored: str = policy.hash(b"x")
-matches, new = result = policy.login("x", field=None)
-is_match: bool = mkpasswd.verify("x", field=new or stored) and mkpasswd.needs_rehash(stored)
-print(mkpasswd.cost(stored, 1), crypt.crypt("x", crypt.methods[0]))
-print(mkpasswd.describe(stored).state == "dead")
+is_in: bool = policy.login("x", field=None)
+is_outdated: bool = mkpasswd.needs_rehash(stored) and policy.for_length(1024).needs_rehash(stored)
+limit: mkpasswd.Limit = mkpasswd.limit()
+numbers: int = limit.cost + limit.longest_password + limit.rounds + mkpasswd.cost(stored, 1)
+found: mkpasswd.Description = policy.describe(None)
+scheme: Optional[str] = found.scheme
+reason: Optional[mkpasswd.Reason] = found.reason
+print(found.state is mkpasswd.State.DEAD, crypt.crypt("x", crypt.methods[0]), policy.setting("a"))
 """
-# What somebody careless writes, and what 1.3.0 took.
+# What somebody careless writes, and what earlier versions took.
 WRONG = [
-    'mkpasswd.verify("x", field=None)',
     "mkpasswd.hash(5)",
     'mkpasswd.login("x", stored)',
     'mkpasswd.login("x")',
     'mkpasswd.login(stored, "x", field=stored)',
-    'mkpasswd.verify("x", stored)',
-    'mkpasswd.verify("x", field=stored, budget=150000000)',
+    'mkpasswd.login("x", field=stored, budget=150000000)',
+    'mkpasswd.login("x", field=stored).new',
+    'matches, new = mkpasswd.login("x", field=stored)',
+    'mkpasswd.verify("x", field=stored)',
     'mkpasswd.hash("x", rounds=5000)',
+    "mkpasswd.needs_rehash(None)",
     "mkpasswd.Policy(budget=1.3e9)",
     "mkpasswd.Policy(rounds=5e3)",
     "mkpasswd.Policy(656000)",
+    "policy.rounds = 5000",
     'mkpasswd.verify_and_update("x", stored)',
     'mkpasswd.crypt("x", stored)',
     "mkpasswd.mksalt()",
-    'if mkpasswd.describe(stored).state == "ok": pass',
-    'if result is False: print("no")',
-    'if result is None: print("no")',
-    'if result == 0: print("no")',
+    'if found.state == "current": pass',
     "if mkpasswd.login: pass",
 ]
 USER = "user.py"
@@ -132,8 +136,19 @@ def test_the_package_has_right_types(tmp_path: Path) -> None:
 @pytest.mark.needs("mypy")
 def test_mypy_finds_each_careless_line_and_no_other(tmp_path: Path) -> None:
     (tmp_path / USER).write_text(RIGHT + "\n".join(WRONG) + "\n", encoding="ascii")
-    result = run_mypy(tmp_path, "--warn-unreachable", USER)
+    result = run_mypy(tmp_path, USER)
     first = RIGHT.count("\n") + 1
     found = {int(number) for number in re.findall(rb"user.py:(\d+): error", result.stdout)}
     assert result.status == 1, result
     assert sorted(found) == list(range(first, first + len(WRONG))), result
+
+
+# ---- What an import costs
+
+SLOW = ("asyncio", "concurrent.futures", "dataclasses", "inspect", "logging", "secrets")
+
+
+def test_an_import_takes_no_slow_module_with_it() -> None:
+    """Each of these takes as long as all that the package needs."""
+    script = f"import sys, mkpasswd\nprint([name for name in {SLOW!r} if name in sys.modules])"
+    assert_result(run_python(script), stdout=b"[]\n")

@@ -6,7 +6,7 @@ import warnings
 from typing import Any
 
 import pytest
-from support.package import Cook, crypt, error_of, kind_raised, tried_package
+from support.package import Cook, crypt, kind_raised, tried_package
 from support.stored_strings import MD5, SHA256, SHA512
 
 with tried_package():
@@ -25,7 +25,6 @@ IMPOSSIBLE = ["x" * 1025, "x" * 5000, "x\0", "\ud800"]
 IMPOSSIBLE_IDS = ["1025 bytes", "5000 bytes", "a zero byte", "a lone surrogate"]
 NAMES = ["md5_crypt", "sha256_crypt", "sha512_crypt"]
 NO_BUDGET = 2**42  # more than any hash costs
-LONG = "x" * 200
 
 
 @pytest.fixture(scope="module", name="ours")
@@ -113,75 +112,82 @@ def test_a_password_that_no_hash_can_have_gets_none(context: Any, password: str)
         context.hash(password)
 
 
-def test_a_password_that_costs_too_much_gets_no_hash(context: Any) -> None:
-    assert kind_raised(context.hash, "x" * 169) is mkpasswd.TooCostly
+# ---- Renewals
 
-
-# ---- Hashes that can't be renewed
-
-
-@pytest.fixture(name="with_foreign")
-def fixture_with_foreign(context: Any) -> Any:
-    """The context, with a handler of passlib's own."""
-    return context.using(schemes=["sha512_crypt", "md5_crypt", "pbkdf2_sha256"])
-
-
-FEW_ROUNDS = crypt(LONG, "$6$saltstring$")
-MD5_OF_LONG = crypt(LONG, "$1$saltsalt$")
-
-
-@pytest.mark.parametrize(
-    ("stored", "new"),
+# As the recommended policy, it admits passwords of up to 168 bytes with its rounds.
+ROUNDS = 20_000
+BUDGET = mkpasswd.cost(f"$6$rounds={ROUNDS}${'a' * 16}", 168)
+LENGTHS = [1, 64, 168, 169, 500, 1024]
+# passlib's handlers, with options by which they cost little.
+OTHERS = pytest.mark.parametrize(
+    ("scheme", "rounds"),
     [
-        pytest.param(FEW_ROUNDS, None, id="fewer rounds"),
-        pytest.param(MD5_OF_LONG, MD5_OF_LONG, id="md5crypt"),
-        pytest.param(MD5_OF_LONG.encode(), MD5_OF_LONG, id="md5crypt in bytes"),
+        pytest.param("pbkdf2_sha256", 1000, id="pbkdf2_sha256"),
+        pytest.param("bcrypt", 4, id="bcrypt", marks=pytest.mark.needs("python3-bcrypt")),
+        pytest.param("bcrypt_sha256", 4, id="bcrypt", marks=pytest.mark.needs("python3-bcrypt")),
     ],
 )
-def test_a_hash_stays_where_a_new_one_would_cost_too_much(
-    with_foreign: Any, stored: str | bytes, new: str | None
+
+
+@pytest.fixture(name="like_recommended")
+def fixture_like_recommended(ours: Any) -> Any:
+    """Our handler of sha512_crypt, with less cost."""
+    return ours.sha512_crypt.using(budget=BUDGET, default_rounds=ROUNDS)
+
+
+@OTHERS
+@pytest.mark.parametrize("length", LENGTHS)
+def test_everybody_gets_in_and_gets_a_new_hash(
+    like_recommended: Any, scheme: str, rounds: int, length: int
 ) -> None:
-    assert with_foreign.verify_and_update(LONG, stored) == (True, new)
-    assert with_foreign.verify_and_update("y" + LONG[1:], stored) == (False, None)
+    password, wrong = "x" * length, "y" + "x" * (length - 1)
+    other = getattr(importlib.import_module("passlib.hash"), scheme).using(rounds=rounds)
+    context = context_of(like_recommended, other, deprecated="auto")
+    old = other.hash(password)
+    assert context.verify_and_update(wrong, old) == (False, None)
+    matches, new = context.verify_and_update(password, old)
+    assert matches and new.startswith("$6$rounds=") and crypt(password, new) == new
+    assert context.verify_and_update(wrong, new) == (False, None)
+    assert context.verify_and_update(password, new) == (True, None)
 
 
-def test_a_hash_of_another_handler_stays_for_a_password_that_ours_do_not_take(
-    with_foreign: Any,
+@pytest.mark.parametrize("name", NAMES)
+def test_every_password_of_up_to_1024_bytes_gets_a_hash(ours: Any, name: str) -> None:
+    options = {} if name == "md5_crypt" else {"default_rounds": 1000}
+    handler = getattr(ours, name).using(**options)
+    for length in (0, *LENGTHS, 72, 73, 511, 512, 1023):
+        password = b"x" * length
+        assert handler.verify(password, handler.hash(password)), length
+
+
+def test_a_long_password_gets_fewer_rounds(like_recommended: Any) -> None:
+    def rounds_of(length: int) -> int:
+        return int(like_recommended.from_string(like_recommended.hash("x" * length)).rounds)
+
+    assert rounds_of(168) == ROUNDS > rounds_of(169) > rounds_of(1024) >= 1000
+
+
+def test_rounds_that_vary_stay_within_the_limit(like_recommended: Any) -> None:
+    varied = like_recommended.using(vary_rounds="50%")
+    for _ in range(20):
+        assert varied.verify("x" * 168, varied.hash("x" * 168))
+
+
+def test_a_hash_with_fewer_rounds_is_outdated_unless_its_password_is_long(
+    like_recommended: Any,
 ) -> None:
-    password = "x" * 1025
-    stored = with_foreign.using(schemes=["pbkdf2_sha256"], deprecated=[]).hash(password)
-    assert with_foreign.verify_and_update(password, stored) == (True, stored)
-    assert with_foreign.verify_and_update("y" + password[1:], stored) == (False, None)
+    stored = like_recommended.hash("x" * 500)
+    assert like_recommended.needs_update(stored)
+    assert like_recommended.needs_update(stored, secret="x" * 8)
+    assert not like_recommended.needs_update(stored, secret="x" * 500)
 
 
-def test_a_hash_needs_an_update_unless_its_password_can_not_have_one(with_foreign: Any) -> None:
-    assert with_foreign.needs_update(FEW_ROUNDS)
-    assert not with_foreign.needs_update(FEW_ROUNDS, secret=LONG)
-
-
-def test_a_budget_of_ones_own_renews_the_hash_of_a_long_password(with_foreign: Any) -> None:
-    context = with_foreign.using(sha512_crypt__budget=NO_BUDGET)
-    assert context.verify_and_update(LONG, MD5_OF_LONG)[1].startswith(FRONT)
-
-
-def test_a_new_password_is_refused_where_its_hash_would_cost_too_much(with_foreign: Any) -> None:
-    assert kind_raised(with_foreign.hash, LONG) is mkpasswd.TooCostly
-
-
-def test_an_unknown_name_costs_an_error_where_a_hash_would_cost_too_much(with_foreign: Any) -> None:
-    context = with_foreign.using(sha512_crypt__budget=1)
-    assert kind_raised(context.verify_and_update, "x", None) is mkpasswd.TooCostly
-
-
-def verify_by_hash(handler: Any, secret: str, stored: str, **_context: object) -> bool:
-    """Makes a hash anew, and compares."""
-    return bool(handler.hash(secret) == stored)
-
-
-def test_a_handler_that_verifies_by_hash_gets_no_stored_hash(ours: Any) -> None:
-    by_hash = type("ByHash", (ours.sha512_crypt,), {"verify": classmethod(verify_by_hash)})
-    error = error_of(context_of(by_hash).verify_and_update, LONG, FEW_ROUNDS)
-    assert error.__class__ is mkpasswd.TooCostly
+def test_a_password_that_no_hash_can_have_is_not_renewed(like_recommended: Any) -> None:
+    other = importlib.import_module("passlib.hash").pbkdf2_sha256.using(rounds=1000)
+    context = context_of(like_recommended, other, deprecated="auto")
+    stored = other.hash("x" * 1025)
+    assert context.verify("x" * 1025, stored)
+    assert kind_raised(context.verify_and_update, "x" * 1025, stored) is ValueError
 
 
 # ---- The same work for every name
@@ -228,7 +234,7 @@ def test_a_hash_of_a_handler_is_current(ours: Any, name: str) -> None:
 def test_a_hash_of_a_handler_is_current_by_the_policy_too(ours: Any, name: str) -> None:
     stored = context_of(getattr(ours, name)).hash("pässword")
     policy = mkpasswd.Policy(name.replace("_", ""))
-    assert tuple(policy.login("pässword", field=stored)) == (True, None)
+    assert policy.login("pässword", field=stored) is True and not policy.needs_rehash(stored)
 
 
 def test_few_rounds_are_renewed(ours: Any) -> None:
@@ -275,6 +281,11 @@ def test_passlib_finds_a_handler_by_its_name(ours: Any, name: str) -> None:
 
 # ---- Budgets
 
+# What the longest password costs with the fewest rounds.
+LEAST_BUDGETS = {
+    "md5_crypt": mkpasswd.cost("$1$saltsalt", 1024),
+    "sha256_crypt": mkpasswd.cost("$5$rounds=1000$" + "a" * 16, 1024),
+}
 HASHES = pytest.mark.parametrize(
     ("name", "stored", "password"),
     [
@@ -285,18 +296,11 @@ HASHES = pytest.mark.parametrize(
 
 
 @HASHES
-@pytest.mark.parametrize(
-    "form",
-    [
-        pytest.param(lambda cost: cost, id="the cost"),
-        pytest.param(str, id="the cost as digits"),
-        pytest.param(lambda _: NO_BUDGET, id="more than any cost"),
-    ],
-)
+@pytest.mark.parametrize("form", [int, str], ids=["a number", "digits"])
 def test_a_hash_within_the_budget_matches(
     ours: Any, name: str, stored: str, password: str, form: Any
 ) -> None:
-    budget = form(mkpasswd.cost(stored, len(password)))
+    budget = form(LEAST_BUDGETS[name])
     handler = getattr(ours, name)
     changed = handler.using(budget=budget)
     assert changed.verify(password, stored)
@@ -305,11 +309,11 @@ def test_a_hash_within_the_budget_matches(
     assert context.verify(password, stored) and context.to_dict()[f"{name}__budget"] == budget
 
 
-@HASHES
-def test_a_hash_above_the_budget_does_not_match(
-    ours: Any, name: str, stored: str, password: str
-) -> None:
-    assert getattr(ours, name).using(budget=1).verify(password, stored) is False
+def test_a_hash_above_the_budget_does_not_match(ours: Any) -> None:
+    handler = ours.sha256_crypt.using(budget=LEAST_BUDGETS["sha256_crypt"])
+    stored = crypt("password", "$5$rounds=100000$saltstring")
+    assert mkpasswd.cost(stored, 8) > LEAST_BUDGETS["sha256_crypt"]
+    assert handler.verify("password", stored) is False
 
 
 @pytest.mark.parametrize(
@@ -317,6 +321,7 @@ def test_a_hash_above_the_budget_does_not_match(
     [
         pytest.param(-1, ValueError, id="-1"),
         pytest.param(0, ValueError, id="0"),
+        pytest.param(1_900_000, ValueError, id="one that long passwords exceed"),
         pytest.param("x", ValueError, id="no digits"),
         pytest.param(1.3e9, TypeError, id="a float"),
         pytest.param(True, TypeError, id="True"),

@@ -2,7 +2,6 @@
 from __future__ import annotations
 
 import copy
-import dataclasses
 import pickle
 from typing import Any
 
@@ -12,7 +11,7 @@ from support.stored_strings import COSTLY, DEAD, LOCKED, MD5, REFUSED, SHA512, t
 
 with tried_package():
     import mkpasswd
-    from mkpasswd import Policy, Reason, TooCostly, _calls, _library, cost, verify
+    from mkpasswd import Limit, Policy, Reason, State, TooCostly, cost
     from mkpasswd.crypt import crypt as crypt_call
 
 METHODS = ["md5crypt", "sha256crypt", "sha512crypt", "scrypt"]
@@ -30,15 +29,32 @@ def test_equal_policies_are_one_in_a_set() -> None:
     assert len({Policy(), Policy(), QUICK}) == 2
 
 
-def test_a_policy_can_be_changed_and_pickled() -> None:
-    policy = pickle.loads(pickle.dumps(dataclasses.replace(QUICK, budget=10**6)))
+def test_a_policy_is_not_another_value() -> None:
+    assert Policy() not in (None, "sha512crypt", ("sha512crypt", None, None))
+
+
+@pytest.mark.parametrize(
+    "again",
+    [
+        pytest.param(copy.copy, id="copied"),
+        pytest.param(copy.deepcopy, id="copied deeply"),
+        pytest.param(lambda policy: pickle.loads(pickle.dumps(policy)), id="pickled"),
+    ],
+)
+def test_a_policy_can_be_copied_and_pickled(again: Any) -> None:
+    policy = again(Policy(rounds=1000, budget=10**6))
     assert policy == Policy(rounds=1000, budget=10**6)
-    assert policy.login("password", field=policy.hash("password"))
+    assert policy.login("password", field=policy.hash("password")) is True
 
 
-def test_a_policy_is_frozen() -> None:
-    error = error_of(setattr, Policy(), "rounds", 5000)
-    assert error.__class__ is dataclasses.FrozenInstanceError
+def test_a_policy_shows_what_it_was_given() -> None:
+    expected = "Policy(method='scrypt', rounds=8, budget=None)"
+    assert repr(Policy("scrypt", 8)) == expected
+
+
+@pytest.mark.parametrize("name", ["method", "rounds", "budget", "other"])
+def test_a_policy_does_not_change(name: str) -> None:
+    assert kind_raised(setattr, Policy(), name, 5000) is AttributeError
 
 
 # ---- New hashes
@@ -77,10 +93,10 @@ OWN_HASHES = [*map(Policy, METHODS), Policy("scrypt", 9), Policy("sha512crypt", 
 def test_a_policy_lets_in_by_its_own_hashes(policy: Policy) -> None:
     stored = policy.hash("pässword")
     assert stored == crypt("pässword", stored)
-    assert tuple(policy.login("pässword", field=stored)) == (True, None)
-    assert policy.verify("pässword", field=stored)
-    assert not policy.login("passwörd", field=stored)
-    assert not policy.needs_rehash(stored) and policy.describe(stored).state == "current"
+    assert policy.login("pässword", field=stored) is True
+    assert policy.login("passwörd", field=stored) is False
+    assert not policy.needs_rehash(stored)
+    assert policy.describe(stored).state is State.CURRENT
 
 
 # ---- Budgets
@@ -97,19 +113,16 @@ COST_OF_MD5 = cost(MD5, 8)
         pytest.param(None, id="none of its own"),
     ],
 )
-def test_a_hash_within_the_budget_is_verified(budget: int | None) -> None:
-    assert Policy(budget=budget).verify("password", field=MD5) is True
-
-
-def call_over_budget(call: str, budget: int) -> Exception:
-    """What a call raises for MD5 with a budget below its cost."""
-    if call == "crypt":
-        return error_of(crypt_call, "password", salt=MD5, budget=budget)
-    return error_of(Policy(budget=budget).verify, "password", field=MD5)
+def test_a_hash_within_the_budget_lets_in(budget: int | None) -> None:
+    assert Policy(budget=budget).login("password", field=MD5) is True
 
 
 @pytest.mark.parametrize("budget", [1, COST_OF_MD5 - 1], ids=["1", "one less than the cost"])
-@pytest.mark.parametrize("call", ["verify", "crypt"])
+def test_a_hash_above_the_budget_lets_nobody_in(budget: int) -> None:
+    assert Policy(budget=budget).login("password", field=MD5) is False
+
+
+@pytest.mark.parametrize("budget", [1, COST_OF_MD5 - 1], ids=["1", "one less than the cost"])
 @pytest.mark.parametrize(
     "again",
     [
@@ -118,10 +131,8 @@ def call_over_budget(call: str, budget: int) -> Exception:
         pytest.param(lambda error: pickle.loads(pickle.dumps(error)), id="pickled"),
     ],
 )
-def test_a_hash_above_the_budget_is_an_error_with_both_numbers(
-    again: Any, call: str, budget: int
-) -> None:
-    error = again(call_over_budget(call, budget))
+def test_a_hash_above_the_budget_is_an_error_with_both_numbers(again: Any, budget: int) -> None:
+    error = again(error_of(crypt_call, "password", salt=MD5, budget=budget))
     assert error.__class__ is TooCostly and error.reason is Reason.OVER_BUDGET
     assert (error.cost, error.budget) == (COST_OF_MD5, budget)
     assert str(error) == f"over budget: the hash can cost more than {budget}"
@@ -132,50 +143,37 @@ def test_a_new_hash_above_the_budget_is_an_error() -> None:
     assert kind_raised(policy.hash, "x" * 1000) is TooCostly
 
 
-LIMITS = pytest.mark.parametrize(
+@pytest.mark.parametrize(
     ("policy", "limit"),
     [
-        pytest.param(Policy(), 253_921_472, id="sha512crypt"),
-        pytest.param(Policy("md5crypt"), 150_000_000, id="md5crypt"),
+        pytest.param(Policy(), Limit(253_921_472, 168, 656_000), id="sha512crypt"),
+        pytest.param(Policy("sha256crypt"), Limit(211_937_408, 150, 656_000), id="sha256crypt"),
+        pytest.param(Policy("scrypt"), Limit(268_491_592, 1024, 7), id="scrypt"),
+        pytest.param(Policy("md5crypt"), Limit(150_000_000, 1024, 0), id="md5crypt"),
+        pytest.param(Policy(budget=1), Limit(1, 0, 0), id="a budget that admits nothing"),
     ],
 )
+def test_a_limit_is_as_documented(policy: Policy, limit: Limit) -> None:
+    """docs/FORMATS.md has a table of them."""
+    assert policy.limit() == limit
 
 
 def dearest_setting(limit: int) -> tuple[str, str]:
-    """The most rounds within a limit, in thousands, and the next ones, as hashes of nothing."""
+    """The most rounds within a limit, in thousands, and the next ones."""
 
     def setting(rounds: int) -> str:
         return f"$6$rounds={rounds}$saltsaltsaltsalt"
 
     rounds = range(500_000, 3_000_000, 1000)
     most = max(number for number in rounds if cost(setting(number), 8) <= limit)
-    within, above = (f"{setting(number)}${'.' * 86}" for number in (most, most + 1000))
-    return within, above
+    return setting(most), setting(most + 1000)
 
 
-def reason_of_login(policy: Policy, stored: str) -> int:
-    """What the library's login reports with the limit of a policy."""
-    report = _library.Report()
-    made = _calls.made_by(policy.method, policy.rounds)
-    field = stored.encode()
-    call = _library.lib.mkpasswd_login
-    assert call(b"password", 8, field, len(field), *made, 0, report) == 0
-    return int(report.reason)
-
-
-@LIMITS
-def test_verify_tries_a_hash_within_the_limit_of_login(policy: Policy, limit: int) -> None:
-    within, _ = dearest_setting(limit)
-    assert reason_of_login(policy, within) == Reason.DIFFERS.value
-    assert policy.verify("password", field=within) is False
-
-
-@LIMITS
-def test_verify_refuses_a_hash_above_the_limit_of_login(policy: Policy, limit: int) -> None:
-    _, above = dearest_setting(limit)
-    assert reason_of_login(policy, above) != Reason.DIFFERS.value
-    error = error_of(policy.verify, "password", field=above)
-    assert isinstance(error, TooCostly) and error.budget == limit
+@pytest.mark.parametrize("policy", [Policy(), Policy("md5crypt")], ids=["sha512crypt", "md5crypt"])
+def test_a_login_hashes_up_to_the_limit_and_no_more(policy: Policy) -> None:
+    within, above = dearest_setting(policy.limit().cost)
+    assert policy.login("password", field=crypt("password", within)) is True
+    assert policy.login("password", field=crypt("password", above)) is False
 
 
 # ---- Long passwords
@@ -192,11 +190,11 @@ def fixture_of_168() -> str:
 
 
 def test_168_bytes_get_in_by_the_recommended_policy(of_168: str) -> None:
-    assert tuple(mkpasswd.login(LONGEST_WITHIN_LIMIT, field=of_168)) == (True, None)
+    assert mkpasswd.login(LONGEST_WITHIN_LIMIT, field=of_168) is True
 
 
 def test_168_other_bytes_do_not(of_168: str) -> None:
-    assert not mkpasswd.login("x" * 167 + "y", field=of_168)
+    assert mkpasswd.login("x" * 167 + "y", field=of_168) is False
 
 
 def test_169_bytes_are_refused_by_the_recommended_policy() -> None:
@@ -209,18 +207,105 @@ def test_a_budget_of_ones_own_admits_the_longest_password() -> None:
     policy = Policy(budget=1_300_000_000)
     stored = policy.hash(LONGEST)
     assert stored.startswith("$6$rounds=656000$")
-    assert tuple(policy.login(LONGEST, field=stored)) == (True, None)
-    assert tuple(mkpasswd.login(LONGEST, field=stored)) == (False, None)
-    assert kind_raised(verify, LONGEST, field=stored) is TooCostly
+    assert policy.login(LONGEST, field=stored) is True
+    assert mkpasswd.login(LONGEST, field=stored) is False
+
+
+@pytest.mark.parametrize("length", [0, 64, 168])
+def test_a_password_within_the_limit_keeps_its_policy(length: int) -> None:
+    assert Policy().for_length(length) == Policy()
+
+
+@pytest.mark.parametrize(
+    ("length", "rounds"),
+    [pytest.param(200, 528_906, id="200"), pytest.param(1024, 118_822, id="1024")],
+)
+def test_a_longer_password_gets_fewer_rounds(length: int, rounds: int) -> None:
+    """docs/FORMATS.md has their formula, and these two numbers."""
+    policy, limit = Policy().for_length(length), Policy().limit().cost
+    assert policy == Policy(rounds=rounds, budget=limit)
+    assert cost(policy.setting("a" * 16), length) <= limit
+
+
+def test_a_longer_password_gets_in_by_its_policy() -> None:
+    policy = Policy().for_length(1024)
+    stored = policy.hash(LONGEST)
+    assert stored == crypt(LONGEST, stored)
+    assert policy.login(LONGEST, field=stored) is True
+    assert policy.login(LONGEST[:-1] + "y", field=stored) is False
+    assert Policy().needs_rehash(stored)
+
+
+@pytest.mark.parametrize("method", ["md5crypt", "scrypt"])
+def test_a_method_whose_cost_hardly_depends_on_the_length_keeps_its_policy(method: str) -> None:
+    assert Policy(method).for_length(1024) == Policy(method)
+
+
+@pytest.mark.parametrize(
+    ("policy", "length", "error"),
+    [
+        pytest.param(Policy(budget=10**6), 1024, TooCostly, id="a budget that admits no rounds"),
+        pytest.param(Policy(), 1025, ValueError, id="1025 bytes"),
+        pytest.param(Policy(), 2**64, ValueError, id="2^64 bytes"),
+        pytest.param(Policy(), -1, ValueError, id="-1 bytes"),
+        pytest.param(Policy(), 1.5, TypeError, id="a float"),
+    ],
+)
+def test_a_length_without_rounds_is_refused(
+    policy: Policy, length: Any, error: type[Exception]
+) -> None:
+    assert kind_raised(policy.for_length, length) is error
+
+
+# ---- Settings
+
+
+@pytest.mark.parametrize(
+    ("policy", "setting"),
+    [
+        pytest.param(Policy("md5crypt"), "$1$salt", id="md5crypt"),
+        pytest.param(Policy("sha256crypt", 1000), "$5$rounds=1000$salt", id="sha256crypt"),
+        pytest.param(Policy(), "$6$rounds=656000$salt", id="sha512crypt"),
+        pytest.param(Policy("scrypt"), "$7$CU..../....salt", id="scrypt"),
+    ],
+)
+@pytest.mark.parametrize("salt", ["salt", b"salt"], ids=["str", "bytes"])
+def test_a_setting_has_the_salt_that_was_given(
+    policy: Policy, setting: str, salt: str | bytes
+) -> None:
+    assert policy.setting(salt) == setting
+
+
+@pytest.mark.parametrize("method", METHODS)
+def test_a_new_setting_is_like_that_of_a_new_hash(method: str) -> None:
+    policy = Policy(method)
+    setting, stored = policy.setting(), policy.hash("password")
+    assert len(setting) == len(stored.rpartition("$")[0]) and setting != policy.setting()
+    assert stored.startswith(setting[: len(policy.setting("s")) - 1])
+
+
+@pytest.mark.parametrize(
+    ("salt", "reason"),
+    [
+        pytest.param("", Reason.SALT_LENGTH, id="none"),
+        pytest.param("a" * 17, Reason.SALT_LENGTH, id="too long"),
+        pytest.param("a$b", Reason.SALT_CHARACTER, id="a dollar"),
+        pytest.param("a:b", Reason.SALT_CHARACTER, id="a colon"),
+        pytest.param("é", Reason.SALT_CHARACTER, id="a letter of another alphabet"),
+    ],
+)
+def test_a_salt_that_would_not_be_taken_whole_is_refused(salt: str, reason: Reason) -> None:
+    error = error_of(Policy().setting, salt)
+    assert isinstance(error, mkpasswd.Refused) and error.reason is reason
 
 
 # ---- A caller who looks at nothing but an exception
 
 
-def is_open(field: Any, policy: Policy = Policy()) -> bool:
+def is_open(field: Any, policy: Policy = QUICK) -> bool:
     """Whether a careless login lets "password" in."""
     try:
-        return policy.verify("password", field=field)
+        return policy.login("password", field=field)
     except (ValueError, TypeError):
         return False
 

@@ -85,29 +85,77 @@ def test_a_database_that_can_not_be_written_keeps_the_old_hash(
 
 
 @pytest.mark.parametrize(
-    "change",
+    ("change", "expected"),
     [
-        pytest.param("!" + MD5, id="a lock"),
-        pytest.param(SHA512, id="a new password"),
-        pytest.param("", id="a demand for one"),
-        pytest.param(None, id="a deletion"),
+        pytest.param("!" + MD5, False, id="a lock"),
+        pytest.param(SHA512, True, id="a new password"),
+        pytest.param("", False, id="a demand for one"),
+        pytest.param(None, False, id="a deletion"),
     ],
 )
-def test_nothing_is_stored_over_what_changed_meanwhile(
+def test_what_changed_meanwhile_is_kept_and_a_lock_heeded(
     database: sqlite3.Connection,
     login: Any,
     monkeypatch: pytest.MonkeyPatch,
     change: str | None,
+    expected: bool,
 ) -> None:
-    new = _library.lib.mkpasswd_new
+    new = _library.new
 
-    def meanwhile(*arguments: Any) -> int:
+    def meanwhile(*arguments: Any) -> Any:
         database.execute("UPDATE users SET hash = ? WHERE name = 'ann'", (change,))
-        return int(new(*arguments))
+        return new(*arguments)
 
-    monkeypatch.setattr(_library.lib, "mkpasswd_new", meanwhile)
-    assert login(database, "ann", "password") is True
+    monkeypatch.setattr(_library, "new", meanwhile)
+    assert login(database, "ann", "password") is expected
     assert fields_of(database)["ann"] == change
+
+
+@pytest.mark.parametrize(
+    "error",
+    [OSError(), MemoryError(), mkpasswd.TooCostly(2, 1)],
+    ids=lambda error: str(type(error)),
+)
+def test_a_renewal_that_fails_leaves_the_old_hash_and_lets_in(
+    database: sqlite3.Connection, login: Any, monkeypatch: pytest.MonkeyPatch, error: Exception
+) -> None:
+    def fail(*_arguments: Any) -> None:
+        raise error
+
+    monkeypatch.setattr(_library, "new", fail)
+    assert login(database, "ann", "password") is True and fields_of(database)["ann"] == MD5
+
+
+def test_two_logins_at_once_renew_a_hash_once(
+    database: sqlite3.Connection, login: Any, monkeypatch: pytest.MonkeyPatch
+) -> None:
+    """The second comes while the first makes its hash, and both get in."""
+    new, answers = _library.new, []
+
+    def come_between(*arguments: Any) -> Any:
+        monkeypatch.setattr(_library, "new", new)
+        answers.append(login(database, "ann", "password"))
+        return new(*arguments)
+
+    monkeypatch.setattr(_library, "new", come_between)
+    assert login(database, "ann", "password") is True and answers == [True]
+    assert mkpasswd.login("password", field=fields_of(database)["ann"])
+
+
+@pytest.mark.parametrize(
+    ("name", "logged"),
+    [("ann", "login failed: 'ann'"), ("my password", "login failed: None")],
+    ids=["a user", "no user"],
+)
+def test_the_log_of_a_failure_names_users_alone(
+    database: sqlite3.Connection,
+    login: Any,
+    caplog: pytest.LogCaptureFixture,
+    name: str,
+    logged: str,
+) -> None:
+    assert login(database, name, "passw0rd") is False
+    assert [record.getMessage() for record in caplog.records] == [logged]
 
 
 # ---- The others
@@ -117,8 +165,8 @@ def test_an_audit_prints_each_field(
     database: sqlite3.Connection, cook: Cook, capsys: pytest.CaptureFixture[str]
 ) -> None:
     cook.follow("Audit", database=database, mkpasswd=mkpasswd)
-    costly = f"sha512crypt:{mkpasswd.cost(COSTLY, 1024)}:over budget"
-    answers = ["md5crypt:1927022:outdated", "none", "locked", costly, "none"]
+    costly = f"sha512crypt:2500000:{mkpasswd.cost(COSTLY, 1024)}:over budget"
+    answers = ["md5crypt:1000:1927022:outdated", "none", "locked", costly, "none"]
     expected = [f"{name!r}:{answer}" for name, answer in zip(USERS, answers)]
     assert capsys.readouterr().out.splitlines() == expected
 
@@ -139,7 +187,7 @@ def test_the_log_has_the_name(cook: Cook, capsys: pytest.CaptureFixture[str]) ->
 )
 def test_asyncio_waits_for_a_login(cook: Cook, password: str, is_match: bool) -> None:
     login = cook.follow("asyncio")["login"]
-    assert bool(asyncio.run(login(password, MD5))) is is_match
+    assert asyncio.run(login(password, MD5)) is is_match
 
 
 @pytest.fixture(name="post")

@@ -17,8 +17,6 @@ with tried_package():
 SECRET = "s3cret-Pässwörd"
 CALLS: list[tuple[str, Callable[[Any], object]]] = [
     ("hash", mkpasswd.hash),
-    ("verify a hash", lambda password: mkpasswd.verify(password, field=MD5)),
-    ("verify a lock", lambda password: mkpasswd.verify(password, field="!")),
     ("crypt", lambda password: crypt(password, MD5)),
 ]
 WRONG: list[tuple[str, Any]] = [
@@ -53,12 +51,11 @@ def test_no_error_about_a_password_shows_it(
 @pytest.mark.parametrize(
     ("call", "arguments", "named"),
     [
-        pytest.param(mkpasswd.verify, (SECRET, "x"), {}, id="a field by place"),
+        pytest.param(mkpasswd.login, (SECRET, "x"), {}, id="a field by place"),
         pytest.param(mkpasswd.login, ("x", SECRET), {}, id="a password in the field's place"),
-        pytest.param(mkpasswd.verify, (SECRET,), {"field": "x"}, id="an unknown scheme"),
-        pytest.param(mkpasswd.verify, (SECRET,), {"field": COSTLY}, id="a costly hash"),
         pytest.param(crypt, (SECRET, COSTLY), {}, id="a costly setting"),
-        pytest.param(mkpasswd.verify, (SECRET,), {"field": 5}, id="a number as the field"),
+        pytest.param(crypt, (SECRET, 5), {}, id="a number as the setting"),
+        pytest.param(mkpasswd.login, (SECRET,), {"field": 5}, id="a number as the field"),
         pytest.param(mkpasswd.hash, (SECRET, "bcrypt"), {}, id="a method behind the password"),
         pytest.param(Policy(budget=1).hash, (SECRET,), {}, id="a budget that is too low"),
     ],
@@ -71,3 +68,20 @@ def test_no_error_about_something_else_shows_the_password(
 ) -> None:
     assert "s3cret" not in all_of(error_of(call, *arguments, **named))
     assert capfd.readouterr() == ("", "")
+
+
+@pytest.mark.parametrize(
+    ("password", "field"),
+    [
+        *(pytest.param(value, MD5, id=name) for name, value in WRONG[:4]),
+        pytest.param(SECRET, MD5, id="another password"),
+        pytest.param(SECRET, SECRET, id="a password as the field"),
+    ],
+)
+def test_no_log_of_a_login_shows_the_password(
+    caplog: pytest.LogCaptureFixture, password: Any, field: str
+) -> None:
+    caplog.set_level("DEBUG")
+    assert mkpasswd.login(password, field=field) is False
+    shown = "".join(str(vars(record)) for record in caplog.records)
+    assert "login refused" in shown and "s3cret" not in shown and MD5 not in shown

@@ -27,9 +27,11 @@ pytestmark = [
 # Prints where the library is that an interpreter took.
 TRY = f"""
 import doctest, mkpasswd
-assert mkpasswd.verify("password", field="{MD5}") and not mkpasswd.verify("passw0rd", field="{MD5}")
-assert not doctest.testmod(mkpasswd).failed and not doctest.testmod(mkpasswd.crypt).failed
-print(mkpasswd.lib._name)
+from mkpasswd import _loaded, _policy, crypt
+assert mkpasswd.login("password", field="{MD5}") and not mkpasswd.login("passw0rd", field="{MD5}")
+for module in mkpasswd, _policy, crypt:
+    assert not doctest.testmod(module, extraglobs={{"mkpasswd": mkpasswd}}).failed
+print(_loaded.LIBRARY._name)
 """
 
 
@@ -92,7 +94,7 @@ def test_the_commands_of_the_document_install_it(wheel: Path, tmp_path: Path) ->
     shutil.copy(wheel, tmp_path)
     environment: dict[str, str | None] = {**ELSEWHERE, "PATH": "/usr/bin:/bin"}
     made = printed(run("sh", "-ec", commands, cwd=tmp_path, env=environment)).splitlines()[-1]
-    assert made.startswith("$6$") and mkpasswd.verify("x", field=made)
+    assert made.startswith("$6$") and mkpasswd.login("x", field=made)
     place_of_library = printed(run("v/bin/python", "-c", TRY, cwd=tmp_path, env=ELSEWHERE))
     assert place_of_library.startswith(str(tmp_path / "v/lib"))
     assert place_of_library.endswith("site-packages/mkpasswd/libmkpasswd.so.3")

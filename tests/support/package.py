@@ -23,6 +23,8 @@ from typing import Any
 import pytest
 
 from . import ROOT, libxcrypt
+from .model.hashes import hash_of
+from .model.settings import read_setting
 from .needs import missing
 from .process import Changes, Result, run
 
@@ -81,9 +83,13 @@ def kind_raised(call: Callable[..., object], *arguments: object, **named: object
 
 
 def crypt(password: str | bytes, setting: str) -> str:
-    """The hash of a password by libxcrypt, as the package takes and makes it."""
+    """The hash of a password by libxcrypt, or the model if it is too long for that."""
     word = password.encode() if isinstance(password, str) else password
-    return libxcrypt.crypt(word, setting.encode()).decode()
+    if len(word) <= libxcrypt.LONGEST_PASSWORD:
+        return libxcrypt.crypt(word, setting.encode()).decode()
+    text = hash_of(read_setting(setting.encode()), word)
+    assert text is not None, f"the model makes no hash with {setting!r} of {len(word)} bytes"
+    return text.decode()
 
 
 def recipe_under(heading: str) -> str:

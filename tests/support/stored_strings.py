@@ -24,6 +24,7 @@ class StoredField:
     text: str
     reason: Reason
     is_of_another_scheme: bool = False
+    scheme: str | None = None  # its name in crypt(5)
 
     def __str__(self) -> str:
         return f"{self.reason.message}: {ascii(self.text[:40])[1:-1]}"
@@ -31,10 +32,13 @@ class StoredField:
 
 UNKNOWN = [StoredField(text, Reason.UNKNOWN_SCHEME) for text in ("x", "password")]
 OTHER_SCHEMES = [
-    StoredField(text, Reason.UNKNOWN_SCHEME, is_of_another_scheme=True)
-    for text in (
-        *("$", "$2b$05$abcdefghijklmnopqrstuu", "$y$j9T$abc$x", "ab0Z8yq2hBQEo"),
-        "_J9..Xabcsecret",
+    StoredField(text, Reason.UNKNOWN_SCHEME, is_of_another_scheme=True, scheme=scheme)
+    for text, scheme in (
+        ("$", None),
+        ("$2b$05$abcdefghijklmnopqrstuu", "bcrypt"),
+        ("$y$j9T$abc$x", "yescrypt"),
+        ("ab0Z8yq2hBQEo", "descrypt"),
+        ("_J9..Xabcsecret", "bsdicrypt"),
     )
 ]
 WITH_BAD_CHARACTERS = [

@@ -1,118 +1,180 @@
-"""The C library and its calls, as mkpasswd.h declares them.
+"""The C library's calls, as mkpasswd.h declares them.
 
-`CDLL` releases the interpreter's lock while a call runs. A call keeps no pointer and has no state, so any number of
-threads may call at once.
+A call here takes bytes and numbers as the library does, checks nothing, and returns an `Answer`.
+ctypes releases the interpreter's lock while a call runs. A call keeps no pointer and has no state,
+so any number of threads may call at once.
 """
+from __future__ import annotations
+
 import ctypes
-import enum
-import os
+from typing import Any, NamedTuple, Optional, Union
 
-SONAME = "libmkpasswd.so.3"
+from ._loaded import STRING, TEXT_SIZE, declared, text_of
 
-# As in the header: the size of a buffer for any hash, setting or message, and the longest password in bytes.
-TEXT_SIZE = 145
+from ._reasons import Reason
+
+# The longest password in bytes, as in the header.
 PASSWORD_LIMIT = 1024
 
-
-class Reason(enum.Enum):
-    """Why a call of the library ended as it did. `words` is its message."""
-
-    FITS = 1
-    OUTDATED = 2
-    DONE = 3
-    PASSWORD_TOO_LONG = -1
-    PASSWORD_ZERO_BYTE = -2
-    SETTING_TOO_LONG = -3
-    BAD_CHARACTER = -4
-    UNKNOWN_SCHEME = -5
-    BAD_ROUNDS = -6
-    BAD_COST = -7
-    SCRYPT_RANGE = -8
-    ABOVE_CEILING = -9
-    BAD_SALT = -10
-    OUT_OF_MEMORY = -11
-    TOO_FEW_BYTES = -12
-    UNKNOWN_METHOD = -13
-    COST = -14
-    OVER_BUDGET = -16
-    DIFFERS = -17
-    CURRENT = -18
-    NO_RANDOM_WORDS = -19
-    LOCKED = -20
-    NO_HASH = -21
-    DEAD = -22
-    REPLACED = -23
-    SALT_LENGTH = -24
-    SALT_CHARACTER = -25
-    NO_SCHEME = -26
-
-    @property
-    def words(self) -> str:
-        out = ctypes.create_string_buffer(TEXT_SIZE)
-        lib.mkpasswd_words(self.value, out, len(out))
-        return out.value.decode("ascii")
+_REASONS = {reason.value: reason for reason in Reason}
 
 
-class CWork(ctypes.Structure):
+class Numbers(NamedTuple):
+    """A policy as the library takes it. Each 0 stands for what is recommended."""
+
+    method: int
+    rounds: int
+    budget: int
+
+
+class Work(ctypes.Structure):
     """`struct mkpasswd_work`."""
 
-    _fields_ = [(name, ctypes.c_uint64) for name in ("digests", "bytes", "mixes", "table", "scratch")]
-
-
-class Report(ctypes.Structure):
-    """`struct mkpasswd_report`, which every call fills."""
-
-    reason: int
-    length: int
-    cost: int
-    work: CWork
-    rounds: int
-    scheme: int
-    n: int
-    r: int
-    p: int
-
+    digests: int
+    bytes: int
+    mixes: int
+    table: int
+    scratch: int
     _fields_ = [
-        ("reason", ctypes.c_int32),
-        ("length", ctypes.c_uint32),
-        ("cost", ctypes.c_uint64),
-        ("work", CWork),
-        ("rounds", ctypes.c_uint32),
-        ("scheme", ctypes.c_uint32),
-        ("n", ctypes.c_uint64),
-        ("r", ctypes.c_uint32),
-        ("p", ctypes.c_uint32),
+        ("digests", ctypes.c_uint64),
+        ("bytes", ctypes.c_uint64),
+        ("mixes", ctypes.c_uint64),
+        ("table", ctypes.c_uint64),
+        ("scratch", ctypes.c_uint64),
     ]
 
 
-def _load() -> ctypes.CDLL:
-    beside = os.path.join(os.path.dirname(os.path.abspath(__file__)), SONAME)
-    name = beside if os.path.exists(beside) else SONAME
-    try:
-        library = ctypes.CDLL(name)
-        text = [ctypes.c_char_p, ctypes.c_size_t]
-        made = [ctypes.c_uint32, ctypes.c_uint32]
-        budget = [ctypes.c_uint64]
-        report = [ctypes.POINTER(Report)]
-        for call, arguments in (
-            ("login", text + text + made + budget + report),
-            ("verify", text + text + budget + report),
-            ("new", text + made + budget + text + report),
-            ("needs_rehash", text + made + report),
-            ("audit", text + made + budget + report),
-            ("limit", made + budget + report),
-            ("bound", text + [ctypes.c_size_t] + report),
-            ("hash", text + text + budget + text + report),
-            ("setting", made + [ctypes.c_uint64] * 3 + text + report),
-            ("words", [ctypes.c_int32] + text),
-            ("scheme_name", [ctypes.c_uint32] + text),
-        ):
-            function = getattr(library, "mkpasswd_" + call)
-            function.argtypes, function.restype = arguments, ctypes.c_int32
-        library.mkpasswd_version.argtypes, library.mkpasswd_version.restype = [], ctypes.c_uint32
-    except (OSError, AttributeError) as fault:
-        raise ImportError("mkpasswd needs its C library, %s, and could not load it: %s" % (SONAME, fault)) from None
-    return library
+class Report(ctypes.Structure):
+    """`struct mkpasswd_report`, which every call fills. A new one is all zeros."""
+
+    error: int
+    outdated: int
+    length: int
+    scheme: int
+    rounds: int
+    n: int
+    r: int
+    p: int
+    cost: int
+    work: Work
+    _fields_ = [
+        ("error", ctypes.c_uint32),
+        ("outdated", ctypes.c_uint32),
+        ("length", ctypes.c_uint32),
+        ("scheme", ctypes.c_uint32),
+        ("rounds", ctypes.c_uint32),
+        ("n", ctypes.c_uint32),
+        ("r", ctypes.c_uint32),
+        ("p", ctypes.c_uint32),
+        ("cost", ctypes.c_uint64),
+        ("work", Work),
+    ]
 
 
-lib = _load()
+class Answer(NamedTuple):
+    """What a call returned, what it reported, and the string that it left in its buffer."""
+
+    is_yes: bool
+    report: Report
+    text: str = ""
+
+    @property
+    def reason(self) -> Optional[Reason]:
+        """Why the call failed; None if it did not, or for an error that a newer library added."""
+        return _REASONS.get(self.report.error)
+
+
+_PAIR = [ctypes.c_uint32, ctypes.c_uint32]  # a method and its rounds
+_BUDGET = [ctypes.c_uint64]
+_REPORT = [ctypes.POINTER(Report)]
+_POLICY = [*_PAIR, *_BUDGET, *_REPORT]
+
+_LOGIN = declared("mkpasswd_login_bytes", [*STRING, *STRING, *_POLICY])
+_VERIFY = declared("mkpasswd_verify_bytes", [*STRING, *STRING, *_BUDGET, *_REPORT])
+_NEW = declared("mkpasswd_new_bytes", [*STRING, *_PAIR, *_BUDGET, *STRING, *_REPORT])
+_HASH = declared("mkpasswd_hash_bytes", [*STRING, *STRING, *_BUDGET, *STRING, *_REPORT])
+_NEEDS_REHASH = declared("mkpasswd_needs_rehash_bytes", [*STRING, *_PAIR, *_REPORT])
+_AUDIT = declared("mkpasswd_audit_bytes", [*STRING, *_POLICY])
+_LIMIT = declared("mkpasswd_limit_bytes", _POLICY)
+_ROUNDS = declared("mkpasswd_rounds_bytes", [ctypes.c_size_t, *_POLICY])
+_BOUND = declared("mkpasswd_bound_bytes", [*STRING, ctypes.c_size_t, *_REPORT])
+_SETTING = declared("mkpasswd_setting_bytes", [*_PAIR, *STRING, *STRING, *_REPORT])
+_SCHEME_NAME = declared("mkpasswd_scheme_name_bytes", [ctypes.c_uint32, *STRING])
+_VERSION = declared("mkpasswd_version", [], ctypes.c_uint32)
+
+
+def _ask(call: Any, *arguments: Union[bytes, int]) -> Answer:
+    """Calls what only reports."""
+    report = Report()
+    return Answer(call(*arguments, report) == 1, report)
+
+
+def _ask_for_text(call: Any, *arguments: Union[bytes, int]) -> Answer:
+    """Calls what leaves a string in a buffer."""
+    report = Report()
+    out = ctypes.create_string_buffer(TEXT_SIZE)
+    is_yes = call(*arguments, out, TEXT_SIZE, report) == 1
+    return Answer(is_yes, report, out.value.decode("ascii"))
+
+
+def login(password: bytes, field: bytes, numbers: Numbers) -> Answer:
+    """Whether the password matches, at the cost of a new hash if the field can't be checked."""
+    return _ask(_LOGIN, password, len(password), field, len(field), *numbers)
+
+
+def verify(password: bytes, stored: bytes, budget: int) -> Answer:
+    """Whether the password matches a hash that costs at most the budget, of which 0 admits none."""
+    return _ask(_VERIFY, password, len(password), stored, len(stored), budget)
+
+
+def new(password: bytes, numbers: Numbers) -> Answer:
+    """A new hash, with a salt from the system."""
+    return _ask_for_text(_NEW, password, len(password), *numbers)
+
+
+def hash_by(password: bytes, setting_or_hash: bytes, budget: int) -> Answer:
+    """The hash with a setting, or "*0" or "*1", within a budget, of which 0 admits none."""
+    return _ask_for_text(
+        _HASH, password, len(password), setting_or_hash, len(setting_or_hash), budget
+    )
+
+
+def needs_rehash(stored: bytes, numbers: Numbers) -> Answer:
+    """The report says whether the stored hash is outdated."""
+    return _ask(_NEEDS_REHASH, stored, len(stored), numbers.method, numbers.rounds)
+
+
+def audit(field: bytes, numbers: Numbers) -> Answer:
+    """The report says what is wrong with a stored hash, and whether it is outdated."""
+    return _ask(_AUDIT, field, len(field), *numbers)
+
+
+def limit(numbers: Numbers) -> Answer:
+    """What a hash may cost, the longest password, and the rounds of new hashes."""
+    return _ask(_LIMIT, *numbers)
+
+
+def rounds(password_len: int, numbers: Numbers) -> Answer:
+    """Rounds by which each password of this length is within that limit."""
+    return _ask(_ROUNDS, password_len, *numbers)
+
+
+def bound(stored: bytes, password_len: int) -> Answer:
+    """The most that a hash with this setting costs."""
+    return _ask(_BOUND, stored, len(stored), password_len)
+
+
+def setting(numbers: Numbers, salt: bytes) -> Answer:
+    """A setting with a given salt."""
+    return _ask_for_text(_SETTING, numbers.method, numbers.rounds, salt, len(salt))
+
+
+def scheme_name(number: int) -> str:
+    """The name in crypt(5) of a scheme that an audit reports."""
+    return text_of(_SCHEME_NAME, number)
+
+
+def version() -> str:
+    """The library's version, such as "3.0.0"."""
+    number: int = _VERSION()
+    return f"{number // 10000}.{number // 100 % 100}.{number % 100}"

@@ -2,13 +2,18 @@
 
     from mkpasswd.ansible import FilterModule
 """
+from __future__ import annotations
+
 from typing import Any, Callable, Dict, Optional
 
 from ansible.errors import AnsibleFilterError
 
-from . import Policy, Refused
+from . import Policy, State
 
 __all__ = ["FilterModule"]
+
+# What can't be checked: a task that asks whether it matches has a mistake in it.
+_UNCHECKED = (State.NO_SCHEME, State.UNKNOWN, State.MALFORMED)
 
 
 def mkpasswd_hash(
@@ -18,33 +23,45 @@ def mkpasswd_hash(
     current: Optional[str] = None,
     budget: Optional[int] = None,
 ) -> str:
-    """A hash of the password: `current`, if that matches and is not outdated, so that a task changes nothing then."""
+    """Return a hash of the password: `current` if that matches and is not outdated.
+
+    So a task changes nothing if there is nothing to change.
+    """
     try:
-        word, policy = _text(password), Policy(method, rounds, budget)
-        if current is not None:
-            try:
-                if not policy.needs_rehash(current) and policy.verify(word, field=current):
-                    return current
-            except Refused:
-                pass
-        return policy.hash(word)
-    except (TypeError, ValueError) as fault:
-        raise AnsibleFilterError("mkpasswd_hash: %s" % fault) from None
+        secret, policy = _decrypted(password), Policy(method, rounds, budget)
+        if current is not None and _is_current(policy, secret, current):
+            return current
+        return policy.hash(secret)
+    except (TypeError, ValueError) as error:
+        raise AnsibleFilterError(f"mkpasswd_hash: {error}") from None
 
 
 def mkpasswd_verify(password: Any, stored: str, budget: Optional[int] = None) -> bool:
-    """Whether the password matches the stored hash."""
+    """Return whether the password matches the stored hash."""
     try:
-        return Policy(budget=budget).verify(_text(password), field=stored)
-    except (TypeError, ValueError) as fault:
-        raise AnsibleFilterError("mkpasswd_verify: %s" % fault) from None
+        policy, secret = Policy(budget=budget), _decrypted(password)
+        found = policy.describe(stored)
+        if found.state in _UNCHECKED:
+            raise ValueError(f"the stored hash is {found}")
+        return policy.login(secret, field=stored)
+    except (TypeError, ValueError) as error:
+        raise AnsibleFilterError(f"mkpasswd_verify: {error}") from None
 
 
-def _text(value: Any) -> Any:
+def _is_current(policy: Policy, password: Any, stored: str) -> bool:
+    if policy.describe(stored).state in _UNCHECKED or policy.needs_rehash(stored):
+        return False
+    return policy.login(password, field=stored)
+
+
+def _decrypted(value: Any) -> Any:
     # What a vault holds is no str before it is decrypted.
     return str(value) if type(value).__name__ == "AnsibleVaultEncryptedUnicode" else value
 
 
 class FilterModule:
+    """What Ansible looks for in a file of filters."""
+
     def filters(self) -> Dict[str, Callable[..., Any]]:
+        """The filters by their names."""
         return {"mkpasswd_hash": mkpasswd_hash, "mkpasswd_verify": mkpasswd_verify}

@@ -3,31 +3,38 @@
     class SitePasswordHasher(MkpasswdPasswordHasher):
         rounds = 900000
 
-Django reads the algorithm in front of the first "$", so a hash is stored as "mkpasswd$6$..". Put "mkpasswd" in front of hashes
-of these methods that come from elsewhere.
+Django reads the algorithm in front of the first "$", so a hash is stored as "mkpasswd$6$..". Put
+"mkpasswd" in front of hashes of these methods that come from elsewhere.
+
+A password whose hash would cost more than the policy's limit gets fewer rounds, so that Django can
+renew the hash of everybody who logs in; see Policy.for_length(). PasswordValidator refuses such
+passwords when they are set.
 """
-import logging
+from __future__ import annotations
+
 import re
-import sys
 from contextlib import suppress
-from traceback import walk_stack
-from typing import Any, Dict, Optional, Tuple
+from typing import Any, Dict, Optional
 
 from django.contrib.auth import hashers
 from django.contrib.auth.hashers import BasePasswordHasher, mask_hash
 from django.core.exceptions import PermissionDenied, ValidationError
 from django.utils.translation import gettext_noop as _
 
-from . import Policy, Refused, _calls, cost
+from . import Policy, Refused, TooCostly, _calls
+from ._library import PASSWORD_LIMIT
 from .crypt import crypt
 
 __all__ = ["InvalidPassword", "MkpasswdPasswordHasher", "PasswordValidator"]
 
-_LOG = logging.getLogger("mkpasswd")
+# User.password has 128 characters, and a digest of sha512crypt 86.
+_LONGEST_SETTING = 128 - 86
 
-_NAMES = {"1": "md5crypt", "5": "sha256crypt", "6": "sha512crypt", "7": "scrypt"}
+_METHODS = {"1": "md5crypt", "5": "sha256crypt", "6": "sha512crypt", "7": "scrypt"}
+_LEAST_ROUNDS = 1000  # of SHA-crypt
 
-# Number, rounds, salt and digest of a whole hash. scrypt's salt begins after eleven characters of cost.
+# Number, rounds, salt and digest of a whole hash. scrypt's salt begins after eleven characters of
+# cost.
 _FORMS = (
     re.compile(r"\$([156])\$(?:rounds=([0-9]+)\$)?([^$]*)\$([^$]+)\Z"),
     re.compile(r"\$(7)\$.{11}()(.*)\$([^$]+)\Z"),
@@ -35,86 +42,98 @@ _FORMS = (
 
 
 class InvalidPassword(PermissionDenied, ValueError):
-    """A password that no hash can have, or whose hash would cost more than the budget or the memory that there is.
+    """A password that no hash can have: of more than 1,024 bytes, or with a zero byte.
 
-    For an unknown name Django's authenticate() hashes what was typed. It takes this for a login that failed, so that unknown
-    names don't stand out.
+    It is raised too where scrypt lacks memory. For an unknown name, Django's authenticate() hashes
+    what was typed. It takes this for a login that failed, so that unknown names don't stand out.
     """
 
 
 class MkpasswdPasswordHasher(BasePasswordHasher):
+    """Hashes and checks passwords by one policy."""
+
     algorithm = "mkpasswd"
     method = "sha512crypt"
     rounds: Optional[int] = None
     budget: Optional[int] = None
 
     def __init_subclass__(cls, **options: Any) -> None:
+        """Refuses a wrong policy when the class is made."""
         super().__init_subclass__(**options)
-        # This refuses a wrong one when the class is made. User.password has 128 characters, and a digest of sha512crypt 86.
-        made = Policy(cls.method, cls.rounds, cls.budget)._made
-        if cls.method == "sha512crypt" and len(cls.algorithm + _calls.setting_of(made) + "$") > 128 - 86:
-            raise ValueError("rounds must be at most 999999, and algorithm of 8 characters: User.password has 128")
+        policy = Policy(cls.method, cls.rounds, cls.budget)
+        try:
+            policy.for_length(PASSWORD_LIMIT)
+        except TooCostly:
+            raise ValueError("budget is too low for passwords of 1,024 bytes") from None
+        is_long = len(cls.algorithm + policy.setting() + "$") > _LONGEST_SETTING
+        if cls.method == "sha512crypt" and is_long:
+            message = "rounds must be at most 999999, and algorithm of 8 characters"
+            raise ValueError(f"{message}: User.password has 128")
 
     @property
-    def _policy(self) -> Policy:
+    def policy(self) -> Policy:
+        """The policy of the attributes."""
         return Policy(self.method, self.rounds, self.budget)
 
     def salt(self) -> str:
-        return self._new_setting()[1]
+        """Return a new salt."""
+        return _calls.new_salt(self.method)
 
     def encode(self, password: str, salt: str) -> str:
-        if not salt or "$" in salt:
-            raise ValueError("salt must be provided and must not have a $")
-        setting = self._new_setting()[0] + salt
+        """Return the hash to store of a password of up to 1,024 bytes, however long."""
         try:
-            encoded = crypt(password, setting, budget=self._policy._limit)
-        except (MemoryError, ValueError) as fault:
-            old = _renewed(password)
-            if old is None:
-                raise InvalidPassword(str(fault)) from None
-            _LOG.debug("no new hash: %s", fault)
-            return old
-        # A long salt would be cut, and of a bad one there is no hash.
-        if not encoded.startswith(setting + "$"):
-            raise ValueError("bad salt")
-        return self.algorithm + encoded
+            policy = self._policy_for(password)
+        except ValueError as error:
+            raise InvalidPassword(str(error)) from None
+        setting = policy.setting(salt)
+        try:
+            return self.algorithm + crypt(password, setting, budget=policy.limit().cost)
+        except MemoryError as error:
+            raise InvalidPassword(str(error)) from None
 
     def verify(self, password: str, encoded: str) -> bool:
-        # As login(), at the cost of a new hash where nothing can be checked; the new hash is Django's to make.
-        return self._policy._login(password, self._field(encoded)) is not None
+        """Return whether the password matches, at the cost of a new hash if nothing can tell."""
+        field = self._field(encoded)
+        try:
+            policy = self._policy_for(password)
+        except ValueError:
+            return False
+        return policy.login(password, field=field)
 
     def must_update(self, encoded: str) -> bool:
+        """Return whether a new hash should replace this one."""
         with suppress(Refused):
-            return self._policy.needs_rehash(self._field(encoded))
+            return self.policy.needs_rehash(self._field(encoded))
         return False
 
     def harden_runtime(self, password: str, encoded: str) -> None:
-        # The rounds that the stored hash has less than a new one; with another method or scrypt a whole new hash.
-        field, rounds, limit = self._field(encoded), self.rounds, self._policy._limit
-        if not self._policy._admits(password):
-            return  # as for an unknown name
+        """Spend what a new hash costs more than verify() has done for this one."""
+        field = self._field(encoded)
+        # What can't be hashed costs nothing for an unknown name either.
         with suppress(MemoryError, ValueError):
-            with suppress(ValueError):
-                if cost(field, len(_calls.password_bytes(password))) > limit:
-                    return  # verify() has done all of the work
-                decoded = self.decode(encoded)
-                if decoded["method"] == self.method and self.method.startswith("sha"):
-                    rounds = max(self._policy._admitted.rounds - decoded["rounds"], 1000)
-            Policy(self.method, rounds, limit).hash(password)
+            policy = self._policy_for(password)
+            missing = self._missing(policy, len(_calls.password_bytes(password)), field)
+            if missing is not None:
+                missing.hash(password)
 
     def decode(self, encoded: str) -> Dict[str, Any]:
+        """Return the parts of a whole hash."""
         field = self._field(encoded)
         for form in _FORMS:
             found = form.match(field)
             if found:
-                number, given, salt, digest = found.groups()
-                method = _NAMES[number]
-                rounds = int(given) if given else 5000 if method.startswith("sha") else None
-                return {"algorithm": self.algorithm, "method": method, "rounds": rounds, "salt": salt, "hash": digest}
+                number, rounds, salt, digest = found.groups()
+                return {
+                    "algorithm": self.algorithm,
+                    "method": _METHODS[number],
+                    "rounds": _rounds(number, rounds),
+                    "salt": salt,
+                    "hash": digest,
+                }
         raise ValueError("the hash has none of these methods, or was cut")
 
     def safe_summary(self, encoded: str) -> Dict[str, Any]:
-        # Django's page of a user shows this for whatever is stored.
+        """Return what Django's page of a user shows, whatever is stored."""
         field = self._field(encoded)
         try:
             decoded = self.decode(encoded)
@@ -135,37 +154,53 @@ class MkpasswdPasswordHasher(BasePasswordHasher):
         # "mkpasswd$" is an empty field and "mkpasswd$!.." a locked one.
         return rest if rest[:1] in ("", "!", "*") else dollar + rest
 
-    def _new_setting(self) -> Tuple[str, str]:
-        """A setting up to its salt, and the salt. scrypt's begins after eleven characters of cost."""
-        setting = _calls.new_setting(self._policy._made)
-        at = 14 if setting.startswith("$7$") else setting.rindex("$") + 1
-        return setting[:at], setting[at:]
+    def _policy_for(self, password: str) -> Policy:
+        """The policy by which a hash of this password is within the limit."""
+        return self.policy.for_length(len(_calls.password_bytes(password)))
+
+    @staticmethod
+    def _missing(policy: Policy, password_len: int, field: str) -> Optional[Policy]:
+        """What is to be hashed besides, after verify() with a policy; None if that did it all."""
+        if policy.cost(field, password_len) > policy.limit().cost:
+            return None  # verify() has made a new hash
+        stored = policy.describe(field)
+        if stored.scheme != policy.method or stored.rounds is None or not policy.limit().rounds:
+            return policy
+        missing = policy.limit().rounds - stored.rounds
+        if missing <= 0:
+            return None
+        return Policy(policy.method, max(missing, _LEAST_ROUNDS), policy.limit().cost)
 
 
 class PasswordValidator:
-    """For AUTH_PASSWORD_VALIDATORS: it refuses a new password that the site's hasher would raise InvalidPassword for."""
+    """Refuses new passwords that the site's hasher would hash with fewer rounds, or not at all.
+
+    It is for AUTH_PASSWORD_VALIDATORS.
+    """
 
     def validate(self, password: str, user: Any = None) -> None:
-        if not self._policy._admits(password):
+        """Raise ValidationError for such a password, whoever the user is."""
+        del user
+        try:
+            length = len(_calls.password_bytes(password))
+        except ValueError:
+            length = PASSWORD_LIMIT + 1
+        if length > self._longest():
             raise ValidationError(self.get_help_text(), code="password_too_long")
 
     def get_help_text(self) -> str:
-        return "Your password can have at most %d bytes." % self._policy._admitted.length
+        """Return what the form says."""
+        return f"Your password can have at most {self._longest()} bytes."
 
-    @property
-    def _policy(self) -> Policy:
+    @staticmethod
+    def _longest() -> int:
         # The hashers of tests are often other ones.
-        return getattr(hashers.get_hasher(), "_policy", Policy())
+        policy: Policy = getattr(hashers.get_hasher(), "policy", Policy())
+        return policy.limit().longest_password
 
 
-def _renewed(password: str) -> Optional[str]:
-    """The stored hash that Django renews since this password has matched it, or None if it stores a new password.
-
-    Django calls encode() for both alike, and only what its check_password() knows tells them apart. It calls no hasher before
-    that when the stored hash is of another one.
-    """
-    for frame, _line in walk_stack(sys._getframe()):
-        seen = frame.f_locals if frame.f_globals is vars(hashers) else {}
-        if seen.get("is_correct") and seen.get("password") == password:
-            return seen.get("encoded")
-    return None
+def _rounds(number: str, digits: Optional[str]) -> Optional[int]:
+    """The rounds of a hash of SHA-crypt."""
+    if digits:
+        return int(digits)
+    return 5000 if number in ("5", "6") else None

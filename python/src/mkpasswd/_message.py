@@ -1,0 +1,24 @@
+"""The library's messages for its errors."""
+from __future__ import annotations
+
+import ctypes
+
+from ._loaded import STRING, declared, text_of
+
+_CALL = declared("mkpasswd_message_bytes", [ctypes.c_uint32, *STRING])
+
+
+def message(error: int) -> str:
+    """The message for the number of an error. The library has one for every number."""
+    return text_of(_CALL, error)
+
+
+class HasMessage:
+    """What Reason has besides names and numbers."""
+
+    value: int
+
+    @property
+    def message(self) -> str:
+        """The library's message, such as "bad rounds"."""
+        return message(self.value)

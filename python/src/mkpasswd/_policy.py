@@ -1,0 +1,342 @@
+"""A service's policy, whose calls are the package's, and what they return.
+
+The package is imported by commands that start often, so its modules import nothing slow.
+"""
+from __future__ import annotations
+
+import enum
+import functools
+import importlib
+from typing import TYPE_CHECKING, Dict, NamedTuple, Optional, Tuple
+
+from . import _calls, _library
+from ._calls import Text
+from ._library import Answer
+from ._message import message
+from ._reasons import Reason
+
+if TYPE_CHECKING:
+    import logging
+
+
+class State(enum.Enum):
+    """What describe() finds a stored field to be. The value is the word that an audit prints."""
+
+    CURRENT = "current"  #: a whole hash, which login() lets in by and leaves as it is
+    OUTDATED = "outdated"  #: a whole hash that a new one would replace: needs_rehash() is true
+    DEAD = "dead"  #: a valid setting, but no password matches: the hash was cut or changed
+    OVER_BUDGET = "over budget"  #: some password costs more than the budget
+    LOCKED = "locked"  #: it begins with "!" or "*"
+    NONE = "none"  #: it is empty, or None
+    NO_SCHEME = "no scheme"  #: a password that was stored as it is, or a damaged hash
+    UNKNOWN = "unknown"  #: a hash of another scheme, such as yescrypt, which is not judged
+    MALFORMED = "malformed"  #: its setting is invalid; the description's `reason` says why
+
+
+_STATES: Dict[Optional[Reason], State] = {
+    Reason.LOCKED: State.LOCKED,
+    Reason.NO_HASH: State.NONE,
+    Reason.NO_SCHEME: State.NO_SCHEME,
+    Reason.UNKNOWN_SCHEME: State.UNKNOWN,
+    Reason.OVER_BUDGET: State.OVER_BUDGET,
+    Reason.DEAD: State.DEAD,
+    **dict.fromkeys(_calls.NO_SETTING - {Reason.UNKNOWN_SCHEME}, State.MALFORMED),
+}
+
+
+class Description(NamedTuple):
+    """What describe() returns. str() is what `mkpasswd --audit` prints behind the name."""
+
+    state: State
+    scheme: Optional[str] = None  #: its name in crypt(5), also of another scheme if that is known
+    cost: Optional[int] = None  #: the most that a password of 1,024 bytes costs
+    rounds: Optional[int] = None  #: of SHA-crypt and md5crypt
+    n: Optional[int] = None  #: scrypt's N,
+    r: Optional[int] = None  #: its r,
+    p: Optional[int] = None  #: and its p
+    reason: Optional[Reason] = None  #: the first rule that a malformed setting breaks
+
+    def __str__(self) -> str:
+        if self.reason is not None:
+            return f"{self.state.value}:{self.reason.message}"
+        if self.scheme is None:
+            return self.state.value
+        if self.cost is None:
+            return f"{self.scheme}:{self.state.value}"
+        rounds = self.rounds if self.n is None else f"{self.n}/{self.r}/{self.p}"
+        return f"{self.scheme}:{rounds}:{self.cost}:{self.state.value}"
+
+
+class Limit(NamedTuple):
+    """What limit() returns."""
+
+    cost: int  #: the most that a hash may cost, as cost() counts it
+    longest_password: int  #: the bytes of the longest password that hash() takes; 0 if none
+    rounds: int  #: those of new hashes; 0 for md5crypt, and if hash() takes no password
+
+
+class Policy:
+    """The method and rounds of a service's new hashes, and what a hash may cost.
+
+    >>> policy = mkpasswd.Policy("scrypt", rounds=7)
+    >>> stored = policy.hash("password")
+    >>> policy.login("password", field=stored)
+    True
+
+    `method` is "sha512crypt", "sha256crypt", "scrypt" or "md5crypt". `rounds` is the number of
+    rounds of SHA-crypt, 1000 to 999999999; for scrypt it is 6 to 11, for N = 2^(rounds + 7), r = 32
+    and p = 1. None and 0 stand for the recommended number. md5crypt ignores it.
+
+    `budget` is the most that a hash may cost, as cost() counts it: the bytes that are digested, and
+    for scrypt those that are mixed. None stands for twice what a new hash costs with a password of
+    64 bytes, and at least for 150,000,000; limit() says how much that is. A budget of 1,300,000,000
+    admits every password with the recommended rounds.
+
+    Raises TypeError, also for a float or a bool; ValueError for a budget below 1; Refused, which is
+    a ValueError, for an unknown method or rounds that it does not take.
+    """
+
+    __slots__ = ("_method", "_rounds", "_budget", "_numbers", "_limit")
+
+    def __init__(
+        self,
+        method: str = "sha512crypt",
+        rounds: Optional[int] = None,
+        budget: Optional[int] = None,
+    ) -> None:
+        self._numbers = _calls.policy_numbers(method, rounds, budget)
+        self._method = str.__str__(method)
+        self._rounds = None if rounds is None else self._numbers.rounds
+        self._budget = None if budget is None else self._numbers.budget
+        admitted = _calls.admitted(self._numbers, self._method).report
+        self._limit = Limit(admitted.cost, admitted.length, admitted.rounds)
+
+    # Without a setter these can't change.
+    @property
+    def method(self) -> str:
+        """The method of new hashes."""
+        return self._method
+
+    @property
+    def rounds(self) -> Optional[int]:
+        """The rounds that were given."""
+        return self._rounds
+
+    @property
+    def budget(self) -> Optional[int]:
+        """The budget that was given."""
+        return self._budget
+
+    def _parts(self) -> Tuple[str, Optional[int], Optional[int]]:
+        return self._method, self._rounds, self._budget
+
+    def __eq__(self, other: object) -> bool:
+        return isinstance(other, Policy) and self._parts() == other._parts()
+
+    def __hash__(self) -> int:
+        return self._parts().__hash__()
+
+    def __repr__(self) -> str:
+        method, rounds, budget = self._parts()
+        return f"Policy(method={method!r}, rounds={rounds!r}, budget={budget!r})"
+
+    def __reduce__(self) -> Tuple[object, ...]:
+        return Policy, self._parts()
+
+    def login(self, password: Text, *, field: Optional[Text]) -> bool:
+        """Return True exactly if the password matches the field that is stored for the name.
+
+        `field` is None for a name that does not exist.
+
+        >>> mkpasswd.login("password", field="$1$xxxxxxxx$UYCIxa628.9qXjpQCjM4a.")
+        True
+        >>> mkpasswd.login("password", field=None)
+        False
+
+        Nothing that a user can type or a database can hold as str or bytes raises an exception. A
+        password that no hash can have, a locked or malformed field, another scheme, a hash that
+        costs more than the budget, and too little memory for scrypt are all False.
+
+        A field that can't be checked costs what a new hash costs, so the time does not tell which
+        names exist, as long as all hashes are made by this policy. A password that no hash can
+        have, or of which a new hash would cost more than the limit of a policy without a budget, is
+        refused at once, for every name.
+
+        At level DEBUG the logger "mkpasswd" says why it is False. Password and field are not in the
+        message. Raises TypeError alone, for what is neither str nor bytes.
+        """
+        stored = b"" if field is None else _calls.text_bytes(field, "field")
+        try:
+            secret = _calls.password_bytes(password)
+        except ValueError as error:
+            _logger().debug("login refused: %s", error)
+            return False
+        answer = _library.login(secret, stored, self._numbers)
+        if not answer.is_yes:
+            _logger().debug("login refused: %s", message(answer.report.error))
+        return answer.is_yes
+
+    def needs_rehash(self, stored: Text) -> bool:
+        """Return whether a new hash by this policy should replace the stored one.
+
+        It is True if the method is another one, whatever the stored hash costs, or the same with
+        more rounds, or for scrypt with a greater N * r * p. It is False for a hash with more rounds
+        than these, and for an empty or locked field. It checks no password.
+
+        >>> mkpasswd.needs_rehash("$6$rounds=20000$salt$x")
+        True
+        >>> mkpasswd.Policy(rounds=10000).needs_rehash("$6$rounds=20000$salt$x")
+        False
+
+        Raises Refused if the stored hash is not one of these methods or has no valid setting.
+        """
+        field = _calls.text_bytes(stored, "stored")
+        answer = _library.needs_rehash(field, self._numbers)
+        if answer.report.error == 0:
+            return answer.report.outdated == 1
+        # Of these calls only an audit knows a locked field.
+        if self.describe(field).state in (State.LOCKED, State.NONE):
+            return False
+        raise _calls.failure(answer)
+
+    def hash(self, password: Text) -> str:
+        """Return the hash of a new password, with a salt from the system.
+
+        >>> mkpasswd.hash("password").startswith("$6$rounds=656000$")
+        True
+
+        Raises TooCostly, before anything is hashed, if the hash costs more than the budget, so that
+        login() lets in by what is made; ValueError if no hash can have the password; OSError if the
+        system has no random bytes; MemoryError.
+        """
+        answer = _library.new(_calls.password_bytes(password), self._numbers)
+        if not answer.is_yes:
+            raise _calls.failure(answer, self._limit.cost)
+        return answer.text
+
+    def describe(self, field: Optional[Text]) -> Description:
+        """Return what `mkpasswd --audit` says of a stored field. Nothing is hashed.
+
+        >>> mkpasswd.describe("$1$xxxxxxxx$UYCIxa628.9qXjpQCjM4a.").state
+        <State.OUTDATED: 'outdated'>
+        >>> mkpasswd.describe("$1$xxxxxxxx$UYCIxa628.9qXjpQ").state
+        <State.DEAD: 'dead'>
+        >>> str(mkpasswd.describe("$6$rounds=20000$salt$x"))
+        'sha512crypt:20000:40430808:dead'
+        >>> str(mkpasswd.describe("$6$rounds=0$salt$x"))
+        'malformed:bad rounds'
+
+        A hash is over budget if a password of 1,024 bytes can cost more than the budget. Without a
+        budget, it is if that can cost more than with a new hash of this policy and of the
+        recommended one, or if login() refuses each password as too costly. A hash with more rounds
+        than the policy's can be over budget though login() takes it: audit with the policy that
+        made it.
+
+        Raises TypeError alone, for what is neither str nor bytes.
+        """
+        text = b"" if field is None else _calls.text_bytes(field, "field")
+        answer = _library.audit(text, self._numbers)
+        state = _state_of(answer)
+        if state in (State.LOCKED, State.NONE, State.NO_SCHEME):
+            return Description(state)
+        if state is State.MALFORMED:
+            return Description(state, reason=answer.reason)
+        report = answer.report
+        scheme = _scheme_name(report.scheme)
+        if state is State.UNKNOWN:
+            return Description(state, scheme)
+        if report.n:
+            return Description(state, scheme, report.cost, None, report.n, report.r, report.p)
+        return Description(state, scheme, report.cost, report.rounds)
+
+    def limit(self) -> Limit:
+        """Return what this policy admits: the most that a hash may cost, and the longest password.
+
+        >>> mkpasswd.limit()
+        Limit(cost=253921472, longest_password=168, rounds=656000)
+
+        The cost is the budget, or what None stands for. hash() takes every password of up to
+        `longest_password` bytes, and none that is longer; see for_length().
+        """
+        return self._limit
+
+    def cost(self, stored: Text, password_len: int) -> int:
+        """Return the most that a hash with this setting costs, for any password of so many bytes.
+
+        It is what a budget is compared with: the bytes that are digested, and for scrypt those that
+        are mixed. It is the same for every policy, and nothing is hashed.
+
+        >>> mkpasswd.cost("$1$xxxxxxxx$UYCIxa628.9qXjpQCjM4a.", 8)
+        36239
+
+        Raises Refused if the stored hash is not one of these methods or has no valid setting, and
+        for an empty or locked field.
+        """
+        field = _calls.text_bytes(stored, "stored")
+        answer = _library.bound(field, _calls.length(password_len))
+        if not answer.is_yes:
+            raise _calls.failure(answer)
+        return answer.report.cost
+
+    def setting(self, salt: Optional[Text] = None) -> str:
+        """Return a setting for crypt.crypt(), with a salt of yours, or without one a new salt.
+
+        >>> mkpasswd.Policy().setting("saltstring")
+        '$6$rounds=656000$saltstring'
+
+        Two passwords with one salt can be guessed together: hash() draws a new one for each. Raises
+        Refused for a salt that the method does not take whole.
+        """
+        given = _calls.new_salt(self._method) if salt is None else salt
+        answer = _library.setting(self._numbers, _calls.text_bytes(given, "salt"))
+        if not answer.is_yes:
+            raise _calls.failure(answer)
+        return answer.text
+
+    def for_length(self, password_len: int) -> Policy:
+        """Return a policy with which a password of so many bytes is within this policy's limit.
+
+        It is this policy, or for a longer password one with fewer rounds of SHA-crypt. It is for
+        services that can't refuse long passwords. needs_rehash() of this policy calls such a hash
+        outdated, and its rounds tell whoever sees it about how long the password is.
+
+        >>> mkpasswd.Policy().for_length(1024)
+        Policy(method='sha512crypt', rounds=118822, budget=253921472)
+
+        Raises TooCostly if even the fewest rounds cost more than a budget of your own, and
+        ValueError above 1,024 bytes.
+        """
+        answer = _library.rounds(_calls.length(password_len), self._numbers)
+        if not answer.is_yes:
+            raise _calls.failure(answer, self._limit.cost)
+        if answer.report.rounds == self._limit.rounds:
+            return self
+        return Policy(self._method, answer.report.rounds, self._limit.cost)
+
+
+def _state_of(answer: Answer) -> State:
+    """The state that an audit reports."""
+    # A report that no call has filled has no scheme.
+    if answer.report.error == 0 and answer.report.scheme != 0:
+        return State.OUTDATED if answer.report.outdated == 1 else State.CURRENT
+    state = _STATES.get(answer.reason)
+    if state is None:
+        raise _calls.failure(answer)
+    return state
+
+
+@functools.lru_cache(maxsize=None)
+def _scheme_name(number: int) -> Optional[str]:
+    """The name of a scheme that an audit reports, or None if it knows none."""
+    return _library.scheme_name(number) if number else None
+
+
+@functools.lru_cache(maxsize=None)
+def _logger() -> logging.Logger:
+    """The logger "mkpasswd". To import logging takes longer than the rest, so it waits."""
+    logger: logging.Logger = importlib.import_module("logging").getLogger("mkpasswd")
+    return logger
+
+
+RECOMMENDED = Policy()
+hash_by_recommended = RECOMMENDED.hash
