@@ -82,9 +82,11 @@ def test_the_examples_of_a_module_are_right(module: ModuleType, least: int) -> N
 # ---- Types
 
 RIGHT = """
+from concurrent.futures import Future
 from typing import Optional
 import mkpasswd
 from mkpasswd import crypt
+from mkpasswd.fixed_time import FixedTime
 policy = mkpasswd.Policy("scrypt", 6, budget=2**42)
 stored: str = policy.hash(b"x")
 is_in: bool = policy.login("x", field=None)
@@ -95,6 +97,8 @@ found: mkpasswd.Description = policy.describe(None)
 scheme: Optional[str] = found.scheme
 reason: Optional[mkpasswd.Reason] = found.reason
 print(found.state is mkpasswd.State.DEAD, crypt.crypt("x", crypt.methods[0]), policy.setting("a"))
+logins = FixedTime(seconds=5, threads=2, queued=10, failed=100)
+answer: "Future[bool]" = logins.submit(policy.login, "x", field=None)
 """
 # What somebody careless writes, and what earlier versions took.
 WRONG = [
@@ -117,6 +121,7 @@ WRONG = [
     "mkpasswd.mksalt()",
     'if found.state == "current": pass',
     "if mkpasswd.login: pass",
+    "FixedTime(5, 2, 10, 100)",
 ]
 USER = "user.py"
 

@@ -5,6 +5,7 @@ import asyncio
 import contextlib
 import importlib
 import sqlite3
+import time
 from concurrent.futures import ThreadPoolExecutor
 from pathlib import Path
 from typing import Any
@@ -156,6 +157,37 @@ def test_the_log_of_a_failure_names_users_alone(
 ) -> None:
     assert login(database, name, "passw0rd") is False
     assert [record.getMessage() for record in caplog.records] == [logged]
+
+
+# ---- Failures after a fixed time
+
+
+@pytest.fixture(scope="module", name="fixed_time")
+def fixture_fixed_time(cook: Cook) -> dict[str, Any]:
+    def login_by_name(name: str, password: str) -> bool:
+        return mkpasswd.login(password, field=MD5 if name == "ann" else None)
+
+    names = {"asyncio": asyncio, "login_by_name": login_by_name}
+    return cook.follow("Failures after a fixed time", **names)
+
+
+@pytest.fixture(name="answer", params=["threads", "asyncio"])
+def fixture_answer(fixed_time: dict[str, Any], request: pytest.FixtureRequest) -> Any:
+    """The function of the document for threads, or that for asyncio."""
+    if request.param == "threads":
+        return fixed_time["answer"]
+    return lambda *words: asyncio.run(fixed_time["answer_later"](*words))
+
+
+def test_the_right_password_is_answered_by_true(answer: Any) -> None:
+    assert answer("ann", "password") is True
+
+
+@pytest.mark.parametrize("name", ["ann", "nobody"])
+def test_a_wrong_password_is_answered_after_five_seconds(answer: Any, name: str) -> None:
+    began = time.monotonic()
+    assert answer(name, "passw0rd") is False
+    assert time.monotonic() - began >= 5
 
 
 # ---- The others

@@ -1,0 +1,226 @@
+"""Failed logins are answered a fixed time after they began, and hold nothing until then.
+
+How late a busy machine answers says nothing of the package, so a time counts if one of several
+attempts keeps it: what an attacker could use would be in all of them.
+"""
+from __future__ import annotations
+
+import asyncio
+import threading
+import time
+from collections.abc import Callable
+from concurrent.futures import Future
+from typing import Any, NoReturn
+
+import pytest
+from support.package import crypt, error_of, tried_package
+from support.stored_strings import COSTLY, MD5, SHA512
+
+with tried_package():
+    from mkpasswd import Policy
+    from mkpasswd.fixed_time import Busy, FixedTime
+
+# They measure times, so they don't run beside each other.
+pytestmark = pytest.mark.xdist_group("fixed time")
+
+ATTEMPTS = 20
+QUICK = Policy(rounds=1000)
+LONGEST_WAIT = 60  # seconds, for what should come at once
+
+
+def raise_an_error() -> NoReturn:
+    raise RuntimeError("the database is away")
+
+
+def by_threads(logins: FixedTime, login: Callable[..., Any], *arguments: Any, **named: Any) -> Any:
+    """Waits in this thread."""
+    return logins.submit(login, *arguments, **named).result(LONGEST_WAIT)
+
+
+def by_asyncio(logins: FixedTime, login: Callable[..., Any], *arguments: Any, **named: Any) -> Any:
+    """Waits as a coroutine does."""
+
+    async def wait() -> Any:
+        return await asyncio.wrap_future(logins.submit(login, *arguments, **named))
+
+    return asyncio.run(wait())
+
+
+WAYS = pytest.mark.parametrize("wait", [by_threads, by_asyncio], ids=["threads", "asyncio"])
+
+
+# ---- The moment of an answer
+
+FAILURES = [
+    pytest.param(QUICK.login, ("passw0rd",), MD5, id="another password"),
+    pytest.param(QUICK.login, ("passw0rd",), SHA512, id="another method"),
+    pytest.param(QUICK.login, ("password",), None, id="an unknown name"),
+    pytest.param(QUICK.login, ("password",), "!" + MD5, id="a lock"),
+    pytest.param(QUICK.login, ("password",), MD5[:-1], id="a hash that was cut"),
+    pytest.param(Policy("md5crypt").login, ("password",), COSTLY, id="a costly hash"),
+    pytest.param(QUICK.login, ("password",), "$y$j9T$salt$x", id="another scheme"),
+    pytest.param(QUICK.login, ("x" * 1025,), MD5, id="a password that is too long"),
+]
+
+
+def seconds_beyond(logins: FixedTime, moment: float, wait: Any, *arguments: Any) -> float:
+    """How much later than that after its start a login is answered by False."""
+    began = time.monotonic()
+    login, password, field = arguments
+    assert wait(logins, login, *password, field=field) is False
+    return time.monotonic() - began - moment
+
+
+@WAYS
+@pytest.mark.parametrize(("login", "password", "field"), FAILURES)
+def test_failures_of_all_kinds_are_answered_at_one_moment(
+    wait: Any, login: Any, password: tuple[str], field: str | None
+) -> None:
+    logins = FixedTime(seconds=0.3, threads=1, queued=1, failed=10)
+    lateness = []
+    for _ in range(ATTEMPTS):
+        lateness.append(seconds_beyond(logins, 0.3, wait, login, password, field))
+        if lateness[-1] <= 0.005:
+            break
+    assert 0 <= min(lateness) <= 0.005, lateness
+
+
+@WAYS
+def test_a_login_that_raises_an_error_is_answered_at_that_moment_too(wait: Any) -> None:
+    """An error of the database, say, would otherwise tell that the name exists."""
+    logins = FixedTime(seconds=0.3, threads=1, queued=1, failed=10)
+    began = time.monotonic()
+    error = error_of(wait, logins, raise_an_error)
+    assert time.monotonic() - began >= 0.3
+    assert isinstance(error, RuntimeError) and str(error) == "the database is away"
+
+
+@WAYS
+def test_a_login_that_succeeds_is_answered_at_once(wait: Any) -> None:
+    logins = FixedTime(seconds=LONGEST_WAIT, threads=1, queued=1, failed=10)
+    began = time.monotonic()
+    assert wait(logins, QUICK.login, "password", field=MD5) is True
+    assert time.monotonic() - began < LONGEST_WAIT
+
+
+@pytest.mark.parametrize("answer", [None, 1, "True", [True], (True, None)], ids=repr)
+def test_only_true_is_a_success(answer: Any) -> None:
+    logins = FixedTime(seconds=0, threads=1, queued=1, failed=10)
+
+    def login() -> Any:
+        return answer
+
+    assert logins.submit(login).result(LONGEST_WAIT) is False
+
+
+def test_a_failure_that_took_longer_is_answered_as_soon_as_it_has_run() -> None:
+    logins = FixedTime(seconds=0.01, threads=1, queued=1, failed=10)
+    ended = []
+
+    def be_slow() -> bool:
+        time.sleep(0.3)
+        ended.append(time.monotonic())
+        return False
+
+    lateness = []
+    for _ in range(ATTEMPTS):
+        assert logins.submit(be_slow).result(LONGEST_WAIT) is False
+        lateness.append(time.monotonic() - ended.pop())
+        if lateness[-1] < 0.1:
+            break
+    assert min(lateness) < 0.1, lateness
+
+
+# ---- What waits holds nothing
+
+FAILED = 100
+SLOW = Policy(rounds=50_000)
+
+
+@pytest.fixture(scope="module", name="stored")
+def fixture_stored() -> str:
+    return crypt("password", SLOW.setting("saltsaltsaltsalt"))
+
+
+def wrong_logins(logins: FixedTime) -> list[Future[bool]]:
+    """Wrong logins, all of which have been hashed and wait for their time."""
+    answers = [logins.submit(QUICK.login, "passw0rd", field=MD5) for _ in range(FAILED)]
+    # There is one thread, so this runs after all of them.
+    assert logins.submit(QUICK.login, "password", field=MD5).result(LONGEST_WAIT) is True
+    return answers
+
+
+def least_seconds(wait: Any, logins: FixedTime, stored: str) -> float:
+    """What a right login takes at least."""
+    seconds = []
+    for _ in range(3):
+        began = time.monotonic()
+        assert wait(logins, SLOW.login, "password", field=stored) is True
+        seconds.append(time.monotonic() - began)
+    return min(seconds)
+
+
+@WAYS
+def test_a_right_login_takes_no_longer_while_a_hundred_failures_wait(
+    wait: Any, stored: str
+) -> None:
+    alone = FixedTime(seconds=300, threads=1, queued=FAILED, failed=FAILED + 1)
+    beside_failures = FixedTime(seconds=300, threads=1, queued=FAILED, failed=FAILED + 1)
+    answers = wrong_logins(beside_failures)
+    ratios = []
+    for _ in range(ATTEMPTS):
+        of_one = least_seconds(wait, alone, stored)
+        ratios.append(least_seconds(wait, beside_failures, stored) / of_one)
+        if ratios[-1] <= 1.2:
+            break
+    assert not any(answer.done() for answer in answers)
+    assert min(ratios) <= 1.2, ratios
+
+
+def test_failures_that_wait_take_no_thread() -> None:
+    logins = FixedTime(seconds=300, threads=1, queued=FAILED, failed=FAILED + 1)
+    before = threading.active_count()
+    wrong_logins(logins)
+    assert threading.active_count() <= before + 1  # the one that hashes
+
+
+# ---- Limits
+
+
+def test_a_full_queue_refuses_the_next_login_until_one_has_run() -> None:
+    logins = FixedTime(seconds=0, threads=1, queued=2, failed=10)
+    may_go_on = threading.Event()
+    answers = [logins.submit(may_go_on.wait, LONGEST_WAIT) for _ in range(3)]
+    error = error_of(logins.submit, QUICK.login, "password", field=MD5)
+    assert error.__class__ is Busy
+    may_go_on.set()
+    assert [answer.result(LONGEST_WAIT) for answer in answers] == [True] * 3
+    assert logins.submit(QUICK.login, "password", field=MD5).result(LONGEST_WAIT) is True
+
+
+def test_too_many_failures_refuse_the_next_login_until_one_is_answered() -> None:
+    logins = FixedTime(seconds=1, threads=1, queued=5, failed=2)
+    answers = [logins.submit(QUICK.login, "passw0rd", field=MD5) for _ in range(2)]
+    refused = False
+    while not answers[0].done():
+        try:
+            logins.submit(QUICK.login, "password", field=MD5).result(LONGEST_WAIT)
+        except Busy:
+            refused = True
+    assert refused
+    assert [answer.result(LONGEST_WAIT) for answer in answers] == [False] * 2
+    assert logins.submit(QUICK.login, "password", field=MD5).result(LONGEST_WAIT) is True
+
+
+def test_whoever_goes_away_disturbs_nobody() -> None:
+    """As a client who closes the connection."""
+    logins = FixedTime(seconds=0.1, threads=1, queued=5, failed=5)
+
+    async def go_away() -> None:
+        answer = asyncio.wrap_future(logins.submit(QUICK.login, "passw0rd", field=MD5))
+        answer.cancel()
+        await asyncio.sleep(0)
+
+    asyncio.run(go_away())
+    assert by_threads(logins, QUICK.login, "passw0rd", field=MD5) is False
+    assert by_threads(logins, QUICK.login, "password", field=MD5) is True
