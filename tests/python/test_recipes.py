@@ -4,6 +4,7 @@ from __future__ import annotations
 import asyncio
 import contextlib
 import importlib
+import runpy
 import sqlite3
 import time
 from concurrent.futures import ThreadPoolExecutor
@@ -11,7 +12,7 @@ from pathlib import Path
 from typing import Any
 
 import pytest
-from support.package import Cook, crypt, tried_package
+from support.package import Cook, crypt, recipe_under, tried_package
 from support.stored_strings import COSTLY, MD5, SHA512, title
 
 with tried_package():
@@ -157,6 +158,100 @@ def test_the_log_of_a_failure_names_users_alone(
 ) -> None:
     assert login(database, name, "passw0rd") is False
     assert [record.getMessage() for record in caplog.records] == [logged]
+
+
+# ---- Moving from other hashes
+
+MOVING = "Moving from other hashes"
+OLD_SCHEMES = pytest.mark.parametrize("scheme", ["bcrypt", "pbkdf2"])
+OLD_NEEDS = pytest.mark.needs("python3-passlib", "python3-bcrypt", "python3-werkzeug")
+
+
+@pytest.fixture(name="moving_login")
+def fixture_moving_login(cook: Cook) -> Any:
+    """The whole login with the fallback, put in as the document says."""
+    names = cook.follow(MOVING, mkpasswd=mkpasswd)
+    code = recipe_under("A whole login")
+    for old, new in (
+        ("mkpasswd.login(password, field=field)", "matches(password, field)"),
+        ("mkpasswd.needs_rehash(field)", "is_outdated(field)"),
+    ):
+        assert code.count(old) == 1
+        code = code.replace(old, new)
+    path = cook.folder / "moving_login.py"
+    path.write_text(code, encoding="utf-8")
+    given = {name: names[name] for name in ("matches", "is_outdated")}
+    return runpy.run_path(str(path), init_globals=given)["login"]
+
+
+def old_hash(scheme: str, password: str) -> str:
+    """A hash of a service that moves, which costs little."""
+    if scheme == "bcrypt":
+        handler = importlib.import_module("passlib.hash").bcrypt
+        return str(handler.using(rounds=4).hash(password))
+    security = importlib.import_module("werkzeug.security")
+    return str(security.generate_password_hash(password, "pbkdf2:sha256:1000"))
+
+
+def store(users: sqlite3.Connection, field: str) -> None:
+    users.execute("UPDATE users SET hash = ? WHERE name = 'ann'", (field,))
+    users.commit()
+
+
+@OLD_NEEDS
+@OLD_SCHEMES
+def test_a_user_with_an_old_hash_gets_in_and_moves(
+    database: sqlite3.Connection, moving_login: Any, scheme: str
+) -> None:
+    store(database, old_hash(scheme, "password"))
+    assert moving_login(database, "ann", "password") is True
+    new = fields_of(database)["ann"]
+    assert new.startswith(RECOMMENDED) and new == crypt("password", new)
+    assert moving_login(database, "ann", "password") is True
+    assert moving_login(database, "ann", "passw0rd") is False
+
+
+@OLD_NEEDS
+@OLD_SCHEMES
+@pytest.mark.parametrize("password", WRONG_PASSWORDS, ids=title)
+def test_a_wrong_password_does_not_move(
+    database: sqlite3.Connection, moving_login: Any, scheme: str, password: str
+) -> None:
+    store(database, old_hash(scheme, "password"))
+    before = fields_of(database)
+    assert moving_login(database, "ann", password) is False
+    assert fields_of(database) == before
+
+
+@OLD_NEEDS
+@pytest.mark.parametrize("length", [169, 1024, 1025])
+def test_a_password_that_ours_do_not_take_keeps_its_old_hash(
+    database: sqlite3.Connection, moving_login: Any, length: int
+) -> None:
+    old = old_hash("pbkdf2", "x" * length)
+    store(database, old)
+    assert moving_login(database, "ann", "x" * length) is True
+    assert fields_of(database)["ann"] == old
+    assert moving_login(database, "ann", "y" * length) is False
+
+
+@OLD_NEEDS
+@OLD_SCHEMES
+@pytest.mark.parametrize("damage", ["!{}", "*", "{}x", "x{}", "$2b$", "pbkdf2:", "pbkdf2:sha256$"])
+def test_a_locked_or_damaged_old_hash_lets_nobody_in(
+    database: sqlite3.Connection, moving_login: Any, scheme: str, damage: str
+) -> None:
+    store(database, damage.format(old_hash(scheme, "password")))
+    assert moving_login(database, "ann", "password") is False
+
+
+@OLD_NEEDS
+@pytest.mark.parametrize("name", [*USERS, "nobody", None], ids=str)
+def test_all_others_log_in_as_before(
+    database: sqlite3.Connection, moving_login: Any, name: str | None
+) -> None:
+    assert moving_login(database, name, "password") is (name == "ann")
+    assert moving_login(database, name, "passw0rd") is False
 
 
 # ---- Failures after a fixed time
