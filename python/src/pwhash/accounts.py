@@ -1,0 +1,100 @@
+"""FIELDS, such as /etc/shadow, and the passwords that are to be tried for its accounts."""
+
+from __future__ import annotations
+
+import os
+import stat
+from collections.abc import Iterable
+from typing import Dict, List
+
+from pwhash.console import Console
+from pwhash.errors import UsageError, errors_named
+from pwhash.lines import BYTE_ORDER_MARK, Arrivals, Line
+from pwhash.source import open_in_time, refuse_as_output
+from pwhash.text import named
+
+LONGEST_LINE = 1 << 17
+MOST_NAMED = 20  # numbers of lines in a message
+MOST_TOGETHER = 1 << 10  # lines that one word becomes at once
+
+
+class Accounts:
+    """The stored field of each account, and what is odd about the lines to try."""
+
+    def __init__(self, path: str, console: Console) -> None:
+        self._fields = read_fields(path, console)
+        self.absent: List[int] = []  # lines whose name has no account
+        self.marked: List[int] = []  # lines with a carriage return or a byte order mark
+        self.odd = 0  # how many lines aren't UTF-8, or have a zero byte
+
+    def tried(self, arrivals: Arrivals) -> Arrivals:
+        """Lines name:password, or lone passwords for all names, as lines name:field:password."""
+        for group in arrivals:
+            if not group:
+                yield []
+            tries: List[Line] = []
+            for line in group:
+                for name, password in self._names_for(line):
+                    data = b"%b:%b:%b" % (name, self._fields[name], password)
+                    tries.append(line._replace(data=data))
+                    if len(tries) == MOST_TOGETHER:
+                        yield tries
+                        tries = []
+                if line.refused_row is not None:
+                    tries.append(line)
+            if tries:
+                yield tries
+
+    def _names_for(self, line: Line) -> Iterable[tuple[bytes, bytes]]:
+        """The accounts for which a line is tried, each with the password."""
+        if line.refused_row is not None:
+            return ()
+        self._note(line)
+        name, colon, password = line.data.partition(b":")
+        if not colon:
+            name, password = b"", line.data
+        if not name:
+            return ((each, password) for each in self._fields)
+        if name in self._fields:
+            return ((name, password),)
+        if len(self.absent) < MOST_NAMED:
+            self.absent.append(line.number)
+        return ()
+
+    def _note(self, line: Line) -> None:
+        data = line.data
+        if (b"\r" in data or BYTE_ORDER_MARK in data) and len(self.marked) < MOST_NAMED:
+            self.marked.append(line.number)
+        self.odd += b"\0" in data or "\ufffd" in data.decode(errors="replace")
+
+
+def read_fields(path: str, console: Console) -> Dict[bytes, bytes]:
+    """The first field of each name in a file name:field."""
+    fields: Dict[bytes, bytes] = {}
+    name_of_file = named(path)
+    with errors_named(name_of_file), open(open_fields(path), "rb") as file:
+        refuse_as_output(os.fstat(file.fileno()), name_of_file, console)
+        number, line = 1, file.readline(LONGEST_LINE)
+        while line:
+            if len(line) == LONGEST_LINE:
+                raise UsageError(
+                    f"{name_of_file}, line {number}: longer than 128 KiB, "
+                    "which no line name:field is."
+                )
+            name, colon, rest = line.rstrip(b"\n").partition(b":")
+            if colon:
+                fields.setdefault(name, rest.partition(b":")[0])
+            number, line = number + 1, file.readline(LONGEST_LINE)
+    if not fields:
+        raise UsageError(f"{name_of_file} has no line name:field.")
+    return fields
+
+
+def open_fields(path: str) -> int:
+    """Opens a file, or a pipe that somebody writes, as a shell's <(..) is."""
+    fd = open_in_time(path)
+    kind = os.fstat(fd).st_mode
+    if stat.S_ISREG(kind) or stat.S_ISFIFO(kind):
+        return fd
+    what = "a folder" if stat.S_ISDIR(kind) else "no file"
+    raise UsageError(f"{named(path)} is {what}. Name a file with lines name:field.")

@@ -1,0 +1,432 @@
+"""The command line: what each command takes, and how that becomes its options."""
+
+from __future__ import annotations
+
+import argparse
+import functools
+import os
+import re
+from collections.abc import Sequence
+from typing import Any, Callable, Dict, NamedTuple, NoReturn, Optional
+
+from pwhash import library
+from pwhash.console import terminal_columns
+from pwhash.errors import UsageError
+from pwhash.library import Policy
+from pwhash.options import (
+    DEFAULT_COLUMNS,
+    AuditOptions,
+    CheckOptions,
+    Doubtful,
+    FileOptions,
+    Form,
+    Input,
+    OneOptions,
+    Options,
+    Service,
+)
+from pwhash.text import named
+
+USAGE = """
+  pwhash                             hash a password, which it asks for
+  pwhash file passwords -o hashes    hash lines name:password, for chpasswd -e
+  pwhash audit /etc/shadow           what is wrong with stored hashes
+
+Hashes are sha512crypt with 656000 rounds. file, check, audit have own --help."""
+FILE_TEXT = "Hashes lines name:password. A file is read twice, first to look for problems."
+CHECK_TEXT = (
+    "Checks lines name:field:password, where the field is what is stored: a hash, ! or nothing."
+)
+AUDIT_TEXT = "Shows what is wrong with stored hashes; with --only-problems the worst first."
+
+STDIN = "-"
+NUMBER = re.compile("([0-9]{1,20})([kM]?)")
+FACTORS = {"": 1, "k": 1000, "M": 1000000}
+USER_NAME = re.compile("[A-Za-z_][A-Za-z0-9_.@-]{0,63}")
+OPTION_NAME = re.compile("--[a-z-]+")
+FORMS = {form.word: form for form in Form}
+# What a method takes as rounds, in words; md5crypt has none to choose.
+ROUNDS = {
+    "sha512crypt": "1000 to 999999999",
+    "sha256crypt": "1000 to 999999999",
+    "scrypt": "6 to 11",
+}
+
+
+class Shown(Exception):
+    """A help or a version was asked for. The message is its text."""
+
+
+def read_options(words: Sequence[str]) -> Options:
+    """The options of the command that the words ask for.
+
+    The command has to be the first word. Each has a parser of its own, since those of argparse
+    for subcommands would let options stand in front of the command, and then forget them.
+    """
+    name = words[0] if words and words[0] in COMMANDS else ""
+    command = COMMANDS[name]
+    parser = command.parser()
+    given, unknown = parser.parse_known_args(words[1:] if name else words)
+    if unknown:
+        raise parser.refusal(about_unknown(unknown))
+    return command.options(parser, given)
+
+
+def about_unknown(words: Sequence[str]) -> str:
+    """What is said of words that are none of ours, and of which one may be a password."""
+    options = [word for word in words if OPTION_NAME.fullmatch(word)]
+    if options:
+        return f"no option {' '.join(options)}"
+    return "there is a word too many, or an option that doesn't exist"
+
+
+class Formatter(argparse.HelpFormatter):
+    """Lays out a help. argparse's own would import shutil to ask for the width."""
+
+    def __init__(self, prog: str) -> None:
+        super().__init__(prog, width=help_columns() - 2)
+
+
+@functools.lru_cache(maxsize=None)
+def help_columns() -> int:
+    """The columns of a help."""
+    given = os.environ.get("COLUMNS", "")
+    if given.isascii() and given.isdecimal() and 20 <= int(given) < 1000:
+        return int(given)
+    return terminal_columns()
+
+
+class Parser(argparse.ArgumentParser):
+    """Ends the run by exceptions, where argparse would print and exit by itself."""
+
+    def __init__(self, command: str, description: Optional[str]) -> None:
+        super().__init__(
+            prog=f"pwhash {command}" if command else "pwhash",
+            usage=None if command else USAGE,
+            description=description,
+            formatter_class=Formatter,
+            allow_abbrev=False,
+            add_help=False,
+        )
+        help_text = "show this help message and exit"
+        version_text = "show program's version number and exit"
+        self.add_argument("-h", "--help", action=ShowHelp, nargs=0, help=help_text)
+        self.add_argument("--version", action=ShowVersion, nargs=0, help=version_text)
+
+    def error(self, message: str) -> NoReturn:
+        raise self.refusal(message)
+
+    def refusal(self, message: str) -> UsageError:
+        """What is said of arguments that don't fit."""
+        return UsageError(f"{message}. See {self.prog} --help.")
+
+    def flag(self, name: str, text: str) -> None:
+        """An option without a value."""
+        self.add_argument(name, action="store_true", help=text)
+
+    def value(self, *names: str, **properties: Any) -> None:
+        """An option with a value."""
+        self.add_argument(*names, action=Once, **properties)
+
+
+class ShowHelp(argparse.Action):
+    """Shows the help of a command."""
+
+    def __call__(self, parser: argparse.ArgumentParser, *_: object) -> NoReturn:
+        raise Shown(parser.format_help().rstrip("\n"))
+
+
+class ShowVersion(argparse.Action):
+    """Shows the version, which is the library's."""
+
+    def __call__(self, *_: object) -> NoReturn:
+        raise Shown(f"pwhash {library.version()}")
+
+
+class Once(argparse.Action):
+    """An option of which two values contradict each other."""
+
+    def __init__(self, *names: Any, **properties: Any) -> None:
+        super().__init__(*names, **properties)
+        self._is_given = False
+
+    def __call__(
+        self,
+        parser: argparse.ArgumentParser,
+        namespace: argparse.Namespace,
+        values: object,
+        option_string: Optional[str] = None,
+    ) -> None:
+        if self._is_given:
+            parser.error(f"{option_string} is given twice")
+        self._is_given = True
+        setattr(namespace, self.dest, values)
+
+
+def number(text: str) -> int:
+    """A number, for which 656k stands as well as 656000."""
+    found = NUMBER.fullmatch(text)
+    if not found:
+        message = f"{text!r} isn't a number: digits, or digits and one k or M, as 656k"
+        raise argparse.ArgumentTypeError(message)
+    return int(found[1]) * FACTORS[found[2]]
+
+
+# Each command: its parser, and the options that it makes of what is given.
+
+
+def one_parser() -> Parser:
+    """What `pwhash` takes."""
+    parser = Parser("", None)
+    forms = [form.word for form in Form if form is not Form.BARE]
+    parser.value("--for", dest="form", choices=forms, default="bare", help="print its line")
+    parser.value("--name", help="the user, for --for")
+    parser.flag("--generate", "make a password, and show it once on the terminal")
+    add_salt(parser)
+    add_common(parser)
+    return parser
+
+
+def one_options(parser: Parser, given: argparse.Namespace) -> Options:
+    """The options of `pwhash`."""
+    policy = policy_of(parser, given)
+    form = FORMS[given.form]
+    if bool(given.name) != form.has_name:
+        raise UsageError("cloud-init, htpasswd and shadow need a --name; nothing else has one.")
+    if given.name and not USER_NAME.fullmatch(given.name):
+        raise UsageError(
+            "a --name begins with a letter or _; then up to 63 letters, digits and _.@- follow."
+        )
+    return OneOptions(policy, form, given.name, given.generate)
+
+
+def file_parser() -> Parser:
+    """What `pwhash file` takes."""
+    parser = Parser("file", FILE_TEXT)
+    add_input(parser, "by default -", STDIN)
+    add_out(parser)
+    parser.flag("--resume", "go on with the OUT.part of an earlier run")
+    parser.flag("--look", "only look for problems")
+    parser.flag("--skip-refused", "leave out lines that mkpasswd refuses")
+    parser.flag("--skip-doubtful", "leave out doubtful lines")
+    parser.flag("--accept-doubtful", "take doubtful lines as they are")
+    add_table(parser)
+    services = [service.value for service in Service]
+    service_text = "doubt names that it takes for others"
+    parser.value("--for", dest="service", choices=services, help=service_text)
+    add_salt(parser)
+    add_common(parser)
+    return parser
+
+
+def file_options(parser: Parser, given: argparse.Namespace) -> Options:
+    """The options of `pwhash file`."""
+    refuse_lonely(parser, given, {"resume": "out", "columns": "csv"})
+    refuse_empty(parser, given, "out", "columns")
+    refuse_out(parser, given.out)
+    return FileOptions(
+        policy=policy_of(parser, given),
+        input=input_of(given),
+        out=given.out,
+        resume=given.resume,
+        only_look=given.look,
+        skip_refused=given.skip_refused,
+        doubtful=doubtful_of(given),
+        service=Service(given.service) if given.service else None,
+        quiet=given.quiet,
+    )
+
+
+def check_parser() -> Parser:
+    """What `pwhash check` takes."""
+    parser = Parser("check", CHECK_TEXT)
+    add_input(parser, "by default -", STDIN)
+    shadow_text = "lines are name:password; the hashes are in the file FIELDS"
+    parser.value("--shadow", metavar="FIELDS", help=shadow_text)
+    parser.flag("--rehash", "renew outdated hashes of right passwords; with -o for chpasswd -e")
+    add_out(parser)
+    add_table(parser)
+    add_salt(parser)
+    add_common(parser)
+    return parser
+
+
+def check_options(parser: Parser, given: argparse.Namespace) -> Options:
+    """The options of `pwhash check`. By default a check and a new hash may cost a limit each."""
+    refuse_lonely(parser, given, {"columns": "csv", "csv": "shadow"})
+    refuse_empty(parser, given, "out", "shadow", "columns")
+    refuse_out(parser, given.out)
+    policy = policy_of(parser, given)
+    if given.rehash and given.budget is None:
+        policy = policy._replace(budget=2 * policy.budget)
+    return CheckOptions(
+        policy=policy,
+        input=input_of(given),
+        out=given.out,
+        shadow=given.shadow,
+        rehash=given.rehash,
+        quiet=given.quiet,
+    )
+
+
+def audit_parser() -> Parser:
+    """What `pwhash audit` takes."""
+    parser = Parser("audit", AUDIT_TEXT)
+    add_input(parser, "a file such as /etc/shadow, or - for standard input", None)
+    parser.flag("--only-problems", "show what needs care, and nothing if all is well")
+    parser.flag("--json", "an object a line")
+    parser.flag("--locked", "judge the hashes of locked accounts too")
+    add_common(parser)
+    return parser
+
+
+def audit_options(parser: Parser, given: argparse.Namespace) -> Options:
+    """The options of `pwhash audit`. Without a budget it has its own, which is 0 here."""
+    if given.file is None:
+        raise parser.refusal(
+            "name a file: pwhash audit /etc/shadow, or for standard input pwhash audit -"
+        )
+    limit_of(parser, given)
+    own_budget = min(given.budget or 0, library.GREATEST_BUDGET)
+    return AuditOptions(
+        policy=Policy(given.method, given.rounds or 0, own_budget, None, None),
+        input=Input(path_of(given), unlock=given.locked, counts_lines=not given.quiet),
+        only_problems=given.only_problems,
+        json=given.json,
+        quiet=given.quiet,
+    )
+
+
+class Command(NamedTuple):
+    """How to read the command line of one command."""
+
+    parser: Callable[[], Parser]
+    options: Callable[[Parser, argparse.Namespace], Options]
+
+
+COMMANDS: Dict[str, Command] = {
+    "": Command(one_parser, one_options),
+    "file": Command(file_parser, file_options),
+    "check": Command(check_parser, check_options),
+    "audit": Command(audit_parser, audit_options),
+}
+
+
+# Options of several commands.
+
+
+def add_input(parser: Parser, text: str, default: Optional[str]) -> None:
+    """FILE."""
+    parser.add_argument("file", nargs="?", default=default, metavar="FILE", help=text)
+
+
+def add_out(parser: Parser) -> None:
+    """-o."""
+    parser.value(
+        "-o", "--out", help="write the file OUT once it is whole; until then it is OUT.part"
+    )
+
+
+def add_table(parser: Parser) -> None:
+    """What a file of Windows or of a spreadsheet needs."""
+    parser.flag("--windows", "leave out carriage returns at ends of lines, and byte order marks")
+    parser.flag("--csv", "FILE is a table, as spreadsheets export it")
+    text = f"names in its first row, or numbers; by default {DEFAULT_COLUMNS}"
+    parser.value("--columns", metavar="A,B", help=text)
+
+
+def add_salt(parser: Parser) -> None:
+    """-S."""
+    text = "up to 16 (md5crypt 8, scrypt 86) of a-zA-Z0-9./, in place of new ones"
+    parser.value("-S", "--salt", help=text)
+
+
+def add_common(parser: Parser) -> None:
+    """What each command takes."""
+    methods = list(library.METHODS)
+    parser.value(
+        *("-m", "--method"),
+        default=methods[0],
+        metavar="TYPE",
+        choices=methods,
+        help=", ".join(methods),
+    )
+    rounds_text = "from 1000, by default 656k; with scrypt 6 to 11, by default 7"
+    parser.value("-R", "--rounds", type=number, metavar="NUMBER", help=rounds_text)
+    budget_text = (
+        "what a line may cost in bytes; by default a login's limit, in audits any new hash"
+    )
+    parser.value("--budget", type=number, metavar="NUMBER", help=budget_text)
+    parser.flag("--quiet", "show no progress")
+
+
+def policy_of(parser: Parser, given: argparse.Namespace) -> Policy:
+    """How new hashes are made. By default each may cost what a login may."""
+    limit = limit_of(parser, given)
+    setting = None
+    if given.salt is not None:
+        try:
+            setting = library.setting(given.method, limit.rounds, os.fsencode(given.salt))
+        except library.RefusedSalt as refused:
+            raise parser.refusal(f"-S: {refused}") from None
+    budget = min(limit.budget, library.GREATEST_BUDGET)
+    return Policy(given.method, limit.rounds, budget, limit.longest, setting)
+
+
+def limit_of(parser: Parser, given: argparse.Namespace) -> library.Limit:
+    """What the method, rounds and budget admit."""
+    try:
+        return library.limit(given.method, given.rounds, given.budget)
+    except library.RefusedRounds:
+        raise parser.refusal(about_rounds(given.method, given.rounds)) from None
+
+
+def about_rounds(method: str, rounds: int) -> str:
+    """What is said of rounds that new hashes of a method can't have."""
+    if method not in ROUNDS:
+        return f"-R {rounds}: leave it out, since {method} has no rounds to choose"
+    usual = library.limit(method, None, None).rounds
+    return f"-R {rounds} with -m {method} isn't from {ROUNDS[method]}, by default {usual}"
+
+
+def refuse_lonely(parser: Parser, given: argparse.Namespace, needs: Dict[str, str]) -> None:
+    """Refuses an option without the one that it needs."""
+    for option, needed in needs.items():
+        if getattr(given, option) and not getattr(given, needed):
+            raise parser.refusal(f"--{option} needs --{needed}")
+
+
+def refuse_empty(parser: Parser, given: argparse.Namespace, *options: str) -> None:
+    """Refuses an empty value, as of a variable of a script that isn't set."""
+    for option in options:
+        if getattr(given, option) == "":
+            raise parser.refusal(f"--{option} is empty")
+
+
+def refuse_out(parser: Parser, out: Optional[str]) -> None:
+    """Refuses an OUT that is there already."""
+    if out == STDIN:
+        raise parser.refusal(
+            "-o - would write a file: leave it out for standard output, or name ./-"
+        )
+    if out is not None and os.path.lexists(out):
+        way_out = ", or remove it" if os.path.isfile(out) else ""  # but never a device
+        raise parser.refusal(f"{named(out)} already exists: name another file after -o{way_out}")
+
+
+def input_of(given: argparse.Namespace) -> Input:
+    """The file of lines."""
+    columns = (given.columns or DEFAULT_COLUMNS) if given.csv else None
+    return Input(path_of(given), given.windows, columns, counts_lines=not given.quiet)
+
+
+def path_of(given: argparse.Namespace) -> Optional[str]:
+    """FILE, or None for standard input."""
+    return None if given.file == STDIN else str(given.file)
+
+
+def doubtful_of(given: argparse.Namespace) -> Doubtful:
+    """What becomes of doubtful lines. With both options they are left out."""
+    if given.skip_doubtful:
+        return Doubtful.SKIP
+    return Doubtful.ACCEPT if given.accept_doubtful else Doubtful.STOP

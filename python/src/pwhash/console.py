@@ -1,0 +1,155 @@
+"""The outputs of a run, and the progress line on the terminal.
+
+Everything is bytes in the end, since names have no encoding, and is written without buffers, so
+that a full disk or a closed pipe is met at the line that is lost.
+"""
+
+from __future__ import annotations
+
+import contextlib
+import errno
+import fcntl
+import os
+import select
+import stat
+import time
+from collections.abc import Sequence
+from typing import Optional
+
+from pwhash.errors import Stop, reason_of
+from pwhash.text import readable_text
+
+STDIN, STDOUT, STDERR = 0, 1, 2
+RETRY_SECONDS = 0.02
+# How long a run that ends waits until somebody reads, and how much a pipe then surely takes.
+LAST_MILLISECONDS = 100
+LAST_BYTES = select.PIPE_BUF
+CLEAR_LINE = "\r\x1b[K"
+
+
+def open_terminal() -> Optional[int]:
+    """The terminal, or None. It is never made, and no file is taken for it."""
+    with contextlib.suppress(OSError):
+        terminal = os.open("/dev/tty", os.O_RDWR | os.O_NOCTTY)
+        if os.isatty(terminal):
+            return terminal
+        os.close(terminal)
+    return None
+
+
+class Console:
+    """Writes answers and sentences. The progress line gives way to them."""
+
+    def __init__(self) -> None:
+        self._shows_progress = False
+        self._is_last = False
+
+    def wait_for_nobody(self) -> None:
+        """From here on the run ends, so that it writes only what somebody takes at once."""
+        self._is_last = True
+
+    def say(self, sentence: str) -> None:
+        """Tells the user something."""
+        self.lines(STDERR, [f"pwhash: {readable_text(sentence)}".encode()])
+
+    def lines(self, fd: int, lines: Sequence[bytes]) -> None:
+        """Writes lines to standard output, standard error or a file.
+
+        A standard error that is closed, or that nobody reads, ends no run.
+        """
+        if not lines:
+            return
+        try:
+            if not stat.S_ISREG(os.fstat(fd).st_mode):  # but a terminal, or what may end in one
+                self.clear_progress()
+            self._write(fd, b"\n".join(lines) + b"\n")
+        except OSError as error:
+            if fd == STDERR and error.errno in (errno.EPIPE, errno.EBADF):
+                return
+            if fd == STDOUT and error.errno != errno.EPIPE:
+                raise Stop(f"standard output: {reason_of(error)}.") from None
+            raise
+
+    def on_terminal(self, text: str) -> bool:
+        """Writes on the terminal, wherever the outputs go. Returns whether it did.
+
+        There may be none, and in the background it belongs to another process group.
+        """
+        terminal = open_terminal()
+        if terminal is None:
+            return False
+        try:
+            if os.tcgetpgrp(terminal) != os.getpgrp():
+                return False
+            self._write(terminal, text.encode("utf-8", "surrogateescape"))
+            return True
+        except OSError:
+            return False
+        finally:
+            os.close(terminal)
+
+    def show_progress(self, text: str, short: str) -> None:
+        """Shows this in place of the progress line, or the short text in a narrow terminal."""
+        columns = terminal_columns() - 1  # the last one stays free for the cursor
+        shown = text if len(text) <= columns else short[:columns]
+        self._shows_progress = self.on_terminal(f"\r{shown}\x1b[K")
+
+    def clear_progress(self) -> None:
+        """Takes the progress line away, if there is one."""
+        if self._shows_progress:
+            self._shows_progress = False
+            self.on_terminal(CLEAR_LINE)
+
+    def end_last_line(self, fd: int) -> None:
+        """Ends the last line of a file to which the shell's >> adds, so that answers begin one."""
+        status = os.fstat(fd)
+        is_added_to = fcntl.fcntl(fd, fcntl.F_GETFL) & os.O_APPEND
+        if not stat.S_ISREG(status.st_mode) or not is_added_to or not status.st_size:
+            return
+        if last_byte(fd) != b"\n":
+            self.lines(fd, [b""])
+
+    def silence_errors(self) -> None:
+        """Lets standard error go nowhere, so that nothing is added to the file that it is."""
+        os.dup2(os.open(os.devnull, os.O_WRONLY), STDERR)
+
+    def _write(self, fd: int, data: bytes) -> None:
+        """Writes all of the data, also where somebody made the descriptor non-blocking."""
+        while data:
+            if self._is_last and not is_taken_at_once(fd):
+                return
+            piece = data[:LAST_BYTES] if self._is_last else data
+            try:
+                data = data[os.write(fd, piece) :]
+            except BlockingIOError:
+                time.sleep(RETRY_SECONDS)
+
+
+def is_taken_at_once(fd: int) -> bool:
+    """Whether a write of a few bytes doesn't wait."""
+    poll = select.poll()
+    poll.register(fd, select.POLLOUT)
+    return bool(poll.poll(LAST_MILLISECONDS))
+
+
+def terminal_columns() -> int:
+    """The width of the terminal, 80 where it doesn't say."""
+    terminal = open_terminal()
+    if terminal is None:
+        return 80
+    try:
+        return os.get_terminal_size(terminal).columns or 80
+    except OSError:
+        return 80
+    finally:
+        os.close(terminal)
+
+
+def last_byte(fd: int) -> bytes:
+    """The last byte of a file that is open for writing, or a line feed if it can't be read."""
+    try:
+        with open(f"/proc/self/fd/{fd}", "rb") as file:
+            file.seek(-1, os.SEEK_END)
+            return file.read()
+    except OSError:
+        return b"\n"

@@ -1,0 +1,130 @@
+"""What mkpasswd hashes as it is, and hardly anybody wants."""
+
+from __future__ import annotations
+
+import re
+import unicodedata
+from collections.abc import Iterator
+from typing import List, Optional
+
+from pwhash import exports, headings
+from pwhash.lines import BYTE_ORDER_MARK, Line
+from pwhash.names import FirstLines
+from pwhash.options import Service
+from pwhash.text import APART, is_visible
+
+SEPARATOR = re.compile(rb"[,;\t| ]")
+# A line of which only the words and signs of its fields may be doubtful.
+PLAIN_LINE = re.compile(rb"[!-9;-~]+:[!-~]+")
+
+# The names that each service reads as they are. Others it takes for somebody else's, as Apache
+# does those with a blank in front, or skips, as those behind #.
+WEB_SERVER_NAME = rb"[^#\s\0-\x1f\x7f][^\0-\x1f\x7f]*"
+SERVICE_NAMES = {
+    Service.APACHE: re.compile(WEB_SERVER_NAME),
+    Service.NGINX: re.compile(WEB_SERVER_NAME),
+    Service.DOVECOT: re.compile(rb"[a-z0-9_.@-]+"),
+    Service.LDAP: re.compile(rb"[a-z0-9_-]+"),
+}
+NOT_UTF8 = (
+    "not UTF-8; if FILE is all Windows-1252: "
+    "umask 077; iconv -f WINDOWS-1252 -t UTF-8 FILE > NEW"
+)
+
+
+class Doubts:
+    """Doubts about lines, given in their order, of which it remembers the names."""
+
+    def __init__(self, service: Optional[Service], is_table: bool, windows: bool) -> None:
+        self._service_name = SERVICE_NAMES[service] if service else None
+        self._is_table = is_table
+        self._windows = windows
+        self._names = FirstLines()
+
+    def about(self, line: Line) -> List[str]:
+        """All doubts about a line that mkpasswd takes."""
+        name, _, password = line.data.partition(b":")
+        found: List[str] = []
+        if not PLAIN_LINE.fullmatch(line.data):
+            found += about_marks(line.data, password, self._windows)
+            found += about_text(line.data)
+        found += about_fields(name, password, self._is_table)
+        if not self._is_table:
+            found += about_list(line.data, name, password)
+        if self._service_name and not self._service_name.fullmatch(name):
+            found.append("the service takes the name for another, or skips it")
+        again = self._names.about(name, line.number, bool(found))
+        return [*found, again] if again else found
+
+    def note_refused(self, line: Line) -> None:
+        """Of a name whose first line is refused no later one is sure: it may be an old one."""
+        name, colon, _ = line.data.partition(b":")
+        if name and (colon or line.refused_row):
+            self._names.note_refused(name, line.number)
+
+
+def about_marks(data: bytes, password: bytes, windows: bool) -> Iterator[str]:
+    """Of an empty password, and of what only programs put in a line."""
+    if password in (b"", b"\r"):
+        yield "an empty password: Return alone logs in"
+    if password.endswith(b"\r") and not windows:
+        yield "a carriage return ends the password; --windows leaves it out"
+    if b"\r" in (data if windows else data[:-1]):
+        yield "a carriage return inside"
+    if data.startswith(BYTE_ORDER_MARK):
+        yield "a byte order mark begins the line; --windows leaves it out"
+    if BYTE_ORDER_MARK in data[1:]:
+        yield "a byte order mark inside"
+
+
+def about_text(data: bytes) -> Iterator[str]:
+    """Of characters that nobody sees or types so."""
+    # Carriage returns and marks have doubts of their own.
+    text = data.decode(errors="replace").replace("\r", "").replace("\ufeff", "")
+    if any(each != each.strip() for each in text.split(":", 1)):
+        yield "a blank at an end of name or password"
+    if not is_visible(text):
+        yield "an invisible character"
+    if not unicodedata.is_normalized("NFC", text):
+        yield APART
+    if exports.is_misread(text):
+        yield "UTF-8 that was read as Windows-1252, and saved so"
+    if "\ufffd" in text:
+        yield NOT_UTF8
+
+
+def about_fields(name: bytes, password: bytes, is_table: bool) -> Iterator[str]:
+    """Of a name or password that is a heading, or that a program put in its place."""
+    if headings.is_heading_of_names(name):
+        yield "a heading, and no user"
+    if headings.is_heading_of_passwords(name, password):
+        yield "a heading, and no password"
+    if exports.is_damaged(name, is_table) or exports.is_damaged(password, is_table):
+        yield "an error or a changed value of a spreadsheet or another export"
+    if exports.is_stored(password):
+        yield "a stored hash or field, and no password"
+
+
+def about_list(data: bytes, name: bytes, password: bytes) -> Iterator[str]:
+    """Of a list that is a table."""
+    if SEPARATOR.search(name.strip()):
+        yield "a separator of tables in the name: is it a table? See --csv"
+    if any(is_quoted(field) for field in (data, name, password)):
+        yield "quotes around it, as in a table: save that with commas, and see --csv"
+
+
+def is_quoted(field: bytes) -> bool:
+    """Whether it begins with a quote and ends with another."""
+    field = field[:-1] if field.endswith(b"\r") else field
+    return len(field) > 1 and field.startswith(b'"') and field.endswith(b'"')
+
+
+def shown_name(line: Line, is_table: bool) -> bytes:
+    """What may be shown of a line: the name. Without a colon it is perhaps a password.
+
+    In a list, a password may stand behind a separator of tables.
+    """
+    name, colon, _ = line.data.partition(b":")
+    if not colon or line.refused_row is not None:
+        return b""
+    return (name if is_table else SEPARATOR.split(name.strip())[0])[:64]

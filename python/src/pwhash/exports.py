@@ -1,0 +1,58 @@
+"""What spreadsheets, databases and password files have where a list should have a password."""
+
+from __future__ import annotations
+
+import re
+
+# What stands behind a name in /etc/shadow, /etc/passwd and htpasswd.
+STORED = re.compile(
+    rb"(?s)\$(?:[A-Za-z0-9]{1,2}|[A-Za-z-]*[0-9][A-Za-z0-9-]*)[$,].{8,}"  # the name of a scheme
+    rb"|[!*]+(?:\$.*)?(?::[0-9]*)*"  # a lock
+    rb"|[^:]*(?::[0-9]*){7}"  # the fields of shadow
+    rb"|[^:]*:[^:/]*:[^:/]*:[^:]*(?::(?:/[^:]*)?){2}"  # those of passwd
+    rb"|\{[A-Z0-9.-]+\}.{8,}"  # a scheme of LDAP
+)
+# What spreadsheets show in place of a value. The language is the spreadsheet's: #NAME?, #NAAM?.
+ERROR = re.compile(r"#[\u00a1\u00bf]?([^\W\d_][\w/]+)[!?]")
+ERROR_WITHOUT_MARK = re.compile(
+    "#(?:N/A|N/D|N/B|NV|I/T|\u041d/\u0414|YOK|HI\u00c1NYZIK|GETTING_DATA)|(?:Err|Fehler):[0-9]{3}"
+)
+TRUTHS = frozenset(
+    [
+        *("TRUE", "FALSE", "WAHR", "FALSCH", "VRAI", "FAUX", "VERDADERO", "FALSO", "VERDADEIRO"),
+        *("VERO", "WAAR", "ONWAAR", "PRAWDA", "FAŁSZ", "ИСТИНА", "ЛОЖЬ", "SANT", "FALSKT", "SAND"),
+        *("FALSK", "SANN", "USANN", "TOSI", "EPÄTOSI", "NEPRAVDA", "IGAZ", "HAMIS", "DOĞRU"),
+        "YANLIŞ",
+    ]
+)
+# What they save in a table, or exports for them: a column that is too narrow, a number that is too
+# long, formulas, and nothing of Python and pandas.
+CHANGED = re.compile(
+    r"#{3,}|[+-]?[0-9](?:[.,][0-9]+)?E[+-]?[0-9]+|=\"[^\"]*\"|'[=+@-].*|null|None|na[nN]|NaN"
+)
+# What databases export in place of nothing.
+NOTHING = frozenset(["NULL", "\\N", "(null)"])
+
+
+def is_stored(password: bytes) -> bool:
+    """Whether it is a stored hash or the fields of a password file."""
+    return STORED.fullmatch(password) is not None
+
+
+def is_damaged(field: bytes, is_of_table: bool) -> bool:
+    """Whether a program exported this in place of a value, or changed the value."""
+    text = field.decode(errors="replace")
+    if text in NOTHING or ERROR_WITHOUT_MARK.fullmatch(text):
+        return True
+    error = ERROR.fullmatch(text)
+    if error and error[1].isupper():
+        return True
+    return is_of_table and (text in TRUTHS or CHANGED.fullmatch(text) is not None)
+
+
+def is_misread(text: str) -> bool:
+    """Whether a program took UTF-8 for Windows-1252, as Excel does without a byte order mark."""
+    try:
+        return text.encode("cp1252").decode() != text
+    except UnicodeError:
+        return False

@@ -1,0 +1,121 @@
+"""pwhash file: hashes lines name:password."""
+
+from __future__ import annotations
+
+from typing import Optional, Set
+
+from pwhash import library
+from pwhash.answers import Answer, Writer, refused, refused_row
+from pwhash.console import STDOUT
+from pwhash.doubts import Doubts
+from pwhash.library import OVER_BUDGET, Refusal
+from pwhash.lines import Arrivals, Line, name_of, refused_to_hash
+from pwhash.look import Look
+from pwhash.options import Doubtful, FileOptions
+from pwhash.part import Part, opened, refuse_changed
+from pwhash.progress import Progress
+from pwhash.resume import skip_made
+from pwhash.session import Session
+from pwhash.source import Source
+from pwhash.table import lines_of
+from pwhash.workers import Memory, Workers
+
+
+def run(options: FileOptions, session: Session) -> bool:
+    """Hashes the lines of a file, of which it first looks for problems, or of a pipe.
+
+    Returns whether a line was refused or left out.
+    """
+    is_read_twice = options.out is not None or options.only_look
+    source = Source(options.input, session.console, is_read_twice)
+    left_out: Set[int] = set()
+    if source.is_regular:
+        left_out = Look(source, options, session.console).left_out()
+    if options.only_look:
+        return bool(left_out)
+    hashing = Hashing(options, source, session)
+    if options.out is None:
+        session.console.end_last_line(STDOUT)
+        hashing.hash_lines(without(left_out, lines_of(source)), Writer(session.console))
+        return hashing.has_refused or bool(left_out)
+    with opened(options.out, source, options) as part:
+        session.part = part
+        hashing.hash_into(part, without(left_out, lines_of(source)))
+        has_problem = hashing.has_refused or bool(left_out)
+        session.finish(part, has_problem)
+    return has_problem
+
+
+def without(left_out: Set[int], arrivals: Arrivals) -> Arrivals:
+    """The lines but for some."""
+    if not left_out:
+        return arrivals
+    return ([line for line in group if line.number not in left_out] for group in arrivals)
+
+
+class Hashing:
+    """Hashes lines."""
+
+    def __init__(self, options: FileOptions, source: Source, session: Session) -> None:
+        self.has_refused = False
+        self._options = options
+        self._source = source
+        self._console = session.console
+        self._memory = Memory()
+        self._table = library.memory_of_new_hash(options.policy)
+        self._part: Optional[Part] = None
+        is_table = options.input.columns is not None
+        self._doubts = Doubts(options.service, is_table, options.input.windows)
+
+    def hash_into(self, part: Part, arrivals: Arrivals) -> None:
+        """Hashes lines into a part."""
+        self._part = part
+        if self._options.resume:
+            arrivals = skip_made(part, arrivals, self._options.policy, self._source.name)
+        part.keep(self._options)
+        self.hash_lines(arrivals, Writer(self._console, part.fd, part.name))
+
+    def hash_lines(self, arrivals: Arrivals, writer: Writer) -> None:
+        """Hashes lines, and writes the answers."""
+        # A pipe can't be looked at first.
+        if not self._source.is_regular and self._options.doubtful is not Doubtful.ACCEPT:
+            arrivals = ([self._looked_at(line) for line in group] for group in arrivals)
+        progress = Progress(self._console, "hashing", self._source.total)
+        for answers in Workers(self._answer).answers(arrivals):
+            refuse_changed(self._source, self._part)  # what was hashed may be old by now
+            self.has_refused = self.has_refused or any(each.message for each in answers)
+            writer.write(answers)
+            progress.reached(answers[-1].line.number)
+        progress.end()
+        self._source.refuse_nothing()
+        refuse_changed(self._source, self._part)
+
+    def _looked_at(self, line: Line) -> Line:
+        """The line, which is refused if it is doubtful."""
+        if self._refusal(line) is not None or line.refused_row is not None:
+            self._doubts.note_refused(line)
+            return line
+        doubts = self._doubts.about(line)
+        return line._replace(refused_row=doubts[0]) if doubts else line
+
+    def _refusal(self, line: Line) -> Optional[Refusal]:
+        """Why mkpasswd refuses a line, if it does."""
+        refusal = refused_to_hash(line.data)
+        if refusal is not None:
+            return refusal
+        length = len(line.data) - len(name_of(line)) - 1
+        return OVER_BUDGET if library.is_over_budget(self._options.policy, length) else None
+
+    def _answer(self, line: Line) -> Answer:
+        """Hashes one line, in some thread."""
+        if line.refused_row is not None:
+            return refused_row(line)
+        refusal = refused_to_hash(line.data)
+        if refusal is not None:
+            return refused(line, refusal)
+        name = name_of(line)
+        with self._memory.taken(self._table):
+            made = library.new_hash(self._options.policy, line.data[len(name) + 1 :])
+        if isinstance(made, Refusal):
+            return refused(line, made)
+        return Answer(line, name + b":" + made)

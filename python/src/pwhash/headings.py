@@ -1,0 +1,42 @@
+"""The words by which people head columns of names and of passwords, in many languages."""
+
+from __future__ import annotations
+
+import re
+
+NAMES = frozenset(
+    [
+        *("name", "user", "username", "login", "account", "benutzer", "benutzername", "usuario"),
+        *("utilisateur", "nom", "vorname", "nachname", "nutzer", "nutzername", "anmeldename"),
+        *("kennung", "nombre", "prénom", "identifiant", "nome", "utente", "gebruiker"),
+        *("gebruikersnaam", "имя", "логин", "email", "e-mail", "mail", "emailadresse"),
+        *("e-mail-adresse", "correo", "courriel", "userid", "user_name", "mitarbeiter"),
+        *("mitarbeiterin", "employee", "teilnehmer", "schüler", "mitglied", "email address"),
+        *("e-mail address", "user id", "user name", "login name", "first name", "last name"),
+        *("nom d'utilisateur", "nombre de usuario", "nome utente"),
+    ]
+)
+PASSWORDS = frozenset(
+    [
+        *("password", "passwd", "passwort", "kennwort", "contraseña", "clave", "senha"),
+        *("motdepasse", "wachtwoord", "hasło", "пароль", "mot de passe", "mot_de_passe"),
+    ]
+)
+LOGIN_NAME = re.compile(rb"[a-z_\x80-\xff][a-z0-9_.\x80-\xff-]*")
+
+
+def folded(field: bytes) -> str:
+    """A field as headings are compared: however spelled in capitals, and with blanks around."""
+    return field.decode("utf-8", "surrogateescape").strip().casefold()
+
+
+def is_heading_of_names(field: bytes) -> bool:
+    """Whether a name is the heading of a column, of names or of passwords."""
+    return folded(field) in NAMES or folded(field) in PASSWORDS
+
+
+def is_heading_of_passwords(name: bytes, password: bytes) -> bool:
+    """Whether a password is a heading. Only `password` behind a login name may be an account's."""
+    if password == b"password" and LOGIN_NAME.fullmatch(name):
+        return False
+    return folded(password) in PASSWORDS

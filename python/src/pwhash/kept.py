@@ -1,0 +1,114 @@
+"""OUT.part.options, which tells --resume what the hashes in OUT.part are of.
+
+It never has a digest of the file, since that would be one of passwords.
+"""
+
+from __future__ import annotations
+
+import contextlib
+import os
+import re
+from typing import NamedTuple, Optional
+
+from pwhash import own_file
+from pwhash.errors import Stop, UsageError, reason_of
+from pwhash.options import Doubtful, FileOptions
+from pwhash.source import Source
+from pwhash.text import named
+
+SUFFIX = ".options"
+MOST_BYTES = 1 << 18
+BEGIN = b"pwhash file --resume needs this.\n"
+FORM = re.compile(
+    re.escape(BEGIN)
+    + rb"FILE has ([0-9]+ bytes, time -?[0-9]+, inode [0-9]+)\n"
+    + rb"lines by (--budget=[0-9]+[a-z =-]*)\n"
+    + rb"(?s:options (|--windows|--csv --columns=.*)\n)"
+)
+FLAGS = {Doubtful.SKIP: ["--skip-doubtful"], Doubtful.ACCEPT: ["--accept-doubtful"]}
+
+
+class Kept(NamedTuple):
+    """What is kept."""
+
+    file: bytes  # its size, time and inode
+    choice: bytes  # the options by which lines are left out
+    options: bytes  # those that change a line before it is hashed
+
+
+CUT = Kept(b"", b"", b"")  # of a run that ended while it wrote this
+
+
+def path_of(part: str) -> str:
+    """The name of the file beside a part."""
+    return part + SUFFIX
+
+
+def kept_of(options: FileOptions, source: Source) -> Kept:
+    """What this run keeps. Reading and chmod change the time of a status, so it isn't kept."""
+    begun = source.begun
+    file = f"{begun.st_size} bytes, time {begun.st_mtime_ns}, inode {begun.st_ino}"
+    return Kept(file.encode(), options_of_choice(options), options_of_lines(options))
+
+
+def options_of_lines(options: FileOptions) -> bytes:
+    """The options that change a line before it is hashed."""
+    if options.input.columns is not None:
+        return os.fsencode(f"--csv --columns={options.input.columns}")
+    return b"--windows" if options.input.windows else b""
+
+
+def options_of_choice(options: FileOptions) -> bytes:
+    """The options by which lines are left out."""
+    words = [f"--budget={options.policy.budget}"]
+    if options.skip_refused:
+        words.append("--skip-refused")
+    words += FLAGS.get(options.doubtful, [])
+    if options.service:
+        words.append(f"--for={options.service.value}")
+    return " ".join(words).encode()
+
+
+def read(part: str) -> Optional[Kept]:
+    """What a run of this user has kept, or None. Whatever else has the name stays as it is."""
+    path = path_of(part)
+    if not os.path.lexists(path):
+        return None
+    fault = own_file.unfit(os.lstat(path))
+    data = b""
+    if not fault:
+        with open(os.open(path, own_file.FLAGS), "rb") as file:
+            data = file.read(MOST_BYTES)
+            fault = own_file.unfit(os.fstat(file.fileno()))
+    found = FORM.fullmatch(data)
+    if found and not fault:
+        return Kept(*found.groups())
+    if not fault and (not data or data.startswith(BEGIN)):
+        return CUT
+    raise UsageError(
+        f"{named(path)} is in the way: {fault or 'it is of no run'}. "
+        "Remove it, or name another file after -o."
+    )
+
+
+def write(part: str, kept: Kept) -> None:
+    """Writes all of it, or nothing remains."""
+    path = path_of(part)
+    try:
+        fd = own_file.create(path)
+    except OSError as error:
+        raise Stop(f"{named(path)}: {reason_of(error)}.") from None
+    try:
+        with open(fd, "wb") as file:
+            file.write(BEGIN + b"FILE has %b\nlines by %b\noptions %b\n" % kept)
+            file.flush()
+            os.fsync(fd)
+    except OSError as error:
+        os.unlink(path)
+        raise Stop(f"{named(path)}: {reason_of(error)}.") from None
+
+
+def remove(part: str) -> None:
+    """Removes it, if it is there."""
+    with contextlib.suppress(FileNotFoundError):
+        os.unlink(path_of(part))

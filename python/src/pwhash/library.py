@@ -1,0 +1,216 @@
+"""The calls of the library that pwhash makes. No other module knows the package mkpasswd.
+
+Each hash and each verdict is one proved call. Calls that hash let other threads run meanwhile.
+"""
+
+from __future__ import annotations
+
+import enum
+import functools
+from typing import NamedTuple, Optional, Union
+
+import mkpasswd
+from mkpasswd import _calls, _library
+from mkpasswd._library import PASSWORD_LIMIT, Answer, Numbers, Reason
+
+from pwhash.errors import Stop
+
+METHODS = ("sha512crypt", "sha256crypt", "md5crypt", "scrypt")
+GREATEST_ROUNDS, GREATEST_BUDGET = 2**32 - 1, 2**64 - 1
+
+
+class RefusedRounds(Exception):
+    """Rounds that new hashes of a method can't have."""
+
+
+class RefusedSalt(Exception):
+    """A salt that a method can't have. The message says why not."""
+
+
+class Limit(NamedTuple):
+    """What a method, rounds and a budget admit."""
+
+    budget: int  # what a new hash or a login may cost, in bytes
+    longest: Optional[int]  # the longest password whose new hash is within it
+    rounds: int  # of new hashes
+
+
+class Policy(NamedTuple):
+    """How new hashes are made, and what a line may cost."""
+
+    method: str
+    rounds: int
+    budget: int
+    longest: Optional[int]  # the longest password whose new hash is within the budget
+    setting: Optional[bytes]  # with the salt that was given
+
+    @property
+    def numbers(self) -> Numbers:
+        """The policy as the library takes it."""
+        return Numbers(_calls.METHODS[self.method], self.rounds, self.budget)
+
+
+class Verdict(enum.Enum):
+    """What a password is to a stored field. The value is how it is printed."""
+
+    MATCH = b"ok"
+    WRONG = b"no"
+    NO_HASH = b"none"
+    LOCKED = b"locked"
+
+
+class Refusal(NamedTuple):
+    """Why a line has no hash or verdict, in the words of mkpasswd."""
+
+    words: str
+
+
+VERDICTS = {
+    Reason.WRONG_PASSWORD: Verdict.WRONG,
+    Reason.DEAD: Verdict.WRONG,
+    Reason.NO_HASH: Verdict.NO_HASH,
+    Reason.LOCKED: Verdict.LOCKED,
+}
+OVER_BUDGET = Refusal(Reason.OVER_BUDGET.message)
+PASSWORD_TOO_LONG = Refusal(Reason.PASSWORD_TOO_LONG.message)
+PASSWORD_ZERO_BYTE = Refusal(Reason.PASSWORD_ZERO_BYTE.message)
+
+
+def version() -> str:
+    """The version, which the library and pwhash share."""
+    return mkpasswd.__version__
+
+
+def limit(method: str, rounds: Optional[int], budget: Optional[int]) -> Limit:
+    """What a method admits, by the recommended rounds and budget where none are given."""
+    if rounds is not None and not 1 <= rounds <= GREATEST_ROUNDS:  # 0 would be the recommended ones
+        raise RefusedRounds
+    given_budget = min(budget or 0, GREATEST_BUDGET)
+    answer = _library.limit(Numbers(_calls.METHODS[method], rounds or 0, given_budget))
+    report = answer.report
+    if answer.reason is Reason.ROUNDS:
+        raise RefusedRounds
+    if not answer.is_yes and answer.reason is not Reason.OVER_BUDGET:
+        raise unexpected(answer)
+    if budget == 0:  # which the library takes for its own
+        return Limit(0, None, report.rounds)
+    return Limit(report.cost, report.length if answer.is_yes else None, report.rounds)
+
+
+def setting(method: str, rounds: int, salt: bytes) -> bytes:
+    """The setting with a given salt."""
+    answer = _library.setting(Numbers(_calls.METHODS[method], rounds, 0), salt)
+    if answer.is_yes:
+        return answer.text.encode("ascii")
+    if answer.reason in (Reason.SALT_LENGTH, Reason.SALT_CHARACTER):
+        raise RefusedSalt(answer.reason.message)
+    raise unexpected(answer)
+
+
+def refused_password(password: bytes) -> Optional[Refusal]:
+    """Why no hash can have this password, if none can."""
+    if len(password) > PASSWORD_LIMIT:
+        return PASSWORD_TOO_LONG
+    return PASSWORD_ZERO_BYTE if 0 in password else None
+
+
+def is_over_budget(policy: Policy, length: int) -> bool:
+    """Whether a new hash of a password of this length costs more than the budget."""
+    if policy.setting is not None:
+        return cost(policy.setting, length) > policy.budget
+    return policy.longest is None or length > policy.longest
+
+
+def how_long(policy: Policy) -> str:
+    """How long a password may be by a policy."""
+    if policy.longest is None:
+        return "with these rounds even the empty password costs more"
+    return (
+        "with these rounds and this budget a password may have at most " f"{policy.longest} bytes"
+    )
+
+
+@functools.lru_cache(maxsize=4096)
+def cost(stored: bytes, length: int) -> int:
+    """The greatest cost of a hash with this setting, for a password of this length."""
+    answer = _library.bound(stored, length)
+    if not answer.is_yes:
+        raise unexpected(answer)
+    return answer.report.cost
+
+
+def new_cost(policy: Policy, length: int) -> int:
+    """The greatest cost of a new hash of a password of this length."""
+    if policy.setting is not None:
+        return cost(policy.setting, length)
+    return cost(setting_of_new_hash(policy.method, policy.rounds), length)
+
+
+@functools.lru_cache(maxsize=1)
+def setting_of_new_hash(method: str, rounds: int) -> bytes:
+    """A setting with a salt as long as those of new hashes, on whose length a cost depends."""
+    return setting(method, rounds, _calls.new_salt(method).encode("ascii"))
+
+
+def memory_of_new_hash(policy: Policy) -> int:
+    """The bytes of memory that a new hash takes, which only scrypt's does."""
+    return memory(policy.setting or setting_of_new_hash(policy.method, policy.rounds))
+
+
+def memory(stored: bytes) -> int:
+    """The bytes of memory that a hash with this setting takes; 0 for what is none."""
+    answer = _library.bound(stored, 0)
+    return answer.report.work.table + answer.report.work.scratch if answer.is_yes else 0
+
+
+def new_hash(policy: Policy, password: bytes) -> Union[bytes, Refusal]:
+    """The hash of a password by a policy, with a new salt if none was given."""
+    refusal = refused_password(password)
+    if refusal is not None:
+        return refusal
+    if is_over_budget(policy, len(password)):
+        return OVER_BUDGET
+    if policy.setting is not None:
+        return hash_by(password, policy.setting, policy.budget)
+    answer = _library.new(password, policy.numbers)
+    return answer.text.encode("ascii") if answer.is_yes else refusal_of(answer)
+
+
+def hash_by(password: bytes, stored: bytes, budget: int) -> Union[bytes, Refusal]:
+    """The hash of a password with a setting, which may be that of a stored hash."""
+    answer = _library.hash_by(password, stored, budget)
+    return answer.text.encode("ascii") if answer.is_yes else refusal_of(answer)
+
+
+def verify(password: bytes, field: bytes, budget: int) -> Union[Verdict, Refusal]:
+    """What a password is to a stored field, if the check costs at most the budget."""
+    answer = _library.verify(password, field, budget)
+    if answer.is_yes:
+        return Verdict.MATCH
+    verdict = VERDICTS.get(answer.reason) if answer.reason else None
+    return refusal_of(answer) if verdict is None else verdict
+
+
+def needs_rehash(policy: Policy, field: bytes) -> bool:
+    """Whether a new hash by the policy would replace a stored one."""
+    report = _library.needs_rehash(field, policy.numbers).report
+    return report.error == 0 and report.outdated == 1
+
+
+def auditor(policy: Policy) -> mkpasswd.Policy:
+    """What describes stored fields by a policy."""
+    return mkpasswd.Policy(policy.method, policy.rounds or None, policy.budget or None)
+
+
+def refusal_of(answer: Answer) -> Refusal:
+    """Why a call did nothing. What is wrong with the machine or the library ends the run."""
+    if answer.reason is None:
+        raise unexpected(answer)
+    if answer.reason in (Reason.OUT_OF_MEMORY, Reason.NO_RANDOM_NUMBERS):
+        raise Stop(f"{answer.reason.message}.")
+    return Refusal(answer.reason.message)
+
+
+def unexpected(answer: Answer) -> Stop:
+    """A library that reports what none of this version would."""
+    return Stop(f"the library reports {answer.report.error}: it isn't of this version.")

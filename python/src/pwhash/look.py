@@ -1,0 +1,90 @@
+"""Looks for the problems of a file before anything of it is hashed."""
+
+from __future__ import annotations
+
+import re
+from collections import Counter
+from typing import List, Set
+
+from pwhash import library
+from pwhash.console import Console
+from pwhash.doubts import Doubts, shown_name
+from pwhash.errors import ProblemsFound
+from pwhash.library import OVER_BUDGET
+from pwhash.lines import Line, refused_to_hash
+from pwhash.options import Doubtful, FileOptions
+from pwhash.progress import Progress
+from pwhash.source import Source
+from pwhash.table import lines_of
+from pwhash.text import readable
+
+MOST_SHOWN = 20  # of each kind
+
+
+class Look:
+    """One look through a file, which shows its problems and finds the lines to leave out."""
+
+    def __init__(self, source: Source, options: FileOptions, console: Console) -> None:
+        self._source = source
+        self._options = options
+        self._console = console
+        self._is_table = options.input.columns is not None
+        self._doubts = Doubts(options.service, self._is_table, options.input.windows)
+        self._shown: Counter[str] = Counter()
+        self._refused: Set[int] = set()
+        self._doubtful: Set[int] = set()
+
+    def left_out(self) -> Set[int]:
+        """The numbers of the lines to leave out; if the user has to decide first, the run ends."""
+        progress = Progress(self._console, "looking", self._source.total)
+        for group in lines_of(self._source):
+            for line in group:
+                self._look_at(line)
+            if group:
+                progress.reached(group[-1].number)
+        progress.end()
+        self._source.refuse_nothing()
+        self._stop_unless_decided()
+        if self._options.doubtful is Doubtful.SKIP:
+            self._refused |= self._doubtful
+        if self._refused:
+            count = len(self._refused)
+            self._console.say(f"lines left out: {count:,}; all others can be hashed.")
+        return self._refused
+
+    def _look_at(self, line: Line) -> None:
+        refusal = refused_to_hash(line.data) if line.refused_row is None else None
+        reason = refusal.words if refusal else line.refused_row
+        if reason is not None:
+            self._doubts.note_refused(line)
+            self._refused.add(line.number)
+            self._show(line, [reason])
+            return
+        doubts = self._doubts.about(line)
+        if doubts:
+            self._doubtful.add(line.number)
+            self._show(line, doubts)
+        length = len(line.data) - line.data.index(b":") - 1
+        if library.is_over_budget(self._options.policy, length):
+            self._refused.add(line.number)
+            self._show(line, [f"{OVER_BUDGET.words}: {library.how_long(self._options.policy)}"])
+
+    def _show(self, line: Line, reasons: List[str]) -> None:
+        name = readable(shown_name(line, self._is_table))
+        whose = f" ({name})" if name else ""
+        for reason in reasons:
+            kind = re.sub("[0-9]+", "", reason)
+            self._shown[kind] += 1
+            if self._shown[kind] <= MOST_SHOWN:
+                self._console.say(f"{self._source.name}, line {line.number}{whose}: {reason}")
+
+    def _stop_unless_decided(self) -> None:
+        refused, doubtful = len(self._refused), len(self._doubtful)
+        stops_for_refused = refused and not self._options.skip_refused
+        stops_for_doubtful = doubtful and self._options.doubtful is Doubtful.STOP
+        if stops_for_refused or stops_for_doubtful:
+            raise ProblemsFound(
+                "nothing was hashed. Correct these lines, or leave them out "
+                f"({refused:,} with --skip-refused, {doubtful:,} with --skip-doubtful), "
+                "or hash all doubtful ones (--accept-doubtful)."
+            )

@@ -1,0 +1,83 @@
+"""How many processors and how much memory a run may use: the machine's, or a control group's."""
+
+from __future__ import annotations
+
+import os
+import re
+from typing import List, Optional
+
+GROUPS = "/sys/fs/cgroup"
+UNKNOWN_MEMORY = 1 << 62
+
+
+def processors() -> int:
+    """As many as this process may run on and has time for in its control groups."""
+    quotas = [quota_of(folder) for folder in group_folders("cpu")]
+    known = [quota for quota in quotas if quota is not None]
+    return max(1, min([len(os.sched_getaffinity(0)), *known]))
+
+
+def free_memory() -> int:
+    """Bytes that can be allocated without swapping, as far as control groups allow."""
+    available = re.search(r"(?m)^MemAvailable: +([0-9]+) kB$", content("/proc/meminfo"))
+    rests = [rest_of(folder) for folder in group_folders("memory")]
+    known = [rest for rest in rests if rest is not None]
+    return min([int(available[1]) << 10 if available else UNKNOWN_MEMORY, *known])
+
+
+def group_folders(controller: str) -> List[str]:
+    """The folders of the control groups that this process is in, and of those above them."""
+    found = []
+    for line in content("/proc/self/cgroup").splitlines():
+        hierarchy, controllers, path = line.split(":", 2)
+        if hierarchy == "0":  # version 2
+            found += [GROUPS + each for each in upwards(path)]
+        elif controller in controllers.split(","):
+            found += [f"{GROUPS}/{controller}{each}" for each in upwards(path)]
+    return found
+
+
+def upwards(path: str) -> List[str]:
+    """The path and those above it, also where a container sees only the lowest one, at the top."""
+    parts = [part for part in path.split("/") if part]
+    return ["".join(f"/{part}" for part in parts[:length]) for length in range(len(parts), -1, -1)]
+
+
+def quota_of(folder: str) -> Optional[int]:
+    """The processors that a group has time for, rounded up, or None."""
+    quota, period = (content(f"{folder}/cpu.max").split() + ["", ""])[:2]
+    if not quota:  # version 1
+        quota = content(f"{folder}/cpu.cfs_quota_us").strip()
+        period = content(f"{folder}/cpu.cfs_period_us").strip()
+    if not quota.isdecimal() or not period.isdecimal() or int(period) == 0:  # "max", or -1
+        return None
+    return max(1, -(-int(quota) // int(period)))
+
+
+def rest_of(folder: str) -> Optional[int]:
+    """The bytes that a group may still use, or None. What it has of files can be given up."""
+    numbers = [number_in(f"{folder}/memory.{name}") for name in ("max", "high", "limit_in_bytes")]
+    limits = [limit for limit in numbers if limit is not None]
+    if not limits:
+        return None
+    used = number_in(f"{folder}/memory.current")
+    if used is None:  # version 1
+        used = number_in(f"{folder}/memory.usage_in_bytes") or 0
+    statistics = content(f"{folder}/memory.stat")
+    files = re.findall(r"(?m)^(?:total_)?inactive_file ([0-9]+)$", statistics)
+    return max(0, min(limits) - used + max(map(int, files), default=0))
+
+
+def number_in(path: str) -> Optional[int]:
+    """The number that a file of the kernel holds, or None."""
+    text = content(path).strip()
+    return int(text) if text.isdecimal() else None
+
+
+def content(path: str) -> str:
+    """What a file of the kernel holds; nothing if it can't be read."""
+    try:
+        with open(path, encoding="latin-1") as file:
+            return file.read()
+    except OSError:
+        return ""

@@ -1,0 +1,80 @@
+"""Remembers the first line of each name, in little memory, since a file may have a million."""
+
+from __future__ import annotations
+
+from array import array
+from typing import Dict, Optional
+
+FIRST_SIZE = 1 << 8  # a power of two, as is each later size
+TABLES = 16  # of which one at a time grows, so that little is there twice
+HASH_MASK = (1 << 64) - 1
+
+
+class Table:
+    """Numbers by the hash of a name, without the name.
+
+    Python hashes names with a secret of each process. That two of a million names have the same
+    hash of 64 bits happens once in 37 million runs; then a line is called doubtful.
+    """
+
+    def __init__(self) -> None:
+        self._keys = array("Q", bytes(8 * FIRST_SIZE))  # 0 is a free place
+        self._numbers = array("I", bytes(4 * FIRST_SIZE))
+        self._count = 0
+
+    def first(self, key: int, number: int) -> int:
+        """The number that was given with this key first, which may be this one."""
+        place = self._place(key)
+        if self._keys[place] == 0:
+            self._keys[place], self._numbers[place] = key, number
+            self._count += 1
+            if 3 * self._count > 2 * len(self._keys):
+                self._grow()
+            return number
+        return self._numbers[place]
+
+    def _place(self, key: int) -> int:
+        """Where a key is, or the free place where it belongs."""
+        last = len(self._keys) - 1
+        place = key // TABLES & last
+        while self._keys[place] not in (0, key):
+            place = place + 1 & last
+        return place
+
+    def _grow(self) -> None:
+        old = zip(self._keys, self._numbers)
+        size = 2 * len(self._keys)
+        self._keys = array("Q", bytes(8 * size))
+        self._numbers = array("I", bytes(4 * size))
+        for key, number in old:
+            if key:
+                place = self._place(key)
+                self._keys[place], self._numbers[place] = key, number
+
+
+class FirstLines:
+    """The first line of each name, and why it is unsure, if it is."""
+
+    def __init__(self) -> None:
+        self._tables = [Table() for _ in range(TABLES)]
+        self._unsure: Dict[int, str] = {}
+
+    def about(self, name: bytes, number: int, is_doubtful: bool) -> Optional[str]:
+        """What is doubtful about a name that was there before."""
+        first = self._first(name, number)
+        if first == number:
+            if is_doubtful:
+                self._unsure[number] = "doubtful too"
+            return None
+        unsure = self._unsure.get(first)
+        why = f", which is {unsure}: neither is sure" if unsure else ""
+        return f"the name again, after line {first}{why}"
+
+    def note_refused(self, name: bytes, number: int) -> None:
+        """Notes a line that is refused."""
+        if self._first(name, number) == number:
+            self._unsure[number] = "refused"
+
+    def _first(self, name: bytes, number: int) -> int:
+        key = hash(name) & HASH_MASK or 1
+        return self._tables[key % TABLES].first(key, number)

@@ -1,0 +1,116 @@
+"""What the command line asks for, once it is checked: one class for each command."""
+
+from __future__ import annotations
+
+import enum
+from typing import NamedTuple, Optional, Union
+
+from pwhash.library import Policy
+
+PART_SUFFIX = ".part"
+DEFAULT_COLUMNS = "name,password"
+
+
+class Form(enum.Enum):
+    """What --for prints for one hash."""
+
+    BARE = "{hash}"
+    PRESEED_ROOT = "d-i passwd/root-password-crypted password {hash}"
+    PRESEED_USER = "d-i passwd/user-password-crypted password {hash}"
+    KICKSTART = "rootpw --iscrypted {hash}"
+    CLOUD_INIT = (
+        '#cloud-config\nusers:\n  - name: "{name}"\n'
+        "    lock_passwd: false\n    hashed_passwd: {hash}"
+    )
+    ANSIBLE = 'password: "{hash}"'
+    HTPASSWD = "{name}:{hash}"
+    SHADOW = "{name}:{hash}:{day}:0:99999:7:::"
+
+    @property
+    def word(self) -> str:
+        """Its name on the command line."""
+        return self.name.lower().replace("_", "-")
+
+    @property
+    def has_name(self) -> bool:
+        """Whether it has the user's name too."""
+        return "{name}" in self.value
+
+
+class Service(enum.Enum):
+    """A service that reads the hashes, and may take a name for another."""
+
+    APACHE = "apache"
+    NGINX = "nginx"
+    DOVECOT = "dovecot"
+    LDAP = "ldap"
+
+
+class Doubtful(enum.Enum):
+    """What becomes of doubtful lines."""
+
+    STOP = enum.auto()
+    SKIP = enum.auto()
+    ACCEPT = enum.auto()
+
+
+class Input(NamedTuple):
+    """A file of lines, and what has to be left out or read differently."""
+
+    path: Optional[str]  # None is standard input
+    windows: bool = False  # lines end with a carriage return, and begin with a byte order mark
+    columns: Optional[str] = None  # of a table, which have the name and the password
+    unlock: bool = False  # what is in front of a locked hash is left out
+    counts_lines: bool = True  # for the progress
+
+
+class OneOptions(NamedTuple):
+    """pwhash without a command: one password."""
+
+    policy: Policy
+    form: Form
+    name: Optional[str]
+    generate: bool
+
+
+class FileOptions(NamedTuple):
+    """pwhash file."""
+
+    policy: Policy
+    input: Input
+    out: Optional[str]
+    resume: bool
+    only_look: bool
+    skip_refused: bool
+    doubtful: Doubtful
+    service: Optional[Service]
+    quiet: bool
+
+
+class CheckOptions(NamedTuple):
+    """pwhash check."""
+
+    policy: Policy
+    input: Input
+    out: Optional[str]
+    shadow: Optional[str]
+    rehash: bool
+    quiet: bool
+
+
+class AuditOptions(NamedTuple):
+    """pwhash audit."""
+
+    policy: Policy
+    input: Input
+    only_problems: bool
+    json: bool
+    quiet: bool
+
+
+Options = Union[OneOptions, FileOptions, CheckOptions, AuditOptions]
+
+
+def part_of(out: str) -> str:
+    """What OUT is called until it is whole."""
+    return out + PART_SUFFIX

@@ -1,0 +1,46 @@
+"""Files that a run of this user has left, and no others: whoever can write in the folder may try.
+
+Somebody loads their hashes as root.
+"""
+
+from __future__ import annotations
+
+import os
+import stat
+from typing import Optional
+
+from pwhash.errors import errors_named
+from pwhash.text import named
+
+# Nothing waits for the other end of a pipe.
+FLAGS = os.O_RDWR | os.O_NOFOLLOW | os.O_NONBLOCK
+OWN_MODE = 0o600
+
+
+def unfit(status: os.stat_result) -> Optional[str]:
+    """Why a file can't be one that this user's run has left, or None."""
+    if stat.S_ISLNK(status.st_mode):
+        return "it is a symbolic link"
+    if not stat.S_ISREG(status.st_mode):
+        return "it is no regular file"
+    if status.st_uid != os.geteuid():
+        return "it belongs to another user"
+    if stat.S_IMODE(status.st_mode) != OWN_MODE:
+        return f"its mode is {stat.S_IMODE(status.st_mode):04o}, not {OWN_MODE:04o}"
+    return "it has another name too" if status.st_nlink != 1 else None
+
+
+def create(path: str) -> int:
+    """Makes a new file. Raises FileExistsError if there is one, or a link."""
+    fd = os.open(path, FLAGS | os.O_CREAT | os.O_EXCL, OWN_MODE)
+    with errors_named(named(path)):
+        os.fchmod(fd, OWN_MODE)
+    return fd
+
+
+def has_name(fd: int, path: str) -> bool:
+    """Whether an open file has this name."""
+    try:
+        return os.path.samestat(os.fstat(fd), os.lstat(path))
+    except FileNotFoundError:
+        return False

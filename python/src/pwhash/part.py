@@ -1,0 +1,285 @@
+"""OUT.part, in which a run writes, and which becomes OUT once it is whole.
+
+It is a new file, or with --resume one of the user's own, and OUT is that very file, whoever else
+can write in its folder.
+"""
+
+from __future__ import annotations
+
+import contextlib
+import errno
+import fcntl
+import os
+from collections.abc import Iterator
+from typing import Optional
+
+from pwhash import kept, own_file, system
+from pwhash.console import Console
+from pwhash.errors import Stop, UsageError, errors_named, reason_of
+from pwhash.kept import Kept
+from pwhash.options import FileOptions, part_of
+from pwhash.signals import Signals
+from pwhash.source import Source
+from pwhash.text import named, quoted
+
+# What a file system without links, or a machine without /proc, answers.
+NO_LINKS = (errno.EPERM, errno.EOPNOTSUPP, errno.ENOSYS, errno.EMLINK, errno.EXDEV, errno.ENOENT)
+NO_SUCH_RENAME = (errno.EINVAL, errno.ENOSYS)
+
+
+class Part:
+    """The OUT.part of this run."""
+
+    def __init__(self, out: str, fd: int, source: Source, is_resumable: bool) -> None:
+        self.fd = fd
+        self.path = part_of(out)
+        self.name = named(self.path)
+        self.out_name = named(out)
+        self.is_resumable = is_resumable
+        self.is_whole = False  # it is OUT
+        self._out = out
+        self._source = source
+
+    def refuse_changed(self) -> None:
+        """Ends the run if FILE was changed meanwhile."""
+        refuse_changed(self._source, self)
+
+    def keep(self, options: FileOptions) -> None:
+        """Keeps what --resume needs, once the lines of the part are known to be right."""
+        before = kept.read(self.path)
+        if before is not None and os.fstat(self.fd).st_size:
+            return
+        if before is not None:  # of a run whose part was removed
+            kept.remove(self.path)
+        kept.write(self.path, kept.kept_of(options, self._source))
+
+    def finish(self, signals: Signals, console: Console) -> None:
+        """The part gets the name OUT, if nobody has it by now, and loses its own."""
+        with errors_named(self.name):
+            os.fsync(self.fd)
+        self.refuse_changed()
+        if not own_file.has_name(self.fd, self.path):
+            raise UsageError(f"{self.name} was removed or replaced during the run. Start again.")
+        with signals.postponed():
+            self._become_out()
+            self.is_whole = True
+            self._remove_names(console)
+
+    def leave(self, is_wrong_use: bool) -> None:
+        """Leaves the part as --resume may take it, where the run ends early."""
+        if self.is_whole:
+            return
+        if self._source.change():
+            os.utime(self.fd, (0, 0))  # so FILE is newer, and --resume refuses
+        elif is_wrong_use and os.fstat(self.fd).st_size == 0:
+            if self.is_resumable:
+                kept.remove(self.path)
+            if own_file.has_name(self.fd, self.path):
+                os.unlink(self.path)
+
+    def advice(self) -> str:
+        """What to do if FILE was changed during the run."""
+        return changed(self._source, self) or ""
+
+    def _become_out(self) -> None:
+        """Links the file that was written, whatever has its name; without links renames it."""
+        try:
+            link = f"/proc/self/fd/{self.fd}"
+            os.link(link, self._out, src_dir_fd=self.fd, follow_symlinks=True)
+        except FileExistsError:
+            raise self._out_exists() from None
+        except OSError as error:
+            if error.errno not in NO_LINKS or not own_file.has_name(self.fd, self.path):
+                raise Stop(f"{self.out_name}: {reason_of(error)}.") from None
+            self._rename()
+
+    def _rename(self) -> None:
+        """Renames the part, but to no name that somebody has."""
+        try:
+            system.rename_to_new(self.path, self._out)
+        except FileExistsError:
+            raise self._out_exists() from None
+        except OSError as error:
+            if error.errno in NO_SUCH_RENAME:
+                raise self._can_not_rename() from None
+            raise Stop(f"{self.out_name}: {reason_of(error)}.") from None
+        # Whoever writes in the folder may have given the name to another file before.
+        if not own_file.has_name(self.fd, self._out):
+            raise Stop(
+                f"{self.out_name} isn't what was written: another file took the place of "
+                f"{self.name}. Remove {self.out_name}, and start again in a folder in which only "
+                "you can write."
+            )
+
+    def _out_exists(self) -> Stop:
+        return Stop(
+            f"{self.out_name} was made by another during the run, and stays as it is. All lines "
+            f"are done, in {self.name}. First rename or remove {self.out_name}.",
+            advice="" if self.is_resumable else f"Rename {self.name}.",
+        )
+
+    def _can_not_rename(self) -> Stop:
+        return Stop(
+            f"all lines are done, but here nothing can give {self.name} another name "
+            "without perhaps replacing a file.",
+            advice=f"Type mv -n {quoted(self.path)} {quoted(self._out)}",
+        )
+
+    def _remove_names(self, console: Console) -> None:
+        """Removes what is kept, while the part keeps other runs out, and then the part's name."""
+        try:
+            if self.is_resumable:
+                kept.remove(self.path)
+            if own_file.has_name(self.fd, self.path):
+                os.unlink(self.path)
+        except OSError as error:
+            console.say(f"{self.name} remains: {reason_of(error)}.")
+
+
+def changed(source: Source, part: Optional[Part]) -> Optional[str]:
+    """What changed of FILE during the run, and what to do about it, or None."""
+    what = source.change()
+    if what is None:
+        return None
+    way_out = f"remove {part.name}" if part else "discard the hashes"
+    return f"{source.name} was changed during the run ({what}): {way_out}, and start again."
+
+
+def refuse_changed(source: Source, part: Optional[Part]) -> None:
+    """Ends the run if FILE was changed meanwhile."""
+    sentence = changed(source, part)
+    if sentence is not None:
+        raise UsageError(sentence)
+
+
+@contextlib.contextmanager
+def opened(out: str, source: Source, options: Optional[FileOptions]) -> Iterator[Part]:
+    """Opens OUT.part, for this run alone. Only pwhash file, whose options these are, resumes."""
+    path = part_of(out)
+    if options is not None:
+        kept.read(path)  # before a part is made, in case another file has the name
+    part = Part(out, open_part(path, source, options), source, options is not None)
+    try:
+        yield part
+    except UsageError:
+        part.leave(is_wrong_use=True)
+        raise
+    except BaseException:
+        part.leave(is_wrong_use=False)
+        raise
+    finally:
+        os.close(part.fd)
+
+
+def open_part(path: str, source: Source, options: Optional[FileOptions]) -> int:
+    """A new part, or one that this run goes on with."""
+    is_resumed = options is not None and options.resume
+    try:
+        with contextlib.suppress(FileNotFoundError):
+            found = os.lstat(path)
+            refuse_strange(path, found, source, is_resumed)
+            return open_again(path, found, source, options)
+        return new_part(path)
+    except OSError as error:
+        raise Stop(f"{named(path)}: {reason_of(error)}.") from None
+
+
+def refuse_strange(path: str, found: os.stat_result, source: Source, is_resumed: bool) -> None:
+    """Refuses a part that can't be one of this user's run."""
+    name = named(path)
+    if os.path.samestat(found, source.begun):
+        raise UsageError(f"{name} is the file to read: name another file after -o.")
+    fault = own_file.unfit(found)
+    if fault and is_resumed:
+        way_out = "Remove it, or name another file after -o."
+        raise UsageError(f"--resume doesn't take {name}: {fault}. {way_out}")
+    if fault:
+        way_out = f"remove it, or name another file after -o ({fault})"
+        raise UsageError(f"{name} already exists: {way_out}.")
+
+
+def open_again(
+    path: str, found: os.stat_result, source: Source, options: Optional[FileOptions]
+) -> int:
+    """Opens the part of an earlier run."""
+    fd = os.open(path, own_file.FLAGS)
+    lock(fd, path)
+    now = os.fstat(fd)
+    if own_file.unfit(now) or not os.path.samestat(now, found):
+        raise UsageError(f"{named(path)} was replaced just now. Start again.")
+    refuse_to_go_on(path, now, source, options)
+    return fd
+
+
+def new_part(path: str) -> int:
+    """Makes a part."""
+    try:
+        fd = own_file.create(path)
+    except FileExistsError:
+        raise UsageError(f"{named(path)} was made by another just now. Start again.") from None
+    lock(fd, path)
+    return fd
+
+
+def lock(fd: int, path: str) -> None:
+    """Keeps other runs from the part, as long as it is open."""
+    try:
+        fcntl.flock(fd, fcntl.LOCK_EX | fcntl.LOCK_NB)
+    except BlockingIOError:
+        raise UsageError(f"another run is writing {named(path)}: wait for it.") from None
+
+
+def refuse_to_go_on(
+    path: str, status: os.stat_result, source: Source, options: Optional[FileOptions]
+) -> None:
+    """Refuses a part of an earlier run, unless --resume was given and it is of the same FILE."""
+    exists = f"{named(path)} already exists"
+    if options is None:
+        raise UsageError(f"{exists}: remove it, or name another file after -o.")
+    if status.st_size:
+        refuse_another_file(path, status, source, options)
+    if not options.resume:
+        raise UsageError(f"{exists}: add --resume, else remove it.")
+
+
+def refuse_another_file(
+    path: str, status: os.stat_result, source: Source, options: FileOptions
+) -> None:
+    """Refuses lines of a part that may be hashes of other passwords than FILE's."""
+    before, now = kept.read(path), kept.kept_of(options, source)
+    name = named(path)
+    both = f"{name} and {named(kept.path_of(path))}"
+    if before is None:  # of GNU parallel, say: nothing but the times tells anything
+        refuse_newer(path, status, source)
+        before = Kept(now.file, now.choice, b"")
+    if before == kept.CUT:
+        raise UsageError(f"{named(kept.path_of(path))} was cut. Remove {both}, and start again.")
+    if before.file != now.file:
+        raise UsageError(
+            f"{name} isn't of {source.name} as it is now: that is another file, or was "
+            f"changed or touched since. Remove {both}, and start again."
+        )
+    if options.resume:
+        refuse_other_options(before, now, name, both)
+
+
+def refuse_other_options(before: Kept, now: Kept, name: str, both: str) -> None:
+    """Refuses options by which other lines, or other passwords, would be hashed."""
+    if before.options != now.options:
+        raise UsageError(
+            f"{name} was begun with other --windows, --csv or --columns. "
+            f"Give those, or remove {both}, and start again."
+        )
+    if before.choice != now.choice:
+        raise UsageError(
+            f"{name} was begun with {before.choice.decode()}, so other lines were left out. "
+            f"Give just those options of their kind, or remove {both}, and start again."
+        )
+
+
+def refuse_newer(path: str, status: os.stat_result, source: Source) -> None:
+    """Refuses a FILE that is newer than a part of which nothing else is known."""
+    if source.begun.st_mtime_ns > status.st_mtime_ns:
+        touch = f"touch -r {source.path_for_shell()} {quoted(path)} and add --resume"
+        way_out = f"if no line changed: {touch}; else remove {named(path)}"
+        raise UsageError(f"{named(path)} already exists, and {source.name} is newer; {way_out}.")

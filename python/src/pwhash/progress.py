@@ -1,0 +1,48 @@
+"""How far a run is, in place on the terminal."""
+
+from __future__ import annotations
+
+import time
+
+from pwhash.console import Console
+
+FIRST_AFTER, INTERVAL = 1.0, 0.5  # seconds
+
+
+class Progress:
+    """Shows how far a run is, unless nobody knows how many lines come."""
+
+    def __init__(self, console: Console, verb: str, total: int) -> None:
+        self._console = console
+        self._verb = verb
+        self._total = total
+        self._next = FIRST_AFTER
+        self._first = 0  # the line at which the time below was taken
+        self._begun = 0.0
+
+    def reached(self, line: int) -> None:
+        """The run has come to this line."""
+        if not self._total:
+            return
+        if not self._begun:  # the first lines say nothing about speed: they wait for all threads
+            self._first, self._begun = line, time.monotonic()
+            return
+        seconds = time.monotonic() - self._begun
+        line = min(line, self._total - 1)
+        if seconds >= self._next and line > self._first:
+            self._next = seconds + INTERVAL
+            self._show(line, (line - self._first) / seconds)
+
+    def end(self) -> None:
+        """Shows nothing more."""
+        self._console.clear_progress()
+
+    def _show(self, line: int, rate: float) -> None:
+        left = max(0, int((self._total - line) / rate))
+        clock = f"{left // 3600}:{left // 60 % 60:02}:{left % 60:02} left"
+        percent = f"{100 * line // self._total} %"
+        lines = f"{line:,} of {self._total:,} lines"
+        self._console.show_progress(
+            f"{self._verb}: {lines}, {percent}, {rate:,.1f} a second, {clock}",
+            f"{self._verb}: {percent}, {clock}",
+        )

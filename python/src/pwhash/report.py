@@ -1,0 +1,126 @@
+"""Shows what an audit finds: as a table with a summary, or as JSON."""
+
+from __future__ import annotations
+
+import abc
+import json
+import os
+import textwrap
+from collections import Counter
+from collections.abc import Sequence
+from typing import List, Tuple
+
+from pwhash.console import STDOUT, Console
+from pwhash.findings import SEVERITY, Finding, Judgement
+
+INDENT = " " * 8  # of a sentence that goes on
+ANY_COLUMNS = 1 << 16  # of an output that is no terminal
+
+
+class Report(abc.ABC):
+    """Takes judgements, of which it shows what it can, and at the end the rest."""
+
+    def __init__(self, console: Console) -> None:
+        self._console = console
+
+    @abc.abstractmethod
+    def add(self, judgements: Sequence[Judgement]) -> None:
+        """Takes the next judgements."""
+
+    @abc.abstractmethod
+    def end(self, counts: Counter[Finding], source_name: str) -> None:
+        """Shows the rest."""
+
+    def print(self, lines: Sequence[str]) -> None:
+        """Prints lines on standard output."""
+        self._console.lines(STDOUT, [line.encode() for line in lines])
+
+
+class JsonReport(Report):
+    """An object a line."""
+
+    def add(self, judgements: Sequence[Judgement]) -> None:
+        self.print([as_json(judgement) for judgement in judgements])
+
+    def end(self, counts: Counter[Finding], source_name: str) -> None:
+        pass
+
+
+class TableReport(Report):
+    """A row for each line, in the order of the lines, and then what to do about each finding."""
+
+    def __init__(self, console: Console) -> None:
+        super().__init__(console)
+        self._has_colours = os.isatty(STDOUT) and not os.getenv("NO_COLOR")
+        self._columns = columns_of_output()
+        self._begin = [self.heading()]
+
+    def add(self, judgements: Sequence[Judgement]) -> None:
+        self.print([*self._begin, *(self.row(judgement) for judgement in judgements)])
+        self._begin = []
+
+    def end(self, counts: Counter[Finding], source_name: str) -> None:
+        total = sum(counts.values())
+        lines = "line" if total == 1 else "lines"
+        self.print([*self._begin, f"\n{total:,} {lines} of {source_name}:"])
+        self.print(
+            [self._counted(finding, counts[finding]) for finding in Finding if counts[finding]]
+        )
+
+    def heading(self) -> str:
+        """The row above all."""
+        return self._laid_out("NAME", "METHOD", "ROUNDS", "FINDING")
+
+    def row(self, found: Judgement) -> str:
+        """The row of a judgement."""
+        finding = f"{found.finding.word} {found.message or ''}".rstrip()
+        text = self._laid_out(found.name, found.method or "", str(found.rounds or ""), finding)
+        return self._coloured(found.finding, text)
+
+    def _laid_out(self, name: str, method: str, rounds: str, finding: str) -> str:
+        """The columns of a row, or in a narrow terminal the name above the others."""
+        row = f"{name:20}  {method:12}  {rounds:>11}  {finding}"
+        if len(row) <= self._columns:
+            return row
+        begin = "\n".join(textwrap.wrap(name, self._columns, drop_whitespace=False) or [""])
+        return f"{begin}\n  {' '.join(filter(None, [method, rounds, finding]))}"
+
+    def _counted(self, finding: Finding, count: int) -> str:
+        text = f"{count:7,} {finding.word:12} {finding.advice}"
+        if len(text) > self._columns:
+            wrapped = textwrap.wrap(text, self._columns, subsequent_indent=INDENT)
+            text = "\n".join(wrapped)
+        return self._coloured(finding, text)
+
+    def _coloured(self, finding: Finding, text: str) -> str:
+        return f"\x1b[{finding.colour}m{text}\x1b[m" if self._has_colours else text
+
+
+class WorstFirstReport(TableReport):
+    """As a table, but the worst first, and nothing at all if there is no row."""
+
+    def __init__(self, console: Console) -> None:
+        super().__init__(console)
+        self._rows: List[Tuple[int, str]] = []
+
+    def add(self, judgements: Sequence[Judgement]) -> None:
+        self._rows += [(SEVERITY[each.finding], self.row(each)) for each in judgements]
+
+    def end(self, counts: Counter[Finding], source_name: str) -> None:
+        if not self._rows:
+            return
+        self._begin += [row for _, row in sorted(self._rows)]
+        super().end(counts, source_name)
+
+
+def as_json(found: Judgement) -> str:
+    """An object with the fields of a judgement."""
+    return json.dumps({**found._asdict(), "finding": found.finding.word})
+
+
+def columns_of_output() -> int:
+    """The width of the terminal that is standard output; any other output is as wide as needed."""
+    try:
+        return os.get_terminal_size(STDOUT).columns or ANY_COLUMNS
+    except OSError:
+        return ANY_COLUMNS

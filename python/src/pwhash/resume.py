@@ -1,0 +1,123 @@
+"""Goes on with the OUT.part of an earlier run, whose lines are compared with the input's."""
+
+from __future__ import annotations
+
+import itertools
+import os
+import re
+from collections.abc import Iterable, Iterator
+from typing import List, Match, NamedTuple, Optional, Tuple
+
+from pwhash import library
+from pwhash.errors import UsageError, errors_named
+from pwhash.library import Policy
+from pwhash.lines import Arrivals, Line, name_of
+from pwhash.part import Part
+from pwhash.workers import in_thread
+
+HASH = re.compile(
+    rb"(\$1\$|\$[56]\$(?:rounds=[0-9]+\$)?|\$7\$[./0-9A-Za-z]{11})"
+    rb"([./0-9A-Za-z]+)\$([./0-9A-Za-z]+)"
+)
+LINES_TOGETHER = 1 << 10
+
+
+class Parts(NamedTuple):
+    """The parts of a hash that all of a run have in common."""
+
+    setting: bytes  # method and cost
+    salt: bytes  # if one was given
+    salt_length: int
+    digest_length: int
+
+
+def skip_made(part: Part, arrivals: Arrivals, policy: Policy, source_name: str) -> Arrivals:
+    """The lines whose hashes aren't in the part yet. What is behind its last hash is cut off."""
+    lines = itertools.chain.from_iterable(arrivals)
+    with errors_named(part.name):
+        count, size = whole_lines(part.fd)
+        with open(part.fd, "rb", closefd=False) as file:
+            made = (file.readline()[:-1] for _ in range(count))
+            Comparison(part.name, source_name, policy).compare(made, count, lines)
+        os.ftruncate(part.fd, os.lseek(part.fd, size, os.SEEK_SET))
+    return together(lines)
+
+
+def whole_lines(fd: int) -> Tuple[int, int]:
+    """How many lines of a part have an end, and how many bytes they are."""
+    count = size = 0
+    with open(fd, "rb", closefd=False) as file:
+        for line in file:
+            if line.endswith(b"\n"):
+                count, size = count + 1, size + len(line)
+    os.lseek(fd, 0, os.SEEK_SET)
+    return count, size
+
+
+class Comparison(NamedTuple):
+    """Compares the lines of a part with the lines of the input.
+
+    Each hash has to be behind the name of its line, and like the first one. The first and the last
+    are made again, which shows that passwords and options are the same.
+    """
+
+    part_name: str
+    source_name: str
+    policy: Policy
+
+    def compare(self, made: Iterator[bytes], count: int, lines: Iterator[Line]) -> None:
+        """Refuses a part unless its lines are hashes of the input's, one for each."""
+        first: Optional[Parts] = None
+        for place, answer in enumerate(made):
+            line = next(lines, None)
+            found = hash_in(answer, line)
+            if line is None or found is None:
+                raise self._refused(place, line)
+            parts = parts_of(found, self.policy)
+            is_same = first is None or parts == first
+            if is_same and place in (0, count - 1):
+                is_same = is_made_again(found, line, self.policy)
+            if not is_same:
+                raise self._refused(place, line)
+            first = parts
+
+    def _refused(self, place: int, line: Optional[Line]) -> UsageError:
+        number = line.number if line else place + 1
+        return UsageError(
+            f"{self.part_name}, line {place + 1}: not of line {number} of {self.source_name}: "
+            "name, password, -m, -R or -S differ, or the line is gone. "
+            f"Correct that, or remove {self.part_name}."
+        )
+
+
+def hash_in(answer: bytes, line: Optional[Line]) -> Optional[Match[bytes]]:
+    """The hash behind the name of a line, or None if the answer is to another one."""
+    if line is None:
+        return None
+    name = name_of(line) + b":"
+    return HASH.fullmatch(answer[len(name) :]) if answer.startswith(name) else None
+
+
+def parts_of(found: Match[bytes], policy: Policy) -> Parts:
+    """What a hash has in common with others of its run."""
+    setting, salt, digest = found.groups()
+    return Parts(setting, salt if policy.setting else b"", len(salt), len(digest))
+
+
+def is_made_again(found: Match[bytes], line: Line, policy: Policy) -> bool:
+    """Whether a new hash by the policy with the salt of the kept one is the same."""
+    try:
+        setting = policy.setting or library.setting(policy.method, policy.rounds, found[2])
+    except library.RefusedSalt:
+        return False
+    password = line.data.partition(b":")[2]
+    return in_thread(lambda: library.hash_by(password, setting, policy.budget)) == found[0]
+
+
+def together(lines: Iterable[Line]) -> Iterator[List[Line]]:
+    """Lines in groups."""
+    lines = iter(lines)
+    group = list(itertools.islice(lines, LINES_TOGETHER))
+    while group:
+        yield group
+        group = list(itertools.islice(lines, LINES_TOGETHER))

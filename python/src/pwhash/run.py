@@ -1,0 +1,82 @@
+"""Runs a command from the words of its command line to its exit status."""
+
+from __future__ import annotations
+
+import importlib
+import os
+import signal
+import sys
+from collections.abc import Sequence
+from typing import NoReturn, Protocol
+
+from pwhash import process, unforeseen
+from pwhash.cli import Shown, read_options
+from pwhash.console import STDOUT
+from pwhash.errors import Status, Stop, reason_of
+from pwhash.options import AuditOptions, CheckOptions, FileOptions, OneOptions, Options
+from pwhash.session import Session
+from pwhash.signals import die_of
+from pwhash.text import named
+
+
+MODULES = {
+    OneOptions: "pwhash.one",
+    FileOptions: "pwhash.file",
+    CheckOptions: "pwhash.check",
+    AuditOptions: "pwhash.audit",
+}
+
+
+class Command(Protocol):
+    """The module of a command."""
+
+    def run(self, options: Options, session: Session) -> bool:
+        """Runs the command. Returns whether there is a problem."""
+
+
+def main() -> NoReturn:
+    """Runs pwhash, as a script of pip does. The process ends."""
+    run(sys.argv[0], sys.argv[1:])
+
+
+def run(command: str, words: Sequence[str]) -> NoReturn:
+    """Runs the words of a command line, whose command was typed so. The process ends."""
+    unforeseen.watch()
+    process.prepare()
+    session = Session(command, words)
+    session.signals.watch()
+    # Without what Python does at its end, which can fail, and would then change the status.
+    os._exit(status_of(session, words))
+
+
+def status_of(session: Session, words: Sequence[str]) -> Status:
+    """Runs a command, and returns its exit status. Where nobody reads the output, it dies."""
+    try:
+        return answer(session, words)
+    except Stop as stop:
+        return session.fail(stop)
+    except BrokenPipeError:  # as of `| head`: others end so, too, and quietly
+        session.console.clear_progress()
+        die_of(signal.SIGPIPE)
+    except OSError as error:
+        name = f"{named(error.filename)}: " if isinstance(error.filename, str) else ""
+        return session.fail(Stop(f"{name}{reason_of(error)}."))
+    except MemoryError:
+        return session.fail(Stop("out of memory (ulimit -v)."))
+
+
+def answer(session: Session, words: Sequence[str]) -> Status:
+    """Runs a command to its end."""
+    try:
+        session.options = read_options(words)
+    except Shown as shown:
+        session.console.lines(STDOUT, [str(shown).encode()])
+        return Status.OK
+    return Status.PROBLEM if has_problem(session.options, session) else Status.OK
+
+
+def has_problem(options: Options, session: Session) -> bool:
+    """Runs the command that the options are of. Returns whether there is a problem."""
+    # Only its module is loaded, since each needs others that take a while, such as json or csv.
+    command: Command = importlib.import_module(MODULES[type(options)])
+    return command.run(options, session)

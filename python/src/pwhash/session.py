@@ -1,0 +1,77 @@
+"""One run: what it was asked for, what it has begun, and how it ends."""
+
+from __future__ import annotations
+
+import os
+import signal
+from collections.abc import Sequence
+from typing import List, Optional
+
+from pwhash.console import STDERR, STDIN, Console
+from pwhash.errors import Status, Stop
+from pwhash.options import CheckOptions, FileOptions, Options, part_of
+from pwhash.part import Part
+from pwhash.signals import Signals, die_of
+from pwhash.text import quoted, readable_text
+
+
+class Session:
+    """A run. Where it ends early, it says why and how to go on."""
+
+    def __init__(self, command: str, words: Sequence[str]) -> None:
+        self.console = Console()
+        self.signals = Signals(self._end_by_signal)
+        self.options: Optional[Options] = None
+        self.part: Optional[Part] = None
+        self._command = command
+        self._words = words
+        self._status_if_whole = Status.OK
+
+    def finish(self, part: Part, has_problem: bool) -> None:
+        """The part becomes OUT. From then on a signal doesn't change the status."""
+        self._status_if_whole = Status.PROBLEM if has_problem else Status.OK
+        part.finish(self.signals, self.console)
+
+    def fail(self, stop: Stop) -> Status:
+        """Says why the run ended, on the terminal too if standard error goes elsewhere."""
+        lines = [f"pwhash: {readable_text(stop.sentence)}"]
+        if stop.status is Status.FAILED:
+            lines = self._with_way_on(lines[0], stop.advice)
+        self.console.clear_progress()
+        if stop.status is Status.FAILED and not os.isatty(STDERR):
+            self.console.on_terminal("".join(f"{line}\n" for line in lines))
+        self.console.lines(STDERR, [line.encode() for line in lines])
+        return stop.status
+
+    def _with_way_on(self, sentence: str, advice: str) -> List[str]:
+        """The sentence, and how to go on with OUT.part of this run or an earlier one."""
+        options = self.options
+        if not isinstance(options, (FileOptions, CheckOptions)) or options.out is None:
+            return [sentence]
+        if not os.path.lexists(part_of(options.out)):
+            return [sentence]
+        advice = advice or (self.part.advice() if self.part else "")
+        if advice:
+            return [f"{sentence} {advice}"]
+        if isinstance(options, FileOptions) and (self.part or options.resume):
+            return [f"{sentence} To go on:", f"  {self._typed_again(options)}"]
+        return [f"{sentence} To start again, remove {self.part.name}." if self.part else sentence]
+
+    def _typed_again(self, options: FileOptions) -> str:
+        """The command of this run, with --resume."""
+        name, *rest = self._words  # a -- may stand in the rest
+        resume = [] if options.resume else ["--resume"]
+        command = " ".join(quoted(word) for word in [self._command, name, *resume, *rest])
+        if options.input.path is None:
+            command += f" < {quoted(os.readlink(f'/proc/self/fd/{STDIN}'))}"
+        return command
+
+    def _end_by_signal(self, number: signal.Signals) -> None:
+        self.console.wait_for_nobody()
+        if self.part is not None and self.part.is_whole:
+            self.console.say(f"{number.name} came when {self.part.out_name} was whole.")
+            os._exit(self._status_if_whole)
+        if self.part is not None:
+            self.part.leave(is_wrong_use=False)
+        self.fail(Stop(f"{number.name} ended the run."))
+        die_of(number)

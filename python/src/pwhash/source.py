@@ -1,0 +1,169 @@
+"""Reads lines from a file or a pipe, as they come, and notices whether a file changes."""
+
+from __future__ import annotations
+
+import os
+import re
+import select
+import signal
+import stat
+from collections.abc import Iterator
+from typing import List, NoReturn, Optional
+
+from pwhash.console import STDERR, STDIN, STDOUT, Console
+from pwhash.errors import Stop, UsageError, errors_named
+from pwhash.lines import BYTE_ORDER_MARK, Arrivals, Line
+from pwhash.options import Input
+from pwhash.text import named, quoted
+
+PIECE = 1 << 18
+# More of a line than any rule allows, so the rest of it is not kept.
+LONGEST_KEPT = 1 << 17
+IDLE_MILLISECONDS = 20
+SECONDS_UNTIL_WRITER = 3  # until somebody writes a pipe with a name
+IN_FRONT_OF_LOCKED = re.compile(rb"^([^:]*:)[!*]+(?=\$)")
+READ_TWICE = "-o and --look need a file, which can be read twice. Give its name, or leave them out."
+
+
+class Source:
+    """The input of a run. A regular file can be read again, and its lines can be counted."""
+
+    def __init__(self, wanted: Input, console: Console, is_read_twice: bool = False) -> None:
+        self.input = wanted
+        self.name = "standard input" if wanted.path is None else named(wanted.path)
+        self.fd = STDIN if wanted.path is None else open_file(wanted.path, is_read_twice)
+        self.begun = os.fstat(self.fd)
+        self.is_regular = stat.S_ISREG(self.begun.st_mode)
+        self.has_lines = False
+        if stat.S_ISDIR(self.begun.st_mode):
+            closed = "closed, or " if wanted.path is None else ""
+            raise Stop(f"{self.name} is {closed}a folder.")
+        if is_read_twice and not self.is_regular:
+            raise UsageError(READ_TWICE)
+        refuse_as_output(self.begun, self.name, console)
+        if os.isatty(self.fd):
+            console.say("reading lines from the terminal, which shows them; Ctrl-D ends them.")
+        # Standard input can be a file that somebody has read a part of.
+        self._start = os.lseek(self.fd, 0, os.SEEK_CUR) if self.is_regular else 0
+        self.total = self._count() if self.is_regular and wanted.counts_lines else 0
+
+    def lines(self) -> Arrivals:
+        """All lines, from the beginning."""
+        if self.is_regular:
+            os.lseek(self.fd, self._start, os.SEEK_SET)
+        first, rest, is_end = 1, b"", False
+        while not is_end:
+            if not self.is_ready():
+                yield []
+                continue
+            with errors_named(self.name):
+                piece = os.read(self.fd, PIECE)
+            is_end = not piece
+            *whole, rest = (rest + piece).split(b"\n")
+            if is_end and rest:  # the last line, without a line feed
+                whole.append(rest)
+            yield self._numbered(whole, first)
+            first, rest = first + len(whole), rest[:LONGEST_KEPT]
+
+    def is_ready(self) -> bool:
+        """Whether there is something to read, or the end; it waits a moment for that."""
+        poll = select.poll()
+        poll.register(self.fd, select.POLLIN)
+        return bool(poll.poll(IDLE_MILLISECONDS))
+
+    def path_for_shell(self) -> str:
+        """A name of the file for a shell."""
+        path = self.input.path
+        return quoted(os.readlink(f"/proc/self/fd/{STDIN}") if path is None else path)
+
+    def refuse_nothing(self) -> None:
+        """An empty file is a mistake, such as `pwhash file list > list`."""
+        if not self.has_lines:
+            raise UsageError(f"{self.name} has no lines.")
+
+    def change(self) -> Optional[str]:
+        """What changed of the file since it was opened, or None.
+
+        The time of its status isn't asked: reading and chmod change it.
+        """
+        if not self.is_regular:
+            return None
+        try:
+            now = os.fstat(self.fd) if self.input.path is None else os.stat(self.input.path)
+        except OSError:
+            return "it is gone"
+        # A here-document never has a name.
+        lost_its_name = now.st_nlink == 0 and self.begun.st_nlink != 0
+        if lost_its_name or not os.path.samestat(now, self.begun):
+            return "another file took its place"
+        if now.st_size != self.begun.st_size:
+            return "its size"
+        return "its time" if now.st_mtime_ns != self.begun.st_mtime_ns else None
+
+    def _numbered(self, data: List[bytes], first: int) -> List[Line]:
+        if self.input.windows or self.input.columns is not None:  # Excel is a program of Windows
+            data = [without_signs_of_windows(line) for line in data]
+        if self.input.unlock:
+            data = [IN_FRONT_OF_LOCKED.sub(rb"\1", line) for line in data]
+        return [Line(number, line) for number, line in enumerate(data, first)]
+
+    def _count(self) -> int:
+        with errors_named(self.name):
+            count = sum(piece.count(b"\n") for piece in self._pieces())
+            os.lseek(self.fd, self._start, os.SEEK_SET)
+        return count
+
+    def _pieces(self) -> Iterator[bytes]:
+        piece = os.read(self.fd, PIECE)
+        while piece:
+            yield piece
+            piece = os.read(self.fd, PIECE)
+
+
+def without_signs_of_windows(line: bytes) -> bytes:
+    """A line without the byte order mark that begins it, as in joined lists, and its \\r."""
+    if line.endswith(b"\r"):
+        line = line[:-1]
+    return line[len(BYTE_ORDER_MARK) :] if line.startswith(BYTE_ORDER_MARK) else line
+
+
+def open_file(path: str, is_read_twice: bool) -> int:
+    """Opens a file. Of a pipe it is known beforehand that it can't be read twice."""
+    with errors_named(named(path)):
+        is_pipe = stat.S_ISFIFO(os.stat(path).st_mode)
+        if is_pipe and is_read_twice:
+            raise UsageError(READ_TWICE)
+        return open_in_time(path) if is_pipe else os.open(path, os.O_RDONLY)
+
+
+def open_in_time(path: str) -> int:
+    """Opens a file, but doesn't wait for ever until somebody writes a pipe."""
+
+    def give_up(*_: object) -> NoReturn:
+        raise UsageError(f"{named(path)} is a pipe that nobody writes.")
+
+    before = signal.signal(signal.SIGALRM, give_up)
+    signal.alarm(SECONDS_UNTIL_WRITER)
+    try:
+        return os.open(path, os.O_RDONLY)
+    finally:
+        signal.alarm(0)
+        signal.signal(signal.SIGALRM, before)
+
+
+def refuse_as_output(status: os.stat_result, name: str, console: Console) -> None:
+    """Refuses a file to which this run would add what it prints, and would read that again."""
+    if not stat.S_ISREG(status.st_mode) or not status.st_size:
+        return
+    if is_same_file(STDERR, status):
+        sentence = f"{name} is standard error too. Write to another file."
+        console.on_terminal(f"pwhash: {sentence}\n")
+        console.silence_errors()  # the sentence isn't added to the file, either
+        raise UsageError(sentence)
+    if is_same_file(STDOUT, status):
+        raise UsageError(f"{name} is standard output too. Write to another file.")
+
+
+def is_same_file(fd: int, status: os.stat_result) -> bool:
+    """Whether an open descriptor is of this file."""
+    return os.path.samestat(os.fstat(fd), status)

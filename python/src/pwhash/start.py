@@ -1,0 +1,54 @@
+"""Starts pwhash from its private folder, as bin/pwhash does:
+
+    python3 -I -S FOLDER/pwhash/start.py LIBRARY COMMAND WORDS..
+
+LIBRARY is the absolute path of the C library, and COMMAND how pwhash was called. Nothing is looked
+for elsewhere: neither modules nor libraries, since root may run this in anybody's folder.
+"""
+
+from __future__ import annotations
+
+import ctypes
+import importlib
+import os
+import signal
+import sys
+from typing import NoReturn
+
+STDERR = 2
+FAILED = 3
+
+
+def start(library: str, command: str, words: "list[str]") -> NoReturn:
+    """Runs pwhash. The process ends."""
+    try:
+        # The package mkpasswd asks for a library of this name, and then gets this one.
+        ctypes.CDLL(library)
+        sys.path.insert(0, os.path.dirname(os.path.dirname(os.path.realpath(__file__))))
+        run = importlib.import_module("pwhash.run").run
+    except OSError:
+        fail(
+            f"{library} is missing, is of another processor or C library, or can't be loaded for "
+            "want of memory or open files (ulimit -a). Run make lib, or install it."
+        )
+    except ImportError as error:
+        if error.name is None:  # the package mkpasswd says what is wrong with the library
+            fail(f"{error}.")
+        fail(f"the module {error.name} can't be loaded: {os.path.dirname(__file__)} is damaged.")
+    except MemoryError:
+        fail("out of memory (ulimit -v).")
+    run(command, words)
+    raise AssertionError
+
+
+def fail(sentence: str) -> NoReturn:
+    """Says why nothing begins."""
+    os.write(STDERR, os.fsencode(f"pwhash: {sentence}\n"))
+    os._exit(FAILED)
+
+
+if __name__ == "__main__":
+    # Until pwhash handles Ctrl-C itself, it ends the process without a KeyboardInterrupt.
+    if signal.getsignal(signal.SIGINT) is signal.default_int_handler:
+        signal.signal(signal.SIGINT, signal.SIG_DFL)
+    start(sys.argv[1], sys.argv[2], sys.argv[3:])

@@ -1,0 +1,273 @@
+"""Reads the rows of a table, as spreadsheets export it, as lines name:password."""
+
+from __future__ import annotations
+
+import csv
+import itertools
+import os
+import re
+from collections.abc import Iterator, Sequence
+from typing import List, NamedTuple, Optional, Protocol
+
+from pwhash import headings
+from pwhash.errors import Stop, UsageError
+from pwhash.lines import Arrivals, Line
+from pwhash.source import Source
+
+LONGEST_ROW = 1 << 17  # bytes, of a field too; csv takes no longer ones
+SEPARATORS = {",": "a comma", ";": "a semicolon", "\t": "a tab"}
+MOST_COLUMNS = 99  # that can be chosen by number
+# Each byte becomes the character with its number and back, so that no encoding matters.
+BYTES = "latin-1"
+IN_QUOTES = re.compile('"[^"]*"')
+UTF16_MARKS = ("\xff\xfe", "\xfe\xff")
+
+Row = List[str]
+
+
+class Reader(Protocol):
+    """What csv.reader() returns."""
+
+    line_num: int
+
+    def __next__(self) -> Row:
+        ...
+
+    def __iter__(self) -> Iterator[Row]:
+        ...
+
+
+class Columns(NamedTuple):
+    """Which columns of a table are read: the headings of all, and the places of the two."""
+
+    headings: Row  # empty where the columns are numbered
+    name: int
+    password: int
+    width: int  # the fields of the first row
+
+
+def lines_of(source: Source) -> Arrivals:
+    """The lines of a source, or those that the rows of its table stand for."""
+    groups = source.lines() if source.input.columns is None else Table(source).lines()
+    for group in groups:
+        source.has_lines = source.has_lines or bool(group)
+        yield group
+
+
+class Table:
+    """A table, read row by row."""
+
+    def __init__(self, source: Source) -> None:
+        self._name = source.name
+        self._wanted = folded_all(os.fsencode(source.input.columns or "").split(b","))
+        self._texts = Texts(source)
+        self._row_begin, self._row_size = 1, 0
+
+    def lines(self) -> Arrivals:
+        """The rows as lines."""
+        if len(self._wanted) != 2 or self._wanted[0] == self._wanted[1]:
+            raise self._no_columns()
+        begin = self._first_row_with_blank_ones()
+        separator = self._separator(begin[-1])
+        texts = self._limited(itertools.chain(begin, self._texts))
+        reader = csv.reader(texts, delimiter=separator, strict=True)
+        first = self._next_row(reader) or []
+        columns = self._columns(first)
+        row = self._next_row(reader) if columns.headings else first
+        while row is not None:
+            yield [self._line(reader.line_num, row, columns)]
+            while not self._texts.is_ready():
+                yield []
+            row = self._next_row(reader)
+
+    def _has_names(self) -> bool:
+        """Whether columns are chosen by their names, and not by their numbers."""
+        return not self._wanted[0].isdecimal()
+
+    def _first_row_with_blank_ones(self) -> List[str]:
+        """The texts up to the first one that isn't blank."""
+        begin = [next(self._texts, "")]
+        while begin[-1] == "\n":
+            begin.append(next(self._texts, ""))
+        is_utf16 = begin[-1].startswith(UTF16_MARKS)
+        if is_utf16 or (self._has_names() and "\0" in begin[-1]):
+            raise self._no_columns()
+        if not begin[-1]:
+            raise UsageError(f"{self._name} has no rows.")
+        return begin
+
+    def _separator(self, first: str) -> str:
+        """What is between columns: that of the wanted names, or the only one in the first row."""
+        bare = IN_QUOTES.sub("", first)
+        found = sorted((each for each in SEPARATORS if each in bare), key=bare.index)
+        if self._has_names():
+            with_names = [each for each in found if self._finds_names(first, each)]
+            return [*with_names, *found, ","][0]
+        if len(found) > 1:
+            names = " or ".join(SEPARATORS[each] for each in found)
+            raise UsageError(
+                f"{self._name}: {names} may be between columns. In the first row, quote "
+                "fields that have one in them, or give the columns names."
+            )
+        return found[0] if found else ","
+
+    def _finds_names(self, first: str, separator: str) -> bool:
+        try:
+            row: Row = next(csv.reader([first], delimiter=separator), [])
+        except csv.Error as error:
+            raise Stop(f"{self._name}, line 1: this is not CSV: {error}.") from None
+        return set(self._wanted) <= set(folded_row(row))
+
+    def _columns(self, first: Row) -> Columns:
+        names = folded_row(first)
+        known = names if self._has_names() else [str(each) for each in range(1, MOST_COLUMNS)]
+        if any(known.count(each) != 1 for each in self._wanted):
+            raise self._no_columns()
+        name, password = (known.index(each) for each in self._wanted)
+        above = self._wanted if self._has_names() else [cell(names, name), ""]
+        if above[0] in headings.PASSWORDS or above[1] in headings.NAMES:
+            raise UsageError(
+                "--columns names the column of names, then that of passwords. Here the first is "
+                "headed as passwords are, or the second as names are. Correct the order."
+            )
+        return Columns(names if self._has_names() else [], name, password, len(first))
+
+    def _no_columns(self) -> UsageError:
+        return UsageError(
+            "--columns, by default name,password, needs two names, each once in the first row of "
+            f"{self._name}, or if that has no names, numbers, as 1,2. Save UTF-16 as UTF-8."
+        )
+
+    def _limited(self, texts: Iterator[str]) -> Iterator[str]:
+        """The texts, of a row not more than 128 KiB."""
+        for text in texts:
+            self._row_size += len(text)
+            if self._row_size > LONGEST_ROW + 1:  # with its line feed
+                raise Stop(
+                    f"{self._name}, line {self._row_begin}: a row is longer than 128 KiB, "
+                    "or a quote in it has no end."
+                )
+            yield text
+
+    def _next_row(self, reader: Reader) -> Optional[Row]:
+        """The next row that isn't blank, or None behind the last."""
+        row: Optional[Row] = []
+        try:
+            while row is not None and not row:
+                self._row_begin, self._row_size = reader.line_num + 1, 0
+                row = next(reader, None)
+        except csv.Error as error:
+            raise Stop(f"{self._name}, line {self._row_begin}: {about(error)}.") from None
+        return row
+
+    def _line(self, number: int, row: Row, columns: Columns) -> Line:
+        """A row as a line, which is refused if it can't be one."""
+        name = cell(row, columns.name)
+        reason = self._refused(row, columns)
+        if reason is not None:
+            return Line(number, name.encode(BYTES), reason)
+        return Line(number, f"{name}:{row[columns.password]}".encode(BYTES))
+
+    def _refused(self, row: Row, columns: Columns) -> Optional[str]:
+        if self._is_heading(row, columns):
+            return "the heading again"
+        if len(row) > columns.width:
+            return (
+                f"{len(row)} fields, where the first row has {columns.width}: "
+                "a separator in a field needs quotes"
+            )
+        # In any field, since a stray quote hides the lines up to the next one.
+        if any("\n" in field for field in row):
+            return f"a line feed in a field: lines {self._row_begin} to here are one row"
+        if columns.password >= len(row):
+            return "no password field"
+        name = cell(row, columns.name)
+        if not name:
+            return "no name"
+        return "a colon in the name" if ":" in name else None
+
+    def _is_heading(self, row: Row, columns: Columns) -> bool:
+        """Whether a row begins another table that was joined to this one.
+
+        If its columns may have other places, the run ends.
+        """
+        fields = folded_row(row)
+        if columns.headings and fields == columns.headings:
+            return True
+        name, password = cell(fields, columns.name), cell(fields, columns.password)
+        above = {cell(columns.headings, columns.name), cell(columns.headings, columns.password)}
+        if columns.headings and [name, password] == [
+            columns.headings[columns.name],
+            columns.headings[columns.password],
+        ]:
+            return True
+        is_swapped = name in headings.PASSWORDS and password in headings.NAMES
+        is_moved = bool(columns.headings) and above <= set(fields)
+        if is_swapped or is_moved or {name, password} <= set(columns.headings) - {""}:
+            raise UsageError(
+                f"{self._name}, line {self._row_begin}: another table begins, with other columns. "
+                "Hash each by itself."
+            )
+        return False
+
+
+class Texts(Iterator[str]):
+    """The lines of a source as texts for csv, which wants one after the other."""
+
+    def __init__(self, source: Source) -> None:
+        self._source = source
+        self._arrivals = source.lines()
+        self._waiting: Iterator[Line] = iter(())
+        self._next: Optional[Line] = None
+        self._is_end = False
+
+    def __next__(self) -> str:
+        while self._next is None:
+            self._take()
+            if self._is_end:
+                raise StopIteration
+        line, self._next = self._next, None
+        if len(line.data) > LONGEST_ROW:
+            raise Stop(
+                f"{self._source.name}, line {line.number}: longer than 128 KiB, "
+                "which no row may be."
+            )
+        return line.data.decode(BYTES) + "\n"
+
+    def is_ready(self) -> bool:
+        """Whether the next text, or the end, is there; it waits a moment for that."""
+        if self._next is None and not self._is_end:
+            self._take()
+        return self._next is not None or self._is_end
+
+    def _take(self) -> None:
+        """Takes the next line, if there is one by now."""
+        self._next = next(self._waiting, None)
+        if self._next is not None:
+            return
+        group = next(self._arrivals, None)
+        self._is_end = group is None
+        self._waiting = iter(group or ())
+        self._next = next(self._waiting, None)
+
+
+def about(error: csv.Error) -> str:
+    """What is wrong with a row, in words."""
+    if "field limit" in str(error):
+        return "a field is longer than 128 KiB, or the quote that begins it has no end"
+    return f"this is not CSV: {error}"
+
+
+def folded_all(fields: Sequence[bytes]) -> Row:
+    """Names of columns, as they are compared."""
+    return [headings.folded(field) for field in fields]
+
+
+def folded_row(row: Row) -> Row:
+    """The fields of a row, as names of columns are compared."""
+    return folded_all([field.encode(BYTES) for field in row])
+
+
+def cell(row: Row, place: int) -> str:
+    """A field of a row, which is empty if the row is shorter."""
+    return row[place] if place < len(row) else ""

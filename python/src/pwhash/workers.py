@@ -1,0 +1,161 @@
+"""Threads that hash: as many at once as processors, and answers in the order of the lines.
+
+The library releases the interpreter's lock, so its calls run beside each other. The first thread
+only deals out lines and writes answers: there signals arrive, and no call keeps them waiting.
+"""
+
+from __future__ import annotations
+
+import collections
+import contextlib
+import queue
+import signal
+import threading
+import time
+from collections.abc import Iterator
+from typing import Callable, Deque, Generic, List, Optional, TypeVar
+
+from pwhash import machine
+from pwhash.answers import Answer
+from pwhash.errors import Stop
+from pwhash.lines import Arrivals, Line
+
+# The stack of a thread: the library asks for 64 KiB, and Python needs some for itself.
+STACK_BYTES = 512 << 10
+PIECE_SECONDS = 0.05  # for which a thread works on a piece, if a line doesn't take longer
+MOST_LINES = 1 << 11  # of a piece
+
+Result = TypeVar("Result")
+
+
+class Job(Generic[Result]):
+    """A call that another thread makes."""
+
+    def __init__(self, call: Callable[[], Result]) -> None:
+        self._call = call
+        self._results: List[Result] = []
+        self._failure: Optional[Stop] = None
+        self._done = threading.Event()
+        self.seconds = 0.0
+
+    def run(self) -> None:
+        """Makes the call. What ends the run is kept for the thread that wants the result."""
+        begun = time.perf_counter()
+        try:
+            self._results.append(self._call())
+        except Stop as stop:
+            self._failure = stop
+        except MemoryError:
+            self._failure = Stop("out of memory.")
+        self.seconds = time.perf_counter() - begun
+        self._done.set()
+
+    def is_done(self) -> bool:
+        """Whether the call has ended."""
+        return self._done.is_set()
+
+    def result(self) -> Result:
+        """What the call returned, for which it waits."""
+        self._done.wait()
+        if self._failure is not None:
+            raise self._failure
+        return self._results[0]
+
+
+class Memory:
+    """Half of the memory that is free, of which each hash of scrypt takes its part."""
+
+    def __init__(self) -> None:
+        self._room = machine.free_memory() // 2
+        self._taken = 0
+        self._changed = threading.Condition()
+
+    @contextlib.contextmanager
+    def taken(self, size: int) -> Iterator[None]:
+        """Waits until there is room beside what others have. The first one always has it."""
+        if not size:
+            yield
+            return
+        with self._changed:
+            self._changed.wait_for(lambda: not self._taken or self._taken + size <= self._room)
+            self._taken += size
+        try:
+            yield
+        finally:
+            with self._changed:
+                self._taken -= size
+                self._changed.notify_all()
+
+
+class Workers:
+    """Answers lines by threads, each by a call of `work`."""
+
+    def __init__(self, work: Callable[[Line], Answer]) -> None:
+        self._work = work
+        self._most = machine.processors()
+        self._threads = 0
+        self._queue: queue.SimpleQueue[Job[List[Answer]]] = queue.SimpleQueue()
+        self._order: Deque[Job[List[Answer]]] = collections.deque()
+        self._size = 1  # the lines of a job
+
+    def answers(self, arrivals: Arrivals) -> Iterator[List[Answer]]:
+        """The answers to all lines, as they come."""
+        waiting: List[Line] = []
+        for group in arrivals:
+            waiting += group
+            while waiting and (len(waiting) >= self._size or not group):
+                lines, waiting = waiting[: self._size], waiting[self._size :]
+                self._submit(lines)
+                yield from self._done(2 * self._most)
+            yield from self._done(2 * self._most)
+        if waiting:
+            self._submit(waiting)
+        yield from self._done(0)
+
+    def _submit(self, lines: List[Line]) -> None:
+        job = Job(lambda: [self._work(line) for line in lines])
+        self._order.append(job)
+        self._queue.put(job)
+        if self._threads < min(len(self._order), self._most):
+            self._begin_thread()
+
+    def _done(self, most: int) -> Iterator[List[Answer]]:
+        """The answers that are there; while more than `most` jobs wait, those of the first one."""
+        while self._order and (len(self._order) > most or self._order[0].is_done()):
+            job = self._order.popleft()
+            answers = job.result()
+            yield answers
+            seconds = max(job.seconds / len(answers), 1e-9)
+            self._size = max(1, min(MOST_LINES, int(PIECE_SECONDS / seconds)))
+
+    def _begin_thread(self) -> None:
+        try:
+            begin_thread(self._run)
+            self._threads += 1
+        except Stop:
+            if not self._threads:
+                raise
+            self._most = self._threads
+
+    def _run(self) -> None:
+        while True:
+            self._queue.get().run()
+
+
+def in_thread(call: Callable[[], Result]) -> Result:
+    """What a call returns, which another thread makes, while signals reach this one."""
+    job = Job(call)
+    begin_thread(job.run)
+    return job.result()
+
+
+def begin_thread(call: Callable[[], None]) -> None:
+    """Begins a thread. Signals go to the first one, so that they interrupt what that waits for."""
+    threading.stack_size(STACK_BYTES)
+    before = signal.pthread_sigmask(signal.SIG_BLOCK, signal.valid_signals())
+    try:
+        threading.Thread(target=call, daemon=True).start()
+    except RuntimeError:
+        raise Stop("no thread can begin: memory or processes are limited (ulimit -a).") from None
+    finally:
+        signal.pthread_sigmask(signal.SIG_SETMASK, before)
