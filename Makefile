@@ -96,7 +96,7 @@ build/cpu: FORCE
 	@echo '$(CPU)' | cmp -s - $@ || echo '$(CPU)' > $@
 
 # The completions, from the help of a program that runs on this machine.
-$(COMPLETIONS): mkpasswd bin/pwhash share/pwhash/command.py tools/completions
+$(COMPLETIONS): mkpasswd libmkpasswd.so.3 bin/pwhash python/src/pwhash/cli.py tools/completions
 	@mkdir -p $(@D)
 	tools/completions ./mkpasswd bin/pwhash $(@D)
 

@@ -1,7 +1,6 @@
 """Runs that are ended at any moment: what is made is right, and the printed command goes on."""
 from __future__ import annotations
 
-import contextlib
 import glob
 import os
 import random
@@ -13,7 +12,7 @@ from pathlib import Path
 import pytest
 from support.process import run
 from support.pwhash_copies import Copy
-from support.pwhash_runs import PWHASH, command_to_go_on, ended, read, save, started_program, tree
+from support.pwhash_runs import PWHASH, command_to_go_on, ended, read, save, started_program
 
 SIGNALS = 40
 NUMBERS = (signal.SIGINT, signal.SIGTERM, signal.SIGHUP, signal.SIGKILL)
@@ -25,13 +24,6 @@ PART = "out.part"
 
 def size_of_part() -> int:
     return os.path.getsize(PART) if os.path.exists(PART) else 0
-
-
-def kill_a_worker(process: int) -> None:
-    """Kills one of the processes that a run has begun."""
-    for each in tree(process)[1:2]:
-        with contextlib.suppress(ProcessLookupError):
-            os.kill(each, signal.SIGKILL)
 
 
 @dataclass
@@ -51,7 +43,6 @@ class Interrupted:
         with started_program("/bin/sh", "-c", f"exec {self.command}") as process:
             while process.poll() is None and self.sent < SIGNALS:
                 if os.path.exists(PART) and size_of_part() >= goal:
-                    kill_a_worker(process.pid)
                     process.send_signal(number)
                     self.sent += 1
                     break
@@ -75,7 +66,7 @@ class Interrupted:
 
 @pytest.mark.slow
 def test_an_interrupted_run_is_gone_on_with_by_the_printed_command(program: Path) -> None:
-    """Forty signals, at moments by a fixed seed, and workers that are killed."""
+    """Forty signals, at moments by a fixed seed."""
     save("my lines", LINES)
     expected = run(program, "--batch", *WORDS, stdin=LINES).stdout
     interrupted = Interrupted(random.Random(5), expected)
@@ -86,6 +77,6 @@ def test_an_interrupted_run_is_gone_on_with_by_the_printed_command(program: Path
 def test_ctrl_c_while_it_begins_ends_it_without_a_message(copy: Copy) -> None:
     """Before its own handler is there, a message would be python's."""
     script = b"import os, signal, time\nos.kill(os.getpid(), signal.SIGINT)\ntime.sleep(9)\n"
-    save(str(copy.folder / "share/pwhash/lines.py"), script)
+    save(str(copy.modules / "pwhash/lines.py"), script)
     done = ended(started_program(str(copy.pwhash), "file"))
     assert (done.status, done.out, done.err) == (-signal.SIGINT, b"", b""), done

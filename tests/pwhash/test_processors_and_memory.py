@@ -49,6 +49,7 @@ def test_no_more_work_at_once_than_processors(
 
 
 MEBIBYTE = 1 << 20
+OWN = 30  # mebibytes that a run takes without any hash
 
 
 LITTLE_MEMORY = [
@@ -76,7 +77,7 @@ def test_scrypt_takes_half_of_the_free_memory(folder: pathlib.Path, script: str,
     script = f"{script}\ncd {shlex.quote(str(folder))}"
     done, load = watched(script, "file", "-m", "scrypt", "-R", "8", "passwords")
     assert done.status == 0 and done.out.count(b"\n") == 12, done
-    assert 100 < load.memory // MEBIBYTE <= most, (load, done.command)
+    assert 100 < load.memory // MEBIBYTE <= most + OWN, (load, done.command)
 
 
 def test_checks_of_scrypt_take_half_of_the_free_memory(folder: pathlib.Path) -> None:
@@ -86,4 +87,4 @@ def test_checks_of_scrypt_take_half_of_the_free_memory(folder: pathlib.Path) -> 
     script = f"{available(600)}\ncd {shlex.quote(str(folder))}"
     done, load = watched(script, "check", "--budget", "600M", "stored")
     assert done.status == 0 and done.out.count(b":ok\n") == 12, done
-    assert 100 < load.memory // MEBIBYTE <= 300, (load, done.command)
+    assert 100 < load.memory // MEBIBYTE <= 300 + OWN, (load, done.command)

@@ -2,14 +2,15 @@
 from __future__ import annotations
 
 import os
+import shlex
 import signal
 
 import pytest
-from support.pwhash_copies import Copy
 from support.pwhash_runs import (
     ANN,
     ESCAPE,
     MD5CRYPT,
+    PWHASH,
     SLOW,
     command_to_go_on,
     ended,
@@ -19,6 +20,7 @@ from support.pwhash_runs import (
     read,
     save,
     save_part,
+    shell,
     started,
     started_program,
     users,
@@ -237,19 +239,19 @@ def test_a_check_names_the_part_that_is_to_be_removed() -> None:
     assert b"--resume" not in done.err, done
 
 
-def test_a_check_that_failed_says_how_to_start_again(copy: Copy) -> None:
-    copy.replace_engine("exit 3")
-    done = copy.run("check", save("lines", b"ann:!:x\n"), "-o", "out")
-    assert done.stderr.endswith(b" To start again, remove out.part.\n"), done
+def test_a_check_that_failed_says_how_to_start_again() -> None:
+    save("lines", b"ann:!:x\n" * 200)
+    done = shell('ulimit -f 1; exec "$@"', "check", "lines", "-o", "out")
+    assert done.status == 3 and done.err.endswith(b" To start again, remove out.part.\n"), done
 
 
-def test_a_run_that_failed_says_how_to_go_on(copy: Copy) -> None:
-    save("lines", b"ann:x\n")
+def test_a_run_that_failed_says_how_to_go_on() -> None:
+    save("lines", users(200))
     save_part("out.part", b"")
-    copy.replace_engine("exit 3")
-    done = copy.run("file", "lines", "-o", "out", "--resume")
-    command = f"  {copy.pwhash} file lines -o out --resume\n"
-    assert done.stderr.endswith(f" To go on:\n{command}".encode()), done
+    words = ("file", *MD5CRYPT, "lines", "-o", "out", "--resume")
+    done = shell('ulimit -f 1; exec "$@"', *words)
+    command = f"  {shlex.join([PWHASH, *words])}\n"
+    assert done.status == 3 and done.err.endswith(f" To go on:\n{command}".encode()), done
 
 
 def test_nobody_is_told_to_remove_what_is_no_file() -> None:

@@ -1,4 +1,4 @@
-"""Signals while pwhash runs: no core file, the terminal as before, and no mkpasswd left."""
+"""Signals while pwhash runs: no core file, the terminal as before, and no hash goes on."""
 from __future__ import annotations
 
 import contextlib
@@ -7,6 +7,7 @@ import pathlib
 import shlex
 import signal
 import subprocess
+import time
 
 import pytest
 from support.needs import needed
@@ -17,9 +18,6 @@ from support.pwhash_runs import (
     shell,
     shows_keys,
     started,
-    started_program,
-    state_of,
-    tree,
     wait_for,
 )
 
@@ -52,7 +50,7 @@ def test_no_signal_writes_a_typed_password_to_a_file(number: int) -> None:
 
 
 def test_no_limit_writes_a_password_to_a_file() -> None:
-    """The limit of processor time ends the mkpasswd that hashes it."""
+    """The limit of processor time ends it while it hashes."""
     script = 'ulimit -c unlimited || exit; ulimit -S -t 1; exec "$@"'
     done = shell(script, "-R", "50M", stdin=b"secret\n")
     assert done.status != 0 and not list(pathlib.Path().glob("core*")), done
@@ -78,31 +76,7 @@ def test_the_terminal_shows_keys_after_any_signal(number: int) -> None:
 
 
 LONG_HASH = ("-m", "sha512crypt", "-R", "300M", "--budget", "1000000M")
-
-
-def session(process: int) -> int:
-    with contextlib.suppress(ProcessLookupError):
-        return os.getsid(process)
-    return 0
-
-
-def hashers(pwhash_process: int) -> list[int]:
-    """The processes in sessions of their own that a pwhash has begun."""
-    return [each for each in tree(pwhash_process)[1:] if session(each) == each]
-
-
-def is_running(process: int) -> bool:
-    return state_of(process) not in ("", "Z")
-
-
-def assert_end(processes: list[int]) -> None:
-    """Waits until they have ended; whatever is left after a minute is killed."""
-    assert processes
-    try:
-        wait_for(lambda: not any(map(is_running, processes)))
-    finally:
-        for each in filter(is_running, processes):
-            os.kill(each, signal.SIGKILL)
+SECONDS_TO_END = 1.0
 
 
 def give(process: subprocess.Popen[bytes], data: bytes) -> None:
@@ -114,46 +88,46 @@ def give(process: subprocess.Popen[bytes], data: bytes) -> None:
 
 
 def is_hashing(process: int) -> bool:
-    """Whether it has taken a tenth of a second of a processor as mkpasswd."""
-    with contextlib.suppress(OSError):
-        name, _, rest = (
-            pathlib.Path(f"/proc/{process}/stat").read_text(encoding="latin-1").rpartition(")")
-        )
-        return "mkpasswd" in name and int(rest.split()[11]) >= 10
+    """Whether a thread but the first has taken a tenth of a second of a processor."""
+    for path in pathlib.Path(f"/proc/{process}/task").glob("*/stat"):
+        with contextlib.suppress(OSError):
+            text = path.read_text(encoding="latin-1").rpartition(")")[2]
+            if path.parent.name != str(process) and int(text.split()[11]) >= 10:
+                return True
     return False
 
 
 @pytest.mark.parametrize(
     "number",
-    [signal.SIGKILL, signal.SIGUSR1, signal.SIGTERM],
+    [signal.SIGKILL, signal.SIGUSR1, signal.SIGTERM, signal.SIGINT, signal.SIGHUP, signal.SIGQUIT],
     ids=lambda number: signal.Signals(number).name,
 )
-def test_no_mkpasswd_goes_on_after_pwhash(number: int) -> None:
-    with started(*LONG_HASH) as process:
-        give(process, b"secret\n")
-        wait_for(lambda: any(map(is_hashing, hashers(process.pid))))
-        found = hashers(process.pid)
-        process.send_signal(number)
-        ended(process)
-    assert_end(found)
-
-
-@pytest.mark.needs("strace")
 @pytest.mark.parametrize(
-    "number", [signal.SIGINT, signal.SIGTERM], ids=lambda number: signal.Signals(number).name
+    ("words", "data"),
+    [
+        pytest.param(LONG_HASH, b"secret\n", id="one"),
+        pytest.param(("file", *LONG_HASH), b"ann:secret\nbob:secret\n", id="file"),
+        pytest.param(
+            ("check", "--budget", "1000000M"),
+            b"ann:$6$rounds=300000000$a$b:secret\n",
+            id="check",
+        ),
+    ],
 )
-def test_a_signal_while_a_mkpasswd_begins_ends_it_too(number: int) -> None:
-    """strace holds each program for a second before it begins."""
-    inject = "inject=execve:delay_enter=1000000"
-    command = ["strace", "-f", "-qq", "-o", "/dev/null", "-e", inject, PWHASH, "file", *LONG_HASH]
-    with started_program(*command) as process:
-        give(process, b"ann:secret\n")
-        wait_for(lambda: bool(hashers(process.pid)))
-        found = hashers(process.pid)
-        parent = max(each for each in tree(process.pid) if found[0] in tree(each)[1:])
-        os.kill(parent, number)
-        wait_for(lambda: not is_running(parent))
-        try:
-            assert_end(found)
-        finally:
-            process.kill()
+def test_a_signal_ends_a_run_during_a_costly_hash(
+    words: tuple[str, ...], data: bytes, number: int
+) -> None:
+    with started(*words) as process:
+        give(process, data)
+        wait_for(lambda: is_hashing(process.pid))
+        process.send_signal(number)
+        begun = time.monotonic()
+        done = ended(process)
+        seconds = time.monotonic() - begun
+    assert done.status == -number and done.out == b"", done
+    assert seconds < SECONDS_TO_END + load_of_machine(), (seconds, done)
+
+
+def load_of_machine() -> float:
+    """Seconds by which a busy machine may be late."""
+    return os.getloadavg()[0]

@@ -4,9 +4,11 @@ from __future__ import annotations
 import os
 
 import pytest
-from support.pwhash_runs import PWHASH, ended, save, started_program, users
+from support.package import LIBRARY, PACKAGE
+from support.pwhash_runs import ended, save, started_program, users
 
-PYTHON = "/usr/bin/python3"  # by which pwhash begins itself; strace counts calls from here on
+# As bin/pwhash begins it; strace counts calls from here on.
+STARTED = ("/usr/bin/python3", "-I", "-S", str(PACKAGE / "pwhash/start.py"), str(LIBRARY))
 WORDS = ("file", "-m", "sha512crypt", "-R", "20k", "-S", "saltsalt", "lines", "-o", "out")
 
 
@@ -14,12 +16,8 @@ WORDS = ("file", "-m", "sha512crypt", "-R", "20k", "-S", "saltsalt", "lines", "-
 @pytest.mark.parametrize(
     ("call", "error", "first"),
     [
-        pytest.param("memfd_create", "EMFILE", 1, id="no file in memory"),
-        pytest.param("memfd_create", "ENOMEM", 6, id="no memory for a file, later"),
-        pytest.param("pipe2", "EMFILE", 3, id="no pipe"),
-        pytest.param("vfork,clone,clone3", "EAGAIN", 3, id="no process"),
-        pytest.param("vfork,clone,clone3", "ENOMEM", 5, id="no memory for a process, later"),
-        pytest.param("poll", "ENOMEM", 2, id="no memory to wait for processes"),
+        pytest.param("clone,clone3", "EAGAIN", 1, id="no thread"),
+        pytest.param("poll", "ENOMEM", 2, id="no memory to wait for lines"),
         pytest.param("flock", "EIO", 1, id="no lock"),
         pytest.param("fsync", "EIO", 1, id="a disk that fails in the beginning"),
         pytest.param("fsync", "EIO", 2, id="a disk that fails in the end"),
@@ -32,7 +30,7 @@ WORDS = ("file", "-m", "sha512crypt", "-R", "20k", "-S", "saltsalt", "lines", "-
 def test_a_system_call_that_fails_makes_no_out(call: str, error: str, first: int) -> None:
     save("lines", users(40))
     inject = f"inject={call}:error={error}:when={first}+"
-    command = ["strace", "-qq", "-o", "/dev/null", "-e", inject, PYTHON, "-IB", PWHASH, *WORDS]
+    command = ["strace", "-qq", "-o", "/dev/null", "-e", inject, *STARTED, "pwhash", *WORDS]
     done = ended(started_program(*command))
     assert (done.status, done.out) == (3, b"") and done.err.startswith(b"pwhash: "), done
     assert not os.path.exists("out"), done

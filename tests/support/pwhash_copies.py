@@ -1,4 +1,4 @@
-"""Copies of pwhash: their engine, mkpasswd, can be replaced, and every user can run them."""
+"""Copies of pwhash that every user can run, and in which a test may change a module."""
 from __future__ import annotations
 
 import contextlib
@@ -8,24 +8,16 @@ from collections.abc import Iterator
 from dataclasses import dataclass
 from pathlib import Path
 
+from .package import SONAME
 from .process import Changes, Result, Word, run
 from .pwhash_runs import PWHASH
 
-SONAME = "libmkpasswd.so.3"
-
-# Stands in for the engine: the version is one's own, and the rest a script, in which `real` is
-# mkpasswd.
-FORM_OF_ENGINE = """\
-#!/bin/sh
-real() {{ '{real}' "$@"; }}
-[ "$1" != -V ] || {{ echo mkpasswd 9.9.9; exit; }}
-{script}
-"""
+MODULES = "python/src"
 
 
 @dataclass(frozen=True)
 class Copy:
-    """A folder with pwhash, its modules, its engine and its library, which everybody can read."""
+    """A folder with pwhash, its modules, its library and the program, which everybody can read."""
 
     folder: Path
 
@@ -34,19 +26,13 @@ class Copy:
         return self.folder / "bin/pwhash"
 
     @property
-    def engine(self) -> Path:
-        """The engine that pwhash finds beside itself."""
-        return self.folder / "bin/mkpasswd"
+    def modules(self) -> Path:
+        """The folder with the packages mkpasswd and pwhash."""
+        return self.folder / MODULES
 
-    def replace_engine(self, script: str) -> None:
-        """Puts a script of sh in the engine's place, in which `real` is the engine."""
-        real = self.engine.rename(self.engine.with_name("real"))
-        self.write_engine(FORM_OF_ENGINE.format(real=real, script=script))
-
-    def write_engine(self, text: str) -> None:
-        """Writes a program in the engine's place."""
-        self.engine.write_text(text, encoding="ascii")
-        self.engine.chmod(0o755)
+    @property
+    def library(self) -> Path:
+        return self.folder / SONAME
 
     def run(
         self,
@@ -68,8 +54,8 @@ def copied(program: Path) -> Iterator[Copy]:
         (copy.folder / "bin").mkdir()
         tree = Path(PWHASH).resolve().parents[1]
         ignored = shutil.ignore_patterns("__pycache__")
-        shutil.copytree(tree / "share/pwhash", copy.folder / "share/pwhash", ignore=ignored)
-        shutil.copy(tree / SONAME, copy.folder / SONAME)
+        shutil.copytree(tree / MODULES, copy.modules, ignore=ignored)
+        shutil.copy(tree / SONAME, copy.library)
         shutil.copy(PWHASH, copy.pwhash)
-        shutil.copy(program, copy.engine)
+        shutil.copy(program, copy.folder / "bin/mkpasswd")
         yield copy

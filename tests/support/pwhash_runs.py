@@ -1,6 +1,6 @@
 """Runs pwhash as a user does: in the current folder, at a terminal, on a machine with limits.
 
-PWHASH names another one that is tried, beside whose folder is its share/pwhash.
+PWHASH names another one that is tried, beside whose folder are its python/src and its library.
 """
 
 from __future__ import annotations
@@ -213,7 +213,7 @@ def type_secret(child: Any) -> bytes:
 
 @dataclasses.dataclass(frozen=True)
 class Load:
-    """What a run took beside its first thread: threads that compute, and bytes of memory."""
+    """What a run took: threads that compute beside its first one, and bytes of memory."""
 
     working: float
     memory: int
@@ -270,7 +270,7 @@ def load_of(process: subprocess.Popen[bytes]) -> Load:
         count = sum(working_threads(each, process.pid) for each in processes)
         if count:
             working.append(count)
-        memory = max(memory, sum(resident(each) for each in processes if each != process.pid))
+        memory = max(memory, sum(map(resident, processes)))
         time.sleep(0.01)
     return Load(statistics.median(working) if working else 0, memory)
 

@@ -1,0 +1,144 @@
+"""Endings of pwhash: whoever reads its messages or not, the status says what is on disk."""
+from __future__ import annotations
+
+import os
+import signal
+import time
+from pathlib import Path
+
+import pytest
+from support.needs import needed
+from support.pwhash_copies import Copy
+from support.pwhash_runs import (
+    MD5CRYPT,
+    PWHASH,
+    ended,
+    hashed,
+    read,
+    save,
+    shell,
+    started,
+    started_program,
+    state_of,
+    tree,
+    users,
+    wait_for,
+)
+
+with needed("python3-pexpect"):
+    import pexpect
+
+EACH_SIGNAL = pytest.mark.parametrize(
+    "number",
+    [
+        pytest.param(signal.SIGINT, id="SIGINT"),
+        pytest.param(signal.SIGTERM, id="SIGTERM"),
+        pytest.param(signal.SIGHUP, id="SIGHUP"),
+    ],
+)
+
+
+def is_asleep(process: int) -> bool:
+    """Whether it does nothing for a tenth of a second, as where it waits for a reader."""
+    for _ in range(5):
+        if state_of(process) != "S":
+            return False
+        time.sleep(0.02)
+    return True
+
+
+@EACH_SIGNAL
+def test_a_signal_ends_a_run_whose_messages_nobody_reads(number: signal.Signals) -> None:
+    save("lines", b"no colon\n" * 100_000)
+    with started("check", "lines", "--quiet") as process:
+        wait_for(lambda: is_asleep(process.pid))
+        process.send_signal(number)
+        begun = time.monotonic()
+        status = process.wait(timeout=60)
+        seconds = time.monotonic() - begun
+        process.kill()
+    assert status == -number and seconds < 1 + os.getloadavg()[0], (status, seconds)
+
+
+@pytest.mark.needs("strace")
+@EACH_SIGNAL
+def test_a_signal_after_out_has_its_name_does_not_change_the_status(number: signal.Signals) -> None:
+    """strace holds the calls that remove the other names for three seconds."""
+    save("list", users(3) + b"no colon\n")
+    inject = "inject=unlink,unlinkat:delay_enter=3000000"
+    command = ["strace", "-f", "-qq", "-o", "/dev/null", "-e", inject, PWHASH, "file", *MD5CRYPT]
+    words = ["list", "-o", "hashes", "--skip-refused"]
+    with started_program(*command, *words) as process:
+        wait_for(lambda: os.path.exists("hashes"))
+        os.kill(tree(process.pid)[1], number)
+        done = ended(process)
+    assert done.status == 1 and sorted(os.listdir()) == ["hashes", "list"], done
+    assert read("hashes").count(b"\n") == 3 and b"hashes" in done.err, done
+
+
+def test_no_password_is_shown_that_costs_too_much() -> None:
+    child = pexpect.spawn(PWHASH, ["--generate", "--budget", "100"], timeout=60)
+    child.expect(pexpect.EOF)
+    shown = bytes(child.before)
+    child.close()
+    assert child.exitstatus == 2 and b"over budget" in shown, shown
+    assert b"shown only here" not in shown, shown
+
+
+@pytest.mark.parametrize(
+    ("limit", "statuses"),
+    [
+        pytest.param("ulimit -S -s 64", {0}, id="that can be raised"),
+        pytest.param("ulimit -s 64", {3}, id="that can't"),
+        pytest.param("ulimit -s 1024", {0}, id="of a mebibyte"),
+    ],
+)
+def test_a_small_stack_is_named_or_raised(limit: str, statuses: set[int]) -> None:
+    done = shell(f'{limit}; exec "$@"', *MD5CRYPT, stdin=b"password\n")
+    assert done.status in statuses, done
+    assert done.status == 0 or b"ulimit -s" in done.err, done
+    assert b"Traceback" not in done.err, done
+    assert done.status != 0 or done.out == hashed(b"password") + b"\n", done
+
+
+# ---- What is missing
+
+
+def test_a_library_that_is_missing_is_named(copy: Copy) -> None:
+    copy.library.unlink()
+    done = copy.run(*MD5CRYPT, stdin=b"x")
+    assert done.status == 3 and str(copy.library).encode() in done.stderr, done
+    assert b"Traceback" not in done.stderr, done
+
+
+def test_a_library_of_another_version_is_named(copy: Copy, folder: Path) -> None:
+    """One with the name but without the calls."""
+    save("other.c", b"int other;\n")
+    library = folder / copy.library.name
+    soname = f"-Wl,-soname,{copy.library.name}"
+    made = ended(started_program("gcc", "-shared", soname, "-o", str(library), "other.c"))
+    assert made.status == 0, made
+    copy.library.unlink()
+    library.rename(copy.library)
+    done = copy.run(*MD5CRYPT, stdin=b"x")
+    assert done.status == 3 and copy.library.name.encode() in done.stderr, done
+    assert b"Traceback" not in done.stderr, done
+
+
+def test_a_module_that_is_missing_is_named(copy: Copy) -> None:
+    (copy.modules / "pwhash/source.py").unlink()
+    done = copy.run(*MD5CRYPT, stdin=b"x")
+    assert done.status == 3 and b"pwhash.source" in done.stderr, done
+    assert b"Traceback" not in done.stderr, done
+
+
+def test_nothing_planted_is_loaded(folder: Path) -> None:
+    """Neither modules nor libraries of the current folder, nor by the environment."""
+    save("json.py", b"raise SystemExit(0)\n")
+    save("mkpasswd.py", b"raise SystemExit(0)\n")
+    save("libmkpasswd.so.3", b"no library")
+    save("sitecustomize.py", b"raise SystemExit(0)\n")
+    script = 'LD_LIBRARY_PATH=. PYTHONPATH=. PYTHONHOME=. exec "$@"'
+    done = shell(script, "audit", "--json", "-", stdin=b"ann:!\n")
+    assert done.status == 0 and b'"finding": "locked"' in done.out, done
+    assert (folder / "json.py").exists()
