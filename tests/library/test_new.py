@@ -168,9 +168,9 @@ def test_10000_salts_of_the_system_differ(driver: Driver) -> None:
 
 
 def test_a_policy_of_zeros_is_sha512crypt_of_656000_rounds(driver: Driver) -> None:
-    """A null policy too: each call of the header is made with one."""
+    """A null policy too: the driver makes each call of the header with both."""
     for call in in_each_form(New(b"password")):
-        made = driver.answers([call], REAL)[0].out.strip('"').encode()
+        made = driver.answers([call], MANY_DIGITS)[0].out.strip('"').encode()
         assert made.startswith(b"$6$rounds=656000$"), call.row
         assert crypt(b"password", made) == made
 
