@@ -88,6 +88,7 @@ def need_packages() -> None:
         missing("DEB=1", "tests of the packages take ten minutes and 3 GB")
     for path in ("libmkpasswd.so.3", "build/x86-64-v3/libmkpasswd.so.3"):
         built(path, "deb")
+    built("python/src/mkpasswd/_reasons.py", "lib")
     built("build/site", "site")
     built("build/mkpasswd.mjs", "web")
 
