@@ -86,19 +86,21 @@ def test_no_password_is_shown_that_costs_too_much() -> None:
 
 
 @pytest.mark.parametrize(
-    ("limit", "statuses"),
+    ("limit", "status"),
     [
-        pytest.param("ulimit -S -s 64", {0}, id="that can be raised"),
-        pytest.param("ulimit -s 64", {3}, id="that can't"),
-        pytest.param("ulimit -s 1024", {0}, id="of a mebibyte"),
+        pytest.param("ulimit -s 64", 3, id="of 64 KiB"),
+        pytest.param("ulimit -s 512", 3, id="of half a mebibyte"),
+        pytest.param("ulimit -s 1024", 0, id="of a mebibyte"),
+        pytest.param("ulimit -s unlimited", 0, id="without a limit"),
     ],
 )
-def test_a_small_stack_is_named_or_raised(limit: str, statuses: set[int]) -> None:
+def test_a_small_stack_is_named(limit: str, status: int) -> None:
     done = shell(f'{limit}; exec "$@"', *MD5CRYPT, stdin=b"password\n")
-    assert done.status in statuses, done
-    assert done.status == 0 or b"ulimit -s" in done.err, done
-    assert b"Traceback" not in done.err, done
-    assert done.status != 0 or done.out == hashed(b"password") + b"\n", done
+    assert done.status == status and b"Traceback" not in done.err, done
+    if status == 0:
+        assert done.out == hashed(b"password") + b"\n", done
+    else:
+        assert b"stack" in done.err and b"ulimit" in done.err, done
 
 
 # ---- What is missing

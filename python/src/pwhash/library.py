@@ -10,8 +10,8 @@ import functools
 from typing import NamedTuple, Optional, Union
 
 import mkpasswd
-from mkpasswd import _calls, _library
-from mkpasswd._library import PASSWORD_LIMIT, Answer, Numbers, Reason
+from mkpasswd import Reason, _calls, _library
+from mkpasswd._library import PASSWORD_LIMIT, Answer, Numbers
 
 from pwhash.errors import Stop
 
