@@ -42,7 +42,7 @@ def longest_within(policy: Policy) -> int | None:
 
 def test_the_limit_and_the_longest_password_are_those_of_the_formulas() -> None:
     for policy in random_policies(7, POLICIES):
-        if policy.method not in METHODS or policy.refusal:
+        if policy.method not in METHODS or policy.error:
             continue
         numbers = _library.Numbers(policy.method, policy.rounds, policy.budget)
         answer, longest = _library.limit(numbers), longest_within(policy)
@@ -57,7 +57,7 @@ def test_a_policy_refuses_exactly_the_rounds_that_no_new_hash_has(seed: int) -> 
         if policy.method not in METHODS:
             continue
         made = (NAMES[policy.method], policy.rounds)
-        if policy.refusal:
+        if policy.error:
             assert kind_raised(mkpasswd.Policy, *made) is mkpasswd.Refused, policy
         else:
             assert mkpasswd.Policy(*made).rounds == policy.rounds
