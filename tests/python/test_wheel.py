@@ -73,11 +73,16 @@ def test_a_wheel_is_named_after_the_version_and_the_c_library_that_it_needs(whee
     assert wheel.name == f"mkpasswd-{version}-py3-none-{tag}.whl"
 
 
-def test_a_wheel_has_the_package_and_the_library(wheel: Path) -> None:
+def modules_of(package: str) -> list[str]:
+    """The files of a package's folder, as a wheel names them."""
+    folder = PACKAGE / package
+    return [f"{package}/{file.name}" for file in folder.iterdir() if file.is_file()]
+
+
+def test_a_wheel_has_the_packages_and_the_library(wheel: Path) -> None:
     version = printed(run(ROOT / "tools/version"))
-    modules = {file.name for file in (PACKAGE / "mkpasswd").iterdir() if file.is_file()}
-    files = [f"mkpasswd/{name}" for name in modules | {LIBRARY.name}]
-    metadata = ("METADATA", "RECORD", "WHEEL", "top_level.txt")
+    files = [*modules_of("mkpasswd"), f"mkpasswd/{LIBRARY.name}", *modules_of("pwhash")]
+    metadata = ("METADATA", "RECORD", "WHEEL", "entry_points.txt", "top_level.txt")
     files += [f"mkpasswd-{version}.dist-info/{name}" for name in metadata]
     assert sorted(printed(run("unzip", "-Z1", wheel)).split()) == sorted(files)
 
