@@ -67,8 +67,8 @@
 extern "C" {
 #endif
 
-/* gcc and clang warn about an ignored result, and about a null report or `out` that they see where
- * an exported function wants none. Input isn't declared nonnull: a compiler could then drop a
+/* gcc and clang warn about an ignored result, and about a null pointer that they see where an
+ * exported function wants none. Input isn't declared nonnull: a compiler could then drop a
  * caller's own test for null after a call. gcc warns about an `out` that it sees to have fewer
  * bytes than `out_size`. */
 #if defined __GNUC__ || defined __clang__
@@ -80,9 +80,17 @@ extern "C" {
 #define MKPASSWD_CHECKED
 #define MKPASSWD_NONNULL(place)
 #endif
-#if defined __GNUC__ && !defined __clang__ && __GNUC__ >= 10
+#if defined __clang__
+#pragma clang diagnostic push
+#pragma clang diagnostic ignored "-Wgcc-compat" /* of -pedantic: gcc has no diagnose_if */
+#define MKPASSWD_READS(bytes, place, length)                                                       \
+    __attribute__((diagnose_if(!bytes, "null where nonnull is wanted", "warning")))
+#define MKPASSWD_WRITES(out, size)
+#elif defined __GNUC__ && __GNUC__ >= 10
+#define MKPASSWD_READS(bytes, place, length) __attribute__((access(read_only, place, length)))
 #define MKPASSWD_WRITES(out, size) __attribute__((access(write_only, out, size)))
 #else
+#define MKPASSWD_READS(bytes, place, length)
 #define MKPASSWD_WRITES(out, size)
 #endif
 
@@ -386,22 +394,23 @@ static inline bool mkpasswd_scheme_name(uint32_t scheme, char *out, size_t out_s
 /* MKPASSWD_VERSION of the library that is linked. */
 MKPASSWD_EXPORT uint32_t mkpasswd_version(void);
 
-MKPASSWD_EXPORT MKPASSWD_CHECKED MKPASSWD_NONNULL(8) int32_t mkpasswd_login_bytes(
-    const uint8_t *password, size_t password_length, const uint8_t *field, size_t field_length,
-    uint32_t method, uint32_t rounds, uint64_t budget, struct mkpasswd_report *report);
+MKPASSWD_EXPORT MKPASSWD_CHECKED MKPASSWD_NONNULL(8) int32_t
+    mkpasswd_login_bytes(const uint8_t *password, size_t password_length, const uint8_t *field,
+        size_t field_length, uint32_t method, uint32_t rounds, uint64_t budget,
+        struct mkpasswd_report *report) MKPASSWD_READS(password, 1, 2) MKPASSWD_READS(field, 3, 4);
 
 MKPASSWD_EXPORT MKPASSWD_CHECKED MKPASSWD_NONNULL(6) MKPASSWD_NONNULL(8)
     MKPASSWD_WRITES(6, 7) int32_t mkpasswd_new_bytes(const uint8_t *password,
         size_t password_length, uint32_t method, uint32_t rounds, uint64_t budget, uint8_t *out,
-        size_t out_size, struct mkpasswd_report *report);
+        size_t out_size, struct mkpasswd_report *report) MKPASSWD_READS(password, 1, 2);
 
 MKPASSWD_EXPORT MKPASSWD_CHECKED MKPASSWD_NONNULL(5) int32_t
     mkpasswd_needs_rehash_bytes(const uint8_t *stored, size_t stored_length, uint32_t method,
-        uint32_t rounds, struct mkpasswd_report *report);
+        uint32_t rounds, struct mkpasswd_report *report) MKPASSWD_READS(stored, 1, 2);
 
-MKPASSWD_EXPORT MKPASSWD_CHECKED MKPASSWD_NONNULL(6) int32_t
-    mkpasswd_audit_bytes(const uint8_t *stored, size_t stored_length, uint32_t method,
-        uint32_t rounds, uint64_t budget, struct mkpasswd_report *report);
+MKPASSWD_EXPORT MKPASSWD_CHECKED MKPASSWD_NONNULL(6) int32_t mkpasswd_audit_bytes(
+    const uint8_t *stored, size_t stored_length, uint32_t method, uint32_t rounds, uint64_t budget,
+    struct mkpasswd_report *report) MKPASSWD_READS(stored, 1, 2);
 
 MKPASSWD_EXPORT MKPASSWD_CHECKED MKPASSWD_NONNULL(4) int32_t mkpasswd_limit_bytes(
     uint32_t method, uint32_t rounds, uint64_t budget, struct mkpasswd_report *report);
@@ -412,20 +421,22 @@ MKPASSWD_EXPORT MKPASSWD_CHECKED MKPASSWD_NONNULL(5) int32_t
 
 MKPASSWD_EXPORT MKPASSWD_CHECKED MKPASSWD_NONNULL(6) int32_t
     mkpasswd_verify_bytes(const uint8_t *password, size_t password_length, const uint8_t *stored,
-        size_t stored_length, uint64_t budget, struct mkpasswd_report *report);
+        size_t stored_length, uint64_t budget, struct mkpasswd_report *report)
+        MKPASSWD_READS(password, 1, 2) MKPASSWD_READS(stored, 3, 4);
 
-MKPASSWD_EXPORT MKPASSWD_CHECKED MKPASSWD_NONNULL(6) MKPASSWD_NONNULL(8)
-    MKPASSWD_WRITES(6, 7) int32_t mkpasswd_hash_bytes(const uint8_t *password,
-        size_t password_length, const uint8_t *setting, size_t setting_length, uint64_t budget,
-        uint8_t *out, size_t out_size, struct mkpasswd_report *report);
+MKPASSWD_EXPORT MKPASSWD_CHECKED MKPASSWD_NONNULL(6) MKPASSWD_NONNULL(8) MKPASSWD_WRITES(
+    6, 7) int32_t mkpasswd_hash_bytes(const uint8_t *password, size_t password_length,
+    const uint8_t *setting, size_t setting_length, uint64_t budget, uint8_t *out, size_t out_size,
+    struct mkpasswd_report *report) MKPASSWD_READS(password, 1, 2) MKPASSWD_READS(setting, 3, 4);
 
-MKPASSWD_EXPORT MKPASSWD_CHECKED MKPASSWD_NONNULL(5) MKPASSWD_NONNULL(7) MKPASSWD_WRITES(
-    5, 6) int32_t mkpasswd_setting_bytes(uint32_t method, uint32_t rounds, const uint8_t *salt,
-    size_t salt_length, uint8_t *out, size_t out_size, struct mkpasswd_report *report);
+MKPASSWD_EXPORT MKPASSWD_CHECKED MKPASSWD_NONNULL(5) MKPASSWD_NONNULL(7)
+    MKPASSWD_WRITES(5, 6) int32_t mkpasswd_setting_bytes(uint32_t method, uint32_t rounds,
+        const uint8_t *salt, size_t salt_length, uint8_t *out, size_t out_size,
+        struct mkpasswd_report *report) MKPASSWD_READS(salt, 3, 4);
 
 MKPASSWD_EXPORT MKPASSWD_CHECKED MKPASSWD_NONNULL(4) int32_t
     mkpasswd_bound_bytes(const uint8_t *setting, size_t setting_length, size_t password_length,
-        struct mkpasswd_report *report);
+        struct mkpasswd_report *report) MKPASSWD_READS(setting, 1, 2);
 
 MKPASSWD_EXPORT MKPASSWD_NONNULL(2) MKPASSWD_WRITES(2, 3) int32_t
     mkpasswd_message_bytes(uint32_t error, uint8_t *out, size_t out_size);
@@ -629,7 +640,11 @@ typedef char mkpasswd_report_has_work_at_40[offsetof(struct mkpasswd_report, wor
 #undef MKPASSWD_EXPORT
 #undef MKPASSWD_CHECKED
 #undef MKPASSWD_NONNULL
+#undef MKPASSWD_READS
 #undef MKPASSWD_WRITES
+#if defined __clang__
+#pragma clang diagnostic pop
+#endif
 
 #ifdef __cplusplus
 }

@@ -1,5 +1,6 @@
 //! Salsa20/8 and scrypt's mixing of blocks, and the memory that scrypt works in.
-ghost use Rattle.std.specs.Prelude.{◌≡◌, ◌+◌, ◌*◌, ◌≤◌, length, IfOk};
+ghost use Rattle.std.specs.Prelude.{◌≡◌, ◌+◌, ◌*◌, ◌≤◌, length, vec_capacity, IfOk};
+ghost use Rattle.prims_core.specs.Memory.{HasShape};
 
 use super::{counts, want};
 use prims_core::counted::{Counted, CountedSha256};
@@ -272,33 +273,31 @@ fn on_diagonals(blocks: &[u8; 128]) -> [u32; 32] {
     words
 }
 
-// Fills two rows, asserts what they hold, and returns the blocks after them.
-fn fill<R: Rows>(
-    rt: &impl Abort,
-    rows: &mut R,
-    blocks: [&[u32; 32]; 2],
-    meter: &mut Meter,
-) -> [u32; 32]
+// Fills two rows, and returns the blocks after them.
+fn fill<R: Rows>(rows: &mut R, blocks: &[u32; 32], meter: &mut Meter) -> [u32; 32]
     requires fits { 64 ≤ R.room rows.old }
     requires room { meter.old.mixes ≤ 2 }
+    ensures whole { length (R.words rows.new) ≡ 64 }
     ensures kept { R.room rows.new ≡ R.room rows.old }
     ensures count { meter.new ≡ record meter.old { mixes = meter.old.mixes + 2 } }
 {
-    let (mut x, mut y) = (*blocks[0], [7; 32]);
+    let (mut x, mut y) = (*blocks, [7; 32]);
     fill_by_mixing(rows, 2, &mut x, &mut y, meter);
-    want(
-        rt,
-        &rows.words()[..32],
-        blocks[0].as_slice(),
-        "the first row",
-    );
-    want(
-        rt,
-        &rows.words()[32..],
-        blocks[1].as_slice(),
-        "the second row",
-    );
     x
+}
+
+// Asserts two rows.
+fn want_rows<R: Rows>(
+    rt: &impl Abort,
+    rows: &R,
+    first: &[u32; 32],
+    second: &[u32; 32],
+    what: &str,
+) {
+    let mut both = [0; 64];
+    both[..32].copy_from_slice(first);
+    both[32..].copy_from_slice(second);
+    want(rt, rows.words(), both.as_slice(), what);
 }
 
 // Asserts what the first loop of scryptROMix does, twice in the same memory. The blocks are those of RFC 7914, section 9.
@@ -308,16 +307,26 @@ fn want_filled<R: Rows>(rt: &impl Abort, rows: &mut R)
     let (first, second) = (on_diagonals(&BLOCKS), on_diagonals(&MIXED));
     let third = on_diagonals(&mixed(&MIXED, &mut Meter::new()));
     let mut meter = Meter::new();
-    let next = fill(rt, rows, [&first, &second], &mut meter);
+    let next = fill(rows, &first, &mut meter);
     want(rt, next, third, "after the rows");
-    let _next = fill(rt, rows, [&second, &third], &mut meter);
+    want_rows(rt, rows, &first, &second, "filled");
+    let _ = fill(rows, &second, &mut meter);
+    want_rows(rt, rows, &second, &third, "filled already");
     want(rt, counts(&meter), [0, 0, 4, 0, 0], "work");
+}
+
+// Returns the memory of a table of two rows.
+fn memory_of(table: Table) -> Vec<u32>
+    requires shape { HasShape table 2 32 }
+    ensures { 64 ≤ vec_capacity result }
+{
+    table.into_words()
 }
 
 #[test]
 fn a_table_filled_by_mixing(rt: HostRuntime) -> Result<(), Fail> {
     let table = Table::new(rt.alloc(), 2, 32, &mut Meter::new())?;
-    want_filled(&rt, &mut table.into_words());
+    want_filled(&rt, &mut memory_of(table));
     let (mut words, mut meter) = ([7; 64], Meter::new());
     want_filled(&rt, &mut LentRows::new(&mut words, &mut meter));
     want(&rt, counts(&meter), [0, 0, 0, 256, 0], "memory");
