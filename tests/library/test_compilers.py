@@ -127,8 +127,9 @@ def test_a_caller_by_the_oldest_standard_makes_all_calls(
     installed: Installed, tmp_path: Path, compiler: Compiler, linking: Linking
 ) -> None:
     program = tmp_path / "caller"
-    library = installed.shared if linking.is_shared else installed.static
-    words: list[Word] = [*compiler.words, SOURCE, f"-std={compiler.standards[0]}", "-x", "none"]
+    # The static library is a file of its own, and no source.
+    library = installed.shared if linking.is_shared else ["-x", "none", *installed.static]
+    words: list[Word] = [*compiler.words, SOURCE, f"-std={compiler.standards[0]}"]
     assert_result(run(*words, *linking.words, *library, "-o", program))
     assert_makes_all_calls(Driver((program,)))
 
