@@ -84,7 +84,7 @@ extern "C" {
 #pragma clang diagnostic push
 #pragma clang diagnostic ignored "-Wgcc-compat" /* of -pedantic: gcc has no diagnose_if */
 #define MKPASSWD_READS(bytes, place, length)                                                       \
-    __attribute__((diagnose_if(!bytes, "null where nonnull is wanted", "warning")))
+    __attribute__((diagnose_if(!(bytes), "null where nonnull is wanted", "warning")))
 #define MKPASSWD_WRITES(out, size)
 #elif defined __GNUC__ && __GNUC__ >= 10
 #define MKPASSWD_READS(bytes, place, length) __attribute__((access(read_only, place, length)))
