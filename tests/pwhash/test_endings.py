@@ -139,6 +139,7 @@ def test_nothing_planted_is_loaded(folder: Path) -> None:
     save("json.py", b"raise SystemExit(0)\n")
     save("mkpasswd.py", b"raise SystemExit(0)\n")
     save("libmkpasswd.so.3", b"no library")
+    save("libffi.so.8", b"no library")  # which Python's ctypes needs
     save("sitecustomize.py", b"raise SystemExit(0)\n")
     script = 'LD_LIBRARY_PATH=. PYTHONPATH=. PYTHONHOME=. exec "$@"'
     done = shell(script, "audit", "--json", "-", stdin=b"ann:!\n")

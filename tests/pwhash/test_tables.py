@@ -119,3 +119,16 @@ def test_rows_joined_by_a_stray_quote_are_refused() -> None:
 def test_lines_that_end_in_carriage_returns_alone_are_no_table() -> None:
     done = pwhash("file", "--csv", *MD5CRYPT, stdin=b"name,password\rann,x\r")
     assert done.status == 3 and b"not CSV" in done.err and b"Error at" not in done.err, done
+
+
+@pytest.mark.parametrize(
+    "table",
+    [
+        pytest.param(b"name,password\rann,password\rbob,password\r", id="in all rows"),
+        pytest.param(b"name,password\nann,password\rbob,password\n", id="in one row"),
+    ],
+)
+def test_rows_that_a_carriage_return_ends_are_refused_in_words_of_our_own(table: bytes) -> None:
+    done = pwhash("file", "--csv", *MD5CRYPT, stdin=table)
+    assert (done.status, done.out) == (3, b""), done
+    assert b"carriage return" in done.err and b"universal-newline" not in done.err, done

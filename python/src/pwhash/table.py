@@ -115,7 +115,7 @@ class Table:
         try:
             row: Row = next(csv.reader([first], delimiter=separator), [])
         except csv.Error as error:
-            raise Stop(f"{self._name}, line 1: this is not CSV: {error}.") from None
+            raise Stop(f"{self._name}, line 1: {about(error)}.") from None
         return set(self._wanted) <= set(folded_row(row))
 
     def _columns(self, first: Row) -> Columns:
@@ -255,6 +255,8 @@ def about(error: csv.Error) -> str:
     """What is wrong with a row, in words."""
     if "field limit" in str(error):
         return "a field is longer than 128 KiB, or the quote that begins it has no end"
+    if "new-line" in str(error):
+        return "this is not CSV: a carriage return ends no row. Save the file with line feeds"
     return f"this is not CSV: {error}"
 
 
