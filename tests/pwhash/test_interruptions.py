@@ -12,7 +12,15 @@ from pathlib import Path
 import pytest
 from support.process import run
 from support.pwhash_copies import Copy
-from support.pwhash_runs import PWHASH, command_to_go_on, ended, read, save, started_program
+from support.pwhash_runs import (
+    PWHASH,
+    command_to_go_on,
+    ended,
+    read,
+    save,
+    started,
+    started_program,
+)
 
 SIGNALS = 40
 NUMBERS = (signal.SIGINT, signal.SIGTERM, signal.SIGHUP, signal.SIGKILL)
@@ -74,9 +82,20 @@ def test_an_interrupted_run_is_gone_on_with_by_the_printed_command(program: Path
         interrupted.run_once()
 
 
-def test_ctrl_c_while_it_begins_ends_it_without_a_message(copy: Copy) -> None:
+def test_ctrl_c_while_its_modules_load_ends_it_without_a_message(copy: Copy) -> None:
     """Before its own handler is there, a message would be python's."""
     script = b"import os, signal, time\nos.kill(os.getpid(), signal.SIGINT)\ntime.sleep(9)\n"
     save(str(copy.modules / "pwhash/lines.py"), script)
     done = ended(started_program(str(copy.pwhash), "file"))
     assert (done.status, done.out, done.err) == (-signal.SIGINT, b"", b""), done
+
+
+def test_ctrl_c_at_any_moment_of_the_start_ends_it_by_the_signal() -> None:
+    """While the shell, python or its modules begin, or when it asks for lines."""
+    for milliseconds in range(0, 400, 5):
+        process = started("file")
+        time.sleep(milliseconds / 1000)
+        process.send_signal(signal.SIGINT)
+        done = ended(process)
+        assert done.status == -signal.SIGINT, (milliseconds, done)
+        assert done.err in (b"", b"pwhash: SIGINT ended the run.\n"), (milliseconds, done)

@@ -38,6 +38,7 @@ def test_a_reader_that_ends_ends_the_run_quietly(words: tuple[str, ...], lines: 
             '{ "$@" 2>&1 >&3 3>&-; echo $? > status; } 3>&1 | :', id="errors into a pipe that ends"
         ),
         pytest.param('"$@" 2>&-; echo $? > status', id="errors closed"),
+        pytest.param('"$@" 2> /dev/full; echo $? > status', id="errors into a full device"),
     ],
 )
 def test_no_out_is_lost_by_standard_error(redirected: str) -> None:
@@ -47,6 +48,10 @@ def test_no_out_is_lost_by_standard_error(redirected: str) -> None:
     done = shell(script, "file", *MD5CRYPT, "passwords", "-o", "hashes", "--skip-refused")
     assert read("status") == b"1\n" and read("hashes").count(b"\n") == 100, done
     assert not os.path.exists("hashes.part"), done
+
+
+def test_a_full_standard_error_does_not_change_the_status_of_a_failure() -> None:
+    assert shell('exec "$@" 2> /dev/full', "file", "missing").status == 3
 
 
 # ---- Full and closed

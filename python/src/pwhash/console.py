@@ -55,7 +55,7 @@ class Console:
     def lines(self, fd: int, lines: Sequence[bytes]) -> None:
         """Writes lines to standard output, standard error or a file.
 
-        A standard error that is closed, or that nobody reads, ends no run.
+        A standard error that is closed, full, or that nobody reads, ends no run.
         """
         if not lines:
             return
@@ -64,7 +64,7 @@ class Console:
                 self.clear_progress()
             self._write(fd, b"\n".join(lines) + b"\n")
         except OSError as error:
-            if fd == STDERR and error.errno in (errno.EPIPE, errno.EBADF):
+            if fd == STDERR:
                 return
             if fd == STDOUT and error.errno != errno.EPIPE:
                 raise Stop(f"standard output: {reason_of(error)}.") from None

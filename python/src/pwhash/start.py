@@ -8,6 +8,7 @@ for elsewhere: neither modules nor libraries, since root may run this in anybody
 
 from __future__ import annotations
 
+import contextlib
 import ctypes
 import importlib
 import os
@@ -42,13 +43,15 @@ def start(library: str, command: str, words: "list[str]") -> NoReturn:
 
 
 def fail(sentence: str) -> NoReturn:
-    """Says why nothing begins."""
-    os.write(STDERR, os.fsencode(f"pwhash: {sentence}\n"))
+    """Says why nothing begins, if standard error takes it."""
+    with contextlib.suppress(OSError):
+        os.write(STDERR, os.fsencode(f"pwhash: {sentence}\n"))
     os._exit(FAILED)
 
 
 if __name__ == "__main__":
-    # Until pwhash handles Ctrl-C itself, it ends the process without a KeyboardInterrupt.
+    # From the moment when process.py lets Ctrl-C come, until pwhash handles it, it ends the process
+    # without a KeyboardInterrupt.
     if signal.getsignal(signal.SIGINT) is signal.default_int_handler:
         signal.signal(signal.SIGINT, signal.SIG_DFL)
     start(sys.argv[1], sys.argv[2], sys.argv[3:])

@@ -5,6 +5,7 @@ They can have data in them, which are never shown, and data can be a password.
 
 from __future__ import annotations
 
+import contextlib
 import os
 import sys
 import threading
@@ -51,5 +52,6 @@ def about(kind: Type[BaseException], place: Optional[TracebackType]) -> str:
 
 
 def say(sentence: str) -> None:
-    """Tells the user."""
-    os.write(STDERR, f"pwhash: {sentence}\n".encode())
+    """Tells the user, if standard error takes it."""
+    with contextlib.suppress(OSError):
+        os.write(STDERR, f"pwhash: {sentence}\n".encode())
