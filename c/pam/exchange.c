@@ -6,7 +6,6 @@
 #include <fcntl.h>
 #include <inttypes.h>
 #include <stdio.h>
-#include <stdlib.h>
 #include <unistd.h>
 
 /* Each one after the first needs somebody else, who changed the file between two calls. */
@@ -30,17 +29,30 @@ static bool write_note(const struct place *place, const struct pair *pair)
     return symlinkat(note, place->folder, place->exchange_name) == 0;
 }
 
+/* Reads the number at *text, and steps over it. Where headers are those of glibc 2.38 or later,
+ * strtoumax would keep the module from being loaded with an earlier one. */
+static uintmax_t read_number(const char **text)
+{
+    uintmax_t number = 0;
+
+    for (; **text >= '0' && **text <= '9'; (*text)++)
+        number = 10 * number + (uintmax_t)(**text - '0');
+    return number;
+}
+
 static bool read_note(const struct place *place, struct pair *pair)
 {
     char note[NOTE_SIZE];
-    char *end;
+    const char *text = note;
     ssize_t len = readlinkat(place->folder, place->exchange_name, note, sizeof note - 1);
 
     if (len < 0)
         return false;
     note[len] = '\0';
-    pair->old = strtoumax(note, &end, 10);
-    pair->new = strtoumax(end, NULL, 10);
+    pair->old = read_number(&text);
+    if (*text == ' ')
+        text++;
+    pair->new = read_number(&text);
     return true;
 }
 
