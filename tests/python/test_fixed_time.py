@@ -13,7 +13,7 @@ from concurrent.futures import Future
 from typing import Any, NoReturn
 
 import pytest
-from support.package import crypt, error_of, tried_package
+from support.package import crypt, error_of, run_python, tried_package
 from support.stored_strings import COSTLY, MD5, SHA512
 
 with tried_package():
@@ -131,6 +131,36 @@ def test_a_failure_that_took_longer_is_answered_as_soon_as_it_has_run() -> None:
     assert min(lateness) < 0.1, lateness
 
 
+SECONDS_OF_ONE = 0.1
+
+
+def be_wrong() -> bool:
+    """A login that takes as long as all others."""
+    time.sleep(SECONDS_OF_ONE)
+    return False
+
+
+@pytest.mark.parametrize(
+    ("threads", "queued", "times"),
+    [(2, 0, 1), (2, 1, 2), (2, 2, 2), (2, 3, 3), (1, 3, 4)],
+)
+def test_a_full_queue_is_in_time_if_its_seconds_were_chosen_by_the_rule(
+    threads: int, queued: int, times: int
+) -> None:
+    """As many logins as there may be, all at once."""
+    seconds = times * SECONDS_OF_ONE + 0.05
+    logins = FixedTime(seconds=seconds, threads=threads, queued=queued, failed=10)
+    lateness = []
+    for _ in range(ATTEMPTS):
+        began = time.monotonic()
+        answers = [logins.submit(be_wrong) for _ in range(threads + queued)]
+        assert [answer.result(LONGEST_WAIT) for answer in answers] == [False] * len(answers)
+        lateness.append(time.monotonic() - began - seconds)
+        if lateness[-1] <= 0.01:
+            break
+    assert 0 <= min(lateness) <= 0.01, lateness
+
+
 # ---- What waits holds nothing
 
 FAILED = 100
@@ -179,9 +209,11 @@ def test_a_right_login_takes_no_longer_while_a_hundred_failures_wait(
 
 def test_failures_that_wait_take_no_thread() -> None:
     logins = FixedTime(seconds=300, threads=1, queued=FAILED, failed=FAILED + 1)
+    # The first login starts the threads.
+    assert by_threads(logins, QUICK.login, "password", field=MD5) is True
     before = threading.active_count()
     wrong_logins(logins)
-    assert threading.active_count() <= before + 1  # the one that hashes
+    assert threading.active_count() <= before
 
 
 # ---- Limits
@@ -224,3 +256,61 @@ def test_whoever_goes_away_disturbs_nobody() -> None:
     asyncio.run(go_away())
     assert by_threads(logins, QUICK.login, "passw0rd", field=MD5) is False
     assert by_threads(logins, QUICK.login, "password", field=MD5) is True
+
+
+# ---- Threads that aren't there
+
+# A server's worker, which fork() makes; its parent prints how it ends.
+WORKER = f"""
+import os
+from mkpasswd import Policy
+from mkpasswd.fixed_time import FixedTime
+
+login = Policy("md5crypt").login
+logins = FixedTime(seconds=0.1, threads=1, queued=1, failed=1)
+{{before}}
+worker = os.fork()
+if worker == 0:
+    for password in "password", "passw0rd":
+        print(logins.submit(login, password, field={MD5!r}).result({LONGEST_WAIT}), flush=True)
+    os._exit(0)
+print(os.waitpid(worker, 0)[1])
+"""
+
+
+def test_a_worker_answers_when_its_parent_had_no_login() -> None:
+    result = run_python(WORKER.format(before="")).required()
+    assert result.stdout.split() == [b"True", b"False", b"0"], result
+
+
+def test_a_worker_raises_an_error_when_its_parent_had_a_login() -> None:
+    """Without threads it could answer nothing, and whoever logs in would wait forever."""
+    before = f'assert logins.submit(login, "password", field={MD5!r}).result({LONGEST_WAIT})'
+    result = run_python(WORKER.format(before=before)).required()
+    message = b"RuntimeError: fork() copied no threads of FixedTime: make one in each process\n"
+    assert result.stderr.endswith(message), result
+    assert b"True" not in result.stdout and b"False" not in result.stdout, result
+
+
+def test_a_system_without_more_threads_takes_no_place_in_the_queue(
+    monkeypatch: pytest.MonkeyPatch,
+) -> None:
+    logins = FixedTime(seconds=0, threads=2, queued=0, failed=10)
+    may_go_on = threading.Event()
+
+    def start_none(_thread: threading.Thread) -> NoReturn:
+        raise RuntimeError("can't start new thread")
+
+    def refuse_two() -> None:
+        with monkeypatch.context() as changed:
+            changed.setattr(threading.Thread, "start", start_none)
+            for _ in range(2):
+                error = error_of(logins.submit, QUICK.login, "password", field=MD5)
+                assert str(error) == "can't start new thread"
+
+    refuse_two()  # the thread that answers failures doesn't start
+    first = logins.submit(may_go_on.wait, LONGEST_WAIT)
+    refuse_two()  # the second thread for logins doesn't start
+    second = logins.submit(QUICK.login, "password", field=MD5)
+    may_go_on.set()
+    assert first.result(LONGEST_WAIT) is True and second.result(LONGEST_WAIT) is True

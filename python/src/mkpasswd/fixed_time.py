@@ -1,6 +1,6 @@
 """Answers failed logins a fixed time after they began, so that timing tells nothing about names.
 
-    logins = FixedTime(seconds=5, threads=4, queued=15, failed=1000)
+    logins = FixedTime(seconds=5, threads=4, queued=4, failed=1000)
     future = logins.submit(login, database, name, password)
 
 submit() returns a concurrent.futures.Future: future.result() waits for the answer in a thread, and
@@ -10,10 +10,11 @@ failure waits, it takes no thread and no place in the queue, so the next login a
 from __future__ import annotations
 
 import asyncio
+import os
 import threading
 import time
 from concurrent.futures import Future, ThreadPoolExecutor
-from typing import Any, Callable
+from typing import Any, Callable, Optional
 
 __all__ = ["Busy", "FixedTime"]
 
@@ -27,46 +28,72 @@ class FixedTime:
 
     A login that returns anything but True, or raises an exception, is answered `seconds` after
     submit(), or as soon as it has run if that is later. So choose more seconds than the costliest
-    login takes behind a full queue: (queued / threads + 1) times the seconds of one login.
+    login takes behind a full queue: math.ceil(1 + queued / threads) times the seconds of one login.
 
     `threads` logins run at once, and `queued` more wait for a thread. `failed` failures wait for
     their time. Above these numbers, submit() raises Busy.
 
-    A process that is made by fork() has none of these threads: make a FixedTime in each worker.
+    The threads start with the first login, so a server may make a FixedTime before it makes its
+    workers by fork(); the numbers hold for each worker. After the first login, fork() copies no
+    thread, and submit() raises RuntimeError in the new process.
     """
 
     def __init__(self, *, seconds: float, threads: int, queued: int, failed: int) -> None:
         self._seconds = seconds
         self._most_running = threads + queued
         self._most_failed = failed
-        self._lock = threading.Lock()  # for the two numbers, and never for longer
+        self._lock = threading.Lock()  # for what follows
         self._running = 0
         self._failed = 0
         self._pool = ThreadPoolExecutor(threads, thread_name_prefix="login")
-        # An event loop waits for any number of moments in one thread.
-        self._clock = asyncio.new_event_loop()
-        threading.Thread(target=self._clock.run_forever, name="failed logins", daemon=True).start()
+        self._clock: Optional[asyncio.AbstractEventLoop] = None
+        self._process: Optional[int] = None  # the one that has the threads
 
     def submit(self, login: Callable[..., bool], *arguments: Any, **named: Any) -> Future[bool]:
         """Run login(*arguments, **named) soon, and return its answer as a future.
 
-        Raises Busy. The future raises what the login raised.
+        Raises Busy; OSError or RuntimeError if the system has no more files or threads; and
+        RuntimeError after a fork(). The future raises what the login raised.
         """
         moment = time.monotonic() + self._seconds
+        if self._process not in (None, os.getpid()):
+            raise RuntimeError("fork() copied no threads of FixedTime: make one in each process")
         with self._lock:
             if self._running >= self._most_running:
                 raise Busy("too many logins wait for a thread")
             if self._failed >= self._most_failed:
                 raise Busy("too many failed logins wait for their time")
+            clock = self._running_clock()
             self._running += 1
         answer: Future[bool] = Future()
         answer.set_running_or_notify_cancel()  # from now on, nobody can cancel it
-        done = self._pool.submit(login, *arguments, **named)
-        done.add_done_callback(lambda _: self._end(done, answer, moment))
+        try:
+            done = self._pool.submit(login, *arguments, **named)
+        except RuntimeError:
+            with self._lock:
+                self._running -= 1
+            raise
+        done.add_done_callback(lambda _: self._end(done, answer, clock, moment))
         return answer
 
-    def _end(self, done: Future[bool], answer: Future[bool], moment: float) -> None:
-        """Answers a login that has run: at once if it succeeded, else at a moment."""
+    def _running_clock(self) -> asyncio.AbstractEventLoop:
+        """The event loop of the failures: it waits for any number of moments in one thread."""
+        if self._clock is None:
+            clock = asyncio.new_event_loop()
+            name = "failed logins"
+            threading.Thread(target=clock.run_forever, name=name, daemon=True).start()
+            self._clock = clock
+            self._process = os.getpid()
+        return self._clock
+
+    def _end(
+        self,
+        done: Future[bool],
+        answer: Future[bool],
+        clock: asyncio.AbstractEventLoop,
+        moment: float,
+    ) -> None:
+        """Answers a login that has run: at once if it succeeded, else at a moment of the clock."""
         succeeded = done.exception() is None and done.result() is True
         with self._lock:
             self._running -= 1
@@ -75,7 +102,7 @@ class FixedTime:
         if succeeded:
             answer.set_result(True)
         else:
-            self._clock.call_soon_threadsafe(self._clock.call_at, moment, self._fail, done, answer)
+            clock.call_soon_threadsafe(clock.call_at, moment, self._fail, done, answer)
 
     def _fail(self, done: Future[bool], answer: Future[bool]) -> None:
         """Answers a login that failed."""
