@@ -12,7 +12,15 @@ from pathlib import Path
 from typing import Any
 
 import pytest
-from support.package import Cook, crypt, recipe_under, tried_package
+from support.package import (
+    MOVING_CHANGES,
+    Cook,
+    changed_recipe,
+    crypt,
+    recipe_under,
+    run_python,
+    tried_package,
+)
 from support.stored_strings import COSTLY, MD5, SHA512, title
 
 with tried_package():
@@ -171,15 +179,8 @@ OLD_NEEDS = pytest.mark.needs("python3-passlib", "python3-bcrypt", "python3-werk
 def fixture_moving_login(cook: Cook) -> Any:
     """The whole login with the fallback, put in as the document says."""
     names = cook.follow(MOVING, mkpasswd=mkpasswd)
-    code = recipe_under("A whole login")
-    for old, new in (
-        ("mkpasswd.login(password, field=field)", "matches(password, field)"),
-        ("mkpasswd.needs_rehash(field)", "is_outdated(field)"),
-    ):
-        assert code.count(old) == 1
-        code = code.replace(old, new)
     path = cook.folder / "moving_login.py"
-    path.write_text(code, encoding="utf-8")
+    path.write_text(changed_recipe("A whole login", MOVING_CHANGES), encoding="utf-8")
     given = {name: names[name] for name in ("matches", "is_outdated")}
     return runpy.run_path(str(path), init_globals=given)["login"]
 
@@ -257,13 +258,19 @@ def test_all_others_log_in_as_before(
 # ---- Failures after a fixed time
 
 
-@pytest.fixture(scope="module", name="fixed_time")
-def fixture_fixed_time(cook: Cook) -> dict[str, Any]:
-    def login_by_name(name: str, password: str) -> bool:
-        return mkpasswd.login(password, field=MD5 if name == "ann" else None)
-
-    names = {"asyncio": asyncio, "login_by_name": login_by_name}
-    return cook.follow("Failures after a fixed time", **names)
+@pytest.fixture(name="fixed_time")
+def fixture_fixed_time(
+    database: sqlite3.Connection,
+    cook: Cook,
+    login: Any,
+    tmp_path: Path,
+    monkeypatch: pytest.MonkeyPatch,
+) -> dict[str, Any]:
+    """The section, followed in a folder where the database is."""
+    monkeypatch.chdir(tmp_path)
+    with contextlib.closing(sqlite3.connect("users.db")) as users:
+        database.backup(users)
+    return cook.follow("Failures after a fixed time", login=login)
 
 
 @pytest.fixture(name="answer", params=["threads", "asyncio"])
@@ -306,7 +313,31 @@ def test_the_log_has_the_name(cook: Cook, capsys: pytest.CaptureFixture[str]) ->
     finally:
         names["logger"].removeHandler(names["handler"])
         names["logger"].setLevel("NOTSET")
+        names["logger"].propagate = True
     assert capsys.readouterr().err.endswith(" 'ann\\n': login refused: locked\n")
+
+
+THREE_LOGINS = """
+database = sqlite3.connect(":memory:")
+database.execute("CREATE TABLE users (name TEXT PRIMARY KEY, hash TEXT)")
+database.execute("INSERT INTO users VALUES ('ann', '!')")
+for name in "ann", "nobody", "ann":
+    login(database, name, "password")
+"""
+
+
+def test_the_log_of_a_whole_login_has_each_name_and_each_line_once() -> None:
+    """The first warning gives the root logger a handler, which would repeat the lines."""
+    read = "    field = stored_hash(database, name)\n"
+    with_name = f"{read}    user.set(None if field is None else name)\n"
+    login = changed_recipe("A whole login", {read: with_name})
+    result = run_python(recipe_under("Logging") + login + THREE_LOGINS).required()
+    of_ann = [" 'ann': login refused: locked", "WARNING:root:login failed: 'ann'"]
+    of_nobody = [" None: login refused: no hash", "WARNING:root:login failed: None"]
+    expected = [*of_ann, *of_nobody, *of_ann]
+    lines = result.stderr.decode().splitlines()
+    assert len(lines) == len(expected), result
+    assert all(line.endswith(end) for line, end in zip(lines, expected)), result
 
 
 @pytest.mark.parametrize(
@@ -318,20 +349,9 @@ def test_asyncio_waits_for_a_login(cook: Cook, password: str, is_match: bool) ->
 
 
 @pytest.fixture(name="post")
-def fixture_post(
-    database: sqlite3.Connection,
-    cook: Cook,
-    login: Any,
-    tmp_path: Path,
-    monkeypatch: pytest.MonkeyPatch,
-) -> Any:
-    """Posts a form to Flask's application, in a thread, and returns the status."""
-    flask = importlib.import_module("flask")
-    app = flask.Flask("test")
-    monkeypatch.chdir(tmp_path)
-    with contextlib.closing(sqlite3.connect("users.db")) as users:
-        database.backup(users)
-    cook.follow("Flask", app=app, flask=flask, contextlib=contextlib, sqlite3=sqlite3, login=login)
+def fixture_post(cook: Cook, fixed_time: dict[str, Any]) -> Any:
+    """Posts a form to Flask's application, in a thread, and returns the status at once."""
+    app = cook.follow("Flask", answer=fixed_time["login_by_name"])["app"]
 
     def post(**form: str) -> int:
         with ThreadPoolExecutor(1) as threads:

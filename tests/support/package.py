@@ -102,6 +102,22 @@ def recipe_under(heading: str) -> str:
     raise AssertionError(f"docs/PYTHON.md has no heading {heading!r}")
 
 
+def changed_recipe(heading: str, changes: dict[str, str]) -> str:
+    """A recipe with code put in the place of other code, as the document tells its reader to do."""
+    code = recipe_under(heading)
+    for old, new in changes.items():
+        assert code.count(old) == 1, f"expected: {old!r} once below {heading!r} in:\n{code}"
+        code = code.replace(old, new)
+    return code
+
+
+# How "A whole login" changes for a service that moves from other hashes.
+MOVING_CHANGES = {
+    "mkpasswd.login(password, field=field)": "matches(password, field)",
+    "mkpasswd.needs_rehash(field)": "is_outdated(field)",
+}
+
+
 class Cook:
     """Runs recipes of docs/PYTHON.md, each from a file of a folder, so that failures show lines."""
 

@@ -1,0 +1,181 @@
+"""A service with Flask and SQLite that moves its users to mkpasswd, written by docs/PYTHON.md.
+
+Its code is that of the document's sections, one after the other, changed as they say. Here the
+sections work together; test_recipes.py has the corners of each.
+"""
+from __future__ import annotations
+
+import contextlib
+import functools
+import hashlib
+import runpy
+import sqlite3
+import threading
+import time
+from concurrent.futures import ThreadPoolExecutor
+from dataclasses import dataclass
+from pathlib import Path
+from typing import Any
+
+import pytest
+from support.package import MOVING_CHANGES, changed_recipe, crypt, recipe_under, tried_package
+
+with tried_package():
+    from mkpasswd.fixed_time import FixedTime
+
+pytestmark = [
+    pytest.mark.needs("python3-flask", "python3-bcrypt", "python3-werkzeug"),
+    # They measure times, so they don't run beside others that do.
+    pytest.mark.xdist_group("fixed time"),
+]
+
+RECOMMENDED = "$6$rounds=656000$"
+SECONDS = 2  # until a failure is answered: the document has 5
+LATE = 0.1  # seconds
+ATTEMPTS = 10
+LONGEST_WAIT = 60  # seconds, for what should come soon
+
+
+def password_of(name: str) -> str:
+    """The password of a user, which no other has."""
+    return f"pässword of {name}"
+
+
+def pbkdf2_of(password: str) -> str:
+    """The hash that Werkzeug makes."""
+    digest = hashlib.pbkdf2_hmac("sha256", password.encode(), b"saltsalt", 1000)
+    return f"pbkdf2:sha256:1000$saltsalt${digest.hex()}"
+
+
+@functools.cache
+def fields_before() -> dict[str, str]:
+    """The table as the service has it before it moves."""
+    outdated = "$6$saltsaltsaltsalt"
+    current = f"{RECOMMENDED}saltsaltsaltsalt"
+    bcrypt = "$2b$04$abcdefghijklmnopqrstuu"
+    return {
+        "current": crypt(password_of("current"), current),
+        "outdated": crypt(password_of("outdated"), outdated),
+        "bcrypt": crypt(password_of("bcrypt"), bcrypt),
+        "pbkdf2": pbkdf2_of(password_of("pbkdf2")),
+        "locked": "!" + crypt(password_of("locked"), outdated),
+        "locked bcrypt": "!" + crypt(password_of("locked bcrypt"), bcrypt),
+    }
+
+
+USERS = ("current", "outdated", "bcrypt", "pbkdf2")
+LOCKED = ("locked", "locked bcrypt")
+
+
+def code_of_service() -> str:
+    """What somebody writes who follows the document."""
+    sections = [
+        changed_recipe("A whole login", MOVING_CHANGES),
+        recipe_under("Moving from other hashes"),
+        changed_recipe("Failures after a fixed time", {"seconds=5": f"seconds={SECONDS}"}),
+        recipe_under("Flask"),
+    ]
+    return "\n\n".join(sections)
+
+
+@dataclass(frozen=True)
+class Service:
+    """The service that is tried, in a folder of its own."""
+
+    names: dict[str, Any]  # that its code defines
+    folder: Path
+
+    def post(self, name: str, password: str) -> int:
+        """The status that a form gets, posted in this thread."""
+        form = {"name": name, "password": password}
+        return int(self.names["app"].test_client().post("/login", data=form).status_code)
+
+    def fields(self) -> dict[str, str]:
+        """What the table has."""
+        with contextlib.closing(sqlite3.connect(self.folder / "users.db")) as database:
+            return dict(database.execute("SELECT name, hash FROM users"))
+
+
+@pytest.fixture(name="service")
+def fixture_service(tmp_path: Path, monkeypatch: pytest.MonkeyPatch) -> Service:
+    with contextlib.closing(sqlite3.connect(tmp_path / "users.db")) as database:
+        database.execute("CREATE TABLE users (name TEXT PRIMARY KEY, hash TEXT)")
+        database.executemany("INSERT INTO users VALUES (?, ?)", fields_before().items())
+        database.commit()
+    path = tmp_path / "service.py"
+    path.write_text(code_of_service(), encoding="utf-8")
+    monkeypatch.chdir(tmp_path)
+    return Service(runpy.run_path(str(path)), tmp_path)
+
+
+def test_all_users_log_in_and_outdated_hashes_are_renewed(service: Service) -> None:
+    with ThreadPoolExecutor(len(USERS)) as threads:
+        statuses = list(threads.map(service.post, USERS, map(password_of, USERS)))
+    assert statuses == [200] * len(USERS)
+    before, fields = fields_before(), service.fields()
+    kept = {name: field for name, field in fields.items() if field == before[name]}
+    assert set(kept) == {"current", *LOCKED}
+    for name in set(fields) - set(kept):
+        assert fields[name].startswith(RECOMMENDED)
+        assert fields[name] == crypt(password_of(name), fields[name])
+
+
+def test_a_renewed_hash_lets_in_its_password_alone_and_is_kept(service: Service) -> None:
+    for name in USERS:
+        assert service.post(name, password_of(name)) == 200
+    fields = service.fields()
+    for name in USERS:
+        assert service.post(name, password_of(name)) == 200
+    with ThreadPoolExecutor(len(USERS)) as threads:
+        statuses = list(threads.map(service.post, USERS, ["wrong"] * len(USERS)))
+    assert statuses == [403] * len(USERS)
+    assert service.fields() == fields
+
+
+@pytest.mark.parametrize(
+    ("name", "password"),
+    [
+        *(pytest.param(name, password_of(name) + "x", id=f"wrong, {name}") for name in USERS),
+        *(pytest.param(name, password_of(name), id=f"right, {name}") for name in LOCKED),
+        pytest.param("nobody", password_of("nobody"), id="an unknown name"),
+        pytest.param("", "", id="nothing"),
+        pytest.param("current", "", id="no password"),
+        pytest.param("outdated", "x" * 1025, id="too long"),
+        pytest.param("bcrypt", password_of("bcrypt") + "\0", id="a zero byte"),
+        pytest.param("pbkdf2", password_of("current"), id="another user's"),
+    ],
+)
+def test_all_failures_are_answered_at_one_moment_and_change_nothing(
+    service: Service, name: str, password: str
+) -> None:
+    lateness = []
+    for _ in range(ATTEMPTS):
+        began = time.monotonic()
+        assert service.post(name, password) == 403
+        lateness.append(time.monotonic() - began - SECONDS)
+        if lateness[-1] <= LATE:
+            break
+    assert 0 <= min(lateness) <= LATE, lateness
+    assert service.fields() == fields_before()
+
+
+def test_a_service_with_too_many_logins_asks_to_try_again(service: Service) -> None:
+    may_go_on = threading.Event()
+    logins: FixedTime = service.names["logins"]
+    others = [logins.submit(may_go_on.wait, LONGEST_WAIT) for _ in range(8)]
+    assert service.post("current", password_of("current")) == 503
+    may_go_on.set()
+    assert all(other.result(LONGEST_WAIT) for other in others)
+    assert service.post("current", password_of("current")) == 200
+
+
+def test_the_log_has_the_names_of_users_and_no_password(
+    service: Service, caplog: pytest.LogCaptureFixture
+) -> None:
+    typed = [("pbkdf2", "wrong"), ("locked", password_of("locked")), ("my password", "wrong")]
+    for name, password in typed:
+        assert service.post(name, password) == 403
+    warnings = [record.getMessage() for record in caplog.records if record.levelname == "WARNING"]
+    assert warnings == ["login failed: 'pbkdf2'", "login failed: 'locked'", "login failed: None"]
+    for _, password in typed:
+        assert password not in caplog.text
