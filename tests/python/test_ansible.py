@@ -34,6 +34,9 @@ TASKS = {
     "renewed": f"{{{{ 'password' | {HASH}(current=stored) }}}}",
     "changed": f"{{{{ 'passw0rd' | {HASH}('md5crypt', current=stored) }}}}",
     "replaced": f"{{{{ 'password' | {HASH}('md5crypt', current='$y$x') }}}}",
+    "kept_in_vault": f"{{{{ vaulted | {HASH}('md5crypt', current=vaulted_hash) }}}}",
+    "right_in_vault": f"it is {{{{ vaulted | {VERIFY}(vaulted_hash) }}}}",
+    "wrong_in_vault": f"it is {{{{ 'passw0rd' | {VERIFY}(vaulted_hash) }}}}",
     "right": f"it is {{{{ vaulted | {VERIFY}(stored) }}}}",
     "wrong": f"it is {{{{ 'passw0rd' | {VERIFY}(stored) }}}}",
     "refused": f"{{{{ 's3cret\0' | {HASH} }}}}",
@@ -62,10 +65,11 @@ def fixture_messages(tmp_path_factory: pytest.TempPathFactory) -> dict[str, str]
     }
     key = ("--vault-password-file", folder / "key")
     (folder / "key").write_text(secrets.token_hex(), encoding="ascii")
-    command = ("/usr/bin/ansible-vault", "encrypt_string", *key, "--name", "vaulted", "password")
-    vault = run(*command, env=environment, cwd=folder).required().stdout.decode()
-    variable = vault[vault.index("vaulted:") :].partition("\nEncryption")[0]
-    (folder / "vault.yml").write_text(variable, encoding="ascii")
+    with (folder / "vault.yml").open("w", encoding="ascii") as file:
+        for name, value in ("vaulted", "password"), ("vaulted_hash", MD5):
+            command = ("/usr/bin/ansible-vault", "encrypt_string", *key, "--name", name, value)
+            vault = run(*command, env=environment, cwd=folder).required().stdout.decode()
+            file.write(vault[vault.index(f"{name}:") :].partition("\nEncryption")[0] + "\n")
     (folder / "filter_plugins").mkdir()
     (folder / "filter_plugins/mkpasswd.py").write_text(recipe_under("Ansible"), encoding="ascii")
     play = {
@@ -86,8 +90,9 @@ def fixture_messages(tmp_path_factory: pytest.TempPathFactory) -> dict[str, str]
     return {name: json.loads(message) for name, message in found}
 
 
-def test_a_current_hash_is_kept(messages: dict[str, str]) -> None:
-    assert messages["kept"] == MD5
+@pytest.mark.parametrize("task", ["kept", "kept_in_vault"])
+def test_a_current_hash_is_kept(messages: dict[str, str], task: str) -> None:
+    assert messages[task] == MD5
 
 
 @pytest.mark.parametrize(
@@ -95,6 +100,8 @@ def test_a_current_hash_is_kept(messages: dict[str, str]) -> None:
     [
         pytest.param("right", "it is True", id="the right password"),
         pytest.param("wrong", "it is False", id="a wrong password"),
+        pytest.param("right_in_vault", "it is True", id="the right one of a hash in a vault"),
+        pytest.param("wrong_in_vault", "it is False", id="a wrong one of a hash in a vault"),
         pytest.param("verify_within", "it is False", id="a stored hash above a budget"),
         pytest.param("verify_locked", "it is False", id="a lock"),
     ],

@@ -20,7 +20,7 @@ def mkpasswd_hash(
     password: Any,
     method: str = "sha512crypt",
     rounds: Optional[int] = None,
-    current: Optional[str] = None,
+    current: Any = None,
     budget: Optional[int] = None,
 ) -> str:
     """Return a hash of the password: `current` if that matches and is not outdated.
@@ -29,26 +29,27 @@ def mkpasswd_hash(
     """
     try:
         secret, policy = _decrypted(password), Policy(method, rounds, budget)
-        if current is not None and _is_current(policy, secret, current):
-            return current
+        stored: Optional[str] = _decrypted(current)
+        if stored is not None and _is_current(policy, secret, stored):
+            return stored
         return policy.hash(secret)
     except (TypeError, ValueError) as error:
         raise AnsibleFilterError(f"mkpasswd_hash: {error}") from None
 
 
-def mkpasswd_verify(password: Any, stored: str, budget: Optional[int] = None) -> bool:
+def mkpasswd_verify(password: Any, stored: Any, budget: Optional[int] = None) -> bool:
     """Return whether the password matches the stored hash."""
     try:
-        policy, secret = Policy(budget=budget), _decrypted(password)
-        found = policy.describe(stored)
+        policy, secret, field = Policy(budget=budget), _decrypted(password), _decrypted(stored)
+        found = policy.describe(field)
         if found.state in _UNCHECKED:
             raise ValueError(f"the stored hash is {found}")
-        return policy.login(secret, field=stored)
+        return policy.login(secret, field=field)
     except (TypeError, ValueError) as error:
         raise AnsibleFilterError(f"mkpasswd_verify: {error}") from None
 
 
-def _is_current(policy: Policy, password: Any, stored: str) -> bool:
+def _is_current(policy: Policy, password: Any, stored: Any) -> bool:
     if policy.describe(stored).state in _UNCHECKED or policy.needs_rehash(stored):
         return False
     return policy.login(password, field=stored)
