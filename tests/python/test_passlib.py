@@ -335,6 +335,12 @@ def test_what_is_no_budget_is_refused(
         getattr(ours, name).using(budget=budget)
 
 
+@pytest.mark.parametrize("budget", ["1e9", "1.3", ""])
+def test_the_error_of_a_budget_in_a_file_names_it(ours: Any, budget: str) -> None:
+    with pytest.raises(ValueError, match=r"\Abudget must be a whole number\Z"):
+        ours.sha512_crypt.using(budget=budget)
+
+
 @pytest.mark.parametrize(("name", "stored"), [("md5_crypt", MD5), ("sha256_crypt", SHA256)])
 def test_a_handler_has_no_budget_of_its_own(ours: Any, name: str, stored: str) -> None:
     handler = getattr(ours, name)

@@ -9,7 +9,7 @@ from support.package import error_of, tried_package
 with tried_package():
     import mkpasswd
     from mkpasswd import Policy, cost, needs_rehash
-    from mkpasswd.crypt import crypt
+    from mkpasswd.crypt import crypt, mksalt
 
 
 def none(_self: object, *_others: object) -> None:
@@ -71,6 +71,10 @@ def test_a_policy_is_what_is_held(password: Any) -> None:
 def test_numbers_are_what_is_held(password: Any) -> None:
     stored = QUICK.hash(password)
     assert cost(lying(stored), lying(8)) == cost(stored, 8)
+
+
+def test_the_rounds_of_a_salt_are_what_is_held() -> None:
+    assert mksalt(rounds=lying(1000)).startswith("$6$rounds=1000$")
 
 
 @PASSWORDS

@@ -46,6 +46,9 @@ METHOD_CRYPT = _Method("CRYPT", None, 2, 13)
 #: The methods of crypt(), strongest first.
 methods = [METHOD_SHA512, METHOD_SHA256, METHOD_MD5]
 
+# As the standard library says it.
+_OUT_OF_RANGE = "rounds out of the range 1000 to 999_999_999"
+
 _NAMES = {METHOD_SHA512: "sha512crypt", METHOD_SHA256: "sha256crypt", METHOD_MD5: "md5crypt"}
 
 
@@ -54,6 +57,10 @@ def mksalt(method: Optional[_Method] = None, *, rounds: Optional[int] = None) ->
 
     >>> mksalt(METHOD_SHA256, rounds=20000).startswith("$5$rounds=20000$")
     True
+
+    Raises ValueError for rounds out of their range, or any of METHOD_MD5; Refused, which is a
+    ValueError, for a method that `methods` does not have; OSError if the system has no random
+    bytes.
     """
     method = methods[0] if method is None else method
     if not isinstance(method, _Method):
@@ -62,14 +69,13 @@ def mksalt(method: Optional[_Method] = None, *, rounds: Optional[int] = None) ->
         raise Refused(Reason.UNKNOWN_METHOD, "method must be one of crypt.methods")
     if rounds is not None and method == METHOD_MD5:
         raise ValueError(f"{method!r} doesn't support the rounds argument")
-    # As the standard library says it. The library would take 0 for the recommended rounds.
-    refused_rounds = ValueError("rounds out of the range 1000 to 999_999_999")
     try:
         policy = Policy(_NAMES[method], rounds)
     except Refused:
-        raise refused_rounds from None
-    if rounds == 0:
-        raise refused_rounds
+        raise ValueError(_OUT_OF_RANGE) from None
+    # For a policy 0 stands for the recommended rounds.
+    if policy.rounds == 0:
+        raise ValueError(_OUT_OF_RANGE)
     return policy.setting()
 
 
@@ -88,6 +94,9 @@ def crypt(
     Unlike the standard library's, it raises TooCostly if the hash costs more than the budget (by
     default that of mkpasswd.Policy()), and takes bytes too. The result is always a str, so decode a
     field of bytes before you compare them.
+
+    Raises ValueError too if no hash can have the password, or for a budget below 1; MemoryError if
+    there is too little for scrypt.
     """
     setting = mksalt(salt) if salt is None or isinstance(salt, _Method) else salt
     secret = _calls.password_bytes(word)

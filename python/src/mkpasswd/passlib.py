@@ -49,10 +49,13 @@ class _Crypt(GenericHandler, metaclass=ABCMeta):
     def using(
         cls, relaxed: bool = False, budget: Union[int, str, None] = None, **options: Any
     ) -> Any:
-        """As passlib's, with the option `budget`, which in a file of options is a str."""
+        """As passlib's, with the option `budget`, which in a file of options is a str.
+
+        Raises ValueError for a budget that is no number, or too low for a password of 1,024 bytes.
+        """
         changed: Any = super().using(relaxed=relaxed, **options)
         if budget is not None:
-            changed.budget = int(budget) if isinstance(budget, str) else budget
+            changed.budget = _number(budget) if isinstance(budget, str) else budget
         try:
             changed.policy().for_length(PASSWORD_LIMIT)
         except TooCostly:
@@ -88,6 +91,14 @@ class _Crypt(GenericHandler, metaclass=ABCMeta):
     def _calc_checksum(self, secret: Any) -> str:
         budget = self.policy().limit().cost
         return crypt(secret, self.to_string(), budget=budget).rpartition("$")[2]
+
+
+def _number(budget: str) -> int:
+    """The budget that a file of options has."""
+    try:
+        return int(budget)
+    except ValueError:
+        raise ValueError("budget must be a whole number") from None
 
 
 class _Rounds(_Crypt, metaclass=ABCMeta):
