@@ -113,22 +113,25 @@ def test_only_true_is_a_success(answer: Any) -> None:
     assert logins.submit(login).result(LONGEST_WAIT) is False
 
 
-def test_a_failure_that_took_longer_is_answered_as_soon_as_it_has_run() -> None:
-    logins = FixedTime(seconds=0.01, threads=1, queued=1, failed=10)
-    ended = []
+@pytest.mark.parametrize(("takes", "answered"), [(0.1, 0.2), (0.25, 0.4), (0.3, 0.4), (0.5, 0.6)])
+def test_a_failure_that_takes_longer_is_answered_at_a_multiple_of_the_time(
+    takes: float, answered: float
+) -> None:
+    """Else a busy machine would let the time tell what was checked."""
+    logins = FixedTime(seconds=0.2, threads=1, queued=1, failed=10)
 
     def be_slow() -> bool:
-        time.sleep(0.3)
-        ended.append(time.monotonic())
+        time.sleep(takes)
         return False
 
     lateness = []
     for _ in range(ATTEMPTS):
+        began = time.monotonic()
         assert logins.submit(be_slow).result(LONGEST_WAIT) is False
-        lateness.append(time.monotonic() - ended.pop())
-        if lateness[-1] < 0.1:
+        lateness.append(time.monotonic() - began - answered)
+        if lateness[-1] <= 0.01:
             break
-    assert min(lateness) < 0.1, lateness
+    assert 0 <= min(lateness) <= 0.01, lateness
 
 
 SECONDS_OF_ONE = 0.1
@@ -159,6 +162,12 @@ def test_a_full_queue_is_in_time_if_its_seconds_were_chosen_by_the_rule(
         if lateness[-1] <= 0.01:
             break
     assert 0 <= min(lateness) <= 0.01, lateness
+
+
+@pytest.mark.parametrize("seconds", [-1, float("nan"), float("inf")], ids=repr)
+def test_seconds_that_never_come_are_refused(seconds: float) -> None:
+    with pytest.raises(ValueError, match="seconds must be a finite number from 0 on"):
+        FixedTime(seconds=seconds, threads=1, queued=1, failed=1)
 
 
 # ---- What waits holds nothing

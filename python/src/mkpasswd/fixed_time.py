@@ -10,6 +10,7 @@ failure waits, it takes no thread and no place in the queue, so the next login a
 from __future__ import annotations
 
 import asyncio
+import math
 import os
 import threading
 import time
@@ -27,8 +28,9 @@ class FixedTime:
     """Runs logins, which are functions that return True or False, in threads of its own.
 
     A login that returns anything but True, or raises an exception, is answered `seconds` after
-    submit(), or as soon as it has run if that is later. So choose more seconds than the costliest
-    login takes behind a full queue: math.ceil(1 + queued / threads) times the seconds of one login.
+    submit(); if it takes longer, at twice that time, at three times, and so on. So choose more
+    seconds than the costliest login takes behind a full queue: math.ceil(1 + queued / threads)
+    times the seconds of one login.
 
     `threads` logins run at once, and `queued` more wait for a thread. `failed` failures wait for
     their time. Above these numbers, submit() raises Busy.
@@ -36,10 +38,14 @@ class FixedTime:
     The threads start with the first login, so a server may make a FixedTime before it makes its
     workers by fork(); the numbers hold for each worker. After the first login, fork() copies no
     thread, and submit() raises RuntimeError in the new process.
+
+    Raises ValueError for seconds that are negative or not finite, and without a thread.
     """
 
     def __init__(self, *, seconds: float, threads: int, queued: int, failed: int) -> None:
-        self._seconds = seconds
+        if not 0 <= seconds < math.inf:
+            raise ValueError("seconds must be a finite number from 0 on")
+        self._seconds = float(seconds)
         self._most_running = threads + queued
         self._most_failed = failed
         self._lock = threading.Lock()  # for what follows
@@ -55,7 +61,7 @@ class FixedTime:
         Raises Busy; OSError or RuntimeError if the system has no more files or threads; and
         RuntimeError after a fork(). The future raises what the login raised.
         """
-        moment = time.monotonic() + self._seconds
+        began = time.monotonic()
         if self._process not in (None, os.getpid()):
             raise RuntimeError("fork() copied no threads of FixedTime: make one in each process")
         with self._lock:
@@ -73,7 +79,7 @@ class FixedTime:
             with self._lock:
                 self._running -= 1
             raise
-        done.add_done_callback(lambda _: self._end(done, answer, clock, moment))
+        done.add_done_callback(lambda _: self._end(done, answer, clock, began))
         return answer
 
     def _running_clock(self) -> asyncio.AbstractEventLoop:
@@ -91,7 +97,7 @@ class FixedTime:
         done: Future[bool],
         answer: Future[bool],
         clock: asyncio.AbstractEventLoop,
-        moment: float,
+        began: float,
     ) -> None:
         """Answers a login that has run: at once if it succeeded, else at a moment of the clock."""
         succeeded = done.exception() is None and done.result() is True
@@ -102,7 +108,20 @@ class FixedTime:
         if succeeded:
             answer.set_result(True)
         else:
+            moment = self._moment_of_failure(began)
             clock.call_soon_threadsafe(clock.call_at, moment, self._fail, done, answer)
+
+    def _moment_of_failure(self, began: float) -> float:
+        """When a failure is answered that began then and has run now.
+
+        On a machine that is too busy it may be late. If it were answered as soon as it has run,
+        the time would tell which kind of hash was checked.
+        """
+        if self._seconds == 0:
+            return began
+        elapsed = time.monotonic() - began
+        times = max(1, math.ceil(elapsed / self._seconds))
+        return began + times * self._seconds
 
     def _fail(self, done: Future[bool], answer: Future[bool]) -> None:
         """Answers a login that failed."""
