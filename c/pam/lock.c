@@ -9,15 +9,14 @@
 #define TRIES 50
 #define PAUSE_NANOSECONDS 20000000 /* so that all tries take a second */
 
-/* Gives the lock the password file's owner, so that a service can take it that owns the file, also
- * if the superuser was the first to change it. Others can't, and need not. */
-static void give_to_owner(int lock, const struct place *place)
+/* Gives the lock the password file's owner. A service of that user can then take the lock even if
+ * the superuser's was the first to change the file. */
+static bool give_to_owner(int lock, const struct place *place)
 {
     struct stat file;
 
-    if (fstatat(place->folder, place->name, &file, 0) == 0
-        && fchown(lock, file.st_uid, file.st_gid) != 0)
-        errno = 0;
+    return fstatat(place->folder, place->name, &file, 0) == 0
+        && fchown(lock, file.st_uid, file.st_gid) == 0;
 }
 
 static int make_lock(const struct place *place)
@@ -26,11 +25,11 @@ static int make_lock(const struct place *place)
     int lock = openat(place->folder, place->lock_name, flags, S_IRUSR | S_IWUSR);
 
     if (lock >= 0)
-        give_to_owner(lock, place);
+        (void)give_to_owner(lock, place); /* only the superuser can, and nobody else has to */
     return lock;
 }
 
-/* Opens a lock that is there, and waits for nobody, as a FIFO would make it. */
+/* Opens an existing lock. If a FIFO has its name, O_NONBLOCK keeps the call from waiting. */
 static int open_made_lock(const struct place *place)
 {
     const int flags = O_RDONLY | O_CLOEXEC | O_NOFOLLOW | O_NONBLOCK | O_NOCTTY;
@@ -60,16 +59,26 @@ static bool is_in_place(int lock, const struct place *place)
         && is_same_file(&locked, &named);
 }
 
-/* Tries once. It doesn't wait in flock(2), which would need a signal to end. */
+/* Locks an open file if it is free. To wait in flock(2) would need a signal that ends it. */
+static enum lock_state lock_file(int lock, const struct place *place)
+{
+    if (flock(lock, LOCK_EX | LOCK_NB) != 0)
+        return errno == EWOULDBLOCK ? LOCK_HELD : LOCK_FAILED;
+    return is_in_place(lock, place) ? LOCK_TAKEN : LOCK_HELD;
+}
+
+/* Tries once. */
 static enum lock_state try_lock(const struct place *place, int *lock)
 {
+    enum lock_state state;
+
     *lock = open_lock(place);
     if (*lock < 0)
         return LOCK_FAILED;
-    if (flock(*lock, LOCK_EX | LOCK_NB) == 0 && is_in_place(*lock, place))
-        return LOCK_TAKEN;
-    (void)close(*lock);
-    return LOCK_HELD;
+    state = lock_file(*lock, place);
+    if (state != LOCK_TAKEN)
+        release_lock(*lock);
+    return state;
 }
 
 enum lock_state take_lock(const struct place *place, int *lock)
@@ -84,7 +93,8 @@ enum lock_state take_lock(const struct place *place, int *lock)
     return state;
 }
 
-/* Unlocks it first: a child that the service has started meanwhile has a copy of the descriptor. */
+/* Unlocks the file before it closes it: a child that the service has started meanwhile has a copy
+ * of the descriptor, which would keep the lock. */
 void release_lock(int lock)
 {
     int error = errno;

@@ -10,9 +10,10 @@ enum lock_state {
     LOCK_FAILED, /* errno says why */
 };
 
-/* Takes the lock, for which it waits up to a second. The caller releases it if it was taken. */
+/* Takes the lock, waiting up to a second. If it was taken, the caller releases it. */
 enum lock_state take_lock(const struct place *place, int *lock);
 
+/* Releases the lock, and leaves errno as it is. */
 void release_lock(int lock);
 
 #endif

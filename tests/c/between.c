@@ -4,6 +4,7 @@
 
    NO_EXCHANGE=1   the file system can't exchange files
    NO_TMPFILE=1    it has no files without a name
+   NO_LOCKS=1      it has no locks
    CHMOD=1         somebody changes PATH's mode before the first exchange
    KILL=fsync      the program is killed before its file is on the disk
    KILL=linkat     when the file has its name
@@ -66,6 +67,13 @@ int openat(int folder, const char *path, int flags, ...)
     if ((flags & O_TMPFILE) == O_TMPFILE && getenv("NO_TMPFILE") != NULL)
         return refused(EOPNOTSUPP);
     return (int)syscall(SYS_openat, folder, path, flags, mode);
+}
+
+int flock(int file, int operation)
+{
+    if (getenv("NO_LOCKS") != NULL)
+        return refused(ENOLCK);
+    return (int)syscall(SYS_flock, file, operation);
 }
 
 int linkat(int from_folder, const char *from, int to_folder, const char *to, int flags)

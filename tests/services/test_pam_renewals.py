@@ -353,8 +353,11 @@ NO_EXCHANGE = Obstacle(
     nothing,
     variables=("NO_EXCHANGE=1",),
 )
+NO_LOCKS = Obstacle(
+    "a file system without locks", "No locks available", nothing, variables=("NO_LOCKS=1",)
+)
 
-OBSTACLES = [FULL, READ_ONLY, LINKED_LOCK, HELD_LOCK, LIMITED, NO_EXCHANGE]
+OBSTACLES = [FULL, READ_ONLY, LINKED_LOCK, HELD_LOCK, LIMITED, NO_EXCHANGE, NO_LOCKS]
 
 
 def without_nameless_files(obstacle: Obstacle) -> Obstacle:
