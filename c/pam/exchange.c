@@ -94,15 +94,21 @@ static bool put_back(const struct place *place, const struct pair *pair)
     return swap(place);
 }
 
+/* Removes a new file that was never in use: without a note nothing was exchanged. */
+static bool remove_unused(const struct place *place)
+{
+    return unlinkat(place->folder, place->new_name, 0) == 0 || errno == ENOENT;
+}
+
 bool end_earlier_exchange(const struct place *place)
 {
     struct pair pair;
 
-    /* Without a note nothing was exchanged: a new file was not yet whole. */
     if (!read_note(place, &pair))
-        return unlinkat(place->folder, place->new_name, 0) == 0 || errno == ENOENT;
-    return put_back(place, &pair) && remove_one_of(place, &pair)
-        && unlinkat(place->folder, place->exchange_name, 0) == 0;
+        return errno == ENOENT && remove_unused(place);
+    if (!put_back(place, &pair) || !remove_one_of(place, &pair))
+        return false;
+    return unlinkat(place->folder, place->exchange_name, 0) == 0;
 }
 
 /* Whether a file is still as it was: the same file, and nobody has written to it or changed its

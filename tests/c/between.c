@@ -5,6 +5,7 @@
    NO_EXCHANGE=1   the file system can't exchange files
    NO_TMPFILE=1    it has no files without a name
    NO_LOCKS=1      it has no locks
+   NO_LINKS=1      what a link says can't be read from the disk
    CHMOD=1         somebody changes PATH's mode before the first exchange
    KILL=fsync      the program is killed before its file is on the disk
    KILL=linkat     when the file has its name
@@ -74,6 +75,13 @@ int flock(int file, int operation)
     if (getenv("NO_LOCKS") != NULL)
         return refused(ENOLCK);
     return (int)syscall(SYS_flock, file, operation);
+}
+
+ssize_t readlinkat(int folder, const char *path, char *target, size_t size)
+{
+    if (getenv("NO_LINKS") != NULL)
+        return refused(EIO);
+    return (ssize_t)syscall(SYS_readlinkat, folder, path, target, size);
 }
 
 int linkat(int from_folder, const char *from, int to_folder, const char *to, int flags)

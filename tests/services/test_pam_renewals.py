@@ -242,6 +242,21 @@ def test_the_next_renewal_puts_back_what_one_took_out_that_was_killed(
     assert others_beside(pam.machine) == []
 
 
+def test_a_version_of_somebody_stays_while_nobody_can_read_what_was_exchanged(
+    pam: Pam, between: tuple[str, str]
+) -> None:
+    locked = b"two:!" + SHA512 + b"\n"
+    pam.machine.write(FILE, LINE + SECOND)
+    pam.machine.write(f"{FILE}.1", locked + SECOND)
+    kill_login(pam, between, "exchange")
+    login = pam.login("six", PASSWORD, through=(*between, "NO_LINKS=1"))
+    assert login == Login(Answer.ACCEPTED, (f"{FILE}: not renewed: Input/output error",))
+    assert pam.machine.read(f"{FILE}.mkpasswd.new") == locked + SECOND
+    assert pam.login("six", PASSWORD) == Login(Answer.ACCEPTED)
+    assert pam.machine.read(FILE).splitlines(keepends=True)[0] == locked
+    assert others_beside(pam.machine) == []
+
+
 def test_a_version_of_somebody_that_two_have_met_stays_until_somebody_looks(
     pam: Pam, between: tuple[str, str]
 ) -> None:
