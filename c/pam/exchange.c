@@ -1,5 +1,5 @@
-/* Exchanges the new file for the old one. Whatever comes out has a name until somebody knows what
- * it is, so no version of the file is lost, also if this process is killed in between. */
+/* Exchanges the new file for the old one. Whatever comes out keeps a name until the process knows
+ * what it is, so no version of the file is lost, even if the process is killed in between. */
 #define _GNU_SOURCE /* for O_PATH and renameat2 */
 #include "exchange.h"
 #include <errno.h>
@@ -8,7 +8,7 @@
 #include <stdio.h>
 #include <unistd.h>
 
-/* Each one after the first needs somebody else, who changed the file between two calls. */
+/* Each exchange after the first needs somebody who changed the file between two calls. */
 #define MOST_EXCHANGES 8
 
 /* The inodes of the two files that are exchanged. */
@@ -19,8 +19,8 @@ struct pair {
 
 #define NOTE_SIZE sizeof "18446744073709551615 18446744073709551615"
 
-/* Notes which files are exchanged, in the target of a link: the name and what it says are there at
- * the same moment, and no other file can be written by mistake. */
+/* Notes which files are exchanged, in the target of a link: a link appears with its target at once,
+ * and making one never overwrites another file. */
 static bool write_note(const struct place *place, const struct pair *pair)
 {
     char note[NOTE_SIZE];
@@ -68,7 +68,7 @@ static bool look(const struct place *place, const char *name, struct stat *statu
 }
 
 /* Removes what has new_name if it is one of the pair: the file that was replaced, or the one that
- * didn't replace it. Any other file is somebody's version. */
+ * didn't replace it. Any other file is somebody's version, which stays. */
 static bool remove_one_of(const struct place *place, const struct pair *pair)
 {
     struct stat left;
@@ -131,52 +131,62 @@ static bool is_still_in_place(const struct place *place, const struct stat *old)
         && file.st_ctim.tv_nsec == old->st_ctim.tv_nsec;
 }
 
-/* Opens what has come out. Until it is closed, no later file gets its inode, by which this process
- * goes. */
-static int hold(const struct place *place)
+/* What has come out so far, held open: until it is closed, no later file gets its inode, by which
+ * this process knows a file. */
+struct held {
+    int fds[MOST_EXCHANGES];
+    int count;
+};
+
+static void hold(const struct place *place, struct held *held)
 {
-    return openat(place->folder, place->new_name, O_PATH | O_NOFOLLOW | O_CLOEXEC);
+    int fd = openat(place->folder, place->new_name, O_PATH | O_NOFOLLOW | O_CLOEXEC);
+
+    if (fd >= 0)
+        held->fds[held->count++] = fd;
 }
 
-static void release(int held)
+static void release(struct held *held)
 {
-    if (held >= 0)
-        (void)close(held);
+    int error = errno;
+
+    while (held->count > 0)
+        (void)close(held->fds[--held->count]);
+    errno = error;
 }
 
-/* Exchanges what has new_name and the password file until that comes out which was expected: at
- * first the old file, and whenever somebody's version came out, what was put in before, since that
- * version goes back. So the newest of somebody's versions stays. */
+/* Exchanges what has new_name and the password file until what is expected comes out. That is the
+ * old file at first. Whenever somebody's version comes out instead, it goes back by the next
+ * exchange, and what is in its place is expected. So the newest of somebody's versions stays. */
 static enum outcome exchange_until_expected(
-    const struct place *place, const struct stat *old, const struct stat *new)
+    const struct place *place, const struct stat *old, const struct stat *new, struct held *held)
 {
-    struct stat expected = *old, inside = *new, out;
-    int held[MOST_EXCHANGES], count = 0;
-    enum outcome outcome = FAILED;
+    struct stat expected = *old, in_place = *new, out;
 
-    errno = EBUSY; /* if the calls succeed, and somebody changes the file again and again */
-    while (outcome == FAILED && count < MOST_EXCHANGES) {
+    for (int count = 0; count < MOST_EXCHANGES; count++) {
         if (!swap(place) || !look(place, place->new_name, &out))
-            break;
-        held[count++] = hold(place);
+            return FAILED;
+        hold(place, held);
         if (is_unchanged(&out, &expected))
-            outcome = is_same_file(&inside, new) ? DONE : FILE_CHANGED;
-        expected = inside;
-        inside = out;
+            return is_same_file(&in_place, new) ? DONE : FILE_CHANGED;
+        expected = in_place;
+        in_place = out;
     }
-    while (count > 0)
-        release(held[--count]);
-    return outcome;
+    errno = EBUSY;
+    return FAILED;
 }
 
-/* Removes what the exchange has left under new_name, and then the note. If the exchange ended
- * early, that may be somebody's version, which stays. */
+/* Removes what the exchange has left under new_name, and then the note. After a failure that may be
+ * somebody's version, which stays. */
 static void clear_up(const struct place *place, const struct pair *pair, enum outcome outcome)
 {
     int error = errno;
-    bool is_clear = outcome == FAILED ? remove_one_of(place, pair)
-                                      : unlinkat(place->folder, place->new_name, 0) == 0;
+    bool is_clear;
 
+    if (outcome == FAILED)
+        is_clear = remove_one_of(place, pair);
+    else
+        is_clear = unlinkat(place->folder, place->new_name, 0) == 0;
     if (is_clear)
         (void)unlinkat(place->folder, place->exchange_name, 0);
     errno = error;
@@ -186,6 +196,7 @@ enum outcome exchange_files(
     const struct place *place, const struct stat *old, const struct stat *new)
 {
     const struct pair pair = {old->st_ino, new->st_ino};
+    struct held held = {.count = 0};
     enum outcome outcome;
 
     if (!write_note(place, &pair))
@@ -193,7 +204,8 @@ enum outcome exchange_files(
     else if (!is_still_in_place(place, old))
         outcome = FILE_CHANGED;
     else
-        outcome = exchange_until_expected(place, old, new);
+        outcome = exchange_until_expected(place, old, new, &held);
     clear_up(place, &pair, outcome);
+    release(&held);
     return outcome;
 }
