@@ -1,5 +1,5 @@
-/* Replaces one field of a password file. REPLACING A FIELD in pam_mkpasswd(8) describes the
- * protocol, which pwhash follows too. */
+/* Replaces one field of a password file, by the protocol that REPLACING A FIELD in pam_mkpasswd(8)
+ * describes. */
 #ifndef PAM_MKPASSWD_REPLACEMENT_H
 #define PAM_MKPASSWD_REPLACEMENT_H
 
@@ -18,7 +18,7 @@ struct replacement {
     const char *hash;              /* the new field */
 };
 
-/* Replaces a field. Unless this is done, the file stays as it is. */
+/* Replaces a field. Unless the outcome is DONE, the file stays as it is. */
 enum outcome replace_field(const char *path, const struct replacement *replacement);
 
 /* Whether this process may replace the file. If not, errno says why. */
