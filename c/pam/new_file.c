@@ -1,5 +1,5 @@
-/* Makes the new version of a password file, and copies everything that the old one has besides its
- * bytes: owner, mode, and the extended attributes, which hold ACLs and security labels. */
+/* Makes the new version of a password file, and copies what the old one has besides its bytes: the
+ * owner, the mode, and the extended attributes, which hold ACLs and security labels. */
 #define _GNU_SOURCE /* for O_TMPFILE */
 #include "new_file.h"
 #include <errno.h>
@@ -13,8 +13,8 @@
 
 #define MODE_BITS 07777
 
-/* Opens a file without a name, which is gone if this process is killed. Not every file system has
- * such files: there it gets its name at once. */
+/* Opens a file without a name, which is gone if this process is killed. On a file system without
+ * such files it gets its name at once. */
 static bool open_new_file(const struct place *place, struct new_file *new)
 {
     new->fd = openat(place->folder, ".", O_TMPFILE | O_RDWR | O_CLOEXEC, S_IRUSR | S_IWUSR);
@@ -61,26 +61,38 @@ static bool write_lines(
     size_t before = (size_t)(start - old->bytes);
     size_t after = old->size - before - field.length;
 
-    return is_within_limit(before + new_len + after) && write_bytes(fd, old->bytes, before)
-        && write_bytes(fd, new_field, new_len) && write_bytes(fd, rest, after);
+    if (!is_within_limit(before + new_len + after))
+        return false;
+    return write_bytes(fd, old->bytes, before) && write_bytes(fd, new_field, new_len)
+        && write_bytes(fd, rest, after);
 }
 
-/* Gives a file the owner and mode of another one. The owner comes first, since a new owner clears
- * bits of the mode. */
-static bool copy_owner_and_mode(int fd, const struct stat *old)
+/* Whether a file has this owner and mode. If not, errno says that this isn't permitted. */
+static bool has_owner_and_mode(int fd, const struct stat *wanted)
 {
-    struct stat copy;
+    struct stat file;
 
-    if (fchown(fd, old->st_uid, old->st_gid) != 0 || fchmod(fd, old->st_mode & MODE_BITS) != 0
-        || fstat(fd, &copy) != 0)
+    if (fstat(fd, &file) != 0)
         return false;
-    if (copy.st_uid == old->st_uid && copy.st_gid == old->st_gid && copy.st_mode == old->st_mode)
+    if (file.st_uid == wanted->st_uid && file.st_gid == wanted->st_gid
+        && file.st_mode == wanted->st_mode)
         return true;
     errno = EPERM;
     return false;
 }
 
-/* The names of a file's extended attributes, each with a zero byte behind it. */
+/* Gives a file the owner and mode of another one. The owner comes first, since a new owner clears
+ * bits of the mode. Calls that succeed aren't enough: the system may drop bits silently. */
+static bool copy_owner_and_mode(int fd, const struct stat *old)
+{
+    if (fchown(fd, old->st_uid, old->st_gid) != 0)
+        return false;
+    if (fchmod(fd, old->st_mode & MODE_BITS) != 0)
+        return false;
+    return has_owner_and_mode(fd, old);
+}
+
+/* The names of a file's extended attributes, each followed by a zero byte. */
 struct names {
     char *bytes;
     size_t len;
@@ -101,7 +113,7 @@ static bool read_names(int fd, struct names *names)
     return len >= 0 || errno == ENOTSUP;
 }
 
-static bool has_attribute(const struct names *names, const char *wanted)
+static bool is_among(const struct names *names, const char *wanted)
 {
     const char *end = names->bytes + names->len;
 
@@ -122,8 +134,8 @@ static bool has_value(int fd, const char *name, const char *value, size_t len)
     return is_same;
 }
 
-/* Gives a file an attribute of another one. One that it has already, as a label, it need not be
- * allowed to set. */
+/* Gives a file an attribute of another one. It doesn't set one that the file has already, such as a
+ * label, since this process may not be allowed to. */
 static bool copy_attribute(int to, int from, const char *name)
 {
     char *value = malloc(XATTR_SIZE_MAX);
@@ -133,14 +145,14 @@ static bool copy_attribute(int to, int from, const char *name)
     if (value == NULL)
         return false;
     len = fgetxattr(from, name, value, XATTR_SIZE_MAX);
-    is_copied = len >= 0
-        && (has_value(to, name, value, (size_t)len)
-            || fsetxattr(to, name, value, (size_t)len, 0) == 0);
+    is_copied = len >= 0 && has_value(to, name, value, (size_t)len);
+    if (len >= 0 && !is_copied)
+        is_copied = fsetxattr(to, name, value, (size_t)len, 0) == 0;
     free(value);
     return is_copied;
 }
 
-static bool copy_attributes_of(const struct names *names, int to, int from)
+static bool copy_named_attributes(const struct names *names, int to, int from)
 {
     const char *end = names->bytes + names->len;
 
@@ -150,24 +162,29 @@ static bool copy_attributes_of(const struct names *names, int to, int from)
     return true;
 }
 
-/* Removes what a new file got of its folder and the old one doesn't have, as an ACL. */
+/* Removes the attributes that a new file got from its folder and the old one doesn't have, such as
+ * an ACL. */
 static bool remove_others(const struct names *own, const struct names *wanted, int fd)
 {
     const char *end = own->bytes + own->len;
 
     for (const char *name = own->bytes; name < end; name += strlen(name) + 1)
-        if (!has_attribute(wanted, name) && fremovexattr(fd, name) != 0)
+        if (!is_among(wanted, name) && fremovexattr(fd, name) != 0)
             return false;
     return true;
 }
 
+/* Gives a file all attributes of another one, and no others. */
 static bool copy_attributes(int to, int from)
 {
-    struct names names = {NULL, 0}, own = {NULL, 0};
-    bool is_copied = read_names(from, &names) && read_names(to, &own)
-        && remove_others(&own, &names, to) && copy_attributes_of(&names, to, from);
+    struct names wanted = {NULL, 0}, own = {NULL, 0};
+    bool is_copied = read_names(from, &wanted) && read_names(to, &own);
 
-    free(names.bytes);
+    if (is_copied)
+        is_copied = remove_others(&own, &wanted, to);
+    if (is_copied)
+        is_copied = copy_named_attributes(&wanted, to, from);
+    free(wanted.bytes);
     free(own.bytes);
     return is_copied;
 }
@@ -176,9 +193,15 @@ bool make_new_file(const struct place *place, const struct password_file *old,
     struct mkpasswd_field field, const char *new_field, struct new_file *new)
 {
     *new = (struct new_file){.fd = -1};
-    return open_new_file(place, new) && write_lines(new->fd, old, field, new_field)
-        && copy_attributes(new->fd, old->fd) && copy_owner_and_mode(new->fd, &old->status)
-        && fsync(new->fd) == 0 && fstat(new->fd, &new->status) == 0;
+    if (!open_new_file(place, new))
+        return false;
+    if (!write_lines(new->fd, old, field, new_field))
+        return false;
+    if (!copy_attributes(new->fd, old->fd))
+        return false;
+    if (!copy_owner_and_mode(new->fd, &old->status))
+        return false;
+    return fsync(new->fd) == 0 && fstat(new->fd, &new->status) == 0;
 }
 
 bool name_new_file(const struct place *place, struct new_file *new)

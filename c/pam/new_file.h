@@ -1,4 +1,4 @@
-/* The new version of a password file, while it is made. */
+/* The new version of a password file, while it is being made. */
 #ifndef PAM_MKPASSWD_NEW_FILE_H
 #define PAM_MKPASSWD_NEW_FILE_H
 
@@ -11,8 +11,8 @@ struct new_file {
     struct stat status; /* once it is whole */
 };
 
-/* Makes a file with everything of the old one but this field, and writes it to the disk. If this
- * fails, errno says why. In each case the caller closes it. */
+/* Makes a file that has everything of the old one, but new_field in the place of field, and writes
+ * it to the disk. If this fails, errno says why. In each case the caller closes the file. */
 bool make_new_file(const struct place *place, const struct password_file *old,
     struct mkpasswd_field field, const char *new_field, struct new_file *new);
 
@@ -22,7 +22,7 @@ bool name_new_file(const struct place *place, struct new_file *new);
 /* Removes the file's name, if it has one. */
 void remove_new_file(const struct place *place, const struct new_file *new);
 
-/* Closes the file. Without a name it is gone. */
+/* Closes the file, which is gone then if it has no name. */
 void close_new_file(const struct new_file *new);
 
 #endif

@@ -1,4 +1,4 @@
-/* Replaces a field in the order that REPLACING A FIELD in pam_mkpasswd(8) has. */
+/* Replaces a field, in the order of the steps in REPLACING A FIELD of pam_mkpasswd(8). */
 #include "replacement.h"
 #include "exchange.h"
 #include "lock.h"
@@ -7,8 +7,8 @@
 #include <fcntl.h>
 #include <unistd.h>
 
-/* Gives the new file a name and exchanges it for the old one. If its maker is killed after that,
- * the next one ends it. */
+/* Gives the new file a name and exchanges it for the old one. If this process is killed meanwhile,
+ * the next one that replaces a field ends the exchange. */
 static enum outcome put_in_place(
     const struct place *place, const struct password_file *old, struct new_file *new)
 {
@@ -37,22 +37,29 @@ static enum outcome replace_in_file(const struct place *place, const struct pass
     return outcome;
 }
 
-/* Reads the file, and replaces the field if it is still the one that was checked. */
-static enum outcome replace_if_same(
+/* Replaces the field of a file that was read, if it is still the one that was checked. */
+static enum outcome replace_if_same(const struct place *place, const struct password_file *file,
+    const struct replacement *replacement)
+{
+    struct line line = find_line(file, replacement->name);
+
+    if (line.number == 0 || !is_same_field(line.field, replacement->checked))
+        return FILE_CHANGED;
+    return replace_in_file(place, file, line.field, replacement->hash);
+}
+
+/* Reads the file, and replaces the field in it. */
+static enum outcome read_and_replace(
     const struct place *place, const struct replacement *replacement)
 {
     struct password_file file;
-    struct line line;
-    enum outcome outcome = FILE_CHANGED;
+    enum outcome outcome = FAILED;
     int error = read_password_file(place->folder, place->name, &file);
 
-    line = find_line(&file, replacement->name);
-    if (error != 0) {
-        outcome = FAILED;
+    if (error == 0)
+        outcome = replace_if_same(place, &file, replacement);
+    else
         errno = error;
-    } else if (line.number > 0 && is_same_field(line.field, replacement->checked)) {
-        outcome = replace_in_file(place, &file, line.field, replacement->hash);
-    }
     close_password_file(&file);
     return outcome;
 }
@@ -72,7 +79,7 @@ static enum outcome replace_under_lock(
         break;
     }
     if (end_earlier_exchange(place))
-        outcome = replace_if_same(place, replacement);
+        outcome = read_and_replace(place, replacement);
     release_lock(lock);
     return outcome;
 }
@@ -91,9 +98,10 @@ enum outcome replace_field(const char *path, const struct replacement *replaceme
 bool can_replace(const char *path)
 {
     struct place place;
-    bool is_possible = open_place(path, &place)
-        && faccessat(place.folder, ".", W_OK | X_OK, AT_EACCESS) == 0;
+    bool is_possible = open_place(path, &place);
 
+    if (is_possible)
+        is_possible = faccessat(place.folder, ".", W_OK | X_OK, AT_EACCESS) == 0;
     close_place(&place);
     return is_possible;
 }
