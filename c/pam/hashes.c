@@ -65,6 +65,11 @@ bool make_hash(const struct mkpasswd_policy *policy, const char *password, struc
     return is_made;
 }
 
+void wipe_hash(struct hash *hash)
+{
+    explicit_bzero(hash, sizeof *hash);
+}
+
 /* Whether a login is refused even with the password that costs least, the empty one. */
 static bool is_over_limit(const struct mkpasswd_policy *policy, struct mkpasswd_field field)
 {

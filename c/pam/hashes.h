@@ -38,6 +38,9 @@ struct check check_password(
 bool make_hash(const struct mkpasswd_policy *policy, const char *password, struct hash *hash,
     struct message *message);
 
+/* Wipes a hash, so that the service doesn't keep it. */
+void wipe_hash(struct hash *hash);
+
 enum field_problem {
     NO_PROBLEM,        /* some password may match */
     CLOSED_ON_PURPOSE, /* the field is empty or locked */

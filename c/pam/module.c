@@ -74,6 +74,7 @@ static void renew(pam_handle_t *pam, const struct options *options, const struct
         pam_syslog(pam, LOG_WARNING, "%s: not renewed: %s", options->file, message.text);
     else
         log_replacement(pam, options, "not renewed", replace_field(options->file, &replacement));
+    wipe_hash(&hash);
 }
 
 int pam_sm_authenticate(pam_handle_t *pam, int flags, int count, const char **arguments)
@@ -232,7 +233,9 @@ static int change(
         tell(pam, flags, "The password can't be hashed. Is it too long?");
         return PAM_AUTHTOK_ERR;
     }
-    return store_hash(pam, flags, options, account, hash.text);
+    status = store_hash(pam, flags, options, account, hash.text);
+    wipe_hash(&hash);
+    return status;
 }
 
 int pam_sm_chauthtok(pam_handle_t *pam, int flags, int count, const char **arguments)

@@ -6,7 +6,7 @@
 #include <string.h>
 #include <unistd.h>
 
-/* Opens a file without waiting for anything, as a FIFO would make it. */
+/* Opens a regular file. If a FIFO has its path, O_NONBLOCK keeps the call from waiting. */
 static int open_regular(int folder, const char *path, struct password_file *file)
 {
     file->fd = openat(folder, path, O_RDONLY | O_CLOEXEC | O_NOCTTY | O_NONBLOCK);
@@ -37,6 +37,18 @@ static int read_bytes(struct password_file *file)
     return 0;
 }
 
+/* Frees the bytes, and wipes them before: all names' hashes are among them, and the service goes
+ * on. */
+static void drop_bytes(struct password_file *file)
+{
+    if (file->bytes == NULL)
+        return;
+    explicit_bzero(file->bytes, file->size);
+    free(file->bytes);
+    file->bytes = NULL;
+    file->size = 0;
+}
+
 int read_password_file(int folder, const char *path, struct password_file *file)
 {
     int error;
@@ -46,7 +58,7 @@ int read_password_file(int folder, const char *path, struct password_file *file)
     if (error == 0)
         error = read_bytes(file);
     if (error != 0)
-        file->size = 0;
+        drop_bytes(file);
     return error;
 }
 
@@ -54,7 +66,7 @@ void close_password_file(struct password_file *file)
 {
     int error = errno;
 
-    free(file->bytes);
+    drop_bytes(file);
     if (file->fd >= 0)
         (void)close(file->fd);
     errno = error;

@@ -1,0 +1,72 @@
+/* Loaded before PAM: before a service ends its use of PAM, writes all private memory that the
+ * service can write into the file MEMORY. */
+#define _GNU_SOURCE /* for RTLD_NEXT */
+#include <dlfcn.h>
+#include <fcntl.h>
+#include <stdint.h>
+#include <stdlib.h>
+#include <string.h>
+#include <sys/stat.h>
+#include <unistd.h>
+
+int pam_end(void *pam, int status);
+
+/* Static: with a block of malloc or more of the stack this would write over what it looks for. */
+static char maps[1 << 20];
+
+static void read_maps(void)
+{
+    int file = open("/proc/self/maps", O_RDONLY | O_CLOEXEC);
+    size_t size = 0;
+    ssize_t len;
+
+    while ((len = read(file, maps + size, sizeof maps - 1 - size)) > 0)
+        size += (size_t)len;
+    (void)close(file);
+}
+
+static void write_part(int file, const char *start, const char *end)
+{
+    while (start < end) {
+        ssize_t len = write(file, start, (size_t)(end - start));
+
+        if (len <= 0)
+            abort();
+        start += len;
+    }
+}
+
+/* Writes the memory of a line of maps, such as `7f.. 7f.. rw-p`, if that is private. */
+static void write_line(int file, const char *line)
+{
+    char *rest;
+    uintptr_t start = strtoul(line, &rest, 16);
+    uintptr_t end = strtoul(rest + 1, &rest, 16);
+
+    if (strncmp(rest, " rw-p", 5) == 0 && (start > (uintptr_t)maps || end <= (uintptr_t)maps))
+        write_part(file, (const char *)start, (const char *)end);
+}
+
+static void write_memory(void)
+{
+    const char *path = getenv("MEMORY");
+    int file;
+
+    if (path == NULL)
+        return;
+    read_maps();
+    file = open(path, O_WRONLY | O_CREAT | O_TRUNC | O_CLOEXEC, S_IRUSR | S_IWUSR);
+    for (const char *line = maps; *line != '\0'; line = strchr(line, '\n') + 1)
+        write_line(file, line);
+    (void)close(file);
+}
+
+/* A service's call, before which everything that PAM keeps for a login is there. */
+int pam_end(void *pam, int status)
+{
+    int (*end)(void *, int);
+
+    write_memory();
+    *(void **)&end = dlsym(RTLD_NEXT, "pam_end");
+    return end(pam, status);
+}
