@@ -89,21 +89,30 @@ static bool has_name(const char *line, const char *line_end, const char *name, s
         && memcmp(line, name, name_len) == 0;
 }
 
+/* The field that begins here, up to the next colon. */
+static struct mkpasswd_field field_between(const char *start, const char *line_end)
+{
+    const char *end = find(start, line_end, ':');
+
+    return mkpasswd_field_bytes(start, (size_t)(end - start));
+}
+
 struct line find_line(const struct password_file *file, const char *name)
 {
     struct line found = {0, mkpasswd_field(NULL)};
     const char *line = file->bytes;
-    const char *end = file->bytes + file->size;
+    const char *end;
     size_t name_len = strlen(name);
 
+    if (file->size == 0) /* and perhaps no bytes */
+        return found;
+    end = file->bytes + file->size;
     for (unsigned long number = 1; line < end; number++) {
         const char *line_end = find(line, end, '\n');
 
-        if (found.number == 0 && has_name(line, line_end, name, name_len)) {
-            const char *field = line + name_len + 1;
-
+        if (has_name(line, line_end, name, name_len) && found.number == 0) {
             found.number = number;
-            found.field = mkpasswd_field_bytes(field, (size_t)(find(field, line_end, ':') - field));
+            found.field = field_between(line + name_len + 1, line_end);
         }
         line = line_end < end ? line_end + 1 : end;
     }

@@ -15,21 +15,21 @@ struct password_file {
     size_t size;
 };
 
-/* A name's line. Its field is what is between the first colon and the next one, or the line's end;
- * it is in the file's bytes, and empty if no line has the name. */
+/* A name's line. Its field is what is between the first colon and the next one, or the line's end.
+ * It points into the file's bytes, and is empty if no line has the name. */
 struct line {
     unsigned long number; /* 1 for the first line; 0 if no line has the name */
     struct mkpasswd_field field;
 };
 
-/* Reads a regular file. The path begins at the folder unless it is absolute. Returns 0, or else the
- * number of the error, and then the file is empty. In each case the caller closes the file. */
+/* Reads a regular file. The path begins at the folder unless it is absolute. Returns 0 or the
+ * number of the error, after which the file is empty. In each case the caller closes the file. */
 int read_password_file(int folder, const char *path, struct password_file *file);
 
 void close_password_file(struct password_file *file);
 
-/* Finds the first line of a name. It reads all lines in every case, so that its time does not tell
- * where the name is. */
+/* Finds the first line of a name. It compares the names of all lines in every case, so that its
+ * time doesn't tell where the name is. */
 struct line find_line(const struct password_file *file, const char *name);
 
 bool is_locked(struct mkpasswd_field field);

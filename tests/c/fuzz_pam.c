@@ -231,6 +231,15 @@ static void log_in(pam_handle_t *pam, int count, const char **arguments)
     check_file(&content, status == PAM_SUCCESS, input.old_password);
 }
 
+static void log_in_without_file(pam_handle_t *pam, int count, const char **arguments)
+{
+    int status;
+
+    MUST(unlink(path) == 0);
+    status = pam_sm_authenticate(pam, 0, count, arguments);
+    MUST(status == PAM_SERVICE_ERR || status == PAM_AUTHINFO_UNAVAIL);
+}
+
 /* A folder of its own in memory, where no renewal of another process is. */
 static void make_folder(void)
 {
@@ -261,6 +270,8 @@ int LLVMFuzzerTestOneInput(const uint8_t *data, size_t size)
     if (*input.argument != '\0')
         count++;
     log_in((pam_handle_t *)&is_change, count, arguments);
+    if ((kind & 0x10) != 0)
+        log_in_without_file((pam_handle_t *)&is_change, count, arguments);
     is_change = 1;
     if ((kind & 0x20) != 0)
         change_password((pam_handle_t *)&is_change, count, arguments);

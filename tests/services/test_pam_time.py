@@ -37,6 +37,8 @@ FIELDS = {
 }
 UNKNOWN = ["nobodyhere", "", "a:b"]
 UNREADABLE = [f"{FILE}.gone", "/etc"]
+LONG_FILE = "/srv/long"
+LINES = 20_000
 
 
 @dataclass(frozen=True)
@@ -91,3 +93,12 @@ def test_it_takes_as_long_while_the_file_can_not_be_read(
     found = counted(pam, "current")
     assert found.answer is Answer.UNAVAILABLE
     assert found.instructions == pytest.approx(expected, rel=TOLERANCE_OF_UNREADABLE)
+
+
+def test_it_takes_as_long_wherever_a_name_is_in_a_long_file(pam: Pam) -> None:
+    others = b"".join(b"user%05d:!\n" % number for number in range(LINES))
+    line = b":" + CURRENT + b"\n"
+    pam.machine.write(LONG_FILE, b"user_first" + line + others + b"user_final" + line)
+    pam.set_arguments(f"file={LONG_FILE} {ARGUMENTS}")
+    found = [counted(pam, name).instructions for name in ("user_first", "user_final", "user_other")]
+    assert found[1:] == pytest.approx([found[0]] * 2, rel=TOLERANCE)
