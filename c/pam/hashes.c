@@ -1,10 +1,10 @@
-/* The calls of the proved library that the module makes. A login's answer is what its call returns,
- * and nothing else. */
+/* The calls of the proved library that the module makes. What mkpasswd_login() returns is the whole
+ * answer to a login. */
 #include "hashes.h"
 #include <string.h>
 
-/* A budget that admits no new hash of such a password would let an unknown name be refused in no
- * time. */
+/* The budget has to admit a new hash of each password of up to so many bytes. Without one, an
+ * unknown name would be refused at once. */
 #define USUAL_LENGTH 64
 
 #define NO_ERROR 0
@@ -70,7 +70,7 @@ void wipe_hash(struct hash *hash)
     explicit_bzero(hash, sizeof *hash);
 }
 
-/* Whether a login is refused even with the password that costs least, the empty one. */
+/* Whether a login is refused for its cost even with the cheapest password, the empty one. */
 static bool is_over_limit(const struct mkpasswd_policy *policy, struct mkpasswd_field field)
 {
     struct mkpasswd_report limit, least;
@@ -79,7 +79,7 @@ static bool is_over_limit(const struct mkpasswd_policy *policy, struct mkpasswd_
         && least.cost > limit.cost;
 }
 
-/* The number of the reason why no password matches a field, or NO_ERROR if some may. */
+/* The error for which no password matches a field, or NO_ERROR if some password may. */
 static uint32_t error_of_field(const struct mkpasswd_policy *policy, struct mkpasswd_field field)
 {
     const struct mkpasswd_policy unlimited = {policy->method, policy->rounds, UINT64_MAX};

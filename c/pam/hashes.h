@@ -1,5 +1,4 @@
-/* What the module asks of the proved library: hashes.c has each call that it makes of mkpasswd.h.
- */
+/* What the module asks of the proved library. hashes.c has all its calls of mkpasswd.h. */
 #ifndef PAM_MKPASSWD_HASHES_H
 #define PAM_MKPASSWD_HASHES_H
 
@@ -15,7 +14,7 @@ struct message {
     char text[MKPASSWD_TEXT_SIZE];
 };
 
-/* What came of checking a password. */
+/* The result of checking a password. */
 struct check {
     bool matches;
     bool is_outdated;  /* the password matches, and a new hash would replace the stored one */
@@ -47,8 +46,8 @@ enum field_problem {
     NEEDS_NEW_HASH,    /* no password matches what it has */
 };
 
-/* Finds out why no password can match a field, which the message then says. It gets no password, so
- * nothing of this tells which one was given. */
+/* Finds out why no password can match a field, and puts the reason into the message. It gets no
+ * password, so nothing that it says depends on one. */
 enum field_problem problem_of_field(
     const struct mkpasswd_policy *policy, struct mkpasswd_field field, struct message *message);
 

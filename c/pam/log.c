@@ -16,7 +16,7 @@ struct word {
     char text[WORD_SIZE];
 };
 
-/* Makes a word of what others may have chosen: with a blank or a line feed in it somebody could
+/* Makes one word of what others may have chosen: by a blank or a line feed in it somebody could
  * forge the values that follow, or another entry. */
 static struct word word_of(const char *text)
 {

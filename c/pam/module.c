@@ -14,7 +14,7 @@
 #include <syslog.h>
 #include <unistd.h>
 
-/* A name, and its line in the file. If the file can't be read, no line has the name. */
+/* A name and its line in the file. If the file can't be read, no line has the name. */
 struct account {
     const char *name;
     struct password_file file;
@@ -40,8 +40,18 @@ static void log_unreadable(
     pam_syslog(pam, LOG_ERR, "%s: %s", options->file, strerror(account->error));
 }
 
-/* Checks the password, and logs why it isn't accepted. A name that nobody can look up costs as much
- * as an unknown one, and that as much as a wrong password. */
+/* Logs why a password wasn't accepted. */
+static void log_refusal(pam_handle_t *pam, const struct options *options,
+    const struct account *account, const struct check *check)
+{
+    if (check->lacks_memory)
+        pam_syslog(pam, LOG_ERR, "out of memory");
+    log_field(pam, options, &account->line);
+    log_failure(pam, account->name, &account->line);
+}
+
+/* Checks the password, first of all: so a file that can't be read costs as much time as an unknown
+ * name, and that as much as a wrong password. */
 static int check_account(pam_handle_t *pam, const struct options *options,
     const struct account *account, const char *password, bool *is_outdated)
 {
@@ -54,15 +64,12 @@ static int check_account(pam_handle_t *pam, const struct options *options,
     }
     if (check.matches)
         return PAM_SUCCESS;
-    if (check.lacks_memory)
-        pam_syslog(pam, LOG_ERR, "out of memory");
-    log_field(pam, options, &account->line);
-    log_failure(pam, account->name, &account->line);
+    log_refusal(pam, options, account, &check);
     return PAM_AUTH_ERR;
 }
 
-/* Replaces an outdated hash by a new one of the same password. Whatever comes of it, the user gets
- * in. */
+/* Replaces an outdated hash by a new one of the same password. The user gets in even if this fails.
+ */
 static void renew(pam_handle_t *pam, const struct options *options, const struct account *account,
     const char *password)
 {
@@ -99,7 +106,7 @@ int pam_sm_authenticate(pam_handle_t *pam, int flags, int count, const char **ar
     return status;
 }
 
-/* There are no credentials. Only the arguments have to be valid, as for every call. */
+/* The module has no credentials to set. The arguments have to be valid, as for every call. */
 int pam_sm_setcred(pam_handle_t *pam, int flags, int count, const char **arguments)
 {
     struct options options;
@@ -108,7 +115,7 @@ int pam_sm_setcred(pam_handle_t *pam, int flags, int count, const char **argumen
     return read_options(pam, count, arguments, &options) ? PAM_SUCCESS : PAM_SERVICE_ERR;
 }
 
-/* Whether a name may log in, or its password be changed, if it has one. */
+/* Says whether a name may log in by a hash, or have it replaced. */
 static int status_of_account(
     const pam_handle_t *pam, const struct options *options, const struct account *account)
 {
@@ -139,7 +146,7 @@ int pam_sm_acct_mgmt(pam_handle_t *pam, int flags, int count, const char **argum
     return status;
 }
 
-/* Tells the user something, unless the service wants silence. */
+/* Shows the user a sentence, unless the service wants silence. */
 static void tell(pam_handle_t *pam, int flags, const char *text)
 {
     if ((flags & PAM_SILENT) == 0)
@@ -153,7 +160,8 @@ static bool needs_old_password(int flags)
     return getuid() != 0 || (flags & PAM_CHANGE_EXPIRED_AUTHTOK) != 0;
 }
 
-/* Whether the password may be changed. PAM keeps the old one once it was typed. */
+/* Says whether the password may be changed. PAM asks for the old one only in the first round, and
+ * keeps it for the second. */
 static int check_old_password(
     pam_handle_t *pam, int flags, const struct options *options, const struct account *account)
 {
@@ -167,7 +175,7 @@ static int check_old_password(
     return check_account(pam, options, account, password, &is_outdated);
 }
 
-/* The first round, in which nothing is changed: all modules of a stack say whether they could. */
+/* The first round changes nothing: each module of a stack says whether it could. */
 static int prepare_change(
     pam_handle_t *pam, int flags, const struct options *options, const struct account *account)
 {
@@ -180,7 +188,7 @@ static int prepare_change(
     return check_old_password(pam, flags, options, account);
 }
 
-/* Asks twice for the new password, unless a module before has done so. */
+/* Asks twice for the new password, unless an earlier module has done so. */
 static int get_new_password(pam_handle_t *pam, int flags, const char **password)
 {
     if (pam_get_authtok(pam, PAM_AUTHTOK, password, NULL) != PAM_SUCCESS)
@@ -191,17 +199,11 @@ static int get_new_password(pam_handle_t *pam, int flags, const char **password)
     return PAM_AUTHTOK_ERR;
 }
 
-/* Puts a hash of the new password in the place of the field that was checked. */
-static int store_hash(pam_handle_t *pam, int flags, const struct options *options,
-    const struct account *account, const char *hash)
+/* Answers a change of password by what came of replacing the field, to PAM and to the user. */
+static int answer_change(pam_handle_t *pam, int flags, enum outcome outcome)
 {
-    const struct replacement replacement = {account->name, account->line.field, hash};
-    enum outcome outcome = replace_field(options->file, &replacement);
-
-    log_replacement(pam, options, "password not changed", outcome);
     switch (outcome) {
     case DONE:
-        log_change(pam, account->name);
         return PAM_SUCCESS;
     case LOCK_IS_HELD:
     case FILE_CHANGED:
@@ -214,8 +216,22 @@ static int store_hash(pam_handle_t *pam, int flags, const struct options *option
     return PAM_AUTHTOK_ERR;
 }
 
-/* The second round. The old password is checked again, since its field may be another one by now.
- */
+/* Replaces the field that was checked by a hash of the new password. */
+static int store_hash(pam_handle_t *pam, int flags, const struct options *options,
+    const struct account *account, const char *hash)
+{
+    const struct replacement replacement = {account->name, account->line.field, hash};
+    enum outcome outcome = replace_field(options->file, &replacement);
+
+    if (outcome == DONE)
+        log_change(pam, account->name);
+    else
+        log_replacement(pam, options, "password not changed", outcome);
+    return answer_change(pam, flags, outcome);
+}
+
+/* The second round makes the change. It checks the old password again, since the field may be
+ * another one by now. */
 static int change(
     pam_handle_t *pam, int flags, const struct options *options, const struct account *account)
 {

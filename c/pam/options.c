@@ -1,5 +1,6 @@
 /* Reads the arguments of the module: each has a row in OPTIONS with the function that reads it. */
 #include "options.h"
+#include "place.h"
 #include <errno.h>
 #include <security/pam_ext.h>
 #include <stdlib.h>
@@ -7,8 +8,8 @@
 #include <sys/stat.h>
 #include <syslog.h>
 
-/* A function that reads an argument gets what follows the argument's name, and returns whether that
- * is valid. */
+/* An argument's name, and the function that reads what follows the name. It returns whether that is
+ * valid. */
 struct option {
     const char *name;
     bool (*read)(const char *value, struct options *options);
@@ -108,20 +109,26 @@ static bool is_shadow(const char *path)
     struct stat file, shadow;
 
     return stat(path, &file) == 0 && stat("/etc/shadow", &shadow) == 0
-        && file.st_dev == shadow.st_dev && file.st_ino == shadow.st_ino;
+        && is_same_file(&file, &shadow);
 }
 
-bool read_options(pam_handle_t *pam, int count, const char **arguments, struct options *options)
+static bool read_arguments(
+    const pam_handle_t *pam, int count, const char **arguments, struct options *options)
 {
-    struct message message;
-
-    *options = (struct options){.file = NULL};
     for (int place = 0; place < count; place++) {
         if (!read_argument(arguments[place], options)) {
             pam_syslog(pam, LOG_ERR, "invalid argument: %s", arguments[place]);
             return false;
         }
     }
+    return true;
+}
+
+/* Whether valid arguments are valid together: a file is among them, and they allow new hashes. */
+static bool are_valid_together(const pam_handle_t *pam, const struct options *options)
+{
+    struct message message;
+
     if (options->file == NULL) {
         pam_syslog(pam, LOG_ERR, "invalid arguments: file= is missing");
         return false;
@@ -135,4 +142,12 @@ bool read_options(pam_handle_t *pam, int count, const char **arguments, struct o
         return false;
     }
     return true;
+}
+
+bool read_options(pam_handle_t *pam, int count, const char **arguments, struct options *options)
+{
+    *options = (struct options){.file = NULL};
+    if (!read_arguments(pam, count, arguments, options))
+        return false;
+    return are_valid_together(pam, options);
 }

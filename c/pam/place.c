@@ -1,4 +1,4 @@
-/* Finds the folder of a password file, and names the files of the protocol that are beside it. */
+/* Finds the folder of a password file, and names the files that the protocol puts beside it. */
 #include "place.h"
 #include <errno.h>
 #include <fcntl.h>

@@ -1,4 +1,5 @@
-/* Where a password file is: its folder, and the files beside it that the protocol uses. */
+/* Where a password file is: its folder, and the names of the files that the protocol puts beside
+ * it. */
 #ifndef PAM_MKPASSWD_PLACE_H
 #define PAM_MKPASSWD_PLACE_H
 
@@ -16,13 +17,13 @@ struct place {
     char exchange_name[NAME_SIZE]; /* of a link that says which two files are being exchanged */
 };
 
-/* Finds the folder of a file, to which links may lead. If this fails, errno says why. In each case
- * the caller closes the place. */
+/* Finds the folder of a file, after it has followed all links. If this fails, errno says why. In
+ * each case the caller closes the place. */
 bool open_place(const char *path, struct place *place);
 
 void close_place(const struct place *place);
 
-/* Whether two descriptions are of the same file, whatever is in it. */
+/* Whether two descriptions are of one file, whatever its content was. */
 bool is_same_file(const struct stat *one, const struct stat *other);
 
 #endif
