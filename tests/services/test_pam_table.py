@@ -57,6 +57,11 @@ def lock_is_held(machine: Namespaces) -> Iterator[None]:
             what="a process that keeps the lock",
         )
         yield
+    # While a process still ends, the disk isn't read-only: a removed file is open there.
+    wait_until(
+        lambda: machine.run("flock", "-n", lock, "true").status == 0,
+        what="the end of the process that kept the lock",
+    )
 
 
 @contextlib.contextmanager
