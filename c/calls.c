@@ -27,10 +27,10 @@ int32_t mkpasswd_proved_new_from(const uint8_t *password, size_t password_length
     uint32_t rounds, uint64_t budget, const uint64_t *numbers, size_t numbers_count, uint8_t *out,
     size_t out_size, struct mkpasswd_report *report);
 
-/* Returns the result, and wipes the stack below its caller's frame, where the frames of the proved
- * function were, and the registers that a call may change; compilers before gcc 11 and clang 15
- * warn, and leave the registers. It calls nothing: the dynamic linker leaves registers on the stack
- * when it resolves a name. */
+/* Wipes the stack below its caller's frame, where the frames of the proved function were, and the
+ * registers that a call may change; compilers before gcc 11 and clang 15 warn, and leave the
+ * registers. It passes the result through, so that a caller does nothing after it. It calls
+ * nothing: the dynamic linker leaves registers on the stack when it resolves a name. */
 __attribute__((noinline, zero_call_used_regs("all"))) static int32_t wipe_stack(int32_t result)
 {
     volatile uint64_t stack[STACK_BYTES / sizeof(uint64_t)];

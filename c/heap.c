@@ -1,7 +1,8 @@
-/* Memory for the proved code: what it calls, over malloc and free. It fails exactly where malloc
- * does. Only scrypt's table is large. In small pages the system takes up to a fifth of the time of
- * a hash to provide it, and the processor longer to find its rows, so a large block begins with a
- * huge page and asks for as many as it fills. A system without huge pages ignores this.
+/* The functions by which the proved code allocates memory, with malloc and free. They fail exactly
+ * where malloc does. Only scrypt's table is large. With small pages, the system spends up to a
+ * fifth of a hash's time on providing it, and the processor needs longer to find its rows. So a
+ * large block begins with a huge page and asks for as many as it fills. A system without huge pages
+ * ignores this.
  *
  * The size of a block stands before it, since not every allocator that a service brings can be
  * asked for it.

@@ -16,10 +16,9 @@
  * mkpasswd_audit(), the limit is reported, or `out` has what was asked for. False covers everything
  * else. What a call returns is the whole answer; the report only says why, for a log.
  *
- * A password and a field are values of their own types, so they can't be exchanged. But if what was
- * typed is made a field, and what is stored a password, whoever types a hash of the field gets in:
- * of
- * `!`, of a stored hash, or of nothing.
+ * A password and a field have types of their own, so a compiler refuses them in the wrong order.
+ * But whoever makes a field of what was typed, and a password of what is stored, lets in everybody
+ * who types a hash of the stored string, also where that is `!`, a hash, or empty.
  *
  * Pointers may be null. A null password is refused as one with a zero byte, a null field is an
  * unknown name, a null salt is empty, a null policy is the recommended one, a null `out` has no
