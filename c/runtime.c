@@ -6,13 +6,13 @@
 #include <stdint.h>
 #include <string.h>
 
-static size_t words;
-static char **word;
+static size_t argument_count;
+static char **arguments;
 
-__attribute__((constructor)) static void keep(int count, char **arguments)
+__attribute__((constructor)) static void keep(int count, char **words)
 {
-    words = (size_t)count;
-    word = arguments;
+    argument_count = (size_t)count;
+    arguments = words;
 }
 
 int32_t rattle_errno(void)
@@ -27,18 +27,18 @@ void rattle_set_errno(int32_t error)
 
 size_t rattle_arg_count(void)
 {
-    return words;
+    return argument_count;
 }
 
-/* Copies an argument and returns its length: -1 if there is none, -2 if it is longer than the room
- * for it, which is then filled. */
-ptrdiff_t rattle_arg(size_t place, uint8_t *bytes, size_t room)
+/* Copies an argument and returns its length. It returns -1 if there is no such argument, and -2 if
+ * it has more than `size` bytes, of which it then copies the first. */
+ptrdiff_t rattle_arg(size_t place, uint8_t *bytes, size_t size)
 {
     size_t length;
 
-    if (place >= words || !word[place])
+    if (place >= argument_count || !arguments[place])
         return -1;
-    length = strlen(word[place]);
-    memcpy(bytes, word[place], length < room ? length : room);
-    return length <= room ? (ptrdiff_t)length : -2;
+    length = strlen(arguments[place]);
+    memcpy(bytes, arguments[place], length < size ? length : size);
+    return length <= size ? (ptrdiff_t)length : -2;
 }
