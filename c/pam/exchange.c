@@ -121,14 +121,12 @@ static bool is_unchanged(const struct stat *now, const struct stat *before)
         && now->st_uid == before->st_uid && now->st_gid == before->st_gid;
 }
 
-/* Whether the password file is still the old one, with the same time of the last change. */
-static bool is_still_in_place(const struct place *place, const struct stat *old)
+/* Whether a file is the same one, and nobody has changed anything of it, attributes included. After
+ * an exchange nobody can tell, since that sets the time of the last change. */
+static bool is_untouched(const struct stat *now, const struct stat *before)
 {
-    struct stat file;
-
-    return look(place, place->name, &file) && is_same_file(&file, old)
-        && file.st_ctim.tv_sec == old->st_ctim.tv_sec
-        && file.st_ctim.tv_nsec == old->st_ctim.tv_nsec;
+    return is_same_file(now, before) && now->st_ctim.tv_sec == before->st_ctim.tv_sec
+        && now->st_ctim.tv_nsec == before->st_ctim.tv_nsec;
 }
 
 /* What has come out so far, held open: until it is closed, no later file gets its inode, by which
@@ -197,11 +195,12 @@ enum outcome exchange_files(
 {
     const struct pair pair = {old->st_ino, new->st_ino};
     struct held held = {.count = 0};
+    struct stat file;
     enum outcome outcome;
 
-    if (!write_note(place, &pair))
+    if (!write_note(place, &pair) || !look(place, place->name, &file))
         outcome = FAILED;
-    else if (!is_still_in_place(place, old))
+    else if (!is_untouched(&file, old))
         outcome = FILE_CHANGED;
     else
         outcome = exchange_until_expected(place, old, new, &held);

@@ -7,6 +7,7 @@
    NO_LOCKS=1      it has no locks
    NO_LINKS=1      what a link says can't be read from the disk
    CHMOD=1         somebody changes PATH's mode before the first exchange
+   REMOVED=PATH    somebody removes PATH before the program notes what it exchanges
    KILL=fsync      the program is killed before its file is on the disk
    KILL=linkat     when the file has its name
    KILL=exchange   when it is in PATH's place
@@ -82,6 +83,15 @@ ssize_t readlinkat(int folder, const char *path, char *target, size_t size)
     if (getenv("NO_LINKS") != NULL)
         return refused(EIO);
     return (ssize_t)syscall(SYS_readlinkat, folder, path, target, size);
+}
+
+int symlinkat(const char *target, int folder, const char *path)
+{
+    const char *removed = getenv("REMOVED");
+
+    if (removed != NULL)
+        (void)syscall(SYS_unlinkat, AT_FDCWD, removed, 0);
+    return (int)syscall(SYS_symlinkat, target, folder, path);
 }
 
 int linkat(int from_folder, const char *from, int to_folder, const char *to, int flags)

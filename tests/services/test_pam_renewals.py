@@ -282,6 +282,16 @@ def test_a_mode_that_somebody_changes_at_the_last_moment_stays(
     assert others_beside(pam.machine) == []
 
 
+def test_a_file_that_somebody_removes_at_the_last_moment_is_missed(
+    pam: Pam, between: tuple[str, str]
+) -> None:
+    pam.machine.write(FILE, LINE)
+    login = pam.login_result("two", PASSWORD, through=(*between, f"REMOVED={FILE}"))
+    entry = f"{FILE}: not renewed: No such file or directory"
+    assert entry in pam.log.entries(), login
+    assert others_beside(pam.machine) == []
+
+
 # ---- What keeps a file as it is
 
 LONG = LINE + b"# more\n" * 5000
