@@ -63,8 +63,11 @@ static bool write_lines(
 
     if (!is_within_limit(before + new_len + after))
         return false;
-    return write_bytes(fd, old->bytes, before) && write_bytes(fd, new_field, new_len)
-        && write_bytes(fd, rest, after);
+    if (!write_bytes(fd, old->bytes, before))
+        return false;
+    if (!write_bytes(fd, new_field, new_len))
+        return false;
+    return write_bytes(fd, rest, after);
 }
 
 /* Whether a file has this owner and mode. If not, errno says that this isn't permitted. */
