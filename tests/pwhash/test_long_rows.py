@@ -59,6 +59,16 @@ def test_the_middle_of_a_long_row_is_never_lost_in_a_pipe(kept: int) -> None:
     assert done.status == 3 and done.out == b"" and lines_named_in(done.err) == [2], done
 
 
+def test_no_row_is_cut_where_only_its_end_is_missing_in_a_piece() -> None:
+    """pwhash reads 256 KiB at once. Of such a piece it once kept just 128 KiB, a whole row."""
+    heading = b"third,name,password\n"
+    begin = b"x" * 131050 + b",ann,password"
+    row = begin + b"y" * ((1 << 18) - len(heading) - len(begin))
+    save("table", heading + row + b"\n")
+    done = pwhash("file", "--csv", *MD5CRYPT, "table")
+    assert (done.status, done.out) == (3, b"") and lines_named_in(done.err) == [2], done
+
+
 def test_a_row_of_many_lines_has_a_limit() -> None:
     """It was kept whole: 30 MB took 480 MiB."""
     row = b'ann,pw1,"x' + b'\nx",",' * 400000 + b'"\n'

@@ -17,8 +17,9 @@ from pwhash.options import Input
 from pwhash.text import named, quoted
 
 PIECE = 1 << 18
-# More of a line than any rule allows, so the rest of it is not kept.
-LONGEST_KEPT = 1 << 17
+# The bytes that are kept of a line whose end hasn't come. A row may have 128 KiB, so one byte more
+# shows that the row is too long, and the bytes behind that are never needed.
+LONGEST_KEPT = (1 << 17) + 1
 IDLE_MILLISECONDS = 20
 SECONDS_UNTIL_WRITER = 3  # until somebody writes a pipe with a name
 IN_FRONT_OF_LOCKED = re.compile(rb"^([^:]*:)[!*]+(?=\$)")
