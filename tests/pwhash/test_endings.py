@@ -113,6 +113,31 @@ def test_a_library_that_is_missing_is_named(copy: Copy) -> None:
     assert b"Traceback" not in done.stderr, done
 
 
+NOBODY_READS_ERRORS = pytest.mark.parametrize(
+    "redirected",
+    [
+        pytest.param("2> /dev/full", id="errors into a full device"),
+        pytest.param("2>&-", id="errors closed"),
+    ],
+)
+
+
+@NOBODY_READS_ERRORS
+def test_the_status_says_that_the_library_is_missing(copy: Copy, redirected: str) -> None:
+    copy.library.unlink()
+    by_shell = ("/bin/sh", "-c", f'exec "$@" {redirected}', "sh")
+    done = copy.run(*MD5CRYPT, stdin=b"x", before=by_shell)
+    assert done.status == 3, done
+
+
+@NOBODY_READS_ERRORS
+def test_the_status_says_that_a_module_failed(copy: Copy, redirected: str) -> None:
+    (copy.modules / "pwhash/file.py").write_text("raise ValueError\n", encoding="ascii")
+    by_shell = ("/bin/sh", "-c", f'exec "$@" {redirected}', "sh")
+    done = copy.run("file", stdin=b"ann:x\n", before=by_shell)
+    assert done.status == 3, done
+
+
 def test_a_library_of_another_version_is_named(copy: Copy, folder: Path) -> None:
     """One with the name but without the calls."""
     save("other.c", b"int other;\n")

@@ -84,6 +84,19 @@ def test_an_input_or_output_that_is_none_is_a_failure(
     assert done.status == 3 and done.err.startswith(b"pwhash: ") and message in done.err, done
 
 
+@pytest.mark.parametrize(
+    ("words", "status"),
+    [
+        pytest.param(("file", "--look"), 2, id="wrong use"),
+        pytest.param(("file", "gone"), 3, id="a file that is gone"),
+        pytest.param(("file",), 3, id="a refused line, of which the message is lost"),
+    ],
+)
+def test_a_full_standard_error_leaves_the_status(words: tuple[str, ...], status: int) -> None:
+    done = shell('exec "$@" 2> /dev/full', *words, stdin=b"no colon\n")
+    assert done.status == status, done
+
+
 @pytest.mark.needs("namespaces")
 def test_a_run_on_a_full_disk_goes_on_once_there_is_room() -> None:
     lines = save("lines", users(1000))

@@ -20,6 +20,7 @@ from pwhash.errors import Stop, reason_of
 from pwhash.text import readable_text
 
 STDIN, STDOUT, STDERR = 0, 1, 2
+OUTPUT_NAMES = {STDOUT: "standard output", STDERR: "standard error"}
 RETRY_SECONDS = 0.02
 # How long a run that ends waits until somebody reads, and how much a pipe then surely takes.
 LAST_MILLISECONDS = 100
@@ -66,8 +67,8 @@ class Console:
         except OSError as error:
             if fd == STDERR:
                 return
-            if fd == STDOUT and error.errno != errno.EPIPE:
-                raise Stop(f"standard output: {reason_of(error)}.") from None
+            if fd in OUTPUT_NAMES and error.errno != errno.EPIPE:
+                raise Stop(f"{OUTPUT_NAMES[fd]}: {reason_of(error)}.") from None
             raise
 
     def on_terminal(self, text: str) -> bool:

@@ -2,6 +2,7 @@
 
 from __future__ import annotations
 
+import contextlib
 import os
 import signal
 from collections.abc import Sequence
@@ -40,7 +41,8 @@ class Session:
         self.console.clear_progress()
         if stop.status is Status.FAILED and not os.isatty(STDERR):
             self.console.on_terminal("".join(f"{line}\n" for line in lines))
-        self.console.lines(STDERR, [line.encode() for line in lines])
+        with contextlib.suppress(Stop):  # where standard error is full, the status still tells
+            self.console.lines(STDERR, [line.encode() for line in lines])
         return stop.status
 
     def _with_way_on(self, sentence: str, advice: str) -> List[str]:
