@@ -2,7 +2,7 @@
 from __future__ import annotations
 
 import pytest
-from support.pwhash_runs import ANN, BOB, BY_NUMBER, MD5, MD5CRYPT, pwhash, save
+from support.pwhash_runs import ANN, BOB, BY_NUMBER, MD5, MD5CRYPT, lines_named_in, pwhash, save
 
 
 @pytest.mark.parametrize(
@@ -76,6 +76,14 @@ def test_a_table_without_a_heading_needs_columns() -> None:
     assert done.status == 2 and b"--columns" in done.err and b'password"' not in done.err, done
 
 
+@pytest.mark.parametrize("number", [2, 98, 99])
+def test_a_column_is_found_by_its_number(number: int) -> None:
+    fields = ["ann", *["x"] * (number - 2), "password"]
+    table = save("table", ",".join(fields).encode() + b"\n")
+    done = pwhash("file", *MD5CRYPT, table, "--csv", "--columns", f"1,{number}")
+    assert (done.status, done.out) == (0, f"ann:{MD5}\n".encode()), done
+
+
 def test_a_heading_is_no_user_where_columns_are_numbers() -> None:
     table = save("table", b"user,password\nann,x\n")
     done = pwhash("file", *MD5CRYPT, table, "--csv", *BY_NUMBER)
@@ -93,6 +101,12 @@ def test_a_heading_is_no_user_where_columns_are_numbers() -> None:
 def test_columns_that_can_not_be_read_are_named(table: bytes, words: tuple[str, ...]) -> None:
     done = pwhash("file", *MD5CRYPT, save("table", table), *words)
     assert done.status == 2 and b"--columns" in done.err and b"line 1" not in done.err, done
+
+
+def test_a_first_row_that_is_not_csv_is_named_by_its_line() -> None:
+    table = save("table", b"\n\nname\rpassword\rann,x\n")
+    done = pwhash("file", *MD5CRYPT, "--csv", table)
+    assert done.status == 3 and lines_named_in(done.err) == [3], done
 
 
 def test_a_quote_that_does_not_end_ends_the_run() -> None:

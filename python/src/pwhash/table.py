@@ -16,7 +16,7 @@ from pwhash.source import Source
 
 LONGEST_ROW = 1 << 17  # bytes, of a field too; csv takes no longer ones
 SEPARATORS = {",": "a comma", ";": "a semicolon", "\t": "a tab"}
-MOST_COLUMNS = 99  # that can be chosen by number
+NUMBERS = [str(number) for number in range(1, 100)]  # by which columns can be chosen
 # Each byte becomes the character with its number and back, so that no encoding matters.
 BYTES = "latin-1"
 IN_QUOTES = re.compile('"[^"]*"')
@@ -89,6 +89,7 @@ class Table:
         begin = [next(self._texts, "")]
         while begin[-1] == "\n":
             begin.append(next(self._texts, ""))
+        self._row_begin = len(begin)
         is_utf16 = begin[-1].startswith(UTF16_MARKS)
         if is_utf16 or (self._has_names() and "\0" in begin[-1]):
             raise self._no_columns()
@@ -115,12 +116,12 @@ class Table:
         try:
             row: Row = next(csv.reader([first], delimiter=separator), [])
         except csv.Error as error:
-            raise Stop(f"{self._name}, line 1: {about(error)}.") from None
+            raise Stop(f"{self._name}, line {self._row_begin}: {about(error)}.") from None
         return set(self._wanted) <= set(folded_row(row))
 
     def _columns(self, first: Row) -> Columns:
         names = folded_row(first)
-        known = names if self._has_names() else [str(each) for each in range(1, MOST_COLUMNS)]
+        known = names if self._has_names() else NUMBERS
         if any(known.count(each) != 1 for each in self._wanted):
             raise self._no_columns()
         name, password = (known.index(each) for each in self._wanted)
