@@ -45,6 +45,10 @@ class Columns(NamedTuple):
     password: int
     width: int  # the fields of the first row
 
+    def pair_in(self, row: Row) -> Row:
+        """The fields of a row that are in the two columns."""
+        return [cell(row, self.name), cell(row, self.password)]
+
 
 def lines_of(source: Source) -> Arrivals:
     """The lines of a source, or those that the rows of its table stand for."""
@@ -188,28 +192,31 @@ class Table:
         return "a colon in the name" if ":" in name else None
 
     def _is_heading(self, row: Row, columns: Columns) -> bool:
-        """Whether a row begins another table that was joined to this one.
+        """Whether a row is the heading again, as where another table was joined to this one.
 
-        If its columns may have other places, the run ends.
+        If that table may have its columns in other places, the run ends.
         """
         fields = folded_row(row)
-        if columns.headings and fields == columns.headings:
+        if columns.headings and columns.pair_in(fields) == columns.pair_in(columns.headings):
             return True
-        name, password = cell(fields, columns.name), cell(fields, columns.password)
-        above = {cell(columns.headings, columns.name), cell(columns.headings, columns.password)}
-        if columns.headings and [name, password] == [
-            columns.headings[columns.name],
-            columns.headings[columns.password],
-        ]:
-            return True
-        is_swapped = name in headings.PASSWORDS and password in headings.NAMES
-        is_moved = bool(columns.headings) and above <= set(fields)
-        if is_swapped or is_moved or {name, password} <= set(columns.headings) - {""}:
+        if is_heading_of_others(fields, columns):
             raise UsageError(
                 f"{self._name}, line {self._row_begin}: another table begins, with other columns. "
                 "Hash each by itself."
             )
         return False
+
+
+def is_heading_of_others(fields: Row, columns: Columns) -> bool:
+    """Whether a row heads a table whose names or passwords are in other columns than these."""
+    name, password = columns.pair_in(fields)
+    if name in headings.PASSWORDS and password in headings.NAMES:
+        return True
+    if not columns.headings:
+        return False
+    has_both_headings = set(columns.pair_in(columns.headings)) <= set(fields)
+    are_headings = {name, password} <= set(columns.headings) - {""}
+    return has_both_headings or are_headings
 
 
 class Texts(Iterator[str]):
