@@ -119,13 +119,23 @@ def test_a_password_too_long_for_a_login_is_refused(words: tuple[str, ...], long
     assert (done.status, done.out) == (2, b""), done
 
 
-@pytest.mark.parametrize("words", [(), ("-m", "sha256crypt")], ids=["sha512crypt", "sha256crypt"])
-def test_the_length_that_a_refusal_names_is_short_enough(words: tuple[str, ...]) -> None:
+@pytest.mark.parametrize(
+    "words",
+    [
+        pytest.param((), id="sha512crypt"),
+        pytest.param(("-m", "sha256crypt"), id="sha256crypt"),
+        pytest.param(("-S", "x"), id="a short salt"),
+        pytest.param(("-S", "x", "--budget", "45M"), id="a budget that only a short salt admits"),
+    ],
+)
+def test_the_length_that_a_refusal_names_is_the_greatest(words: tuple[str, ...]) -> None:
     refused = pwhash(*words, stdin=b"x" * LONGEST)
     length = re.search(rb"at most (\d+) bytes", refused.err)
     assert (refused.status, refused.out) == (2, b"") and length, refused
     done = pwhash(*words, stdin=b"x" * int(length[1]))
     assert done.status == 0, done
+    refused = pwhash(*words, stdin=b"x" * (int(length[1]) + 1))
+    assert (refused.status, refused.out) == (2, b"") and length[0] in refused.err, refused
 
 
 @pytest.mark.parametrize("password", [b"x" * (LONGEST + 1), b"a\0b"], ids=["too long", "zero byte"])

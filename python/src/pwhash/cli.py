@@ -363,14 +363,15 @@ def add_common(parser: Parser) -> None:
 def policy_of(parser: Parser, given: argparse.Namespace) -> Policy:
     """How new hashes are made. By default each may cost what a login may."""
     limit = limit_of(parser, given)
-    setting = None
-    if given.salt is not None:
-        try:
-            setting = library.setting(given.method, limit.rounds, os.fsencode(given.salt))
-        except library.RefusedSalt as refused:
-            raise parser.refusal(f"-S: {refused}") from None
     budget = min(limit.budget, library.GREATEST_BUDGET)
-    return Policy(given.method, limit.rounds, budget, limit.longest, setting)
+    if given.salt is None:
+        return Policy(given.method, limit.rounds, budget, limit.longest, None)
+    try:
+        setting = library.setting(given.method, limit.rounds, os.fsencode(given.salt))
+    except library.RefusedSalt as refused:
+        raise parser.refusal(f"-S: {refused}") from None
+    longest = library.longest_password(setting, budget)
+    return Policy(given.method, limit.rounds, budget, longest, setting)
 
 
 def limit_of(parser: Parser, given: argparse.Namespace) -> library.Limit:

@@ -107,6 +107,15 @@ def setting(method: str, rounds: int, salt: bytes) -> bytes:
     raise unexpected(answer)
 
 
+def longest_password(given_setting: bytes, budget: int) -> Optional[int]:
+    """The longest password whose hash with this setting is within the budget, if any is.
+
+    A limit tells that only of new salts, and a hash costs more with a longer one.
+    """
+    lengths = range(PASSWORD_LIMIT + 1)
+    return max((each for each in lengths if cost(given_setting, each) <= budget), default=None)
+
+
 def refused_password(password: bytes) -> Optional[Refusal]:
     """Why no hash can have this password, if none can."""
     if len(password) > PASSWORD_LIMIT:
@@ -116,8 +125,6 @@ def refused_password(password: bytes) -> Optional[Refusal]:
 
 def is_over_budget(policy: Policy, length: int) -> bool:
     """Whether a new hash of a password of this length costs more than the budget."""
-    if policy.setting is not None:
-        return cost(policy.setting, length) > policy.budget
     return policy.longest is None or length > policy.longest
 
 
@@ -125,9 +132,7 @@ def how_long(policy: Policy) -> str:
     """How long a password may be by a policy."""
     if policy.longest is None:
         return "with these rounds even the empty password costs more"
-    return (
-        "with these rounds and this budget a password may have at most " f"{policy.longest} bytes"
-    )
+    return f"with these rounds and this budget a password may have at most {policy.longest} bytes"
 
 
 @functools.lru_cache(maxsize=4096)
