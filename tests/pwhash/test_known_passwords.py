@@ -106,6 +106,13 @@ def test_a_word_that_is_not_utf8_is_named_by_its_line() -> None:
     assert done.err.endswith(b"a zero byte: 1.\n"), done
 
 
+def test_an_account_without_a_name_is_reported_in_words() -> None:
+    save("shadow", b":" + HASH + b":1:::\nann:" + HASH + b":1:::\n")
+    done = pwhash("check", "--shadow", "shadow", stdin=b"password\n")
+    assert (done.status, done.out) == (1, b"ann:ok\n"), done
+    assert done.err == b"pwhash: an account without a name isn't checked: no name\n", done
+
+
 def test_a_file_without_stored_hashes_is_named() -> None:
     done = pwhash("check", "--shadow", save("lone", HASH + b"\n"), stdin=b"password\n")
     message = b"pwhash: lone has no line name:field.\n"

@@ -172,7 +172,8 @@ class Checking:
         longest = self._options.policy.longest or 0
         if refusal == OVER_BUDGET and fields is not None and len(fields[2]) > longest:
             return f"line {line.number} isn't tried for every name: {refusal.words}"
-        return f"{readable(name_of(line))} isn't checked: {refusal.words}"
+        account = readable(name_of(line)) or "an account without a name"
+        return f"{account} isn't checked: {refusal.words}"
 
 
 def only_new(answers: Sequence[Answer]) -> List[Answer]:
