@@ -16,6 +16,9 @@ LISTS = [
     pytest.param(b"ann:" + b"x" * 2000 + b"\nbob:pw2\nann:old\n", (), id="too long"),
     pytest.param(b"ann:x\0y\nbob:pw2\nann:old\n", (), id="a zero byte"),
     pytest.param(
+        b"ann:" + b"x" * 500 + b"\nbob:pw2\nann:old\n", ("--budget", "100000"), id="over budget"
+    ),
+    pytest.param(
         b"name,password\nann,x,y\nbob,pw2\nann,old\n", ("--csv",), id="too many fields in a row"
     ),
     pytest.param(

@@ -66,6 +66,7 @@ class Look:
             self._show(line, doubts)
         length = len(line.data) - line.data.index(b":") - 1
         if library.is_over_budget(self._options.policy, length):
+            self._doubts.note_refused(line)
             self._refused.add(line.number)
             self._show(line, [f"{OVER_BUDGET.words}: {library.how_long(self._options.policy)}"])
 
