@@ -60,8 +60,23 @@ def test_an_option_without_a_value_is_refused(option: str) -> None:
     assert (done.status, done.out) == (2, b"") and b"empty" in done.err, done
 
 
+@pytest.mark.parametrize("command", ["file", "check", "audit"])
+def test_a_file_without_a_name_is_refused(command: str) -> None:
+    """As of a shell's variable that isn't set."""
+    done = pwhash(command, "")
+    assert (done.status, done.out) == (2, b"") and b"FILE is empty" in done.err, done
+
+
 @pytest.mark.parametrize(
-    "words", [("hunter2",), ("file", "list", "hunter2"), ("--password=hunter2",)], ids=" ".join
+    "words",
+    [
+        ("hunter2",),
+        ("file", "list", "hunter2"),
+        ("--password=hunter2",),
+        ("--generate=hunter2",),
+        ("-hhunter2",),
+    ],
+    ids=" ".join,
 )
 def test_no_message_repeats_a_word_that_may_be_a_password(words: tuple[str, ...]) -> None:
     done = pwhash(*words, stdin=b"x\n")

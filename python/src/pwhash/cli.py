@@ -114,7 +114,9 @@ class Parser(argparse.ArgumentParser):
         self.add_argument("--version", action=ShowVersion, nargs=0, help=version_text)
 
     def error(self, message: str) -> NoReturn:
-        raise self.refusal(message)
+        """Refuses the arguments in argparse's words, but for a value that may be a password."""
+        option, ignored, _ = message.partition(": ignored explicit argument ")
+        raise self.refusal(f"{option} takes no value" if ignored else message)
 
     def refusal(self, message: str) -> UsageError:
         """What is said of arguments that don't fit."""
@@ -226,7 +228,7 @@ def file_options(parser: Parser, given: argparse.Namespace) -> Options:
     refuse_out(parser, given.out)
     return FileOptions(
         policy=policy_of(parser, given),
-        input=input_of(given),
+        input=input_of(parser, given),
         out=given.out,
         resume=given.resume,
         only_look=given.look,
@@ -261,7 +263,7 @@ def check_options(parser: Parser, given: argparse.Namespace) -> Options:
         policy = policy._replace(budget=2 * policy.budget)
     return CheckOptions(
         policy=policy,
-        input=input_of(given),
+        input=input_of(parser, given),
         out=given.out,
         shadow=given.shadow,
         rehash=given.rehash,
@@ -290,7 +292,7 @@ def audit_options(parser: Parser, given: argparse.Namespace) -> Options:
     own_budget = min(given.budget or 0, library.GREATEST_BUDGET)
     return AuditOptions(
         policy=Policy(given.method, given.rounds or 0, own_budget, None, None),
-        input=Input(path_of(given), unlock=given.locked, counts_lines=not given.quiet),
+        input=Input(path_of(parser, given), unlock=given.locked, counts_lines=not given.quiet),
         only_problems=given.only_problems,
         json=given.json,
         quiet=given.quiet,
@@ -415,14 +417,17 @@ def refuse_out(parser: Parser, out: Optional[str]) -> None:
         raise parser.refusal(f"{named(out)} already exists: name another file after -o{way_out}")
 
 
-def input_of(given: argparse.Namespace) -> Input:
+def input_of(parser: Parser, given: argparse.Namespace) -> Input:
     """The file of lines."""
     columns = (given.columns or DEFAULT_COLUMNS) if given.csv else None
-    return Input(path_of(given), given.windows, columns, counts_lines=not given.quiet)
+    path = path_of(parser, given)
+    return Input(path, given.windows, columns, counts_lines=not given.quiet)
 
 
-def path_of(given: argparse.Namespace) -> Optional[str]:
+def path_of(parser: Parser, given: argparse.Namespace) -> Optional[str]:
     """FILE, or None for standard input."""
+    if given.file == "":
+        raise parser.refusal("FILE is empty")
     return None if given.file == STDIN else str(given.file)
 
 
