@@ -74,35 +74,51 @@ class Judgement(NamedTuple):
     problem: bool
 
 
+# Where a finding stands among them: the worst is 0.
 SEVERITY: Dict[Finding, int] = {finding: place for place, finding in enumerate(Finding)}
-BY_WORD = {finding.word: finding for finding in Finding}
-STATES: Dict[mkpasswd.State, Finding] = {
-    state: BY_WORD.get(state.value, Finding.NO_PASSWORD) for state in mkpasswd.State
+BY_STATE: Dict[mkpasswd.State, Finding] = {
+    mkpasswd.State.NONE: Finding.NO_PASSWORD,
+    mkpasswd.State.OVER_BUDGET: Finding.OVER_BUDGET,
+    mkpasswd.State.MALFORMED: Finding.MALFORMED,
+    mkpasswd.State.DEAD: Finding.DEAD,
+    mkpasswd.State.NO_SCHEME: Finding.NO_SCHEME,
+    mkpasswd.State.UNKNOWN: Finding.UNKNOWN,
+    mkpasswd.State.OUTDATED: Finding.OUTDATED,
+    mkpasswd.State.CURRENT: Finding.CURRENT,
+    mkpasswd.State.LOCKED: Finding.LOCKED,
 }
 
 
 def judged(number: int, name: str, description: mkpasswd.Description) -> Judgement:
     """What is found about the stored field of an account."""
-    finding = STATES[description.state]
+    finding = BY_STATE[description.state]
     rounds: Union[int, str, None] = description.rounds
     if description.n is not None:
         rounds = f"{description.n}/{description.r}/{description.p}"
-    is_fine = finding in (Finding.CURRENT, Finding.LOCKED) or description.scheme in FINE_SCHEMES
-    is_problem = not is_fine or finding not in (Finding.CURRENT, Finding.LOCKED, Finding.UNKNOWN)
+    is_fine_scheme = finding is Finding.UNKNOWN and description.scheme in FINE_SCHEMES
+    is_fine = is_fine_scheme or finding in (Finding.CURRENT, Finding.LOCKED)
     message = description.reason.message if description.reason else None
     return Judgement(
-        number,
-        name,
-        description.scheme,
-        rounds,
-        description.cost,
-        finding,
-        message,
-        is_problem,
+        line=number,
+        name=name,
+        method=description.scheme,
+        rounds=rounds,
+        cost=description.cost,
+        finding=finding,
+        message=message,
+        problem=not is_fine,
     )
 
 
 def refused(number: int, message: str) -> Judgement:
     """What is found about a line that is none of an account."""
-    name = f"line {number}"
-    return Judgement(number, name, None, None, None, Finding.REFUSED, message, True)
+    return Judgement(
+        line=number,
+        name=f"line {number}",
+        method=None,
+        rounds=None,
+        cost=None,
+        finding=Finding.REFUSED,
+        message=message,
+        problem=True,
+    )
