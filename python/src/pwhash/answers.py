@@ -1,4 +1,4 @@
-"""What a line is answered with, and how answers are written: in the order of the lines."""
+"""The answers to lines, and how they are written: in the order of the lines."""
 
 from __future__ import annotations
 
@@ -20,6 +20,8 @@ class Answer(NamedTuple):
     text: Optional[bytes] = None
     message: Optional[str] = None
     refusal: Optional[Refusal] = None  # of a line that breaks a rule
+    is_wrong_password: bool = False
+    renewed: Optional[bytes] = None  # the line name:hash, if a check has made a new hash
 
 
 def refused(line: Line, refusal: Refusal) -> Answer:

@@ -3,7 +3,7 @@
 from __future__ import annotations
 
 from collections.abc import Sequence
-from typing import List, Optional, Set, Union
+from typing import List, NamedTuple, Optional, Set, Union
 
 from pwhash import library
 from pwhash.accounts import Accounts
@@ -13,6 +13,7 @@ from pwhash.lines import (
     LINE_TOO_LONG,
     NO_PASSWORD,
     Arrivals,
+    FieldsToCheck,
     Line,
     fields_to_check,
     name_of,
@@ -27,8 +28,8 @@ from pwhash.table import lines_of
 from pwhash.text import named, readable
 from pwhash.workers import Memory, Workers
 
-# What is wrong with a password, whatever the account.
-OF_PASSWORDS = (LINE_TOO_LONG, PASSWORD_TOO_LONG, PASSWORD_ZERO_BYTE)
+# Refusals of a password, whatever the account.
+PASSWORD_REFUSALS = (LINE_TOO_LONG, PASSWORD_TOO_LONG, PASSWORD_ZERO_BYTE)
 
 
 def run(options: CheckOptions, session: Session) -> bool:
@@ -50,6 +51,13 @@ def run(options: CheckOptions, session: Session) -> bool:
     return checking.has_problem()
 
 
+class Checked(NamedTuple):
+    """What a check found, and with --rehash the new hash, if one was needed."""
+
+    verdict: Verdict
+    new_hash: Optional[bytes] = None
+
+
 class Checking:
     """Checks lines."""
 
@@ -60,7 +68,7 @@ class Checking:
         self._accounts = Accounts(options.shadow, session.console) if options.shadow else None
         self._memory = Memory()
         self._new_table = library.memory_of_new_hash(options.policy) if options.rehash else 0
-        self._told: Set[str] = set()
+        self._said: Set[str] = set()
         self._has_bad_line = False
 
     def has_problem(self) -> bool:
@@ -75,8 +83,9 @@ class Checking:
             if part is not None:
                 part.refuse_changed()
             self._note(answers)
-            told = [self._told_once(answer) for answer in answers] if self._accounts else answers
-            writer.write(only_new(told) if part and self._options.rehash else told)
+            if self._accounts is not None:
+                answers = [self._said_once(answer) for answer in answers]
+            writer.write(only_new(answers) if part and self._options.rehash else answers)
             progress.reached(answers[-1].line.number)
         progress.end()
         self._source.refuse_nothing()
@@ -105,9 +114,8 @@ class Checking:
         return lines if self._accounts is None else self._accounts.tried(lines)
 
     def _note(self, answers: Sequence[Answer]) -> None:
-        for answer in answers:
-            is_wrong = answer.text is not None and answer.text.endswith(b":no")
-            self._has_bad_line = self._has_bad_line or is_wrong or answer.message is not None
+        if any(each.is_wrong_password or each.message is not None for each in answers):
+            self._has_bad_line = True
 
     def _answer(self, line: Line) -> Answer:
         """Checks one line, in some thread."""
@@ -119,46 +127,56 @@ class Checking:
         fields = fields_to_check(line.data)
         if fields is None:
             return refused(line, NO_PASSWORD)
-        name, field, password = fields
-        checked = self._checked(password, field)
+        checked = self._checked(fields)
         if isinstance(checked, Refusal):
             return refused(line, checked)
-        return Answer(line, name + b":" + checked)
+        text = fields.name + b":" + checked.verdict.value
+        if checked.new_hash is None:
+            return Answer(line, text, is_wrong_password=checked.verdict is Verdict.WRONG)
+        renewed = fields.name + b":" + checked.new_hash
+        return Answer(line, text + b":" + checked.new_hash, renewed=renewed)
 
-    def _checked(self, password: bytes, field: bytes) -> Union[bytes, Refusal]:
+    def _checked(self, fields: FieldsToCheck) -> Union[Checked, Refusal]:
         """The verdict on a password, with a new hash where that is asked for and needed."""
-        policy, budget = self._options.policy, self._options.policy.budget
-        is_outdated = self._options.rehash and library.needs_rehash(policy, field)
-        table = library.memory(field) if field.startswith(b"$7$") else 0
-        refusal = library.refused_password(password)
+        policy = self._options.policy
+        refusal = library.refused_password(fields.password)
         if refusal is not None:
             return refusal
-        if is_outdated and not self._has_budget_for_both(password, field):
+        is_outdated = self._options.rehash and library.needs_rehash(policy, fields.stored)
+        if is_outdated and not self._has_budget_for_both(fields):
             return OVER_BUDGET
-        with self._memory.taken(table if table <= budget else 0):
-            verdict = library.verify(password, field, budget)
+        verdict = self._verdict(fields)
         if isinstance(verdict, Refusal):
             return verdict
         if verdict is not Verdict.MATCH or not is_outdated:
-            return verdict.value
+            return Checked(verdict)
         with self._memory.taken(self._new_table):
-            made = library.new_hash(policy, password)
-        return made if isinstance(made, Refusal) else b"ok:" + made
+            new_hash = library.new_hash(policy, fields.password)
+        return new_hash if isinstance(new_hash, Refusal) else Checked(verdict, new_hash)
 
-    def _has_budget_for_both(self, password: bytes, field: bytes) -> bool:
+    def _verdict(self, fields: FieldsToCheck) -> Union[Verdict, Refusal]:
+        """The verdict on a password, once there is memory for the check."""
+        budget = self._options.policy.budget
+        table = library.memory(fields.stored)
+        if table > budget:  # then the library refuses it, and takes no memory
+            table = 0
+        with self._memory.taken(table):
+            return library.verify(fields.password, fields.stored, budget)
+
+    def _has_budget_for_both(self, fields: FieldsToCheck) -> bool:
         """Whether the check and the new hash cost at most the budget, together."""
-        policy, length = self._options.policy, len(password)
-        cost = library.cost(field, length) + library.new_cost(policy, length)
+        policy, length = self._options.policy, len(fields.password)
+        cost = library.cost(fields.stored, length) + library.new_cost(policy, length)
         return cost <= policy.budget
 
-    def _told_once(self, answer: Answer) -> Answer:
-        """The answer to a line of a list. The same sentence is told once for all passwords."""
+    def _said_once(self, answer: Answer) -> Answer:
+        """The answer to a line of a list. The same sentence is said once for all passwords."""
         if answer.message is None:
             return answer
         sentence = f"pwhash: {self._about(answer)}"
-        if sentence in self._told:
+        if sentence in self._said:
             return answer._replace(message=None)
-        self._told.add(sentence)
+        self._said.add(sentence)
         return answer._replace(message=sentence)
 
     def _about(self, answer: Answer) -> str:
@@ -166,23 +184,16 @@ class Checking:
         line, refusal = answer.line, answer.refusal
         if refusal is None:
             return f"line {line.number}: {line.refused_row}"
-        if refusal in OF_PASSWORDS:
+        if refusal in PASSWORD_REFUSALS:
             return f"line {line.number} isn't tried: {refusal.words}"
         fields = fields_to_check(line.data)
         longest = self._options.policy.longest or 0
-        if refusal == OVER_BUDGET and fields is not None and len(fields[2]) > longest:
+        if refusal == OVER_BUDGET and fields is not None and len(fields.password) > longest:
             return f"line {line.number} isn't tried for every name: {refusal.words}"
         account = readable(name_of(line)) or "an account without a name"
         return f"{account} isn't checked: {refusal.words}"
 
 
 def only_new(answers: Sequence[Answer]) -> List[Answer]:
-    """Of answers the messages and the new hashes, as chpasswd -e takes them."""
-    return [answer._replace(text=new_hash_in(answer)) for answer in answers]
-
-
-def new_hash_in(answer: Answer) -> Optional[bytes]:
-    """The name and the new hash in an answer, if it has one."""
-    if answer.text is None or b":ok:$" not in answer.text:
-        return None
-    return answer.text.replace(b":ok:", b":", 1)
+    """The same answers with the messages and the new hashes alone, as chpasswd -e takes them."""
+    return [answer._replace(text=answer.renewed) for answer in answers]

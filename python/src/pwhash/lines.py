@@ -6,7 +6,7 @@ The rules, their order and their words are those of mkpasswd, which reads the sa
 from __future__ import annotations
 
 from collections.abc import Iterator
-from typing import List, NamedTuple, Optional, Tuple
+from typing import List, NamedTuple, Optional
 
 from pwhash import library
 from pwhash.library import Refusal
@@ -26,6 +26,14 @@ class Line(NamedTuple):
     number: int
     data: bytes  # of a refused row only the name
     refused_row: Optional[str] = None  # why pwhash refuses a row
+
+
+class FieldsToCheck(NamedTuple):
+    """The fields of a line name:field:password."""
+
+    name: bytes
+    stored: bytes
+    password: bytes
 
 
 # Lines in the order of the input, in groups that came at once. An empty group says that nothing
@@ -57,10 +65,10 @@ def refused_to_hash(data: bytes) -> Optional[Refusal]:
     return library.refused_password(password) if colon else NO_PASSWORD
 
 
-def fields_to_check(data: bytes) -> Optional[Tuple[bytes, bytes, bytes]]:
-    """The name, the stored field and the password of a line, or None if it lacks one."""
+def fields_to_check(data: bytes) -> Optional[FieldsToCheck]:
+    """The fields of a line name:field:password, or None if it lacks one."""
     fields = data.split(b":", 2)
-    return (fields[0], fields[1], fields[2]) if len(fields) == 3 else None
+    return FieldsToCheck(*fields) if len(fields) == 3 else None
 
 
 def field_to_audit(data: bytes) -> Optional[bytes]:
