@@ -32,7 +32,7 @@ USAGE = """
   pwhash file passwords -o hashes    hash lines name:password, for chpasswd -e
   pwhash audit /etc/shadow           what is wrong with stored hashes
 
-Hashes are sha512crypt with 656000 rounds. file, check, audit have own --help."""
+Hashes are sha512crypt with 656000 rounds. file, check and audit have their own --help."""
 FILE_TEXT = "Hashes lines name:password. A file is read twice, first to look for problems."
 CHECK_TEXT = (
     "Checks lines name:field:password, where the field is what is stored: a hash, ! or nothing."
@@ -283,7 +283,7 @@ def audit_parser() -> Parser:
 
 
 def audit_options(parser: Parser, given: argparse.Namespace) -> Options:
-    """The options of `pwhash audit`. Without a budget it has its own, which is 0 here."""
+    """The options of `pwhash audit`. A budget of 0, or none, stands for the library's own."""
     if given.file is None:
         raise parser.refusal(
             "name a file: pwhash audit /etc/shadow, or for standard input pwhash audit -"

@@ -29,7 +29,7 @@ CLEAR_LINE = "\r\x1b[K"
 
 
 def open_terminal() -> Optional[int]:
-    """The terminal, or None. It is never made, and no file is taken for it."""
+    """Opens the terminal, if there is one. Whatever else has its name isn't taken for it."""
     with contextlib.suppress(OSError):
         terminal = os.open("/dev/tty", os.O_RDWR | os.O_NOCTTY)
         if os.isatty(terminal):
@@ -92,8 +92,8 @@ class Console:
     def show_progress(self, text: str, short: str) -> None:
         """Shows this in place of the progress line, or the short text in a narrow terminal."""
         columns = terminal_columns() - 1  # the last one stays free for the cursor
-        shown = text if len(text) <= columns else short[:columns]
-        self._shows_progress = self.on_terminal(f"\r{shown}\x1b[K")
+        line = text if len(text) <= columns else short[:columns]
+        self._shows_progress = self.on_terminal(f"\r{line}\x1b[K")
 
     def clear_progress(self) -> None:
         """Takes the progress line away, if there is one."""

@@ -17,8 +17,8 @@ SEPARATOR = re.compile(rb"[,;\t| ]")
 # A line of which only the words and signs of its fields may be doubtful.
 PLAIN_LINE = re.compile(rb"[!-9;-~]+:[!-~]+")
 
-# The names that each service reads as they are. Others it takes for somebody else's, as Apache
-# does those with a blank in front, or skips, as those behind #.
+# The names that each service reads as they are. It takes others for somebody else's, as Apache does
+# with a blank in front, or skips them, as behind a #.
 WEB_SERVER_NAME = rb"[^#\s\0-\x1f\x7f][^\0-\x1f\x7f]*"
 SERVICE_NAMES = {
     Service.APACHE: re.compile(WEB_SERVER_NAME),
@@ -57,14 +57,14 @@ class Doubts:
         return [*found, again] if again else found
 
     def note_refused(self, line: Line) -> None:
-        """Of a name whose first line is refused no later one is sure: it may be an old one."""
+        """Notes a refused line. A later line of its name may be an old one, so it is doubtful."""
         name, colon, _ = line.data.partition(b":")
         if name and (colon or line.refused_row):
             self._names.note_refused(name, line.number)
 
 
 def about_marks(data: bytes, password: bytes, windows: bool) -> Iterator[str]:
-    """Of an empty password, and of what only programs put in a line."""
+    """Doubts about an empty password, and about what only programs put in a line."""
     if password in (b"", b"\r"):
         yield "an empty password: Return alone logs in"
     if password.endswith(b"\r") and not windows:
@@ -78,7 +78,7 @@ def about_marks(data: bytes, password: bytes, windows: bool) -> Iterator[str]:
 
 
 def about_text(data: bytes) -> Iterator[str]:
-    """Of characters that nobody sees or types so."""
+    """Doubts about characters that nobody sees, or that nobody types in this form."""
     # Carriage returns and marks have doubts of their own.
     text = data.decode(errors="replace").replace("\r", "").replace("\ufeff", "")
     if any(each != each.strip() for each in text.split(":", 1)):
@@ -94,7 +94,7 @@ def about_text(data: bytes) -> Iterator[str]:
 
 
 def about_fields(name: bytes, password: bytes, is_table: bool) -> Iterator[str]:
-    """Of a name or password that is a heading, or that a program put in its place."""
+    """Doubts about a name or password that is a heading, or that a program put in its place."""
     if headings.is_heading_of_names(name):
         yield "a heading, and no user"
     if headings.is_heading_of_passwords(name, password):
@@ -106,7 +106,7 @@ def about_fields(name: bytes, password: bytes, is_table: bool) -> Iterator[str]:
 
 
 def about_list(data: bytes, name: bytes, password: bytes) -> Iterator[str]:
-    """Of a list that is a table."""
+    """Doubts about a line of a list that looks like a row of a table."""
     if SEPARATOR.search(name.strip()):
         yield "a separator of tables in the name: is it a table? See --csv"
     if any(is_quoted(field) for field in (data, name, password)):

@@ -115,7 +115,7 @@ class Hashing:
             return refused(line, refusal)
         name = name_of(line)
         with self._memory.taken(self._table):
-            made = library.new_hash(self._options.policy, line.data[len(name) + 1 :])
-        if isinstance(made, Refusal):
-            return refused(line, made)
-        return Answer(line, name + b":" + made)
+            new_hash = library.new_hash(self._options.policy, line.data[len(name) + 1 :])
+        if isinstance(new_hash, Refusal):
+            return refused(line, new_hash)
+        return Answer(line, name + b":" + new_hash)

@@ -30,11 +30,11 @@ def run(options: OneOptions, session: Session) -> bool:
     """Hashes one password: asks for it, or reads the first line of standard input."""
     console = session.console
     password = generated(options.policy, console) if options.generate else given(console)
-    made = in_thread(lambda: library.new_hash(options.policy, password))
-    if isinstance(made, Refusal):
-        raise about_refusal(made, options.policy)
+    new_hash = in_thread(lambda: library.new_hash(options.policy, password))
+    if isinstance(new_hash, Refusal):
+        raise about_refusal(new_hash, options.policy)
     day = int(time.time() // SECONDS_OF_DAY)
-    text = options.form.value.format(name=options.name, hash=made.decode("ascii"), day=day)
+    text = options.form.value.format(name=options.name, hash=new_hash.decode("ascii"), day=day)
     console.end_last_line(STDOUT)
     console.lines(STDOUT, [text.encode()])
     return False
@@ -73,7 +73,7 @@ def given(console: Console) -> bytes:
     text = password.decode(errors="replace")
     if text != text.strip(" "):
         console.say("the password begins or ends with a blank, which is hashed too.")
-    if not is_visible(text.replace("\0", "")):  # mkpasswd refuses zero bytes
+    if not is_visible(text.replace("\0", "")):  # a zero byte is refused later
         raise UsageError(
             "the password has a control character or an invisible one in it: a tab, an arrow key, "
             f"something pasted? Give it without, {WITHOUT_IT}."

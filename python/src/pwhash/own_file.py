@@ -1,6 +1,7 @@
-"""Files that a run of this user has left, and no others: whoever can write in the folder may try.
+"""Opens and makes files of this user's runs, and no others.
 
-Somebody loads their hashes as root.
+Whoever can write in the folder may have put another file or a link there, and root may load what
+it has.
 """
 
 from __future__ import annotations
@@ -12,7 +13,7 @@ from typing import Optional
 from pwhash.errors import errors_named
 from pwhash.text import named
 
-# Nothing waits for the other end of a pipe.
+# O_NONBLOCK is there for pipes: to open one that somebody put there doesn't wait for its other end.
 FLAGS = os.O_RDWR | os.O_NOFOLLOW | os.O_NONBLOCK
 OWN_MODE = 0o600
 

@@ -37,8 +37,8 @@ def skip_made(part: Part, arrivals: Arrivals, policy: Policy, source_name: str) 
     with errors_named(part.name):
         count, size = whole_lines(part.fd)
         with open(part.fd, "rb", closefd=False) as file:
-            made = (file.readline()[:-1] for _ in range(count))
-            Comparison(part.name, source_name, policy).compare(made, count, lines)
+            answers = (file.readline()[:-1] for _ in range(count))
+            Comparison(part.name, source_name, policy).compare(answers, count, lines)
         os.ftruncate(part.fd, os.lseek(part.fd, size, os.SEEK_SET))
     return together(lines)
 
@@ -65,21 +65,19 @@ class Comparison(NamedTuple):
     source_name: str
     policy: Policy
 
-    def compare(self, made: Iterator[bytes], count: int, lines: Iterator[Line]) -> None:
+    def compare(self, answers: Iterator[bytes], count: int, lines: Iterator[Line]) -> None:
         """Refuses a part unless its lines are hashes of the input's, one for each."""
         first: Optional[Parts] = None
-        for place, answer in enumerate(made):
+        for place, answer in enumerate(answers):
             line = next(lines, None)
             found = hash_in(answer, line)
             if line is None or found is None:
                 raise self._refused(place, line)
             parts = parts_of(found, self.policy)
-            is_same = first is None or parts == first
-            if is_same and place in (0, count - 1):
-                is_same = is_made_again(found, line, self.policy)
-            if not is_same:
+            first = first or parts
+            is_end = place in (0, count - 1)
+            if parts != first or (is_end and not is_made_again(found, line, self.policy)):
                 raise self._refused(place, line)
-            first = parts
 
     def _refused(self, place: int, line: Optional[Line]) -> UsageError:
         number = line.number if line else place + 1

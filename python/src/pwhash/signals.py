@@ -25,7 +25,7 @@ class Signals:
         self._came: Optional[signal.Signals] = None
 
     def watch(self) -> None:
-        """Begins to. A signal that the caller ignores, as nohup does, stays ignored."""
+        """Begins to handle them. One that the caller ignores, as nohup does, stays ignored."""
         for number in ENDING:
             if signal.getsignal(number) != signal.SIG_IGN:
                 signal.signal(number, self._handle)

@@ -129,7 +129,7 @@ def without_signs_of_windows(line: bytes) -> bytes:
 
 
 def open_file(path: str, is_read_twice: bool) -> int:
-    """Opens a file. Of a pipe it is known beforehand that it can't be read twice."""
+    """Opens a file. A pipe that would have to be read twice is refused before it is opened."""
     with errors_named(named(path)):
         is_pipe = stat.S_ISFIFO(os.stat(path).st_mode)
         if is_pipe and is_read_twice:

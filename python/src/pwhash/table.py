@@ -129,6 +129,7 @@ class Table:
         if any(known.count(each) != 1 for each in self._wanted):
             raise self._no_columns()
         name, password = (known.index(each) for each in self._wanted)
+        # Where columns are numbered, the second field may be a password such as "name".
         above = self._wanted if self._has_names() else [cell(names, name), ""]
         if above[0] in headings.PASSWORDS or above[1] in headings.NAMES:
             raise UsageError(

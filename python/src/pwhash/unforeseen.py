@@ -1,6 +1,6 @@
 """Exceptions that no module has foreseen: what they are and where they arose is shown.
 
-They can have data in them, which are never shown, and data can be a password.
+Their messages are never shown: they can carry data, and data can be a password.
 """
 
 from __future__ import annotations
