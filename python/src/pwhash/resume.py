@@ -15,6 +15,7 @@ from pwhash.lines import Arrivals, Line, name_of
 from pwhash.part import Part
 from pwhash.workers import in_thread
 
+# A whole hash: its method and cost, its salt, and its digest.
 HASH = re.compile(
     rb"(\$1\$|\$[56]\$(?:rounds=[0-9]+\$)?|\$7\$[./0-9A-Za-z]{11})"
     rb"([./0-9A-Za-z]+)\$([./0-9A-Za-z]+)"
