@@ -116,6 +116,24 @@ def test_a_strangers_file_is_not_taken_for_out() -> None:
     assert done.status == 3 and b"hashes isn't" in done.err, done
 
 
+@pytest.mark.needs("strace")
+def test_a_part_that_became_out_meanwhile_is_left_alone() -> None:
+    """Another run may end before this one has locked the part; strace holds that for a second."""
+    save("list", b"ann:password\n")
+    os.utime("list", (1e9, 1e9))
+    save_part("hashes.part", b"ann:" + MD5.encode() + b"\n")
+    command = ["strace", "-f", "-qq", "-o", "log", "-e", "trace=openat,flock"]
+    command += ["-e", "inject=flock:delay_enter=2000000"]
+    command += [PWHASH, "file", *MD5CRYPT, "list", "-o", "hashes", "--resume"]
+    with started_program(*command) as process:
+        wait_for(lambda: os.path.exists("log") and b'"hashes.part", O_RDWR' in read("log"))
+        time.sleep(0.5)
+        os.rename("hashes.part", "hashes")
+        done = ended(process)
+    assert done.status == 2 and b"Start again" in done.err, done
+    assert sorted(os.listdir()) == ["hashes", "list", "log"], done
+
+
 def link_options() -> None:
     os.symlink("list", "hashes.part.options")
 

@@ -205,7 +205,9 @@ def open_again(
     fd = os.open(path, own_file.FLAGS)
     lock(fd, path)
     now = os.fstat(fd)
-    if own_file.unfit(now) or not os.path.samestat(now, found):
+    is_other = own_file.unfit(now) or not os.path.samestat(now, found)
+    # A run that held the lock until now has made the part its OUT, and removed the name.
+    if is_other or not own_file.has_name(fd, path):
         raise UsageError(f"{named(path)} was replaced just now. Start again.")
     refuse_to_go_on(path, now, source, options)
     return fd
