@@ -23,6 +23,13 @@ from support.pwhash_runs import (
 BOB = b"bob:" + hashed(b"pw2") + b"\n"
 
 
+def test_a_lost_character_is_doubtful_and_no_other_encoding_is_guessed() -> None:
+    """Programs save U+FFFD for bytes that they can't read. The file is UTF-8 all the same."""
+    done = pwhash("file", *MD5CRYPT, save("list", "ann:Gr\ufffdn\n".encode()))
+    assert (done.status, done.out) == (1, b"") and lines_named_in(done.err) == [1], done
+    assert b"FFFD" in done.err and b"iconv" not in done.err, done
+
+
 # Letters and accents apart.
 
 APART = unicodedata.normalize("NFD", "Grüße").encode()

@@ -106,6 +106,12 @@ def test_a_word_that_is_not_utf8_is_named_by_its_line() -> None:
     assert done.err.endswith(b"a zero byte: 1.\n"), done
 
 
+def test_a_word_with_a_lost_character_is_utf8() -> None:
+    save("shadow", b"ann:" + HASH + b":1:::\n")
+    done = pwhash("check", "--shadow", "shadow", stdin="Gr\ufffdn\npassword\n".encode())
+    assert (done.status, done.out, done.err) == (1, b"ann:no\nann:ok\n", b""), done
+
+
 def test_an_account_without_a_name_is_reported_in_words() -> None:
     save("shadow", b":" + HASH + b":1:::\nann:" + HASH + b":1:::\n")
     done = pwhash("check", "--shadow", "shadow", stdin=b"password\n")

@@ -11,7 +11,7 @@ from pwhash.console import Console
 from pwhash.errors import UsageError, errors_named
 from pwhash.lines import BYTE_ORDER_MARK, Arrivals, Line
 from pwhash.source import open_in_time, refuse_as_output
-from pwhash.text import named
+from pwhash.text import is_utf8, named
 
 LONGEST_LINE = 1 << 17
 MOST_NAMED = 20  # numbers of lines in a message
@@ -65,7 +65,8 @@ class Accounts:
         data = line.data
         if (b"\r" in data or BYTE_ORDER_MARK in data) and len(self.marked) < MOST_NAMED:
             self.marked.append(line.number)
-        self.odd += b"\0" in data or "\ufffd" in data.decode(errors="replace")
+        if b"\0" in data or not is_utf8(data):
+            self.odd += 1
 
 
 def read_fields(path: str, console: Console) -> Dict[bytes, bytes]:

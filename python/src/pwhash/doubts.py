@@ -11,7 +11,7 @@ from pwhash import exports, headings
 from pwhash.lines import BYTE_ORDER_MARK, Line
 from pwhash.names import FirstLines
 from pwhash.options import Service
-from pwhash.text import APART, is_visible
+from pwhash.text import APART, is_utf8, is_visible
 
 SEPARATOR = re.compile(rb"[,;\t| ]")
 # A line of which only the words and signs of its fields may be doubtful.
@@ -89,8 +89,10 @@ def about_text(data: bytes) -> Iterator[str]:
         yield APART
     if exports.is_misread(text):
         yield "UTF-8 that was read as Windows-1252, and saved so"
-    if "\ufffd" in text:
+    if not is_utf8(data):
         yield NOT_UTF8
+    elif "\ufffd" in text:
+        yield "U+FFFD, which programs save in place of what they can't read"
 
 
 def about_fields(name: bytes, password: bytes, is_table: bool) -> Iterator[str]:

@@ -16,6 +16,15 @@ APART = "letters and accents apart (not Unicode NFC), as few keyboards send them
 NEEDS_NUMBER = re.compile(rb"[^\x20-\x7e]|['\\]")
 
 
+def is_utf8(data: bytes) -> bool:
+    """Whether bytes are UTF-8."""
+    try:
+        data.decode()
+    except UnicodeDecodeError:
+        return False
+    return True
+
+
 def is_visible(text: str) -> bool:
     """Whether each character shows something, or is a blank."""
     return text.isprintable() and not SHOWS_NOTHING.search(text)
