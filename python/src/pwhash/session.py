@@ -48,16 +48,16 @@ class Session:
     def _with_way_on(self, sentence: str, advice: str) -> List[str]:
         """The sentence, and how to go on with OUT.part of this run or an earlier one."""
         options = self.options
-        if not isinstance(options, (FileOptions, CheckOptions)) or options.out is None:
-            return [sentence]
-        if not os.path.lexists(part_of(options.out)):
+        if not has_part(options):
             return [sentence]
         advice = advice or (self.part.advice() if self.part else "")
         if advice:
             return [f"{sentence} {advice}"]
         if isinstance(options, FileOptions) and (self.part or options.resume):
             return [f"{sentence} To go on:", f"  {self._typed_again(options)}"]
-        return [f"{sentence} To start again, remove {self.part.name}." if self.part else sentence]
+        if self.part is None:
+            return [sentence]
+        return [f"{sentence} To start again, remove {self.part.name}."]
 
     def _typed_again(self, options: FileOptions) -> str:
         """The command of this run, with --resume."""
@@ -77,3 +77,10 @@ class Session:
             self.part.leave(is_wrong_use=False)
         self.fail(Stop(f"{number.name} ended the run."))
         die_of(number)
+
+
+def has_part(options: Optional[Options]) -> bool:
+    """Whether there is an OUT.part for these options, of this run or an earlier one."""
+    if not isinstance(options, (FileOptions, CheckOptions)) or options.out is None:
+        return False
+    return os.path.lexists(part_of(options.out))

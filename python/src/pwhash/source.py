@@ -36,16 +36,13 @@ class Source:
         self.begun = os.fstat(self.fd)
         self.is_regular = stat.S_ISREG(self.begun.st_mode)
         self.has_lines = False
-        if stat.S_ISDIR(self.begun.st_mode):
-            closed = "closed, or " if wanted.path is None else ""
-            raise Stop(f"{self.name} is {closed}a folder.")
-        if is_read_twice and not self.is_regular:
-            raise UsageError(READ_TWICE)
+        self._refuse_unfit(is_read_twice)
         refuse_as_output(self.begun, self.name, console)
         if os.isatty(self.fd):
             console.say("reading lines from the terminal, which shows them; Ctrl-D ends them.")
         # Standard input can be a file that somebody has read a part of.
         self._start = os.lseek(self.fd, 0, os.SEEK_CUR) if self.is_regular else 0
+        # Of 0 lines no progress is shown.
         self.total = self._count() if self.is_regular and wanted.counts_lines else 0
 
     def lines(self) -> Arrivals:
@@ -100,6 +97,15 @@ class Source:
         if now.st_size != self.begun.st_size:
             return "its size"
         return "its time" if now.st_mtime_ns != self.begun.st_mtime_ns else None
+
+    def _refuse_unfit(self, is_read_twice: bool) -> None:
+        """Refuses a folder, and what can't be read twice where that is needed."""
+        if stat.S_ISDIR(self.begun.st_mode):
+            # Where the caller closed standard input, its number was given to a folder.
+            closed = "closed, or " if self.input.path is None else ""
+            raise Stop(f"{self.name} is {closed}a folder.")
+        if is_read_twice and not self.is_regular:
+            raise UsageError(READ_TWICE)
 
     def _numbered(self, data: List[bytes], first: int) -> List[Line]:
         if self.input.windows or self.input.columns is not None:  # Excel is a program of Windows
