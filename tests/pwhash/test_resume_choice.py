@@ -70,6 +70,13 @@ def test_other_options_do_not_go_on_with_a_part(choice: tuple[str, ...]) -> None
     assert b"--skip-refused --skip-doubtful" in done.err and not os.path.exists("hashes"), done
 
 
+def test_forgotten_rounds_are_named() -> None:
+    """The budget follows from -m and -R, and nobody has given one."""
+    interrupt(*SKIPPED)
+    done = pwhash("file", "-S", "saltsalt", "list", "-o", "hashes", *SKIPPED, "--resume")
+    assert done.status == 2 and b"-R" in done.err, done
+
+
 def test_the_same_options_go_on_with_a_part() -> None:
     interrupt(*SKIPPED)
     done = pwhash(*WORDS, *reversed(SKIPPED), "--resume")

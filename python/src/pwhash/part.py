@@ -275,7 +275,8 @@ def refuse_other_options(before: Kept, now: Kept, name: str, both: str) -> None:
     if before.choice != now.choice:
         raise UsageError(
             f"{name} was begun with {before.choice.decode()}, so other lines were left out. "
-            f"Give just those options of their kind, or remove {both}, and start again."
+            "Give the same -m and -R, and just those options of their kind, or remove "
+            f"{both}, and start again."
         )
 
 
