@@ -27,8 +27,8 @@ class Accounts:
         self.marked: List[int] = []  # lines with a carriage return or a byte order mark
         self.odd = 0  # how many lines aren't UTF-8, or have a zero byte
 
-    def tried(self, arrivals: Arrivals) -> Arrivals:
-        """Lines name:password, or lone passwords for all names, as lines name:field:password."""
+    def lines_to_check(self, arrivals: Arrivals) -> Arrivals:
+        """Makes lines name:field:password of lines name:password, or of passwords for all names."""
         for group in arrivals:
             if not group:
                 yield []

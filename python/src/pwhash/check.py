@@ -111,7 +111,7 @@ class Checking:
 
     def _lines(self) -> Arrivals:
         lines = lines_of(self._source)
-        return lines if self._accounts is None else self._accounts.tried(lines)
+        return lines if self._accounts is None else self._accounts.lines_to_check(lines)
 
     def _note(self, answers: Sequence[Answer]) -> None:
         if any(each.is_wrong_password or each.message is not None for each in answers):

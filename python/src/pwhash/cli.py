@@ -346,12 +346,9 @@ def add_salt(parser: Parser) -> None:
 def add_common(parser: Parser) -> None:
     """What each command takes."""
     methods = list(library.METHODS)
+    method_text = ", ".join(methods)
     parser.value(
-        *("-m", "--method"),
-        default=methods[0],
-        metavar="TYPE",
-        choices=methods,
-        help=", ".join(methods),
+        "-m", "--method", metavar="TYPE", choices=methods, default=methods[0], help=method_text
     )
     rounds_text = "from 1000, by default 656k; with scrypt 6 to 11, by default 7"
     parser.value("-R", "--rounds", type=number, metavar="NUMBER", help=rounds_text)

@@ -125,8 +125,9 @@ class Workers:
             job = self._order.popleft()
             answers = job.result()
             yield answers
-            seconds = max(job.seconds / len(answers), 1e-9)
-            self._size = max(1, min(MOST_LINES, int(PIECE_SECONDS / seconds)))
+            seconds_of_line = max(job.seconds / len(answers), 1e-9)  # a clock may show no time
+            lines_in_time = int(PIECE_SECONDS / seconds_of_line)
+            self._size = max(1, min(MOST_LINES, lines_in_time))
 
     def _begin_thread(self) -> None:
         try:
