@@ -159,6 +159,13 @@ def test_a_module_that_is_missing_is_named(copy: Copy) -> None:
     assert b"Traceback" not in done.stderr, done
 
 
+def test_a_module_that_is_damaged_is_named(copy: Copy) -> None:
+    (copy.modules / "pwhash/lines.py").write_text("raise ValueError\n", encoding="ascii")
+    done = copy.run(*MD5CRYPT, stdin=b"x")
+    assert done.status == 3 and b"lines.py" in done.stderr, done
+    assert b"Traceback" not in done.stderr, done
+
+
 def test_nothing_planted_is_loaded(folder: Path) -> None:
     """Neither modules nor libraries of the current folder, nor by the environment."""
     save("json.py", b"raise SystemExit(0)\n")

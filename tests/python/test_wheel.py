@@ -1,15 +1,13 @@
 """The wheel: its bytes, its files, and how it is installed."""
 from __future__ import annotations
 
-import glob
-import os
 import re
 import shutil
-from collections.abc import Iterator
 from pathlib import Path
 
 import pytest
 from support import ROOT
+from support.interpreters import OLDEST, interpreters
 from support.package import ELSEWHERE, LIBRARY, PACKAGE, tried_package
 from support.process import Result, run
 from support.stored_strings import MD5
@@ -105,18 +103,9 @@ def test_the_commands_of_the_document_install_it(wheel: Path, tmp_path: Path) ->
     assert place_of_library.endswith("site-packages/mkpasswd/libmkpasswd.so.3")
 
 
-def interpreters() -> Iterator[tuple[str, str]]:
-    """The versions of Python from 3.8 on, and where there is an interpreter of each."""
-    for minor in range(8, 20):
-        version = f"3.{minor}"
-        found = shutil.which(f"python{version}", path="/usr/bin:/usr/local/bin")
-        own = sorted(glob.glob(os.path.expanduser(f"~/.pyenv/versions/{version}.*/bin/python3")))
-        if found or own:
-            yield f"Python {version}", found or own[0]
-
-
 @pytest.mark.parametrize(
-    "python", [pytest.param(python, id=version) for version, python in interpreters()]
+    "python",
+    [pytest.param(each.path, id=str(each)) for each in interpreters() if each.minor >= OLDEST],
 )
 def test_each_python_takes_it(wheel: Path, python: str, tmp_path: Path) -> None:
     place = tmp_path / "there"

@@ -5,8 +5,7 @@ The rules, their order and their words are those of mkpasswd, which reads the sa
 
 from __future__ import annotations
 
-from collections.abc import Iterator
-from typing import List, NamedTuple, Optional
+from typing import Iterator, List, NamedTuple, Optional
 
 from pwhash import library
 from pwhash.library import Refusal
@@ -36,6 +35,8 @@ class FieldsToCheck(NamedTuple):
     password: bytes
 
 
+# With Python 3.8 an alias, which is evaluated, can't be of collections.abc's classes.
+#
 # Lines in the order of the input, in groups that came at once. An empty group says that nothing
 # came for a moment, in which answers can be passed on.
 Arrivals = Iterator[List[Line]]

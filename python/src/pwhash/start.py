@@ -26,6 +26,8 @@ def start(library: str, command: str, words: "list[str]") -> NoReturn:
         # The package mkpasswd asks for a library of this name, and then gets this one.
         ctypes.CDLL(library)
         sys.path.insert(0, os.path.dirname(os.path.dirname(os.path.realpath(__file__))))
+        # So that a module that can't begin ends the process with status 3, too.
+        importlib.import_module("pwhash.unforeseen").watch()
         run = importlib.import_module("pwhash.run").run
     except OSError:
         fail(

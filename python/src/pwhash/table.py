@@ -6,8 +6,8 @@ import csv
 import itertools
 import os
 import re
-from collections.abc import Iterator, Sequence
-from typing import List, NamedTuple, Optional, Protocol
+from collections.abc import Sequence
+from typing import Iterator, List, NamedTuple, Optional, Protocol
 
 from pwhash import headings
 from pwhash.errors import Stop, UsageError

@@ -1,0 +1,48 @@
+"""pwhash runs with each Python from 3.8 on, and says of older ones that they are too old."""
+from __future__ import annotations
+
+import pytest
+from support.interpreters import OLDEST, Interpreter, interpreters
+from support.process import Result, Word
+from support.pwhash_copies import Copy
+from support.pwhash_runs import MD5, MD5CRYPT, save
+
+INTERPRETERS = tuple(interpreters())
+ANN = f"ann:{MD5}\n".encode()
+
+
+def run_with(python: Interpreter, copy: Copy, *words: Word, stdin: bytes = b"") -> Result:
+    """Runs a copy whose script has this Python in place of the system's."""
+    text = copy.pwhash.read_text(encoding="utf-8")
+    assert "/usr/bin/python3" in text
+    copy.pwhash.write_text(text.replace("/usr/bin/python3", python.path), encoding="utf-8")
+    return copy.run(*words, stdin=stdin)
+
+
+@pytest.mark.parametrize("python", [each for each in INTERPRETERS if each.minor >= OLDEST], ids=str)
+@pytest.mark.parametrize(
+    ("words", "stdin", "printed"),
+    [
+        pytest.param(MD5CRYPT, b"password\n", f"{MD5}\n".encode(), id="one"),
+        pytest.param(("file", *MD5CRYPT), b"ann:password\n", ANN, id="file"),
+        pytest.param(
+            ("file", "--csv", *MD5CRYPT), b"name,password\nann,password\n", ANN, id="a table"
+        ),
+        pytest.param(("check", "--shadow", "shadow"), b"password\n", b"ann:ok\n", id="check"),
+        pytest.param(("audit", "--only-problems", "-"), b"ann:!\n", b"", id="audit"),
+    ],
+)
+def test_each_python_runs_it(
+    python: Interpreter, words: tuple[str, ...], stdin: bytes, printed: bytes, copy: Copy
+) -> None:
+    save("shadow", ANN)
+    done = run_with(python, copy, *words, stdin=stdin)
+    assert (done.status, done.stdout, done.stderr) == (0, printed, b""), done
+
+
+@pytest.mark.parametrize("python", [each for each in INTERPRETERS if each.minor < OLDEST], ids=str)
+def test_an_older_python_is_named(python: Interpreter, copy: Copy) -> None:
+    done = run_with(python, copy, *MD5CRYPT, stdin=b"password\n")
+    assert (done.status, done.stdout) == (3, b""), done
+    assert python.path.encode() in done.stderr and b"3.8" in done.stderr, done
+    assert b"Traceback" not in done.stderr, done

@@ -1,0 +1,31 @@
+"""The versions of Python that this machine has."""
+from __future__ import annotations
+
+import glob
+import os
+import shutil
+from collections.abc import Iterator
+from dataclasses import dataclass
+
+OLDEST = 8  # of Python 3, that our code runs with
+
+
+@dataclass(frozen=True)
+class Interpreter:
+    """A version of Python, and where its interpreter is."""
+
+    minor: int
+    path: str
+
+    def __str__(self) -> str:
+        return f"Python 3.{self.minor}"
+
+
+def interpreters() -> Iterator[Interpreter]:
+    """One interpreter of each version of Python 3, of the system or of the user's pyenv."""
+    for minor in range(6, 20):
+        version = f"3.{minor}"
+        found = shutil.which(f"python{version}", path="/usr/bin:/usr/local/bin")
+        own = sorted(glob.glob(os.path.expanduser(f"~/.pyenv/versions/{version}.*/bin/python3")))
+        if found or own:
+            yield Interpreter(minor, found or own[0])
