@@ -73,7 +73,7 @@ def read_options(words: Sequence[str]) -> Options:
 
 
 def about_unknown(words: Sequence[str]) -> str:
-    """What is said of words that are none of ours, and of which one may be a password."""
+    """The message about words that pwhash doesn't know. One may be a password."""
     options = [word for word in words if OPTION_NAME.fullmatch(word)]
     if options:
         return f"no option {' '.join(options)}"
@@ -119,7 +119,7 @@ class Parser(argparse.ArgumentParser):
         raise self.refusal(f"{option} takes no value" if ignored else message)
 
     def refusal(self, message: str) -> UsageError:
-        """What is said of arguments that don't fit."""
+        """The error for arguments that don't fit."""
         return UsageError(f"{message}. See {self.prog} --help.")
 
     def flag(self, name: str, text: str) -> None:
@@ -382,7 +382,7 @@ def limit_of(parser: Parser, given: argparse.Namespace) -> library.Limit:
 
 
 def about_rounds(method: str, rounds: int) -> str:
-    """What is said of rounds that new hashes of a method can't have."""
+    """The message about rounds that new hashes of a method can't have."""
     if method not in ROUNDS:
         return f"-R {rounds}: leave it out, since {method} has no rounds to choose"
     usual = library.limit(method, None, None).rounds

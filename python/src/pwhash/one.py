@@ -41,7 +41,7 @@ def run(options: OneOptions, session: Session) -> bool:
 
 
 def about_refusal(refusal: Refusal, policy: Policy) -> UsageError:
-    """What is said of a password that has no hash."""
+    """The error for a password that has no hash."""
     if refusal == OVER_BUDGET:
         return UsageError(f"{OVER_BUDGET.words}: {library.how_long(policy)}.")
     return UsageError(f"{refusal.words}. Give a password of at most 1,024 bytes, none of them 0.")

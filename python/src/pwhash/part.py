@@ -85,6 +85,8 @@ class Part:
         """Links the file that was written, whatever has its name; without links renames it."""
         try:
             link = f"/proc/self/fd/{self.fd}"
+            # Python follows the link only by linkat, which it calls only if a folder is given. The
+            # path is absolute, so which one doesn't matter.
             os.link(link, self._out, src_dir_fd=self.fd, follow_symlinks=True)
         except FileExistsError:
             raise self._out_exists() from None

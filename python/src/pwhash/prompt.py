@@ -139,7 +139,7 @@ def hide(terminal: Terminal) -> None:
 
 
 def cant_hide() -> Stop:
-    """What is said where the terminal would show a password."""
+    """The error for a terminal that would show a password."""
     return Stop(
         "this terminal can't hide what is typed, so no password is asked for. "
         "Give it on standard input."

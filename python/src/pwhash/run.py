@@ -45,7 +45,7 @@ def run(command: str, words: Sequence[str]) -> NoReturn:
     process.prepare()
     session = Session(command, words)
     session.signals.watch()
-    # Without what Python does at its end, which can fail, and would then change the status.
+    # os._exit leaves out what Python does at its end, which can fail and then change the status.
     os._exit(status_of(session, words))
 
 

@@ -31,8 +31,8 @@ def start(library: str, command: str, words: "list[str]") -> NoReturn:
         run = importlib.import_module("pwhash.run").run
     except OSError:
         fail(
-            f"{library} is missing, is of another processor or C library, or can't be loaded for "
-            "want of memory or open files (ulimit -a). Run make lib, or install it."
+            f"{library} is missing, is of another processor or C library, or can't be loaded, "
+            "since memory or open files are limited (ulimit -a). Run make lib, or install it."
         )
     except ImportError as error:
         if error.name is None:  # the package mkpasswd says what is wrong with the library
