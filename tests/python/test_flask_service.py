@@ -72,7 +72,7 @@ def code_of_service() -> str:
     sections = [
         changed_recipe("A whole login", MOVING_CHANGES),
         recipe_under("Moving from other hashes"),
-        changed_recipe("Failures after a fixed time", {"seconds=5": f"seconds={SECONDS}"}),
+        changed_recipe("Failures after a fixed time", {"seconds=6": f"seconds={SECONDS}"}),
         recipe_under("Flask"),
     ]
     return "\n\n".join(sections)
