@@ -76,6 +76,19 @@ def test_a_signal_after_out_has_its_name_does_not_change_the_status(number: sign
     assert read("hashes").count(b"\n") == 3 and b"hashes" in done.err, done
 
 
+@pytest.mark.needs("strace")
+def test_a_full_standard_error_does_not_change_it_either() -> None:
+    save("list", users(3))
+    inject = "inject=unlink,unlinkat:delay_enter=3000000"
+    command = ["strace", "-f", "-qq", "-o", "/dev/null", "-e", inject, PWHASH, "file", *MD5CRYPT]
+    with open("/dev/full", "wb") as full:
+        with started_program(*command, "list", "-o", "hashes", stderr=full) as process:
+            wait_for(lambda: os.path.exists("hashes"))
+            os.kill(tree(process.pid)[1], signal.SIGTERM)
+            done = ended(process)
+    assert done.status == 0 and sorted(os.listdir()) == ["hashes", "list"], done
+
+
 def test_no_password_is_shown_that_costs_too_much() -> None:
     child = pexpect.spawn(PWHASH, ["--generate", "--budget", "100"], timeout=60)
     child.expect(pexpect.EOF)

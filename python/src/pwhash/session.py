@@ -71,7 +71,8 @@ class Session:
     def _end_by_signal(self, number: signal.Signals) -> None:
         self.console.wait_for_nobody()
         if self.part is not None and self.part.is_whole:
-            self.console.say(f"{number.name} came when {self.part.out_name} was whole.")
+            with contextlib.suppress(Stop):  # the status still tells
+                self.console.say(f"{number.name} came when {self.part.out_name} was whole.")
             os._exit(self._status_if_whole)
         if self.part is not None:
             self.part.leave(is_wrong_use=False)
