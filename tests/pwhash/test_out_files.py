@@ -90,3 +90,11 @@ def test_a_folder_that_is_not_there_leaves_nothing_to_go_on_with() -> None:
     done = pwhash("file", *MD5CRYPT, save("lines", b"ann:x\n"), "-o", "nowhere/out")
     assert done.status == 3 and b"nowhere/out.part" in done.err, done
     assert b"--resume" not in done.err, done
+
+
+def test_a_name_too_long_to_go_on_with_leaves_nothing() -> None:
+    longest = os.pathconf(".", "PC_NAME_MAX")
+    out = "o" * (longest - len(".part"))
+    done = pwhash("file", *MD5CRYPT, save("lines", b"ann:x\n"), "-o", out)
+    assert done.status == 3 and b"too long" in done.err and b"--resume" not in done.err, done
+    assert os.listdir() == ["lines"], done

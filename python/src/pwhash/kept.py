@@ -72,9 +72,12 @@ def options_of_choice(options: FileOptions) -> bytes:
 def read(part: str) -> Optional[Kept]:
     """What a run of this user has kept, or None. Whatever else has the name stays as it is."""
     path = path_of(part)
-    if not os.path.lexists(path):
+    try:
+        fault = own_file.unfit(os.lstat(path))
+    except (FileNotFoundError, NotADirectoryError):
         return None
-    fault = own_file.unfit(os.lstat(path))
+    except OSError as error:  # the name is too long, say, so nothing could be kept
+        raise Stop(f"{named(path)}: {reason_of(error)}.") from None
     data = b""
     if not fault:
         with open(os.open(path, own_file.FLAGS), "rb") as file:
