@@ -116,6 +116,13 @@ def test_rows_joined_by_a_stray_quote_are_refused() -> None:
     assert from_file.status == 1 and not os.path.exists("hashes"), from_file
 
 
+def test_rows_that_a_stray_quote_joins_to_the_heading_are_not_lost_silently() -> None:
+    table = b'name,password,"note\nann,password,x\nbob,password,"\ncy,password,y\n'
+    done = pwhash("file", "--csv", *MD5CRYPT, save("table", table))
+    assert (done.status, done.out) == (1, b""), done
+    assert b"lines 1 to here" in done.err and lines_named_in(done.err) == [3], done
+
+
 def test_lines_that_end_in_carriage_returns_alone_are_no_table() -> None:
     done = pwhash("file", "--csv", *MD5CRYPT, stdin=b"name,password\rann,x\r")
     assert done.status == 3 and b"not CSV" in done.err and b"Error at" not in done.err, done

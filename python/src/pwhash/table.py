@@ -77,6 +77,9 @@ class Table:
         reader = csv.reader(texts, delimiter=separator, strict=True)
         first = self._next_row(reader) or []
         columns = self._columns(first)
+        joined = self._joined_lines(first)
+        if columns.headings and joined is not None:
+            yield [Line(reader.line_num, b"", joined)]
         row = self._next_row(reader) if columns.headings else first
         while row is not None:
             yield [self._line(reader.line_num, row, columns)]
@@ -182,15 +185,24 @@ class Table:
                 f"{len(row)} fields, where the first row has {columns.width}: "
                 "a separator in a field needs quotes"
             )
-        # In any field, since a stray quote hides the lines up to the next one.
-        if any("\n" in field for field in row):
-            return f"a line feed in a field: lines {self._row_begin} to here are one row"
+        joined = self._joined_lines(row)
+        if joined is not None:
+            return joined
         if columns.password >= len(row):
             return "no password field"
         name = cell(row, columns.name)
         if not name:
             return "no name"
         return "a colon in the name" if ":" in name else None
+
+    def _joined_lines(self, row: Row) -> Optional[str]:
+        """What is wrong with a row of several lines: a stray quote hides them up to the next one.
+
+        That can happen in any field, and in a heading too.
+        """
+        if any("\n" in field for field in row):
+            return f"a line feed in a field: lines {self._row_begin} to here are one row"
+        return None
 
     def _is_heading(self, row: Row, columns: Columns) -> bool:
         """Whether a row is the heading again, as where another table was joined to this one.
