@@ -116,6 +116,17 @@ def test_rows_joined_by_a_stray_quote_are_refused() -> None:
     assert from_file.status == 1 and not os.path.exists("hashes"), from_file
 
 
+@pytest.mark.parametrize("separator", [b",", b";", b"\t"], ids=["comma", "semicolon", "tab"])
+@pytest.mark.parametrize("end", [b"\n", b"\r\n"], ids=["a line feed", "an end of Windows"])
+def test_a_heading_of_two_lines_is_named_and_its_table_read(separator: bytes, end: bytes) -> None:
+    rows = [[b'"last', b'login"', b"name", b"password"], [b"never", b"bob", b"password"]]
+    table = end.join(separator.join(row) for row in rows) + end
+    table = table.replace(b'"last' + separator + b'login"', b'"last' + end + b'login"')
+    done = pwhash("file", "--csv", *MD5CRYPT, save("table", table), "--skip-refused")
+    assert (done.status, done.out) == (1, b"bob:" + MD5.encode() + b"\n"), done
+    assert lines_named_in(done.err) == [2] and b"line feed" in done.err, done
+
+
 def test_rows_that_a_stray_quote_joins_to_the_heading_are_not_lost_silently() -> None:
     table = b'name,password,"note\nann,password,x\nbob,password,"\ncy,password,y\n'
     done = pwhash("file", "--csv", *MD5CRYPT, save("table", table))

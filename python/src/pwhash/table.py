@@ -20,6 +20,7 @@ NUMBERS = [str(number) for number in range(1, 100)]  # by which columns can be c
 # Each byte becomes the character with its number and back, so that no encoding matters.
 BYTES = "latin-1"
 IN_QUOTES = re.compile('"[^"]*"')
+OPEN_QUOTE = re.compile('(?:^|[,;\t])"')  # where IN_QUOTES were left out
 UTF16_MARKS = ("\xff\xfe", "\xfe\xff")
 
 Row = List[str]
@@ -72,7 +73,7 @@ class Table:
         if len(self._wanted) != 2 or self._wanted[0] == self._wanted[1]:
             raise self._no_columns()
         begin = self._first_row_with_blank_ones()
-        separator = self._separator(begin[-1])
+        separator = self._separator(begin)
         texts = self._limited(itertools.chain(begin, self._texts))
         reader = csv.reader(texts, delimiter=separator, strict=True)
         first = self._next_row(reader) or []
@@ -92,7 +93,7 @@ class Table:
         return not self._wanted[0].isdecimal()
 
     def _first_row_with_blank_ones(self) -> List[str]:
-        """The texts up to the first one that isn't blank."""
+        """The texts of blank rows in front, and of the first other one."""
         begin = [next(self._texts, "")]
         while begin[-1] == "\n":
             begin.append(next(self._texts, ""))
@@ -102,14 +103,26 @@ class Table:
             raise self._no_columns()
         if not begin[-1]:
             raise UsageError(f"{self._name} has no rows.")
-        return begin
+        return [*begin, *self._rest_of_row(begin[-1])]
 
-    def _separator(self, first: str) -> str:
+    def _rest_of_row(self, first: str) -> Iterator[str]:
+        """The further texts of a row in which a heading has line feeds, as far as one may reach."""
+        is_open = OPEN_QUOTE.search(IN_QUOTES.sub("", first)) is not None
+        size = len(first)
+        while is_open and size <= LONGEST_ROW:
+            text = next(self._texts, "")
+            if not text:
+                return
+            yield text
+            size += len(text)
+            is_open = text.count('"') % 2 == 0
+
+    def _separator(self, begin: List[str]) -> str:
         """What is between columns: that of the wanted names, or the only one in the first row."""
-        bare = IN_QUOTES.sub("", first)
+        bare = IN_QUOTES.sub("", "".join(begin))
         found = sorted((each for each in SEPARATORS if each in bare), key=bare.index)
         if self._has_names():
-            with_names = [each for each in found if self._finds_names(first, each)]
+            with_names = [each for each in found if self._finds_names(begin, each)]
             return [*with_names, *found, ","][0]
         if len(found) > 1:
             names = " or ".join(SEPARATORS[each] for each in found)
@@ -119,9 +132,10 @@ class Table:
             )
         return found[0] if found else ","
 
-    def _finds_names(self, first: str, separator: str) -> bool:
+    def _finds_names(self, begin: List[str], separator: str) -> bool:
+        reader: Iterator[Row] = csv.reader(begin, delimiter=separator)
         try:
-            row: Row = next(csv.reader([first], delimiter=separator), [])
+            row: Row = next((each for each in reader if each), [])
         except csv.Error as error:
             raise Stop(f"{self._name}, line {self._row_begin}: {about(error)}.") from None
         return set(self._wanted) <= set(folded_row(row))
