@@ -2,6 +2,7 @@
 from __future__ import annotations
 
 import os
+import shutil
 import signal
 import time
 from pathlib import Path
@@ -14,6 +15,7 @@ from support.pwhash_runs import (
     PWHASH,
     ended,
     hashed,
+    in_namespace,
     read,
     save,
     shell,
@@ -170,6 +172,42 @@ def test_a_module_that_is_missing_is_named(copy: Copy) -> None:
     done = copy.run(*MD5CRYPT, stdin=b"x")
     assert done.status == 3 and b"pwhash.source" in done.stderr, done
     assert b"Traceback" not in done.stderr, done
+
+
+def test_the_module_of_a_command_that_is_missing_is_named(copy: Copy) -> None:
+    (copy.modules / "pwhash/one.py").unlink()
+    done = copy.run(*MD5CRYPT, stdin=b"x")
+    assert done.status == 3 and b"pwhash.one" in done.stderr, done
+    assert b"Error" not in done.stderr, done
+
+
+def test_a_starter_without_its_modules_says_so(copy: Copy) -> None:
+    shutil.rmtree(copy.modules)
+    done = copy.run(*MD5CRYPT, stdin=b"x")
+    assert done.status == 3 and str(copy.modules).encode() in done.stderr, done
+    assert b"Errno" not in done.stderr, done
+
+
+@pytest.mark.parametrize(
+    ("module", "words"),
+    [
+        pytest.param("ctypes/__init__.py", MD5CRYPT, id="ctypes"),
+        pytest.param("json/__init__.py", ("audit", "--json", "-"), id="json"),
+        pytest.param("queue.py", ("check",), id="queue"),
+    ],
+)
+def test_a_python_without_all_its_modules_is_named(module: str, words: tuple[str, ...]) -> None:
+    """As Debian's python3-minimal is."""
+    name = module.removesuffix(".py").removesuffix("/__init__")
+    save("none.py", b"raise ModuleNotFoundError(name='%s')\n" % name.encode())
+    script = f"""
+        folder=$(/usr/bin/python3 -I -c 'import os; print(os.path.dirname(os.__file__))')
+        mount --bind none.py "$folder/{module}"
+        exec "$@"
+    """
+    done = in_namespace(script, *words, stdin=b"ann:!:x\n")
+    assert done.status == 3 and b"apt install python3" in done.err, done
+    assert f"its own module {name}.".encode() in done.err, done
 
 
 def test_a_module_that_is_damaged_is_named(copy: Copy) -> None:

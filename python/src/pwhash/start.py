@@ -9,7 +9,6 @@ for elsewhere: neither modules nor libraries, since root may run this in anybody
 from __future__ import annotations
 
 import contextlib
-import ctypes
 import importlib
 import os
 import signal
@@ -24,7 +23,7 @@ def start(library: str, command: str, words: "list[str]") -> NoReturn:
     """Runs pwhash. The process ends."""
     try:
         # The package mkpasswd asks for a library of this name, and then gets this one.
-        ctypes.CDLL(library)
+        importlib.import_module("ctypes").CDLL(library)
         sys.path.insert(0, os.path.dirname(os.path.dirname(os.path.realpath(__file__))))
         # So that a module that can't begin ends the process with status 3, too.
         importlib.import_module("pwhash.unforeseen").watch()
@@ -35,13 +34,27 @@ def start(library: str, command: str, words: "list[str]") -> NoReturn:
             "since memory or open files are limited (ulimit -a). Run make lib, or install it."
         )
     except ImportError as error:
-        if error.name is None:  # the package mkpasswd says what is wrong with the library
-            fail(f"{error}.")
-        fail(f"the module {error.name} can't be loaded: {os.path.dirname(__file__)} is damaged.")
+        fail(about_import(error))
     except MemoryError:
         fail("out of memory (ulimit -v).")
-    run(command, words)
+    try:
+        run(command, words)
+    except ImportError as error:  # of the module of the command, which run loads
+        fail(about_import(error))
     raise AssertionError
+
+
+def about_import(error: ImportError) -> str:
+    """Why a module can't be loaded."""
+    if error.name is None:  # the package mkpasswd says what is wrong with the library
+        return f"{error}."
+    folder = os.path.dirname(__file__)
+    if error.name.partition(".")[0] in ("pwhash", "mkpasswd"):
+        return f"the module {error.name} can't be loaded: {folder} is damaged."
+    return (
+        f"{sys.executable} can't load its own module {error.name}. Install all of Python "
+        "(Debian: apt install python3)."
+    )
 
 
 def fail(sentence: str) -> NoReturn:
