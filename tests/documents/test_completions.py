@@ -56,8 +56,9 @@ def fixture_surroundings(
     environment = {
         "HOME": str(scratch),
         "PATH": f"{commands}:{os.environ['PATH']}",
-        "XDG_DATA_DIRS": f"{scratch}/share:/usr/local/share:/usr/share",
-        "BASH_COMPLETION_USER_DIR": None,
+        # Since bash-completion 2.12 only this folder comes before that of the system, where the
+        # package whois has a completion of a mkpasswd, too.
+        "BASH_COMPLETION_USER_DIR": f"{scratch}/share/bash-completion",
         "INPUTRC": None,
         "XDG_DATA_HOME": None,
     }

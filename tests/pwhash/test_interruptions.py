@@ -84,8 +84,9 @@ def test_an_interrupted_run_is_gone_on_with_by_the_printed_command(program: Path
 
 def test_ctrl_c_while_its_modules_load_ends_it_without_a_message(copy: Copy) -> None:
     """Before its own handler is there, a message would be python's."""
-    script = b"import os, signal, time\nos.kill(os.getpid(), signal.SIGINT)\ntime.sleep(9)\n"
-    save(str(copy.modules / "pwhash/lines.py"), script)
+    script = "\nimport os, signal\nos.kill(os.getpid(), signal.SIGINT)\n"
+    with open(copy.modules / "pwhash/lines.py", "a", encoding="utf-8") as module:
+        module.write(script)
     done = ended(started_program(str(copy.pwhash), "file"))
     assert (done.status, done.out, done.err) == (-signal.SIGINT, b"", b""), done
 

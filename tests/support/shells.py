@@ -158,7 +158,11 @@ class Fish:
         assert self.process.stdin is not None and self.process.stdout is not None
         self.process.stdin.write(f"{line}\n".encode())
         self.process.stdin.flush()
-        return self.process.stdout.readline().decode().split()
+        words = self.process.stdout.readline().decode().split()
+        # Fish 4 tells words that have what was typed anywhere, too. Its menu shows them only if
+        # none begins with that.
+        typed = line.rpartition(" ")[2]
+        return [word for word in words if word.startswith(typed)] or words
 
 
 @contextlib.contextmanager
