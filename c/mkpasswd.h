@@ -26,7 +26,9 @@
  *
  * If several errors apply, the first one in this order is reported: password, setting, method,
  * salt, rounds, budget, room in `out`, random numbers, memory. For mkpasswd_login() and
- * mkpasswd_audit() the order is password, method, rounds, field, budget, memory.
+ * mkpasswd_audit() the order is password, method, rounds, field, budget, memory; but a login that
+ * lacks memory for the hash that it makes in place of the stored one reports that, not the field's
+ * error.
  *
  * After an error, mkpasswd_new(), mkpasswd_hash() and mkpasswd_setting() leave the string "*0" in
  * `out` ("*1" if the given setting begins with "*0"), cut to fit. No password matches it, so with 3
@@ -271,8 +273,9 @@ static inline struct mkpasswd_field mkpasswd_field_bytes(const void *bytes, size
  * If the field is empty, locked, of another scheme or without a valid setting, or can cost more
  * than the limit, the call hashes the password by the policy with a fixed salt, drops the hash, and
  * returns false, so that such a name is not faster. `work` is exactly the work of that hash. It is
- * not made if scrypt gets no memory for it, or if it can cost more than a budget of your own; with
- * a budget of 0 nothing is hashed then for any field.
+ * not made if scrypt gets no memory for it (the error is then MKPASSWD_ERROR_OUT_OF_MEMORY), or if
+ * it can cost more than a budget of your own; with a budget of 0 nothing is hashed then for any
+ * field.
  *
  * An invalid password, method or rounds are refused at once, whatever the field is. Any other wrong
  * password costs what the stored hash costs. So hashes with another cost, or with a shorter salt

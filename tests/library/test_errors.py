@@ -68,6 +68,12 @@ FAILURES = (
         Reason.OUT_OF_MEMORY,
         WITHOUT_MEMORY,
     ),
+    Failure(
+        "a login of an unknown name without memory",
+        Login(b"password", None, 7),
+        Reason.OUT_OF_MEMORY,
+        WITHOUT_MEMORY,
+    ),
     Failure("an audit of a password", Audit(b"secret"), Reason.NO_SCHEME),
     Failure("a setting without a salt", MakeSetting(0, 0, b""), Reason.SALT_LENGTH),
     Failure("a setting with a bad salt", MakeSetting(0, 0, b"a_b"), Reason.SALT_CHARACTER),

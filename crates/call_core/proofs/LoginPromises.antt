@@ -51,6 +51,7 @@ treats_alike password field number rounds budget result report answers logged le
     let one_hash = reports.one_hash password field number rounds limit report logged in
     record {
       one_hash = one_hash;
+      decoy_lacks = λ scheme made valid never low. reports.lacks password field number rounds limit scheme report made valid never logged low;
       decoy_made = λ scheme made policy valid within never.
           let admits = admitting scheme len limit (by_policy number rounds budget len scheme made policy) valid.0 within in
           decoy_made password scheme limit report.work admits within

@@ -1,10 +1,10 @@
 -- What the report of a login says of its password and the stored hash.
-use Rattle.std.proofs.Common.{◌≡◌, ◌≤◌, ◌⊎◌, ℕ, Bool, List, Err, length, nat_lt, if◌then◌else◌, false, true, ap, inl, inr, refl, sym, subst, arith, ◌∙◌, ◌≢◌}
+use Rattle.std.proofs.Common.{◌≡◌, ◌≤◌, ◌<◌, ◌⊎◌, ℕ, Bool, List, Err, length, nat_lt, if◌then◌else◌, false, true, ap, inl, inr, refl, sym, subst, arith, ◌∙◌, ◌≢◌}
 use Rattle.std.specs.Prelude.{IsTrue, MatchBool}
 use Rattle.std.specs.Str.{bytes_eq}
 use Rattle.prims_core.specs.Work.{no_work}
 use Rattle.prims_core.specs.declared.meter.Work.{Work}
-use Rattle.crypt_core.specs.Crypt.{IsAfterRefusedGrowth, crypt}
+use Rattle.crypt_core.specs.Crypt.{IsAfterRefusedGrowth, allocates, crypt}
 use Rattle.crypt_core.specs.Passwords.{IsPassword, IsPasswordRefused}
 use Rattle.crypt_core.specs.OutdatedSchemes.{is_outdated_by}
 use Rattle.crypt_core.specs.Settings.{SettingValue, Spells}
@@ -23,7 +23,7 @@ use Rattle.call_core.specs.Private.Hashes.{IsRequestRefused}
 use Rattle.call_core.specs.Reasons.{password_reason, reason_row, setting_reason}
 use Rattle.call_core.specs.Reports.{LacksMemory, failed, found, refused}
 use Rattle.call_core.specs.declared.reason.Reason.{Reason}
-use Rattle.call_core.specs.declared.reason.Reason.TheVariants.{Dead, Locked, NoHash, OutOfMemory, OverBudget, Rounds, UnknownMethod, WrongPassword}
+use Rattle.call_core.specs.declared.reason.Reason.TheVariants.{Dead, OutOfMemory, OverBudget, Rounds, UnknownMethod, WrongPassword}
 use Rattle.call_core.specs.declared.report.Report.{Report}
 use Rattle.call_core.proofs.MadeSchemes.{made_once, never_refused}
 use Rattle.call_core.proofs.ReasonNumbers.{never_zero, reason_once}
@@ -39,7 +39,7 @@ refused_request password field number rounds budget report (inl (is, inl (scheme
 
 pub declined : (password field : List ℕ) (number rounds budget : ℕ) (scheme : Scheme) (refusal report : Report)
     → IsPassword password → IsSchemeMade TakesNewRounds number rounds scheme → IsCheckRefused password field budget refusal
-    → Declines password scheme budget refusal report → LogsIn password field number rounds budget report
+    → Declines password (decoy scheme) budget refusal report → LogsIn password field number rounds budget report
 declined password field number rounds budget scheme refusal report is makes (inl (first, refused, e)) declines =
     inl (is, inl (scheme, makes, inr (first, refused, rw e at declines)))
 declined password field number rounds budget scheme refusal report is makes (inr (kept, spells, above, e)) declines =
@@ -60,54 +60,112 @@ outdated_is kept other scheme also same made is = rw (same, made) is
 
 -- ---- It agrees with mkpasswd_verify
 
-declined_agrees : (password : List ℕ) (scheme : Scheme) (budget : ℕ) (refusal report : Report)
-    → Declines password scheme budget refusal report → Agrees report refusal
-declined_agrees password scheme budget refusal report declines =
-    (ap (λ (r : Report). r.cost) declines.0, inl (ap (λ (r : Report). r.error) declines.0))
+-- only scrypt can be refused for want of memory
+refused_allocates : (scheme : Scheme) (done : Work) → IsAfterRefusedGrowth no_work scheme done → allocates scheme ≡ true
+refused_allocates (Scrypt params) done lacks = refl
+refused_allocates Md5crypt done never = absurd never
+refused_allocates (Shacrypt sha rounds) done never = absurd never
+
+declines_cost : (password : List ℕ) (kept : SettingValue) (budget : ℕ) (refusal report : Report)
+    → Declines password kept budget refusal report → report.cost ≡ refusal.cost
+declines_cost password kept budget refusal report declines = go (nat_lt budget (cost kept (length password))) declines where
+  go : (above : Bool) → MatchBool above (report ≡ refusal)
+      ((report ≡ record refusal { work = work password kept })
+      ⊎ ((done : Work) × IsAfterRefusedGrowth no_work kept.scheme done × (report ≡ record refusal { error = (reason_row OutOfMemory).0; work = done })))
+      → report.cost ≡ refusal.cost
+  go true e = ap (λ (r : Report). r.cost) e
+  go false (inl e) = ap (λ (r : Report). r.cost) e
+  go false (inr (done, lacks, e)) = ap (λ (r : Report). r.cost) e
+
+declines_error : (password : List ℕ) (kept : SettingValue) (budget : ℕ) (refusal report : Report)
+    → Declines password kept budget refusal report
+    → (report.error ≡ refusal.error) ⊎ ((report.error ≡ (reason_row OutOfMemory).0) × (allocates kept.scheme ≡ true))
+declines_error password kept budget refusal report declines = go (nat_lt budget (cost kept (length password))) declines where
+  go : (above : Bool) → MatchBool above (report ≡ refusal)
+      ((report ≡ record refusal { work = work password kept })
+      ⊎ ((done : Work) × IsAfterRefusedGrowth no_work kept.scheme done × (report ≡ record refusal { error = (reason_row OutOfMemory).0; work = done })))
+      → (report.error ≡ refusal.error) ⊎ ((report.error ≡ (reason_row OutOfMemory).0) × (allocates kept.scheme ≡ true))
+  go true e = inl (ap (λ (r : Report). r.error) e)
+  go false (inl e) = inl (ap (λ (r : Report). r.error) e)
+  go false (inr (done, lacks, e)) = inr (ap (λ (r : Report). r.error) e, refused_allocates kept.scheme done lacks)
+
+declines_work : (password : List ℕ) (kept : SettingValue) (budget : ℕ) (refusal report : Report) → refusal.work ≡ no_work
+    → Declines password kept budget refusal report → IsHashWork password kept budget report.work
+declines_work password kept budget refusal report idle declines = go (nat_lt budget (cost kept (length password))) declines where
+  go : (above : Bool) → MatchBool above (report ≡ refusal)
+      ((report ≡ record refusal { work = work password kept })
+      ⊎ ((done : Work) × IsAfterRefusedGrowth no_work kept.scheme done × (report ≡ record refusal { error = (reason_row OutOfMemory).0; work = done })))
+      → MatchBool above (report.work ≡ no_work) ((report.work ≡ work password kept) ⊎ IsAfterRefusedGrowth no_work kept.scheme report.work)
+  go true e = ap (λ (r : Report). r.work) e ∙ idle
+  go false (inl e) = inl (ap (λ (r : Report). r.work) e)
+  go false (inr (done, lacks, e)) =
+      inr (subst (λ (w : Work). IsAfterRefusedGrowth no_work kept.scheme w) (sym (ap (λ (r : Report). r.work) e)) lacks)
+
+declined_agrees : (password : List ℕ) (scheme : Scheme) (budget : ℕ) (reason : Reason) (most : ℕ) (report : Report)
+    → Declines password (decoy scheme) budget (refused reason most) report → Agrees scheme report (refused reason most)
+declined_agrees password scheme budget reason most report declines = (
+  declines_cost password (decoy scheme) budget (refused reason most) report declines,
+  elim (declines_error password (decoy scheme) budget (refused reason most) report declines) [
+    | inl same ↦ inl same
+    | inr lacks ↦ inr (inr (lacks.0, lacks.1, never_zero reason, refl))
+  ],
+)
 
 pub miss_is : (field : List ℕ) (kept : SettingValue) (misses : Reason) → IsMiss field kept misses → (misses ≡ WrongPassword) ⊎ (misses ≡ Dead)
 miss_is field kept misses (inl (wrong, whole)) = inl wrong
 miss_is field kept misses (inr (dead, cut)) = inr dead
 
-told_agrees : (equal : Bool) (outdated : ℕ) (misses : Reason) (most : ℕ) (counts : Work) (report : Report) → (misses ≡ WrongPassword) ⊎ (misses ≡ Dead)
+told_agrees : (scheme : Scheme) (equal : Bool) (outdated : ℕ) (misses : Reason) (most : ℕ) (counts : Work) (report : Report) → (misses ≡ WrongPassword) ⊎ (misses ≡ Dead)
     → report ≡ (if equal then found outdated most counts else failed misses most counts)
-    → Agrees report (if equal then found 0 most counts else failed WrongPassword most counts)
-told_agrees false outdated misses most counts report (inl wrong) e = rw (e, wrong) (refl, inl refl)
-told_agrees false outdated misses most counts report (inr dead) e = rw (e, dead) (refl, inr (refl, refl))
-told_agrees true outdated misses most counts report miss e = rw e (refl, inl refl)
+    → Agrees scheme report (if equal then found 0 most counts else failed WrongPassword most counts)
+told_agrees scheme false outdated misses most counts report (inl wrong) e = rw (e, wrong) (refl, inl refl)
+told_agrees scheme false outdated misses most counts report (inr dead) e = rw (e, dead) (refl, inr (inl (refl, refl)))
+told_agrees scheme true outdated misses most counts report miss e = rw e (refl, inl refl)
 
 checked_agrees : (over equal : Bool) (outdated : ℕ) (password field : List ℕ) (budget most : ℕ) (scheme : Scheme) (kept : SettingValue) (report : Report)
-    → MatchBool over (Declines password scheme budget (refused OverBudget most) report)
+    → MatchBool over (Declines password (decoy scheme) budget (refused OverBudget most) report)
     ((misses : Reason) × IsMiss field kept misses
     × ((report ≡ (if equal then found outdated most (work password kept) else failed misses most (work password kept)))
     ⊎ LacksMemory kept most report))
     → (verified : Report) × MatchBool over (verified ≡ refused OverBudget most)
     ((verified ≡ (if equal then found 0 most (work password kept) else failed WrongPassword most (work password kept))) ⊎ LacksMemory kept most verified)
-    × Agrees report verified
+    × Agrees scheme report verified
 checked_agrees true equal outdated password field budget most scheme kept report declines =
-    (refused OverBudget most, refl, declined_agrees password scheme budget (refused OverBudget most) report declines)
+    (refused OverBudget most, refl, declined_agrees password scheme budget OverBudget most report declines)
 checked_agrees false equal outdated password field budget most scheme kept report (misses, miss, inl told) = (
   (if equal then found 0 most (work password kept) else failed WrongPassword most (work password kept)),
   inl refl,
-  told_agrees equal outdated misses most (work password kept) report (miss_is field kept misses miss) told,
+  told_agrees scheme equal outdated misses most (work password kept) report (miss_is field kept misses miss) told,
 )
 checked_agrees false equal outdated password field budget most scheme kept report (misses, miss, inr lacks) = (report, inr lacks, (refl, inl refl))
 
 pub agrees : (password field : List ℕ) (number rounds budget : ℕ) (scheme : Scheme) (report : Report)
     → IsSchemeMade TakesNewRounds number rounds scheme → LogsIn password field number rounds budget report
-    → (verified : Report) × Verifies password field budget verified × Agrees report verified
+    → (verified : Report) × Verifies password field budget verified × Agrees scheme report verified
 agrees password field number rounds budget scheme report makes (inr (fault, is, e)) =
     (refused (password_reason fault) 0, inr (fault, is, refl), rw e (refl, inl refl))
 agrees password field number rounds budget scheme report makes (inl (is, inr (inl (none, e)))) = absurd (cc (none, makes.1))
 agrees password field number rounds budget scheme report makes (inl (is, inr (inr (method, named, never, e)))) =
     never_refused number rounds scheme _ makes method named never
 agrees password field number rounds budget scheme report makes (inl (is, inl (other, also, inr (fault, broken, declines)))) =
-    (refused fault 0, inl (is, inr (fault, broken, refl)), declined_agrees password other budget (refused fault 0) report declines)
+    let same : other ≡ scheme = made_once TakesNewRounds TakesNewRounds number rounds other scheme also makes in
+    (refused fault 0, inl (is, inr (fault, broken, refl)), declined_agrees password scheme budget fault 0 report (rw same at declines))
 agrees password field number rounds budget scheme report makes (inl (is, inl (other, also, inl (kept, spells, checked)))) =
+    let same : other ≡ scheme = made_once TakesNewRounds TakesNewRounds number rounds other scheme also makes in
     let most = cost kept (length password) in
-    let agree = checked_agrees (nat_lt budget most) (bytes_eq (crypt password kept) field) (if is_outdated_by kept.scheme other then 1 else 0)
-    password field budget most other kept report checked in
+    let agree = checked_agrees (nat_lt budget most) (bytes_eq (crypt password kept) field) (if is_outdated_by kept.scheme scheme then 1 else 0)
+    password field budget most scheme kept report (rw same at checked) in
     (agree.0, inl (is, inl (kept, spells, agree.1)), agree.2)
+
+-- ---- What it can't check
+
+pub uncheckable : (password field : List ℕ) (budget : ℕ)
+    → ((kept : SettingValue) → Spells field kept → cost kept (length password) ≤ budget → ⊥) → IsUncheckable password field budget
+uncheckable password field budget never = λ kept spells. go kept spells (nat_lt budget (cost kept (length password))) refl where
+  go : (kept : SettingValue) → Spells field kept → (above : Bool) → nat_lt budget (cost kept (length password)) ≡ above
+      → budget < cost kept (length password)
+  go kept spells true e = grind (arith, e)
+  go kept spells false e = absurd (never kept spells (grind (arith, e)))
 
 -- ---- Its work
 
@@ -150,10 +208,11 @@ compared_work false outdated most misses counts = refl
 
 checked_work : (above : Bool) (password field : List ℕ) (budget : ℕ) (scheme : Scheme) (kept : SettingValue) (outdated : ℕ) (report : Report)
     → nat_lt budget (cost kept (length password)) ≡ above
-    → MatchBool above (Declines password scheme budget (refused OverBudget (cost kept (length password))) report)
+    → MatchBool above (Declines password (decoy scheme) budget (refused OverBudget (cost kept (length password))) report)
     ((misses : Reason) × IsMiss field kept misses × Compares password kept field outdated misses report)
     → IsHashWork password (decoy scheme) budget report.work ⊎ IsHashWork password kept budget report.work
-checked_work true password field budget scheme kept outdated report e declines = inl declines.1
+checked_work true password field budget scheme kept outdated report e declines =
+    inl (declines_work password (decoy scheme) budget _ report refl declines)
 checked_work false password field budget scheme kept outdated report e (misses, miss, inl told) =
     inr (rw e (inl (ap (λ (r : Report). r.work) told
     ∙ compared_work (bytes_eq (crypt password kept) field) outdated (cost kept (length password)) misses (work password kept))))
@@ -167,7 +226,8 @@ one_hash password field number rounds budget report (inr (fault, is, e)) = inl (
 one_hash password field number rounds budget report (inl (is, inr (inl (none, e)))) = inl (ap (λ (r : Report). r.work) e)
 one_hash password field number rounds budget report (inl (is, inr (inr (method, named, never, e)))) = inl (ap (λ (r : Report). r.work) e)
 one_hash password field number rounds budget report (inl (is, inl (scheme, makes, inr (fault, broken, declines)))) =
-    inr (decoy scheme, inr (scheme, makes, refl), declines.1, spent_within password (decoy scheme) budget _ declines.1)
+    let done = declines_work password (decoy scheme) budget _ report refl declines in
+    inr (decoy scheme, inr (scheme, makes, refl), done, spent_within password (decoy scheme) budget _ done)
 one_hash password field number rounds budget report (inl (is, inl (scheme, makes, inl (kept, spells, checked)))) =
     elim (checked_work (nat_lt budget (cost kept (length password))) password field budget scheme kept
     (if is_outdated_by kept.scheme scheme then 1 else 0) report refl checked) [
@@ -176,22 +236,43 @@ one_hash password field number rounds budget report (inl (is, inl (scheme, makes
     ]
 
 -- a stored hash that can't be checked costs what a new hash costs
+pub declines : (password field : List ℕ) (number rounds budget : ℕ) (scheme : Scheme) (report : Report)
+    → IsSchemeMade TakesNewRounds number rounds scheme → IsPassword password → IsUncheckable password field budget
+    → LogsIn password field number rounds budget report
+    → (refusal : Report) × (refusal.work ≡ no_work) × Declines password (decoy scheme) budget refusal report
+declines password field number rounds budget scheme report makes is never (inr (TooLong, broken, e)) = absurd (omega (arith, is.0, broken))
+declines password field number rounds budget scheme report makes is never (inr (HasNul, broken, e)) = absurd (is.1 broken.1)
+declines password field number rounds budget scheme report makes is never (inl (also, inr (inl (none, e)))) = absurd (cc (none, makes.1))
+declines password field number rounds budget scheme report makes is never (inl (also, inr (inr (method, named, not, e)))) =
+    never_refused number rounds scheme _ makes method named not
+declines password field number rounds budget scheme report makes is never (inl (also, inl (other, made, inr (fault, broken, decoyed)))) =
+    let same : other ≡ scheme = made_once TakesNewRounds TakesNewRounds number rounds other scheme made makes in
+    (refused fault 0, refl, rw same at decoyed)
+declines password field number rounds budget scheme report makes is never (inl (also, inl (other, made, inl (kept, spells, checked)))) =
+    let same : other ≡ scheme = made_once TakesNewRounds TakesNewRounds number rounds other scheme made makes in
+    let above : nat_lt budget (cost kept (length password)) ≡ true = grind (arith, never kept spells) in
+    let decoyed = rw above at checked in
+    (refused OverBudget (cost kept (length password)), refl, rw same at decoyed)
+
 pub pretends : (password field : List ℕ) (number rounds budget : ℕ) (scheme : Scheme) (report : Report)
     → IsSchemeMade TakesNewRounds number rounds scheme → IsPassword password → IsUncheckable password field budget
     → LogsIn password field number rounds budget report → IsHashWork password (decoy scheme) budget report.work
-pretends password field number rounds budget scheme report makes is never (inr (TooLong, broken, e)) = absurd (omega (arith, is.0, broken))
-pretends password field number rounds budget scheme report makes is never (inr (HasNul, broken, e)) = absurd (is.1 broken.1)
-pretends password field number rounds budget scheme report makes is never (inl (also, inr (inl (none, e)))) = absurd (cc (none, makes.1))
-pretends password field number rounds budget scheme report makes is never (inl (also, inr (inr (method, named, not, e)))) =
-    never_refused number rounds scheme _ makes method named not
-pretends password field number rounds budget scheme report makes is never (inl (also, inl (other, made, inr (fault, broken, declines)))) =
-    let same : other ≡ scheme = made_once TakesNewRounds TakesNewRounds number rounds other scheme made makes in
-    rw same at declines.1
-pretends password field number rounds budget scheme report makes is never (inl (also, inl (other, made, inl (kept, spells, checked)))) =
-    let same : other ≡ scheme = made_once TakesNewRounds TakesNewRounds number rounds other scheme made makes in
-    let above : nat_lt budget (cost kept (length password)) ≡ true = grind (arith, never kept spells) in
-    let declines = rw above at checked in
-    rw same at declines.1
+pretends password field number rounds budget scheme report makes is never logged =
+    let declined = declines password field number rounds budget scheme report makes is never logged in
+    declines_work password (decoy scheme) budget declined.0 report declined.1 declined.2
+
+-- or the error says that there was no memory for it
+pub lacks : (password field : List ℕ) (number rounds budget : ℕ) (scheme : Scheme) (report : Report)
+    → IsSchemeMade TakesNewRounds number rounds scheme → IsPassword password → IsUncheckable password field budget
+    → LogsIn password field number rounds budget report → cost (decoy scheme) (length password) ≤ budget
+    → (report.work ≡ work password (decoy scheme)) ⊎ (report.error ≡ (reason_row OutOfMemory).0)
+lacks password field number rounds budget scheme report makes is never logged low =
+    let declined = declines password field number rounds budget scheme report makes is never logged in
+    let within : nat_lt budget (cost (decoy scheme) (length password)) ≡ false = grind (arith, low) in
+    elim (rw within at declined.2) [
+      | inl e ↦ inl (ap (λ (r : Report). r.work) e)
+      | inr refused ↦ inr (ap (λ (r : Report). r.error) refused.2)
+    ]
 
 -- a password that no hash has is refused alike for every field
 pub alike : (password field : List ℕ) (number rounds budget : ℕ) (fault : PasswordFault) (report : Report)
@@ -225,6 +306,14 @@ alike_rounds password field number rounds budget reason report is (inr (kind, (m
 not_dead : (reason : Reason) (report : Report) → reason ≢ Dead → report.error ≡ (reason_row reason).0 → report.error ≡ (reason_row Dead).0 → ⊥
 not_dead reason report other is told = other (reason_once reason Dead (sym is ∙ told))
 
+declines_not_dead : (password : List ℕ) (kept : SettingValue) (budget : ℕ) (reason : Reason) (most : ℕ) (report : Report) → reason ≢ Dead
+    → Declines password kept budget (refused reason most) report → report.error ≡ (reason_row Dead).0 → ⊥
+declines_not_dead password kept budget reason most report other declines told =
+    elim (declines_error password kept budget (refused reason most) report declines) [
+      | inl same ↦ not_dead reason report other same told
+      | inr lacks ↦ not_dead OutOfMemory report (λ same. absurd (cc same)) lacks.0 told
+    ]
+
 compared_dead : (equal : Bool) (outdated : ℕ) (field : List ℕ) (kept : SettingValue) (misses : Reason) (most : ℕ) (counts : Work) (report : Report)
     → Spells field kept → IsMiss field kept misses
     → report ≡ (if equal then found outdated most counts else failed misses most counts)
@@ -237,13 +326,13 @@ compared_dead false outdated field kept misses most counts report spells (inr (d
 
 checked_dead : (above equal : Bool) (outdated : ℕ) (password field : List ℕ) (budget : ℕ) (scheme : Scheme) (kept : SettingValue) (report : Report)
     → Spells field kept
-    → MatchBool above (Declines password scheme budget (refused OverBudget (cost kept (length password))) report)
+    → MatchBool above (Declines password (decoy scheme) budget (refused OverBudget (cost kept (length password))) report)
     ((misses : Reason) × IsMiss field kept misses
     × ((report ≡ (if equal then found outdated (cost kept (length password)) (work password kept) else failed misses (cost kept (length password)) (work password kept)))
     ⊎ LacksMemory kept (cost kept (length password)) report))
     → report.error ≡ (reason_row Dead).0 → IsDead field
 checked_dead true equal outdated password field budget scheme kept report spells declines told =
-    absurd (not_dead OverBudget report (λ same. absurd (cc same)) (ap (λ (r : Report). r.error) declines.0) told)
+    absurd (declines_not_dead password (decoy scheme) budget OverBudget _ report (λ same. absurd (cc same)) declines told)
 checked_dead false equal outdated password field budget scheme kept report spells (misses, miss, inl e) told =
     compared_dead equal outdated field kept misses _ _ report spells miss e told
 checked_dead false equal outdated password field budget scheme kept report spells (misses, miss, inr (done, lacks, e)) told =
@@ -278,7 +367,7 @@ told_dead password field number rounds budget report (inl (is, inr (inl (none, e
 told_dead password field number rounds budget report (inl (is, inr (inr (method, named, never, e)))) told =
     absurd (not_dead Rounds report (λ same. absurd (cc same)) (ap (λ (r : Report). r.error) e) told)
 told_dead password field number rounds budget report (inl (is, inl (scheme, makes, inr (reason, broken, declines)))) told =
-    absurd (not_dead reason report (field_other field reason broken) (ap (λ (r : Report). r.error) declines.0) told)
+    absurd (declines_not_dead password (decoy scheme) budget reason 0 report (field_other field reason broken) declines told)
 told_dead password field number rounds budget report (inl (is, inl (scheme, makes, inl (kept, spells, checked)))) told =
     checked_dead (nat_lt budget (cost kept (length password))) (bytes_eq (crypt password kept) field) (if is_outdated_by kept.scheme scheme then 1 else 0)
     password field budget scheme kept report spells checked told

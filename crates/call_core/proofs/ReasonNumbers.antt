@@ -1,6 +1,5 @@
 -- The number of a reason finds it again, so no two reasons have the same number. None has the number 0.
-use Rattle.std.proofs.Common.{◌≡◌, ◌≢◌, ◌∙◌, ℕ, Some, refl, sym, ap, arith}
-use Rattle.std.specs.Prelude.{Option}
+use Rattle.std.proofs.Common.{◌≡◌, ◌≢◌, ◌∙◌, Some, refl, sym, ap}
 use Rattle.call_core.specs.Reasons.{reason_numbered, reason_row}
 use Rattle.call_core.specs.declared.reason.Reason.{Reason}
 use Rattle.call_core.specs.declared.reason.Reason.TheVariants.{PasswordTooLong}

@@ -31,7 +31,7 @@ abbrev pub IsDead : List ℕ → Type 0
 IsDead text = (kept : SettingValue) × Spells text kept × ¬ IsWhole text kept
 
 -- The report of a hash that is compared with the stored one: no error if they are the same, and whether the stored one is
--- outdated, 1 or 0; or else the reason `misses`; or that scrypt could not allocate.
+-- outdated, 1 or 0; or else the reason `misses`; or that scrypt lacked memory.
 abbrev pub Compares : List ℕ → SettingValue → List ℕ → ℕ → Reason → Report → Type 0
 Compares password kept stored outdated misses report =
     let most = cost kept (length password) in
@@ -41,7 +41,7 @@ Compares password kept stored outdated misses report =
 -- The report of mkpasswd_verify and web_verify.
 --   a refusal         that refusal
 --   above the budget  OverBudget and the cost, without work
---   otherwise         no error or WrongPassword with the cost and the work of one hash, or that scrypt could not allocate
+--   otherwise         no error or WrongPassword with the cost and the work of one hash, or that scrypt lacked memory
 abbrev pub Verifies : List ℕ → List ℕ → ℕ → Report → Type 0
 Verifies password stored budget report =
     OnPassword password (Refuses report) (OnField stored (Refuses report) (λ kept.

@@ -5,6 +5,7 @@ pub mod Hashes
 pub mod Limits
 pub mod Logins
 pub mod Names
+pub mod Needs
 pub mod Private
 pub mod Reasons
 pub mod Rehashes

@@ -2,7 +2,7 @@
 --
 -- A password is the list of its bytes, `kept` is the setting that a text spells, and `most` is the cost of a hash: the most
 -- bytes that it digests and mixes.
-use Rattle.std.specs.Prelude.{◌≡◌, ◌⊎◌, ◌↔◌, ◌<◌, ◌≤◌, ◌+◌, ◌*◌, if◌then◌else◌, ℕ, ℤ, pos, nat_lt, true, MatchBool, List, [], ◌∷◌, length, Err}
+use Rattle.std.specs.Prelude.{◌≡◌, ◌≢◌, ◌⊎◌, ◌↔◌, ◌<◌, ◌≤◌, ◌+◌, ◌*◌, if◌then◌else◌, ℕ, ℤ, pos, nat_lt, true, MatchBool, List, [], ◌∷◌, length, Err}
 use Rattle.prims_core.specs.Work.{no_work}
 use Rattle.prims_core.specs.declared.meter.Work.{Work}
 use Rattle.crypt_core.specs.Crypt.{IsAfterRefusedGrowth, allocates}
@@ -37,10 +37,16 @@ IsHashWork password kept budget done =
     (done ≡ no_work)
     ((done ≡ work password kept) ⊎ IsAfterRefusedGrowth no_work kept.scheme done)
 
--- The report of a login that can't check the stored hash: the refusal, but with the work of the decoy.
-abbrev pub Declines : List ℕ → Scheme → ℕ → Report → Report → Type 0
-Declines password scheme budget refusal report =
-    (report ≡ record refusal { work = report.work }) × IsHashWork password (decoy scheme) budget report.work
+-- The report of a login that can't check the stored hash, and makes and drops a hash with this setting: the refusal with the
+-- work of that hash, or with the error that scrypt lacked memory for it, and the work of the allocations before. If the hash
+-- can cost more than the budget, it is the refusal alone.
+abbrev pub Declines : List ℕ → SettingValue → ℕ → Report → Report → Type 0
+Declines password kept budget refusal report =
+    MatchBool (nat_lt budget (cost kept (length password)))
+    (report ≡ refusal)
+    ((report ≡ record refusal { work = work password kept })
+    ⊎ ((done : Work) × IsAfterRefusedGrowth no_work kept.scheme done
+    × (report ≡ record refusal { error = (reason_row OutOfMemory).0; work = done })))
 
 -- The reason of a password that doesn't match the stored hash: Dead if no password does, because it is not whole.
 abbrev pub IsMiss : List ℕ → SettingValue → Reason → Type 0
@@ -48,16 +54,17 @@ IsMiss field kept reason = ((reason ≡ WrongPassword) × IsWhole field kept) �
 
 -- The report of mkpasswd_login.
 --   a refused password, method or rounds that refusal, without work
---   a stored hash that can't be checked  the report of mkpasswd_verify with the work of the decoy
+--   a stored hash that can't be checked  the report of mkpasswd_verify with the work of the decoy, or with the error that
+--                                        scrypt lacked memory for the decoy
 --   otherwise                            the report of mkpasswd_verify, with whether the scheme replaces the setting if the
 --                                        password matches, and Dead in place of WrongPassword if the hash is not whole
 abbrev pub LogsIn : List ℕ → List ℕ → ℕ → ℕ → ℕ → Report → Type 0
 LogsIn password field number rounds budget report =
     OnPassword password (Refuses report) (OnScheme TakesNewRounds number rounds (Refuses report) (λ scheme.
-    OnField field (λ reason. Declines password scheme budget (refused reason 0) report) (λ kept.
+    OnField field (λ reason. Declines password (decoy scheme) budget (refused reason 0) report) (λ kept.
     let most = cost kept (length password) in
     MatchBool (nat_lt budget most)
-    (Declines password scheme budget (refused OverBudget most) report)
+    (Declines password (decoy scheme) budget (refused OverBudget most) report)
     ((misses : Reason) × IsMiss field kept misses
     × Compares password kept field (if is_outdated_by kept.scheme scheme then 1 else 0) misses report))))
 
@@ -78,15 +85,17 @@ IsLoginWork password field number rounds budget done =
 abbrev pub IsUncheckable : List ℕ → List ℕ → ℕ → Type 0
 IsUncheckable password field budget = (kept : SettingValue) → Spells field kept → budget < cost kept (length password)
 
--- A report that agrees with that of mkpasswd_verify: its cost and error are the same, but Dead may stand for WrongPassword.
-abbrev pub Agrees : Report → Report → Type 0
-Agrees report verified =
+-- A report that agrees with that of mkpasswd_verify, by a policy whose new hashes have the scheme: its cost and error are the
+-- same, but Dead may stand for WrongPassword, and, if the decoy needs memory, OutOfMemory for a refusal without work.
+abbrev pub Agrees : Scheme → Report → Report → Type 0
+Agrees scheme report verified =
     (report.cost ≡ verified.cost)
     × ((report.error ≡ verified.error)
-    ⊎ ((report.error ≡ (reason_row Dead).0) × (verified.error ≡ (reason_row WrongPassword).0)))
+    ⊎ (((report.error ≡ (reason_row Dead).0) × (verified.error ≡ (reason_row WrongPassword).0))
+    ⊎ ((report.error ≡ (reason_row OutOfMemory).0) × (allocates scheme ≡ true) × (verified.error ≢ 0) × (verified.work ≡ no_work))))
 
 -- If the method and the rounds are valid, and a valid password is checked against a dead hash within the budget, the report is
--- Dead with the cost and the work of the check, or scrypt could not allocate.
+-- Dead with the cost and the work of the check, or scrypt lacked memory.
 abbrev pub TellsDead : List ℕ → List ℕ → ℕ → ℕ → ℕ → Report → Type 0
 TellsDead password field number rounds budget report =
     (scheme : Scheme) → (kept : SettingValue) → IsSchemeMade TakesNewRounds number rounds scheme → IsPassword password
@@ -106,11 +115,12 @@ pub record JudgesStoredHash (password field : List ℕ) (number rounds budget : 
   pub tells : report.error ≡ (reason_row Dead).0 → IsDead field
   pub outdated : report.outdated ≡ 1 ↔ (result ≡ pos 1) × IsOutdated field number rounds
   pub as_verify : (scheme : Scheme) → IsSchemeMade TakesNewRounds number rounds scheme
-      → (verified : Report) × Verifies password field budget verified × Agrees report verified
+      → (verified : Report) × Verifies password field budget verified × Agrees scheme report verified
 
 -- What a login does alike for all fields, or for all that can't be checked, for C and for a web page. Its limit is `limit_of`.
 -- With scrypt the decoy may end at an allocation.
 --   one_hash      the work is that of at most one hash, within the limit
+--   decoy_lacks   a decoy that the limit admits is made, or the error says that scrypt lacked memory for it
 --   decoy_made    a field that can't be checked costs the decoy, if the limit is the policy's and admits a new hash
 --   decoy         by any other limit too, if that admits the decoy; if not, it costs nothing
 --   alike         an invalid password is refused with the same report for each field
@@ -118,6 +128,10 @@ pub record JudgesStoredHash (password field : List ℕ) (number rounds budget : 
 --   alike_long    a password whose new hash is above the policy's limit gets in by no field, and costs nothing
 pub record TreatsFieldsAlike (password field : List ℕ) (number rounds budget : ℕ) (result : ℤ) (report : Report) : Type 0 where
   pub one_hash : IsLoginWork password field number rounds (limit_of number rounds budget (length password)) report.work
+  pub decoy_lacks : (scheme : Scheme) → IsSchemeMade TakesNewRounds number rounds scheme → IsPassword password
+      → IsUncheckable password field (limit_of number rounds budget (length password))
+      → cost (decoy scheme) (length password) ≤ limit_of number rounds budget (length password)
+      → (report.work ≡ work password (decoy scheme)) ⊎ (report.error ≡ (reason_row OutOfMemory).0)
   pub decoy_made : (scheme : Scheme) → IsSchemeMade TakesNewRounds number rounds scheme → budget ≡ twice → IsPassword password
       → new_cost scheme (length password) ≤ policy_limit scheme → IsUncheckable password field (policy_limit scheme)
       → (report.work ≡ work password (decoy scheme)) ⊎ IsAfterRefusedGrowth no_work scheme report.work

@@ -29,7 +29,8 @@ refused reason most = failed reason most no_work
 abbrev pub found : ℕ → ℕ → Work → Report
 found outdated most counts = record (succeeded 0 most counts) { outdated = outdated }
 
--- The report if scrypt could not allocate. Its work is that of the allocations before. No other scheme allocates.
+-- The report if scrypt lacked memory: it could not allocate, or too little is lent. Its work is that of the allocations
+-- before. No other scheme needs memory.
 abbrev pub LacksMemory : SettingValue → ℕ → Report → Type 0
 LacksMemory kept most report =
     (done : Work) × IsAfterRefusedGrowth no_work kept.scheme done × (report ≡ failed OutOfMemory most done)

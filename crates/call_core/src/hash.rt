@@ -1,12 +1,15 @@
 //! The hash of a password with a setting.
-ghost use Rattle.std.specs.Prelude.{◌≡◌, ◌≢◌, ◌⊎◌, ◌≤◌, length, take, false, IsErr, IfOk};
+ghost use Rattle.std.specs.Prelude.{◌≡◌, ◌≢◌, ◌≤◌, length, take, IfErr, IfOk};
 ghost use Rattle.prims_core.specs.Work.{no_work};
-ghost use Rattle.crypt_core.specs.Crypt.{allocates, crypt};
-ghost use Rattle.crypt_core.specs.Settings.{Spells};
+ghost use Rattle.crypt_core.specs.Crypt.{crypt};
+ghost use Rattle.crypt_core.specs.Needs.{AreEnough};
+ghost use Rattle.crypt_core.specs.Settings.{SettingValue, Spells};
 ghost use Rattle.crypt_core.specs.Work.{cost};
-ghost use Rattle.call_core.specs.Checks.{NeedsNoMemory, Opens};
+ghost use Rattle.call_core.specs.Checks.{Opens};
 ghost use Rattle.call_core.specs.Hashes.{Hashes};
+ghost use Rattle.call_core.specs.Needs.{HashesWith};
 ghost use Rattle.call_core.specs.Private.Hashes.{IsPut, IsTold, MakesHash, MakesHashOf};
+ghost use Rattle.call_core.specs.Reasons.{reason_row};
 ghost use Rattle.call_core.specs.Reports.{put, token};
 
 use crate::budget::admit;
@@ -21,7 +24,7 @@ use prims_core::meter::Meter;
 
 /// Hashes the password with the setting in the text, and writes the hash to `out`, or after a refusal the token.
 pub fn put_hash<M: Memory>(
-    memory: &M,
+    memory: &mut M,
     password: &[u8],
     text: &[u8],
     budget: u64,
@@ -31,11 +34,10 @@ pub fn put_hash<M: Memory>(
     requires new { meter.old ≡ no_work }
     ensures hashes { Hashes password.now text.now budget out.old result out.new }
     ensures locked { result.error ≢ 0 → out.new ≡ put (token text.now) out.old }
-    ensures opens { result.error ≡ 0 → Opens password.now (take result.length out.new) budget
-        × (NeedsNoMemory (take result.length out.new) ⊎ M.HasSome) }
+    ensures opens { result.error ≡ 0 → Opens password.now (take result.length out.new) budget }
     ensures within { result.error ≡ 0 → result.cost ≤ budget }
-    ensures granted { NeedsNoMemory text.now
-        ⊎ (M.HasSome ⊎ ((result.error ≢ 0) × (result.work ≡ no_work))) }
+    ensures enough { ((kept : SettingValue) → HashesWith password.now text.now budget kept → AreEnough (M.IsEnough memory.old) kept.scheme)
+        → result.error ≢ (reason_row Reason.OutOfMemory).0 }
     ensures bytes { result.work.bytes ≤ budget }
     ensures counted { meter.new ≡ result.work }
 {
@@ -59,7 +61,7 @@ pub(crate) fn put_hashed(
 
 // Hashes the password with the setting in the text, for `room` bytes, and returns the hash and the report.
 fn hash_of<M: Memory>(
-    memory: &M,
+    memory: &mut M,
     password: &[u8],
     text: &[u8],
     budget: u64,
@@ -69,8 +71,9 @@ fn hash_of<M: Memory>(
     requires new { meter.old ≡ no_work }
     ensures makes { MakesHashOf password.now text.now budget room result }
     ensures told { IsTold budget room meter.new result }
-    ensures opens { IfOk result (λ made. Opens password.now made.0 budget × (NeedsNoMemory made.0 ⊎ M.HasSome)) }
-    ensures granted { NeedsNoMemory text.now ⊎ (M.HasSome ⊎ (IsErr result × (meter.new ≡ no_work))) }
+    ensures opens { IfOk result (λ made. Opens password.now made.0 budget) }
+    ensures enough { ((kept : SettingValue) → HashesWith password.now text.now budget kept → AreEnough (M.IsEnough memory.old) kept.scheme)
+        → IfErr result (λ report. report.error ≢ (reason_row Reason.OutOfMemory).0) }
     ensures bytes { meter.new.bytes ≤ budget }
 {
     let password = read_password(password)?;
@@ -80,7 +83,7 @@ fn hash_of<M: Memory>(
 
 /// Hashes, if the budget and then `room` bytes allow it, and returns the hash and the report.
 pub(crate) fn hash_within<M: Memory>(
-    memory: &M,
+    memory: &mut M,
     password: &Password,
     setting: &Setting,
     budget: u64,
@@ -91,8 +94,9 @@ pub(crate) fn hash_within<M: Memory>(
     ensures makes { MakesHash password.now setting.now budget room result }
     ensures told { IsTold budget room meter.new result }
     ensures spells { IfOk result (λ made. Spells made.0 setting.now × (crypt password.now setting.now ≡ made.0)
-        × (cost setting.now (length password.now) ≤ budget) × ((allocates setting.now.scheme ≡ false) ⊎ M.HasSome)) }
-    ensures granted { (allocates setting.now.scheme ≡ false) ⊎ (M.HasSome ⊎ (IsErr result × (meter.new ≡ no_work))) }
+        × (cost setting.now (length password.now) ≤ budget)) }
+    ensures enough { (cost setting.now (length password.now) ≤ budget → AreEnough (M.IsEnough memory.old) setting.now.scheme)
+        → IfErr result (λ report. report.error ≢ (reason_row Reason.OutOfMemory).0) }
     ensures bytes { meter.new.bytes ≤ budget }
 {
     let most = admit(password, setting, budget, room)?;

@@ -1,4 +1,4 @@
-//! The calls for C (`crypt_c`) and for a web page (`crypt_web`), for whoever has memory or none: they read their arguments,
+//! The calls for C (`crypt_c`) and for a web page (`crypt_web`), with a heap or lent memory: they read their arguments,
 //! hash, and return a report.
 //!
 //! Both are static libraries, which no crate can depend on, so this is a library below them. A call that can hash takes a
@@ -15,6 +15,7 @@ pub mod limit;
 pub mod login;
 pub mod message;
 pub mod name;
+pub mod need;
 pub mod new_hash;
 mod reading;
 pub mod reason;

@@ -1,15 +1,16 @@
 //! A login: a password against a stored hash, which may be outdated. If the stored hash can't be checked, the password is
 //! hashed as a new one is, so that the call costs the same.
-ghost use Rattle.std.specs.Prelude.{◌≡◌, ◌≤◌, ◌⊎◌, ◌≢◌, length, false, true};
+ghost use Rattle.std.specs.Prelude.{◌≡◌, ◌≤◌, ◌⊎◌, ◌≢◌, length};
 ghost use Rattle.prims_core.specs.Work.{no_work};
-ghost use Rattle.crypt_core.specs.Crypt.{allocates};
-ghost use Rattle.crypt_core.specs.Settings.{SettingValue, Spells};
+ghost use Rattle.crypt_core.specs.Needs.{AreEnough};
+ghost use Rattle.crypt_core.specs.Settings.{SettingValue};
 ghost use Rattle.crypt_core.specs.Work.{cost};
 ghost use Rattle.crypt_core.specs.declared.scheme.Scheme.{Scheme as Made};
 ghost use Rattle.call_core.specs.Arguments.{IsSchemeMade, TakesNewRounds};
 ghost use Rattle.call_core.specs.Checks.{IsDead, NeedsNoMemory, Opens};
 ghost use Rattle.call_core.specs.Limits.{limit_in};
-ghost use Rattle.call_core.specs.Logins.{IsHashWork, IsMiss, IsUncheckable, LogsIn, TellsDead};
+ghost use Rattle.call_core.specs.Logins.{Declines, IsMiss, LogsIn, TellsDead};
+ghost use Rattle.call_core.specs.Needs.{LoginHashesWith};
 ghost use Rattle.call_core.specs.Reasons.{reason_row};
 ghost use Rattle.call_core.specs.Rehashes.{IsOutdated};
 
@@ -29,7 +30,7 @@ use prims_core::meter::Meter;
 /// Compares the password's hash with the stored one, if the limit allows it, or else makes and drops a hash like a new
 /// one. `outdated` tells whether a new hash with the method and the rounds would replace the stored one.
 pub fn log_in<M: Memory>(
-    memory: &M,
+    memory: &mut M,
     password: &[u8],
     field: &[u8],
     method: u32,
@@ -46,10 +47,8 @@ pub fn log_in<M: Memory>(
     ensures dead { TellsDead password.now field.now method rounds (limit_in method rounds limit (length password.now)) result }
     ensures outdated { result.outdated ≡ 1 → (result.error ≡ 0) × IsOutdated field.now method rounds }
     ensures replaced { result.error ≡ 0 → IsOutdated field.now method rounds → result.outdated ≡ 1 }
-    ensures granted { (kept : SettingValue) → Spells field.now kept → cost kept (length password.now) ≤ limit_in method rounds limit (length password.now)
-        → allocates kept.scheme ≡ true → M.HasSome ⊎ ((result.error ≢ 0) × (result.work ≡ no_work)) }
-    ensures granted_decoy { (scheme : Made) → IsSchemeMade TakesNewRounds method rounds scheme
-        → IsUncheckable password.now field.now (limit_in method rounds limit (length password.now)) → allocates scheme ≡ true → M.HasSome ⊎ (result.work ≡ no_work) }
+    ensures enough { ((kept : SettingValue) → LoginHashesWith password.now field.now method rounds (limit_in method rounds limit (length password.now)) kept
+        → AreEnough (M.IsEnough memory.old) kept.scheme) → result.error ≢ (reason_row Reason.OutOfMemory).0 }
     ensures bytes { result.work.bytes ≤ limit_in method rounds limit (length password.now) }
     ensures counted { meter.new ≡ result.work }
 {
@@ -95,9 +94,10 @@ fn miss_of(stored: &StoredHash<'_>) -> Reason
     }
 }
 
-// Makes and drops a hash with the setting `decoy`, if the budget allows it, and returns the refusal with its work.
+// Makes and drops a hash with the setting `decoy`, if the budget allows it, and returns the refusal with its work. If scrypt
+// lacks memory for it, the report says so, since the call then takes less time.
 fn decline<M: Memory>(
-    memory: &M,
+    memory: &mut M,
     password: &Password,
     decoy: &Setting,
     budget: u64,
@@ -106,17 +106,23 @@ fn decline<M: Memory>(
 ) -> Report
     requires new { meter.old ≡ no_work }
     requires refused { (refused.error ≢ 0) × (refused.work ≡ no_work) }
-    ensures declines { (result ≡ record refused { work = result.work })
-        × IsHashWork password.now decoy.now budget result.work }
-    ensures granted { (allocates decoy.now.scheme ≡ false) ⊎ (M.HasSome ⊎ (result.work ≡ no_work)) }
+    requires other { refused.error ≢ (reason_row Reason.OutOfMemory).0 }
+    ensures declines { Declines password.now decoy.now budget refused result }
+    ensures enough { (cost decoy.now (length password.now) ≤ budget → AreEnough (M.IsEnough memory.old) decoy.now.scheme)
+        → result.error ≢ (reason_row Reason.OutOfMemory).0 }
+    ensures refuses { (result.error ≢ 0) × (result.outdated ≡ refused.outdated) }
     ensures bytes { result.work.bytes ≤ budget }
     ensures counted { meter.new ≡ result.work }
 {
     if cost_within(password, decoy, budget).is_err() {
         return refused;
     }
-    let _ = hash_by(memory, password, decoy, meter);
+    let error = match hash_by(memory, password, decoy, meter) {
+        Ok(_) => refused.error,
+        Err(_) => Reason::OutOfMemory.number(),
+    };
     Report {
+        error,
         work: meter.work(),
         ..refused
     }

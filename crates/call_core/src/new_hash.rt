@@ -1,10 +1,14 @@
 //! The hash of a password with a new setting.
-ghost use Rattle.std.specs.Prelude.{◌≡◌, ◌≢◌, [], length, take, IfOk};
+ghost use Rattle.std.specs.Prelude.{◌≡◌, ◌≢◌, [], length, take, IfErr, IfOk};
 ghost use Rattle.prims_core.specs.Work.{no_work};
+ghost use Rattle.crypt_core.specs.Needs.{AreEnough};
+ghost use Rattle.crypt_core.specs.declared.scheme.Scheme.{Scheme as Made};
+ghost use Rattle.call_core.specs.Arguments.{IsSchemeMade, TakesNewRounds};
 ghost use Rattle.call_core.specs.Checks.{Opens};
 ghost use Rattle.call_core.specs.Hashes.{HashesAnew};
 ghost use Rattle.call_core.specs.Limits.{limit_in};
 ghost use Rattle.call_core.specs.Private.Hashes.{IsTold, MakesHashAnew};
+ghost use Rattle.call_core.specs.Reasons.{reason_row};
 ghost use Rattle.call_core.specs.Rehashes.{Rehashes};
 ghost use Rattle.call_core.specs.Reports.{found, put, token};
 
@@ -23,7 +27,7 @@ use prims_core::meter::Meter;
 ///
 /// Without three random numbers it refuses, once nothing else but memory can be refused.
 pub fn put_new_hash<M: Memory>(
-    memory: &M,
+    memory: &mut M,
     password: &[u8],
     method: u32,
     rounds: u32,
@@ -38,6 +42,8 @@ pub fn put_new_hash<M: Memory>(
     ensures opens { result.error ≡ 0 → Opens password.now (take result.length out.new) (limit_in method rounds limit (length password.now)) }
     ensures current { result.error ≡ 0
         → Rehashes (take result.length out.new) method rounds (found 0 0 no_work) }
+    ensures enough { ((scheme : Made) → IsSchemeMade TakesNewRounds method rounds scheme → AreEnough (M.IsEnough memory.old) scheme)
+        → result.error ≢ (reason_row Reason.OutOfMemory).0 }
     ensures counted { meter.new ≡ result.work }
 {
     let room = out.len();
@@ -49,7 +55,7 @@ pub fn put_new_hash<M: Memory>(
 
 // Hashes the password with a new setting, for `room` bytes, and returns the hash and the report.
 fn new_hash_of<M: Memory>(
-    memory: &M,
+    memory: &mut M,
     password: &[u8],
     method: u32,
     rounds: u32,
@@ -63,6 +69,8 @@ fn new_hash_of<M: Memory>(
     ensures told { IsTold (limit_in method rounds limit (length password.now)) room meter.new result }
     ensures opens { IfOk result (λ made. Opens password.now made.0 (limit_in method rounds limit (length password.now))) }
     ensures current { IfOk result (λ made. Rehashes made.0 method rounds (found 0 0 no_work)) }
+    ensures enough { ((scheme : Made) → IsSchemeMade TakesNewRounds method rounds scheme → AreEnough (M.IsEnough memory.old) scheme)
+        → IfErr result (λ report. report.error ≢ (reason_row Reason.OutOfMemory).0) }
 {
     let request = read_request(password, method, rounds, limit)?;
     if numbers.len() == 3 {

@@ -51,7 +51,7 @@ pub enum Reason {
     TooFewBytes = 19,
     /// The system gave no random numbers for a salt.
     NoRandomNumbers = 20,
-    /// scrypt could not allocate. No other method allocates.
+    /// scrypt lacked memory. No other method needs any.
     OutOfMemory = 21,
     /// The password does not match the stored hash.
     WrongPassword = 22,

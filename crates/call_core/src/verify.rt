@@ -1,11 +1,13 @@
 //! A password against a stored hash.
-ghost use Rattle.std.specs.Prelude.{◌≡◌, ◌≢◌, ◌⊎◌, ◌≤◌, if◌then◌else◌, length, false, true, IfOk, IfErr, IsOk};
+ghost use Rattle.std.specs.Prelude.{◌≡◌, ◌≢◌, ◌⊎◌, ◌≤◌, if◌then◌else◌, length, true, IfOk, IfErr, IsOk};
 ghost use Rattle.prims_core.specs.Work.{no_work};
 ghost use Rattle.crypt_core.specs.Crypt.{allocates, crypt};
+ghost use Rattle.crypt_core.specs.Needs.{AreEnough};
 ghost use Rattle.crypt_core.specs.Settings.{SettingValue, Spells};
 ghost use Rattle.crypt_core.specs.StoredFields.{IsHashOf};
 ghost use Rattle.crypt_core.specs.Work.{cost, work};
 ghost use Rattle.call_core.specs.Checks.{Compares, IsDead, NeedsNoMemory, Opens, Verifies};
+ghost use Rattle.call_core.specs.Needs.{HashesWith};
 ghost use Rattle.call_core.specs.Private.Checks.{IsCheckRefused};
 ghost use Rattle.call_core.specs.Reasons.{reason_row};
 ghost use Rattle.call_core.specs.Reports.{failed};
@@ -21,7 +23,7 @@ use prims_core::meter::Meter;
 
 /// Compares the password's hash with the stored one, if the budget allows it.
 pub fn verify<M: Memory>(
-    memory: &M,
+    memory: &mut M,
     password: &[u8],
     stored: &[u8],
     budget: u64,
@@ -33,8 +35,8 @@ pub fn verify<M: Memory>(
     ensures opens { Opens password.now stored.now budget → (result.error ≡ 0)
         ⊎ ((result.error ≡ (reason_row Reason.OutOfMemory).0) × ¬ NeedsNoMemory stored.now) }
     ensures shut { IsDead stored.now → result.error ≢ 0 }
-    ensures granted { NeedsNoMemory stored.now
-        ⊎ (M.HasSome ⊎ ((result.error ≢ 0) × (result.work ≡ no_work))) }
+    ensures enough { ((kept : SettingValue) → HashesWith password.now stored.now budget kept → AreEnough (M.IsEnough memory.old) kept.scheme)
+        → result.error ≢ (reason_row Reason.OutOfMemory).0 }
     ensures bytes { result.work.bytes ≤ budget }
     ensures counted { meter.new ≡ result.work }
 {
@@ -67,6 +69,7 @@ pub(crate) fn checkable<'a>(
     ensures within { IfOk result (λ check. (check.1 ≡ cost check.0.setting (length password.now)) × (check.1 ≤ budget)) }
     ensures refused { IfErr result (IsCheckRefused password.now field.now budget) }
     ensures idle { IfErr result (λ report. (report.error ≢ 0) × (report.work ≡ no_work)) }
+    ensures other { IfErr result (λ report. report.error ≢ (reason_row Reason.OutOfMemory).0) }
     ensures only { IfOk result (λ check. (kept : SettingValue) → Spells field.now kept → check.0.setting ≡ kept) }
     ensures admits { (kept : SettingValue) → Spells field.now kept → cost kept (length password.now) ≤ budget → IsOk result }
 {
@@ -78,7 +81,7 @@ pub(crate) fn checkable<'a>(
 /// Compares the password's hash, which costs at most `most`, with the stored one. If they are the same, the report says
 /// whether the stored one is outdated, and else the reason is `misses`.
 pub(crate) fn compare<M: Memory>(
-    memory: &M,
+    memory: &mut M,
     password: &Password,
     stored: &StoredHash<'_>,
     most: u64,
@@ -98,8 +101,7 @@ pub(crate) fn compare<M: Memory>(
     ensures missed { crypt password.now stored.now.setting ≢ stored.now.text
         → (result ≡ failed misses most (work password.now stored.now.setting))
         ⊎ ((result.error ≡ (reason_row Reason.OutOfMemory).0) × (allocates stored.now.setting.scheme ≡ true)) }
-    ensures granted { (allocates stored.now.setting.scheme ≡ false)
-        ⊎ (M.HasSome ⊎ ((result.error ≢ 0) × (result.work ≡ no_work))) }
+    ensures enough { AreEnough (M.IsEnough memory.old) stored.now.setting.scheme → result.error ≢ (reason_row Reason.OutOfMemory).0 }
     ensures bytes { result.work.bytes ≤ most }
     ensures counted { meter.new ≡ result.work }
 {

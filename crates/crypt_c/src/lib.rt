@@ -7,7 +7,8 @@
 //! `out`.
 //!
 //! The error is the first one that applies, in this order: password, setting, method, salt, rounds, budget, capacity, random
-//! numbers, memory. For a login and an audit method and rounds come before the field. [`mkpasswd_proved_verify`],
+//! numbers, memory. For a login and an audit method and rounds come before the field; but a login that lacks memory for its decoy
+//! reports that, not the field's error. [`mkpasswd_proved_verify`],
 //! [`mkpasswd_proved_login`] and [`mkpasswd_audit_bytes`] read a stored field: a locked one is `Locked` and an empty one `NoHash`,
 //! where the other calls report what is wrong with it as a setting. A method of 0 is the recommended one, sha512crypt, and
 //! rounds of 0 are the recommended ones. The calls share no state and start no threads, so many threads may call at once.
@@ -81,9 +82,10 @@ pub extern "C" fn mkpasswd_proved_verify(
     ensures shut { IsDead stored.now → result ≡ pos 0 }
     ensures verifies { Verifies password.now stored.now budget report.new }
 {
+    let mut heap = alloc;
     tell(
         report,
-        verify(&alloc, password, stored, budget, &mut Meter::new()),
+        verify(&mut heap, password, stored, budget, &mut Meter::new()),
     )
 }
 
@@ -106,11 +108,11 @@ pub extern "C" fn mkpasswd_proved_verify(
 ///   difference.
 /// - `Locked`, `NoHash`: the field begins with `!` or `*`, or is empty.
 /// - `SettingTooLong` to `BadSalt`, `OverBudget`: any other field has no valid hash, or one that can cost more than the budget. After these
-///   four the work is that of the new hash: none if that can cost more than the budget, and if scrypt could not allocate
-///   for it, that of the allocations before.
+///   four the work is that of the new hash: none if that can cost more than the budget.
 /// - `WrongPassword`: the password does not match.
 /// - `Dead`: no password matches the stored hash, because it is not whole. The work is that of `WrongPassword`.
-/// - `OutOfMemory`: scrypt could not allocate for the stored hash.
+/// - `OutOfMemory`: scrypt could not allocate, for the stored hash or, if that cannot be checked, for a new one. The work is that of
+///   the allocations before.
 #[unsafe(no_mangle)]
 pub extern "C" fn mkpasswd_proved_login(
     alloc: Global,
@@ -130,10 +132,11 @@ pub extern "C" fn mkpasswd_proved_login(
         result report.new }
     ensures treats_alike { TreatsFieldsAlike password.now field.now method rounds budget result report.new }
 {
+    let mut heap = alloc;
     tell(
         report,
         log_in(
-            &alloc,
+            &mut heap,
             password,
             field,
             method,
@@ -184,10 +187,11 @@ pub extern "C" fn mkpasswd_proved_new_from(
     ensures then_opens { result ≡ pos 1 → Opens password.now (take report.new.length out.new) (limit_of method rounds budget (length password.now)) }
     ensures then_current { result ≡ pos 1 → Rehashes (take report.new.length out.new) method rounds (found 0 0 no_work) }
 {
+    let mut heap = alloc;
     tell(
         report,
         put_new_hash(
-            &alloc,
+            &mut heap,
             password,
             method,
             rounds,
@@ -364,10 +368,9 @@ pub extern "C" fn mkpasswd_proved_hash(
     ensures locked { result ≡ pos 0 → out.new ≡ put (token setting.now) out.old }
     ensures apart { (token setting.now ≢ setting.now) × ((kept : SettingValue) → ¬ Spells (token setting.now) kept) }
 {
-    tell(
-        report,
-        put_hash(&alloc, password, setting, budget, out, &mut Meter::new()),
-    )
+    let mut heap = alloc;
+    let told = put_hash(&mut heap, password, setting, budget, out, &mut Meter::new());
+    tell(report, told)
 }
 
 /// Makes a setting with a method, the rounds and a given salt, and writes it and a byte 0 to `out`.

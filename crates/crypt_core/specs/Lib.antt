@@ -10,6 +10,7 @@ pub mod Messages
 pub mod Metering
 pub mod MethodLimits
 pub mod Methods
+pub mod Needs
 pub mod OtherSchemes
 pub mod OutdatedSchemes
 pub mod Packing

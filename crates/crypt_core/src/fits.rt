@@ -88,5 +88,6 @@ pub fn fits(
     ensures below { (kept : SettingValue) → Spells stored.now kept → IsBelow (work password.now kept) work_limit }
     ensures each_refusal { (fault : Refusal) → IsRefused stored.now fault → result ≡ Err (FitFault.Setting fault) }
 {
-    Ok(StoredHash::read(stored)?.matches(&alloc, password, meter)?)
+    let mut heap = alloc;
+    Ok(StoredHash::read(stored)?.matches(&mut heap, password, meter)?)
 }

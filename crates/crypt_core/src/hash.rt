@@ -1,8 +1,10 @@
 //! Hashing a password with a setting, as crypt(3) does.
-ghost use Rattle.std.specs.Prelude.{◌≡◌, ℕ, ◌≤◌, ⊤, List, length, IfOk};
+ghost use Rattle.std.specs.Prelude.{◌≡◌, ℕ, ◌≤◌, List, length, IfOk, IsOk};
 ghost use Rattle.prims_core.specs.Meter.{HasRoom};
+ghost use Rattle.kdf_core.specs.Params.{ScryptParams};
 ghost use Rattle.crypt_core.specs.Crypt.{crypt, digest_by};
 ghost use Rattle.crypt_core.specs.Metering.{IsMetered};
+ghost use Rattle.crypt_core.specs.Needs.{AreEnough};
 ghost use Rattle.crypt_core.specs.TextLimits.{hash_limit};
 ghost use Rattle.crypt_core.specs.Packing.{packed};
 ghost use Rattle.crypt_core.specs.Settings.{Spells, canonical_text, dollar};
@@ -36,6 +38,7 @@ pub struct Hashed {
 
 impl Model for Hashed {
     ghost use Rattle.std.specs.Prelude.{ℕ, List, length, ◌≤◌};
+    ghost use Rattle.crypt_core.specs.Needs.{AreEnough};
     ghost use Rattle.crypt_core.specs.TextLimits.{hash_limit};
 
     ghost Value = { List ℕ };
@@ -59,7 +62,7 @@ impl Hashed {
 #[derive(Clone, Copy, Debug, PartialEq, Eq, Drop, Error)]
 #[error("{}", self.text())]
 pub enum HashFault {
-    /// scrypt could not allocate. No other method allocates.
+    /// scrypt lacked memory: it could not allocate, or too little is lent. No other method needs any.
     OutOfMemory,
 }
 
@@ -103,9 +106,10 @@ pub fn hash(
     requires { HasRoom meter.old }
     ensures text { IfOk result (λ hashed. hashed ≡ crypt password.now setting.now) }
     ensures spells { IfOk result (λ hashed. Spells hashed setting.now) }
-    ensures metered { IsMetered ⊤ meter.old password.now setting.now meter.new result }
+    ensures metered { IsMetered meter.old password.now setting.now meter.new result }
 {
-    hash_by(&alloc, password, setting, meter)
+    let mut heap = alloc;
+    hash_by(&mut heap, password, setting, meter)
 }
 
 /// Returns the hash of a password with a setting, as [`hash`] does, with this memory for scrypt.
@@ -114,9 +118,10 @@ pub fn hash(
 ///
 /// # Errors
 ///
-/// - `OutOfMemory`: scrypt has no memory, or could not allocate. No other method needs any.
+/// - `OutOfMemory`: scrypt could not allocate, or too little is lent: less than the [`need`](Scheme::need) of the setting's
+///   scheme. The meter adds only the allocations that succeeded. No other method needs memory.
 pub fn hash_by<M: Memory>(
-    memory: &M,
+    memory: &mut M,
     password: &Password,
     setting: &Setting,
     meter: &mut Meter,
@@ -124,7 +129,9 @@ pub fn hash_by<M: Memory>(
     requires { HasRoom meter.old }
     ensures text { IfOk result (λ hashed. hashed ≡ crypt password.now setting.now) }
     ensures spells { IfOk result (λ hashed. Spells hashed setting.now) }
-    ensures metered { IsMetered M.HasSome meter.old password.now setting.now meter.new result }
+    ensures metered { IsMetered meter.old password.now setting.now meter.new result }
+    ensures enough { AreEnough (M.IsEnough memory.old) setting.now.scheme → IsOk result }
+    ensures kept { (other : ScryptParams) → M.IsEnough memory.old other → M.IsEnough memory.new other }
 {
     let digest = digest_of(memory, password, setting, meter)?;
     let mut text = setting.text();
@@ -144,7 +151,7 @@ pub fn hash_len(setting: &Setting) -> usize
 
 // Returns the digest of the password with the setting's scheme and salt.
 fn digest_of<M: Memory>(
-    memory: &M,
+    memory: &mut M,
     password: &Password,
     setting: &Setting,
     meter: &mut Meter,
@@ -153,7 +160,9 @@ fn digest_of<M: Memory>(
     ensures digest { IfOk result (λ digest. digest.items
         ≡ digest_by setting.now.scheme password.now setting.now.salt) }
     ensures length { IfOk result (λ digest. length digest.items ≡ digest_len (method_of setting.now.scheme)) }
-    ensures metered { IsMetered M.HasSome meter.old password.now setting.now meter.new result }
+    ensures metered { IsMetered meter.old password.now setting.now meter.new result }
+    ensures enough { AreEnough (M.IsEnough memory.old) setting.now.scheme → IsOk result }
+    ensures kept { (other : ScryptParams) → M.IsEnough memory.old other → M.IsEnough memory.new other }
 {
     let salt = setting.salt();
     match setting.scheme() {

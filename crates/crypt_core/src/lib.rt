@@ -10,6 +10,7 @@ pub mod md5crypt;
 pub mod memory;
 mod messages;
 pub mod method;
+pub mod need;
 pub mod other_scheme;
 pub mod pack;
 pub mod password;

@@ -1,22 +1,27 @@
-//! Where scrypt's memory comes from: the heap, or nowhere. No other method needs any.
-ghost use Rattle.std.specs.Prelude.{◌≡◌, ◌⊎◌, ⊤, length, IfOk, OnOk, OnErr};
+//! The memory that scrypt works in: the heap, or what a caller lends. No other method needs any.
+ghost use Rattle.std.specs.Prelude.{◌≡◌, ◌≤◌, length, IfOk, IsOk, OnOk, OnErr};
 ghost use Rattle.prims_core.specs.Meter.{HasRoom};
+ghost use Rattle.kdf_core.specs.Lent.{needed_bytes, needed_words};
+ghost use Rattle.kdf_core.specs.Params.{ScryptParams};
 ghost use Rattle.kdf_core.specs.Scrypt.{scrypt};
 ghost use Rattle.kdf_core.specs.ScryptMessages.{with_scrypt};
 ghost use Rattle.kdf_core.specs.ScryptWork.{IsAfterRefusal};
 ghost use Rattle.crypt_core.specs.MethodLimits.{digest_len};
+ghost use Rattle.crypt_core.specs.Needs.{bytes_by, words_by, AreEnough};
 ghost use Rattle.crypt_core.specs.declared.method.Method.TheVariants.{Scrypt};
+ghost use Rattle.crypt_core.specs.declared.scheme.Scheme.{Scheme};
 
 use arrayvec::ArrayVec;
+use kdf_core::lent::scrypt_lent;
 use kdf_core::params::Params;
 use kdf_core::scrypt::scrypt;
 use prims_core::meter::Meter;
 use std::alloc::{AllocError, Global};
 
-/// Where scrypt's memory comes from.
+/// Memory that scrypt works in.
 pub trait Memory {
-    // There is memory, though perhaps too little.
-    ghost HasSome: { Type 0 };
+    // It is known to be enough for scrypt with these parameters.
+    ghost IsEnough: { Self → ScryptParams → Type 0 };
 
     /// Returns scrypt's digest, which has 32 bytes (RFC 7914).
     ///
@@ -24,9 +29,9 @@ pub trait Memory {
     ///
     /// # Errors
     ///
-    /// [`AllocError`] if there is no memory, or too little. The meter adds only the allocations that succeeded.
+    /// [`AllocError`] if an allocation fails, or too little is lent. The meter adds only the allocations that succeeded.
     fn scrypt(
-        &self,
+        &mut self,
         password: &[u8],
         salt: &[u8],
         params: &Params,
@@ -38,15 +43,16 @@ pub trait Memory {
         ensures count { OnOk result (meter.new
             ≡ with_scrypt meter.old params.now (length password.now) (length salt.now) (digest_len Scrypt)) }
         ensures refused { OnErr result (IsAfterRefusal meter.old params.now meter.new) }
-        ensures granted { OnOk result HasSome }
-        ensures idle { OnErr result (HasSome ⊎ (meter.new ≡ meter.old)) };
+        ensures enough { IsEnough self.old params.now → IsOk result }
+        ensures kept { (other : ScryptParams) → IsEnough self.old other → IsEnough self.new other };
 }
 
 impl Memory for Global {
-    ghost HasSome = { ⊤ };
+    // Any allocation can fail.
+    ghost IsEnough = { λ _ _. ⊥ };
 
     fn scrypt(
-        &self,
+        &mut self,
         password: &[u8],
         salt: &[u8],
         params: &Params,
@@ -58,20 +64,47 @@ impl Memory for Global {
     }
 }
 
-/// No memory, as on a web page: scrypt is refused as if its first allocation failed.
+/// Memory that a caller lends, for any number of hashes, one after another. What it holds before does not matter, and what it
+/// holds after is not said.
 #[derive(Drop)]
-pub struct NoHeap;
+pub struct Lent<'a> {
+    words: &'a mut [u32],
+    bytes: &'a mut [u8],
+}
 
-impl Memory for NoHeap {
-    ghost HasSome = { ⊥ };
+impl<'a> Lent<'a> {
+    /// Takes lent memory. It is enough for a scheme if it has the words and the bytes of [`Scheme::need`](crate::scheme::Scheme::need).
+    pub fn new(words: &'a mut [u32], bytes: &'a mut [u8]) -> Lent<'a>
+        ensures enough { (scheme : Scheme) → words_by scheme ≤ length words.old → bytes_by scheme ≤ length bytes.old
+            → AreEnough (⟦<Lent<'a> as Memory>⟧.IsEnough result) scheme }
+    {
+        Lent { words, bytes }
+    }
+}
+
+impl<'a> Memory for Lent<'a> {
+    ghost IsEnough = { λ lent params. (needed_words params ≤ length lent.words.now)
+        × (needed_bytes params ≤ length lent.bytes.now) };
 
     fn scrypt(
-        &self,
-        _password: &[u8],
-        _salt: &[u8],
-        _params: &Params,
-        _meter: &mut Meter,
+        &mut self,
+        password: &[u8],
+        salt: &[u8],
+        params: &Params,
+        meter: &mut Meter,
     ) -> Result<ArrayVec<u8, 64>, AllocError> {
-        Err(AllocError)
+        let mut digest = [0; 32];
+        match scrypt_lent(
+            self.words,
+            self.bytes,
+            password,
+            salt,
+            params,
+            &mut digest,
+            meter,
+        ) {
+            Ok(()) => Ok(ArrayVec::try_from(digest.as_slice()).unwrap()),
+            Err(_) => Err(AllocError),
+        }
     }
 }

@@ -1,11 +1,13 @@
 //! Stored fields, as a password file has them (shadow(5)): empty, locked, or a stored hash. A stored hash is read once
 //! and keeps its setting.
 
-ghost use Rattle.std.specs.Prelude.{◌≡◌, ◌↔◌, ℕ, List, Err, IsTrue, IfOk, IfErr};
+ghost use Rattle.std.specs.Prelude.{◌≡◌, ◌↔◌, ℕ, List, Err, IsTrue, IfOk, IfErr, IsOk};
 ghost use Rattle.prims_core.specs.Meter.{HasRoom};
+ghost use Rattle.kdf_core.specs.Params.{ScryptParams};
 ghost use Rattle.crypt_core.specs.declared.setting.fault.SettingFault.{SettingFault as Refusal};
 ghost use Rattle.crypt_core.specs.Crypt.{crypt};
 ghost use Rattle.crypt_core.specs.Metering.{IsMetered};
+ghost use Rattle.crypt_core.specs.Needs.{AreEnough};
 ghost use Rattle.crypt_core.specs.Readings.{IsFieldReading, IsReadOneWay};
 ghost use Rattle.crypt_core.specs.Fits.{Fits};
 ghost use Rattle.crypt_core.specs.Refusals.{IsRefused};
@@ -86,7 +88,8 @@ impl<'a> StoredHash<'a> {
         }
     }
 
-    /// Returns whether hashing the password with the setting reproduces the stored hash, to the last byte.
+    /// Returns whether hashing the password with the setting reproduces the stored hash, to the last byte, with this memory
+    /// for scrypt.
     ///
     /// The call raises the meter by exactly the work of that one hash, less than 2^41 in each count;
     /// [`bound`](crate::work::bound) returns a bound on it before hashing.
@@ -95,19 +98,22 @@ impl<'a> StoredHash<'a> {
     ///
     /// # Errors
     ///
-    /// - `OutOfMemory`: scrypt has no memory, or could not allocate. The meter adds only the allocations that succeeded.
-    ///   No other method allocates.
+    /// - `OutOfMemory`: scrypt could not allocate, or too little is lent: less than the
+    ///   [`need`](crate::scheme::Scheme::need) of the setting's scheme. The meter adds only the allocations that succeeded.
+    ///   No other method needs memory.
     pub fn matches<M: Memory>(
         &self,
-        memory: &M,
+        memory: &mut M,
         password: &Password,
         meter: &mut Meter,
     ) -> Result<bool, HashFault>
         requires { HasRoom meter.old }
         ensures verdict { IfOk result (λ verdict. IsTrue verdict ↔ (crypt password.now self.now.setting ≡ self.now.text)) }
         ensures fits { IfOk result (λ verdict. IsTrue verdict ↔ Fits password.now self.now.text) }
-        ensures metered { IsMetered M.HasSome meter.old password.now self.now.setting meter.new result }
+        ensures metered { IsMetered meter.old password.now self.now.setting meter.new result }
         ensures spelled { Spells self.now.text self.now.setting }
+        ensures enough { AreEnough (M.IsEnough memory.old) self.now.setting.scheme → IsOk result }
+        ensures kept { (other : ScryptParams) → M.IsEnough memory.old other → M.IsEnough memory.new other }
     {
         let hashed = hash_by(memory, password, &self.setting, meter)?;
         Ok(same_bytes(hashed.text(), self.text))

@@ -1,35 +1,42 @@
-//! mkpasswd for a web page: hashing and checking with md5crypt, sha256crypt and sha512crypt, without a heap.
+//! mkpasswd for a web page and for node: hashing and checking, without a heap, in memory that the caller lends for scrypt.
 //!
-//! A web page or node calls the WebAssembly module built from this crate. A list of bytes is a pointer and a number of bytes.
-//! Pointers are valid, the report is aligned, and neither `out` nor the report overlaps another argument. Nothing is wiped.
+//! A web page or node calls the WebAssembly module built from this crate. A list is a pointer and the number of its items.
+//! Pointers are valid; the report, `words` and `need` are aligned; and what a call writes (`words`, `bytes`, `out`, the report,
+//! `need`) overlaps no other argument. Nothing is wiped.
 //!
-//! Each call returns 1 for yes: it did what its name says, the password matches, the stored hash is outdated, or current for an
-//! audit. Otherwise it returns 0. It writes the whole report, whose error is 0 or the number of the first reason why not, in the
-//! order password, setting, method, rounds, budget, capacity, memory; of a login and an audit method and rounds come before the
-//! field. [`web_verify`], [`web_login`] and [`web_audit`] read a stored field: a locked one is `Locked` and an empty one `NoHash`,
+//! But for [`web_need`] and [`web_login_need`], each call returns 1 for yes: it did what its name says, the password matches, the
+//! stored hash is outdated, or current for an audit. Otherwise it returns 0. It writes the whole report, whose error is 0 or the
+//! number of the first reason why not, in the order password, setting, method, rounds, budget, capacity, memory; of a login and an
+//! audit method and rounds come before the field; but a login that lacks memory for its decoy reports that, not the field's error.
+//! [`web_verify`], [`web_login`] and [`web_audit`] read a stored field: a locked one is `Locked` and an empty one `NoHash`,
 //! where the other calls report what is wrong with it as a setting. A method of 0 is the recommended one, sha512crypt, and rounds
 //! of 0 are the recommended ones. These numbers, the report's other fields and what is left in `out` are those of the calls for C.
-//! scrypt needs memory, so the calls that hash refuse it with `OutOfMemory`.
+//!
+//! Only scrypt needs memory, as `words` of 4 bytes and `bytes`. [`web_need`] and [`web_login_need`] tell how much a call needs with
+//! its arguments. With so much lent, or more, it is never `OutOfMemory`. What the memory holds before does not matter, and what it
+//! holds after is not said.
 #![tactic(auto)]
 
-ghost use Rattle.std.specs.Prelude.{◌≡◌, ◌≢◌, ◌≤◌, ◌↔◌, true, pos, [], ◌∷◌, length, take};
+ghost use Rattle.std.specs.Prelude.{◌≡◌, ◌≢◌, ◌≤◌, ◌⊎◌, ◌↔◌, pos, [], ◌∷◌, length, take};
 ghost use Rattle.prims_core.specs.Work.{no_work};
-ghost use Rattle.crypt_core.specs.Crypt.{allocates};
 ghost use Rattle.crypt_core.specs.Passwords.{password_limit};
 ghost use Rattle.crypt_core.specs.Policies.{NeverFits};
 ghost use Rattle.crypt_core.specs.Settings.{SettingValue, Spells};
-ghost use Rattle.crypt_core.specs.Work.{cost};
+ghost use Rattle.crypt_core.specs.declared.need.Need.{Need as Needed};
 ghost use Rattle.crypt_core.specs.declared.scheme.Scheme.{Scheme};
 ghost use Rattle.call_core.specs.Arguments.{IsSchemeMade, TakesNewRounds};
 ghost use Rattle.call_core.specs.Audits.{Audits, ForeseesLogins, IsCurrent};
-ghost use Rattle.call_core.specs.Checks.{IsDead, NeedsNoMemory, Opens, Verifies};
+ghost use Rattle.call_core.specs.Checks.{IsDead, Opens, Verifies};
 ghost use Rattle.call_core.specs.Hashes.{Hashes};
 ghost use Rattle.call_core.specs.Limits.{AreFitted, ReportsRounds, Limits, limit_bytes, limit_of, meant, twice};
-ghost use Rattle.call_core.specs.Logins.{IsUncheckable, JudgesStoredHash, LogsIn, TreatsFieldsAlike};
+ghost use Rattle.call_core.specs.Logins.{JudgesStoredHash, LogsIn, TreatsFieldsAlike};
 ghost use Rattle.call_core.specs.Names.{PutsMessage, PutsSchemeName};
+ghost use Rattle.call_core.specs.Needs.{HashesWith, IsNeed, LoginHashesWith};
+ghost use Rattle.call_core.specs.Reasons.{reason_row};
 ghost use Rattle.call_core.specs.Rehashes.{IsOutdated, Rehashes};
 ghost use Rattle.call_core.specs.Reports.{Answers, AnswersCurrent, AnswersOutdated, put, token};
 ghost use Rattle.call_core.specs.Settings.{Bounds, PutsSetting};
+ghost use Rattle.call_core.specs.declared.reason.Reason.TheVariants.{OutOfMemory};
 
 use call_core::audit::report_audit;
 use call_core::bound::report_bound;
@@ -38,15 +45,17 @@ use call_core::limit::{Limit, report_limit, report_rounds};
 use call_core::login::log_in;
 use call_core::message::put_message;
 use call_core::name::put_scheme_name;
+use call_core::need::{hash_need, login_need};
 use call_core::rehash::report_rehash;
 use call_core::report::{Report, tell, tell_current, tell_outdated};
 use call_core::setting::put_setting;
 use call_core::verify::verify;
-use crypt_core::memory::NoHeap;
+use crypt_core::memory::Lent;
+use crypt_core::need::Need;
 use prims_core::meter::Meter;
 
-/// Checks a password against a stored hash. Returns 1 exactly if it matches, its hash costs at most the budget, and its
-/// method is not scrypt.
+/// Checks a password against a stored hash. Returns 1 exactly if it matches and its hash costs at most the budget, unless too
+/// little memory is lent for scrypt.
 ///
 /// The call hashes nothing above the budget. The report has the cost once the password and the stored hash are known to be
 /// valid, and the work of the hash.
@@ -59,37 +68,39 @@ use prims_core::meter::Meter;
 /// - `Locked`, `NoHash`: the stored hash begins with `!` or `*`, or is empty.
 /// - `SettingTooLong` to `BadSalt`: any other stored hash is invalid.
 /// - `OverBudget`: the hash can cost more than the budget.
-/// - `OutOfMemory`: the method is scrypt.
+/// - `OutOfMemory`: less memory is lent than [`web_need`] tells.
 /// - `WrongPassword`: the password does not match.
 #[unsafe(no_mangle)]
 pub extern "C" fn web_verify(
+    words: &mut [u32],
+    bytes: &mut [u8],
     password: &[u8],
     stored: &[u8],
     budget: u64,
     report: &mut Report,
 ) -> i32
     ensures answers { Answers result report.new }
-    ensures lets_in { result ≡ pos 1 → Opens password.now stored.now budget × NeedsNoMemory stored.now }
-    ensures opens { Opens password.now stored.now budget → NeedsNoMemory stored.now → result ≡ pos 1 }
+    ensures lets_in { result ≡ pos 1 → Opens password.now stored.now budget }
+    ensures opens { Opens password.now stored.now budget
+        → (result ≡ pos 1) ⊎ (report.new.error ≡ (reason_row OutOfMemory).0) }
     ensures shut { IsDead stored.now → result ≡ pos 0 }
     ensures verifies { Verifies password.now stored.now budget report.new }
-    ensures scrypt { ¬ NeedsNoMemory stored.now → (result ≡ pos 0) × (report.new.work ≡ no_work) }
+    ensures enough { (need : Needed) → IsNeed (HashesWith password.now stored.now budget) need
+        → need.words ≤ length words.old → need.bytes ≤ length bytes.old → report.new.error ≢ (reason_row OutOfMemory).0 }
     ensures bytes { report.new.work.bytes ≤ budget }
 {
-    tell(
-        report,
-        verify(&NoHeap, password, stored, budget, &mut Meter::new()),
-    )
+    let mut lent = Lent::new(words, bytes);
+    let told = verify(&mut lent, password, stored, budget, &mut Meter::new());
+    tell(report, told)
 }
 
 /// Checks the password of a login, as `mkpasswd_login` does for C. Returns 1 exactly if a new hash can have the method and the
-/// rounds, and [`web_verify`] with the same limit returns 1. The report's `outdated` then tells whether [`web_needs_rehash`]
-/// would return 1. After a 0 it is 0.
+/// rounds, and [`web_verify`] with the same limit returns 1, unless too little memory is lent for scrypt. The report's `outdated`
+/// then tells whether [`web_needs_rehash`] would return 1. After a 0 it is 0.
 ///
 /// If the field has no setting, or one above the limit, the call hashes the password with the method, the rounds and a
-/// fixed salt, and returns 0. So such a name does the work of a new hash. A name that is not known has an empty field. The
-/// caller makes such a call for a stored hash of scrypt too: it is refused without work. Whatever the field is, the call makes
-/// at most one hash, and digests no more bytes than the limit.
+/// fixed salt, and returns 0. So such a name does the work of a new hash. A name that is not known has an empty field.
+/// Whatever the field is, the call makes at most one hash, and digests no more bytes than the limit.
 ///
 /// Rounds of 0 are the recommended ones. A budget of 0 is the limit of the policy: twice what a new hash with the method and
 /// the rounds costs for a password of 64 bytes, and at least 150000000. A password whose new hash would be above it is
@@ -102,12 +113,15 @@ pub extern "C" fn web_verify(
 ///   difference.
 /// - `Locked`, `NoHash`: the field begins with `!` or `*`, or is empty.
 /// - `SettingTooLong` to `BadSalt`, `OverBudget`: any other field has no valid hash, or one that can cost more than the budget. After these
-///   four the work is that of the new hash: none if that can cost more than the budget, or is of scrypt.
-/// - `OutOfMemory`: the stored hash is of scrypt.
+///   four the work is that of the new hash: none if that can cost more than the budget.
+/// - `OutOfMemory`: less memory is lent than [`web_login_need`] tells, for the stored hash or, if that cannot be checked, for a new
+///   one.
 /// - `WrongPassword`: the password does not match.
 /// - `Dead`: no password matches the stored hash, because it is not whole. The work is that of `WrongPassword`.
 #[unsafe(no_mangle)]
 pub extern "C" fn web_login(
+    words: &mut [u32],
+    bytes: &mut [u8],
     password: &[u8],
     field: &[u8],
     method: u32,
@@ -116,33 +130,47 @@ pub extern "C" fn web_login(
     report: &mut Report,
 ) -> i32
     ensures answers { Answers result report.new }
-    ensures lets_in { result ≡ pos 1
-        → Opens password.now field.now (limit_of method rounds budget (length password.now)) × NeedsNoMemory field.now }
+    ensures lets_in { result ≡ pos 1 → Opens password.now field.now (limit_of method rounds budget (length password.now)) }
     ensures opens { (scheme : Scheme) → IsSchemeMade TakesNewRounds method rounds scheme
-        → Opens password.now field.now (limit_of method rounds budget (length password.now)) → NeedsNoMemory field.now → result ≡ pos 1 }
+        → Opens password.now field.now (limit_of method rounds budget (length password.now))
+        → (result ≡ pos 1) ⊎ (report.new.error ≡ (reason_row OutOfMemory).0) }
     ensures logs_in { LogsIn password.now field.now method rounds (limit_of method rounds budget (length password.now)) report.new }
     ensures judges { JudgesStoredHash password.now field.now method rounds (limit_of method rounds budget (length password.now))
         result report.new }
     ensures treats_alike { TreatsFieldsAlike password.now field.now method rounds budget result report.new }
-    ensures scrypt { (kept : SettingValue) → Spells field.now kept → cost kept (length password.now) ≤ limit_of method rounds budget (length password.now)
-        → allocates kept.scheme ≡ true → (result ≡ pos 0) × (report.new.work ≡ no_work) }
-    ensures scrypt_decoy { (scheme : Scheme) → IsSchemeMade TakesNewRounds method rounds scheme
-        → IsUncheckable password.now field.now (limit_of method rounds budget (length password.now))
-        → allocates scheme ≡ true → report.new.work ≡ no_work }
+    ensures enough { (need : Needed)
+        → IsNeed (LoginHashesWith password.now field.now method rounds (limit_of method rounds budget (length password.now))) need
+        → need.words ≤ length words.old → need.bytes ≤ length bytes.old → report.new.error ≢ (reason_row OutOfMemory).0 }
     ensures bytes { report.new.work.bytes ≤ limit_of method rounds budget (length password.now) }
 {
-    tell(
-        report,
-        log_in(
-            &NoHeap,
-            password,
-            field,
-            method,
-            rounds,
-            Limit::of(budget),
-            &mut Meter::new(),
-        ),
-    )
+    let mut lent = Lent::new(words, bytes);
+    let told = log_in(
+        &mut lent,
+        password,
+        field,
+        method,
+        rounds,
+        Limit::of(budget),
+        &mut Meter::new(),
+    );
+    tell(report, told)
+}
+
+/// Tells what memory [`web_login`] needs with these arguments: what the stored hash needs if it can be checked within the limit, and
+/// else what a new hash needs if the limit admits it; a call that makes no hash needs nothing. So a stored hash above the limit
+/// never makes anybody lend its memory.
+#[unsafe(no_mangle)]
+pub extern "C" fn web_login_need(
+    password: &[u8],
+    field: &[u8],
+    method: u32,
+    rounds: u32,
+    budget: u64,
+    need: &mut Need,
+)
+    ensures { IsNeed (LoginHashesWith password.now field.now method rounds (limit_of method rounds budget (length password.now))) need.new }
+{
+    *need = login_need(password, field, method, rounds, Limit::of(budget));
 }
 
 /// Returns 1 if a new hash with the method and the rounds would replace the stored one, as `mkpasswd_needs_rehash` does for C.
@@ -177,9 +205,11 @@ pub extern "C" fn web_needs_rehash(
 /// - `PasswordTooLong` to `BadSalt`: the password or the setting is invalid.
 /// - `OverBudget`: the hash can cost more than the budget.
 /// - `TooFewBytes`: the hash and the byte 0 do not fit into `out`.
-/// - `OutOfMemory`: the method is scrypt.
+/// - `OutOfMemory`: less memory is lent than [`web_need`] tells.
 #[unsafe(no_mangle)]
 pub extern "C" fn web_hash(
+    words: &mut [u32],
+    bytes: &mut [u8],
     password: &[u8],
     setting: &[u8],
     budget: u64,
@@ -188,18 +218,25 @@ pub extern "C" fn web_hash(
 ) -> i32
     ensures answers { Answers result report.new }
     ensures hashes { Hashes password.now setting.now budget out.old report.new out.new }
-    ensures then_opens { result ≡ pos 1
-        → Opens password.now (take report.new.length out.new) budget × NeedsNoMemory (take report.new.length out.new) }
+    ensures then_opens { result ≡ pos 1 → Opens password.now (take report.new.length out.new) budget }
     ensures within { result ≡ pos 1 → report.new.cost ≤ budget }
-    ensures scrypt { ¬ NeedsNoMemory setting.now → (result ≡ pos 0) × (report.new.work ≡ no_work) }
+    ensures enough { (need : Needed) → IsNeed (HashesWith password.now setting.now budget) need
+        → need.words ≤ length words.old → need.bytes ≤ length bytes.old → report.new.error ≢ (reason_row OutOfMemory).0 }
     ensures bytes { report.new.work.bytes ≤ budget }
     ensures locked { result ≡ pos 0 → out.new ≡ put (token setting.now) out.old }
     ensures apart { (token setting.now ≢ setting.now) × ((kept : SettingValue) → ¬ Spells (token setting.now) kept) }
 {
-    tell(
-        report,
-        put_hash(&NoHeap, password, setting, budget, out, &mut Meter::new()),
-    )
+    let mut lent = Lent::new(words, bytes);
+    let told = put_hash(&mut lent, password, setting, budget, out, &mut Meter::new());
+    tell(report, told)
+}
+
+/// Tells what memory [`web_verify`] needs for a password and a stored hash, and [`web_hash`] for a password and a setting.
+#[unsafe(no_mangle)]
+pub extern "C" fn web_need(password: &[u8], text: &[u8], budget: u64, need: &mut Need)
+    ensures { IsNeed (HashesWith password.now text.now budget) need.new }
+{
+    *need = hash_need(password, text, budget);
 }
 
 /// Makes a setting with a method, the rounds and three random numbers, and writes it and a byte 0 to `out`.

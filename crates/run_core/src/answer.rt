@@ -223,7 +223,8 @@ fn check_within_budget<R: Rng>(
     if job.is_exceeded_by(cost(stored.setting(), password_len) + new_cost) {
         return Ok(Err(LineFault::OverBudget));
     }
-    if !stored.matches(&alloc, password, meter)? {
+    let mut heap = alloc;
+    if !stored.matches(&mut heap, password, meter)? {
         return Ok(Ok(Outcome::Misfit));
     }
     if !is_outdated {

@@ -481,11 +481,8 @@ class Login(Call):
 
 
 def hash_and_drop(report: Report, policy: Setting, password: bytes) -> None:
-    """Does the work of a new hash, as far as there is memory."""
-    try:
-        report.allocate(policy)
-    except CallRefused:
-        return
+    """Does the work of a new hash, unless there is no memory for it."""
+    report.allocate(policy)
     report.work = work_of(policy, password)
 
 

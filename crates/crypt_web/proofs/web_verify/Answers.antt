@@ -1,11 +1,17 @@
-use Rattle.std.proofs.Common.{inl, inr, rules}
+use Rattle.std.proofs.Common.{arith, inl, inr, rules}
 use Rattle.crypt_web.proofs.web_verify.Goals as goal
 
 pub returns-clause-verifies : goal.returns-clause-verifies
-returns-clause-verifies c = rw c.tell.ensures.told c.verify.ensures.verifies
+returns-clause-verifies c = rw c.tell.ensures.told c.verify-told.ensures.verifies
 
 pub returns-clause-opens : goal.returns-clause-opens
-returns-clause-opens c = λ opens free. elim (c.verify.ensures.opens opens) [
-  | inl positive ↦ search (rules, c.tell.ensures.answers.1.1 positive)
-  | inr lacks ↦ absurd (lacks.1 free)
+returns-clause-opens c = λ opens. elim (c.verify-told.ensures.opens opens) [
+  | inl none ↦ inl (search (rules, c.tell.ensures.answers.1.1 none))
+  | inr lacks ↦ inr (rw c.tell.ensures.told lacks.0)
 ]
+
+pub returns-clause-enough : goal.returns-clause-enough
+returns-clause-enough c = λ need is words bytes.
+    rw c.tell.ensures.told (c.verify-told.ensures.enough (λ kept hashes.
+    let needed = is.0 kept hashes in
+    c.new-lent.ensures.enough kept.scheme (omega (arith, needed.0, words)) (omega (arith, needed.1, bytes))))

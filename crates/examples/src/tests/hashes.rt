@@ -2,13 +2,16 @@
 //! standards' steps take them.
 
 use super::{counts, want};
-use crypt_core::hash::hash;
+use crypt_core::hash::{HashFault, hash};
 use crypt_core::md5crypt::md5crypt;
+use crypt_core::memory::Lent;
 use crypt_core::method::Method;
+use crypt_core::need::Need;
 use crypt_core::pack::pack;
 use crypt_core::password::Password;
 use crypt_core::setting::Setting;
 use crypt_core::shacrypt::shacrypt;
+use crypt_core::stored::StoredHash;
 use prims_core::counted::{CountedSha256, CountedSha512};
 use prims_core::meter::Meter;
 use std::process::Abort;
@@ -123,6 +126,65 @@ fn hashes(rt: HostRuntime) -> Result<(), Fail> {
         let hashed = hash(rt.alloc(), &password, &setting, &mut meter)?;
         want(&rt, hashed.text(), wanted.as_bytes(), wanted);
         want(&rt, counts(&meter), work, wanted);
+    }
+    Ok(())
+}
+
+// Some of these hashes, in exactly the memory that is needed, which is not zeros, and in a word or a byte less.
+#[test]
+fn hashes_in_lent_memory(rt: HostRuntime) -> Result<(), Fail> {
+    let alloc = rt.alloc();
+    for &(password, stored, words, bytes, work) in &[
+        (
+            "password",
+            "$1$xxxxxxxx$UYCIxa628.9qXjpQCjM4a.",
+            0,
+            0,
+            [1002, 36239, 0, 0, 0],
+        ),
+        (
+            "",
+            "$7$2/..../....$rNxJWVHNv/mCNcgE/f6/L4zO6Fos5c2uTzhyzoisI62",
+            576,
+            128,
+            [10, 948, 32, 2048, 384],
+        ),
+        (
+            "password",
+            "$7$86....E....NaCl$xffjQo7Bm/.SKRS4B2EuynbOLjAmXU5AbDbRXhoBl64",
+            262_656,
+            16_384,
+            [1026, 102_564, 32_768, 1_048_576, 18_432],
+        ),
+    ] {
+        let stored = StoredHash::read(stored.as_bytes())?;
+        let password = Password::new(password.as_bytes())?;
+        let need = stored.setting().scheme().need();
+        want(&rt, need, Need { words, bytes }, "memory");
+        let mut words = vec![in alloc; 0xffff_ffff; need.words]?;
+        let mut bytes = vec![in alloc; 0xff; need.bytes]?;
+        let mut meter = Meter::new();
+        let mut lent = Lent::new(&mut words, &mut bytes);
+        let fits = stored.matches(&mut lent, &password, &mut meter);
+        want(&rt, fits, Ok(true), "the password");
+        want(&rt, counts(&meter), work, "work");
+        let another = Password::new(b"another")?;
+        let fits = stored.matches(&mut lent, &another, &mut Meter::new());
+        want(&rt, fits, Ok(false), "another password");
+        let refused = if need.words == 0 {
+            Ok(true)
+        } else {
+            Err(HashFault::OutOfMemory)
+        };
+        let _word = words.pop();
+        let mut lent = Lent::new(&mut words, &mut bytes);
+        let fits = stored.matches(&mut lent, &password, &mut Meter::new());
+        want(&rt, fits, refused, "a word less");
+        words.push(0)?;
+        let _byte = bytes.pop();
+        let mut lent = Lent::new(&mut words, &mut bytes);
+        let fits = stored.matches(&mut lent, &password, &mut Meter::new());
+        want(&rt, fits, refused, "a byte less");
     }
     Ok(())
 }

@@ -1,5 +1,5 @@
-use Rattle.std.proofs.Common.{◌⊎◌, ℕ, List}
-use Rattle.call_core.specs.Checks.{NeedsNoMemory, Opens}
+use Rattle.std.proofs.Common.{ℕ, List}
+use Rattle.call_core.specs.Checks.{Opens}
 use Rattle.call_core.proofs.PutHashes.{put_whole, puts_hash}
 use Rattle.call_core.proofs.hash.put_hash.Goals as goal
 
@@ -10,6 +10,6 @@ returns-clause-hashes g c =
 
 pub returns-clause-opens : goal.returns-clause-opens
 returns-clause-opens g c =
-    put_whole (λ (text : List ℕ). Opens c.args.password.now text c.args.budget × (NeedsNoMemory text ⊎ g.M.Memory.HasSome)) c.args.budget
+    put_whole (λ (text : List ℕ). Opens c.args.password.now text c.args.budget) c.args.budget
     c.token.result.now c.args.out.now _ c.hash_of-hashed.result _ c.put_hashed.new.out c.hash_of-hashed.ensures.told
     c.put_hashed.ensures.puts c.hash_of-hashed.ensures.opens

@@ -1,13 +1,15 @@
-use Rattle.std.proofs.Common.{◌≡◌, ◌∙◌, if◌then◌else◌, false, true, ap, arith, inl, inr, sym}
+use Rattle.std.proofs.Common.{◌≡◌, ◌≤◌, ◌∙◌, length, true, ap, arith, inl, inr, refl, sym}
 use Rattle.crypt_core.specs.Crypt.{allocates}
 use Rattle.crypt_core.specs.MadeSettings.{TakesRounds}
 use Rattle.crypt_core.specs.OutdatedSchemes.{is_outdated_by}
 use Rattle.crypt_core.specs.Settings.{SettingValue}
+use Rattle.crypt_core.specs.Work.{cost}
 use Rattle.call_core.specs.Arguments.{TakesNewRounds}
-use Rattle.call_core.specs.Logins.{IsMiss}
+use Rattle.call_core.specs.Limits.{limit_in}
+use Rattle.call_core.specs.Logins.{IsMiss, decoy}
 use Rattle.call_core.specs.declared.reason.Reason.TheVariants.{Dead}
 use Rattle.call_core.proofs.CheckReports.{dead_fits}
-use Rattle.call_core.proofs.LoginReports.{compared, declined, outdated_is}
+use Rattle.call_core.proofs.LoginReports.{compared, declined, outdated_is, uncheckable}
 use Rattle.call_core.proofs.MadeSchemes.{made_once}
 use Rattle.call_core.proofs.login.log_in.Goals as goal
 
@@ -67,21 +69,6 @@ returns-in-Ok-checkable-clause-dead g c = λ scheme kept made is spells dead low
       | inr lacks ↦ inr (rw same at lacks)
     ]
 
-pub returns-in-Err-clause-granted : goal.returns-in-Err-clause-granted
-returns-in-Err-clause-granted g c = λ kept spells low costly. let idle = c.in-Err.ensures.idle in inr (idle.0, idle.1)
-
-pub returns-in-Err-checkable-clause-granted : goal.returns-in-Err-checkable-clause-granted
-returns-in-Err-checkable-clause-granted g c = λ kept spells low costly.
-    absurd (cc (c.in-Err-checkable.ensures.admits kept spells (rw (c.in-Ok.ensures.password.0, c.in-Ok.ensures.limit) low)))
-
-pub returns-in-Ok-checkable-clause-granted : goal.returns-in-Ok-checkable-clause-granted
-returns-in-Ok-checkable-clause-granted g c = λ kept spells low costly.
-    let same : (c.in-Ok-checkable.stored).setting ≡ kept = c.in-Ok-checkable.ensures.only kept spells in
-    elim (rw same at c.compare.ensures.granted) [
-      | inl free ↦ absurd (cc (free, costly))
-      | inr rest ↦ rest
-    ]
-
 pub returns-in-Err-clause-opens : goal.returns-in-Err-clause-opens
 returns-in-Err-clause-opens g c = λ scheme made opens. absurd (cc (c.in-Err.ensures.admits scheme opens.0 made))
 
@@ -104,3 +91,28 @@ returns-in-Ok-checkable-clause-opens g c = λ scheme made opens.
             cc (sym (ap (λ (k : SettingValue). allocates k.scheme) also) ∙ lacks.1, free.2),
       )
     ]
+
+pub returns-in-Ok-checkable-clause-enough : goal.returns-in-Ok-checkable-clause-enough
+returns-in-Ok-checkable-clause-enough g c = λ enough lacks.
+    let kept = (c.in-Ok-checkable.stored).setting in
+    let password = c.in-Ok.ensures.password in
+    let within = rw password.0 at c.in-Ok-checkable.ensures.within in
+    let low : cost kept (length c.args.password.now) ≤ (c.in-Ok.request).limit = omega (arith, within) in
+    c.compare.ensures.enough (enough kept (
+      (c.in-Ok.request).scheme,
+      c.in-Ok.ensures.scheme,
+      password.1,
+      inl c.in-Ok-checkable.ensures.found.spells,
+      rw (← c.in-Ok.ensures.limit) low,
+    )) lacks
+
+pub returns-in-Err-checkable-clause-enough : goal.returns-in-Err-checkable-clause-enough
+returns-in-Err-checkable-clause-enough g c = λ enough lacks.
+    let password = c.in-Ok.ensures.password in
+    let scheme = (c.in-Ok.request).scheme in
+    let limit = limit_in c.args.method c.args.rounds c.args.limit (length c.args.password.now) in
+    let never = uncheckable c.args.password.now c.args.field.now limit (λ kept spells low.
+    absurd (cc (c.in-Err-checkable.ensures.admits kept spells (rw (password.0, c.in-Ok.ensures.limit) low)))) in
+    c.decline.ensures.enough (λ within.
+    let low : cost (decoy scheme) (length c.args.password.now) ≤ limit = rw (← c.in-Ok.ensures.limit) (rw (password.0, c.salted-decoy.ensures) at within) in
+    rw c.salted-decoy.ensures (enough (decoy scheme) (scheme, c.in-Ok.ensures.scheme, password.1, inr (never, refl), low))) lacks

@@ -56,3 +56,9 @@ returns-then-numbers-eq3-clause-makes g c =
     rw (← c.in_ok-request.ensures.limit) (with_numbers c.args.password.now c.args.method c.args.rounds numbers (c.in_ok-request.request).limit
     c.args.room scheme c.hash_within.result password.1 c.in_ok-request.ensures.scheme drawn
     (rw (password.0, setting) at c.hash_within.ensures.makes))
+
+pub returns-then-numbers-eq3-clause-enough : goal.returns-then-numbers-eq3-clause-enough
+returns-then-numbers-eq3-clause-enough g c = λ enough.
+    let scheme = (c.in_ok-request.request).scheme in
+    let same : (c.salted-setting.result).scheme ≡ scheme = rw c.salted-setting.ensures refl in
+    c.hash_within.ensures.enough (λ low. rw same (enough scheme c.in_ok-request.ensures.scheme))

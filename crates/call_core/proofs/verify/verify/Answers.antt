@@ -13,9 +13,6 @@ pub returns-in-Err-checkable-clause-opens : goal.returns-in-Err-checkable-clause
 returns-in-Err-checkable-clause-opens g c = λ opens.
     absurd (cc (c.in-Err-checkable.ensures.admits opens.1.0 opens.1.1 (rw c.in-Ok.ensures.ok.0 opens.1.3)))
 
-pub returns-in-Err-checkable-clause-granted : goal.returns-in-Err-checkable-clause-granted
-returns-in-Err-checkable-clause-granted g c = let idle = c.in-Err-checkable.ensures.idle in inr (inr (idle.0, idle.1))
-
 pub returns-in-Ok-checkable-clause-verifies : goal.returns-in-Ok-checkable-clause-verifies
 returns-in-Ok-checkable-clause-verifies g c =
     let kept = (c.in-Ok-checkable.stored).setting in
@@ -39,12 +36,6 @@ returns-in-Ok-checkable-clause-opens g c = λ opens.
             cc (sym (ap (λ (k : SettingValue). allocates k.scheme) also) ∙ lacks.1, free.2),
       )
     ]
-
-pub returns-in-Ok-checkable-clause-granted : goal.returns-in-Ok-checkable-clause-granted
-returns-in-Ok-checkable-clause-granted g c = elim c.compare.ensures.granted [
-  | inl free ↦ inl ((c.in-Ok-checkable.stored).setting, c.in-Ok-checkable.ensures.found.spells, free)
-  | inr rest ↦ inr rest
-]
 
 pub returns-in-Ok-checkable-clause-shut : goal.returns-in-Ok-checkable-clause-shut
 returns-in-Ok-checkable-clause-shut g c = λ dead none.

@@ -1,4 +1,4 @@
-use Rattle.std.proofs.Common.{rules, ◌≡◌, inl, arith}
+use Rattle.std.proofs.Common.{rules, ◌≡◌, arith}
 use Rattle.crypt_core.specs.Work.{raised_by, work}
 use Rattle.crypt_core.proofs.BytesWithinCost.{bytes_within}
 use Rattle.crypt_core.proofs.hash.digest_of.Goals as goal
@@ -13,6 +13,4 @@ returns-after-sha-clause-metered g c =
       below = search rules;
       within = rw counted (omega (arith, bytes_within password kept));
       refused = tt;
-      granted = inl (search rules);
-      idle = tt;
     }

@@ -1,0 +1,46 @@
+//! The memory that a call needs for its hash, so that its caller can lend it. Nothing here hashes or allocates.
+ghost use Rattle.std.specs.Prelude.{length};
+ghost use Rattle.call_core.specs.Limits.{limit_in};
+ghost use Rattle.call_core.specs.Needs.{HashesWith, IsNeed, LoginHashesWith};
+
+use crate::budget::cost_within;
+use crate::limit::Limit;
+use crate::reading::{read_password, read_request};
+use crate::verify::checkable;
+use crypt_core::need::Need;
+use crypt_core::setting::Setting;
+
+/// The need of a call that makes no hash.
+const NOTHING: Need = Need { words: 0, bytes: 0 };
+
+/// Returns what [`verify`](crate::verify::verify) needs for a password and a stored field within the budget, and
+/// [`put_hash`](crate::hash::put_hash) for a password and a text with a setting.
+pub fn hash_need(password: &[u8], text: &[u8], budget: u64) -> Need
+    ensures { IsNeed (HashesWith password.now text.now budget) result }
+{
+    let Ok(password) = read_password(password) else {
+        return NOTHING;
+    };
+    match checkable(&password, text, budget) {
+        Ok((stored, _)) => stored.setting().scheme().need(),
+        Err(_) => NOTHING,
+    }
+}
+
+/// Returns what [`log_in`](crate::login::log_in) needs with these arguments: what the stored hash needs if it can be checked within
+/// the limit, and else what a new hash does if the limit admits it. A call that makes no hash needs nothing.
+pub fn login_need(password: &[u8], field: &[u8], method: u32, rounds: u32, limit: Limit) -> Need
+    ensures { IsNeed (LoginHashesWith password.now field.now method rounds (limit_in method rounds limit (length password.now))) result }
+{
+    let Ok(request) = read_request(password, method, rounds, limit) else {
+        return NOTHING;
+    };
+    if let Ok((stored, _)) = checkable(&request.password, field, request.limit) {
+        return stored.setting().scheme().need();
+    }
+    let decoy = Setting::salted(request.scheme, [0; 3]);
+    match cost_within(&request.password, &decoy, request.limit) {
+        Ok(_) => decoy.scheme().need(),
+        Err(_) => NOTHING,
+    }
+}

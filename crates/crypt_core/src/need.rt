@@ -1,0 +1,38 @@
+//! The memory that a hash needs. Scrypt's alone needs any.
+ghost use Rattle.std.specs.Prelude.{◌≡◌, ◌≤◌, ◌^◌};
+ghost use Rattle.crypt_core.specs.Needs.{bytes_by, words_by};
+
+use crate::scheme::Scheme;
+use kdf_core::lent::{needed_bytes, needed_words};
+use std::mem::size_of;
+
+/// The memory that a hash needs: words of 4 bytes, and bytes.
+#[repr(C)]
+#[derive(Clone, Copy, Debug, PartialEq, Eq)]
+pub struct Need {
+    /// Words of 4 bytes.
+    pub words: usize,
+    /// Bytes.
+    pub bytes: usize,
+}
+
+// The page reads the fields at fixed places.
+const _: () = prove!(size_of::<Need>() == 16);
+
+impl Scheme {
+    /// Returns the memory that a hash with this scheme needs, whatever the password and the salt: none but for scrypt, and
+    /// at most 2^29 words and 2^29 bytes. With so much lent the hash is made ([`Lent::new`](crate::memory::Lent::new)).
+    pub fn need(&self) -> Need
+        ensures words { result.words ≡ words_by self.now }
+        ensures bytes { result.bytes ≡ bytes_by self.now }
+        ensures below { (result.words ≤ 2 ^ 29) × (result.bytes ≤ 2 ^ 29) }
+    {
+        match self {
+            Scheme::Scrypt(params) => Need {
+                words: needed_words(params),
+                bytes: needed_bytes(params),
+            },
+            Scheme::Md5crypt | Scheme::Shacrypt(..) => Need { words: 0, bytes: 0 },
+        }
+    }
+}
