@@ -1,10 +1,11 @@
 // The calls of the module of WebAssembly, for all that makes them: mkpasswd.mjs, its workers and
 // the page's worker. tools/web puts this file into each.
 //
-// Here is how bytes get into the module, and how its reports are read. Which rounds a method has,
-// what a policy admits and what scheme a field is of: all that the module alone knows.
+// Here is how bytes get into the module, how its reports are read, and what memory scrypt gets.
+// Which rounds a method has, what a policy admits, what scheme a field is of and what memory a hash
+// needs: all that the module alone knows.
 
-const METHODS = { __proto__: null, md5crypt: 1, sha256crypt: 5, sha512crypt: 6 };
+const METHODS = { __proto__: null, md5crypt: 1, sha256crypt: 5, sha512crypt: 6, scrypt: 7 };
 // No method and no rounds are this number, which the module refuses.
 const NEITHER = 2 ** 32 - 1;
 const RECOMMENDED_BUDGET = 0;
@@ -92,14 +93,39 @@ function refusal(error) {
 
 // ---- The module
 
+const NO_MODULE = 'WebAssembly is refused: '
+    + "allow 'wasm-unsafe-eval' in script-src of the Content-Security-Policy of the page";
+
+// Compiles the module. Its bytes are valid, so what refuses it is mostly a policy of the page.
+function compiledModule(base64) {
+    try {
+        return new WebAssembly.Module(bytesOfBase64(base64));
+    } catch (error) {
+        throw new Error(NO_MODULE, { cause: error });
+    }
+}
+
 const REPORT_SIZE = 80;
 const OUT_SIZE = 145;
+const NEED_SIZE = 16;
 const MOST_BYTES = 4096; // of a password or a field: the module refuses more than some hundreds
 const ALIGNMENT = 16; // of the report and of what is passed
+const WORD_SIZE = 4;
+const PAGE_SIZE = 65536; // the memory of an instance grows by pages
 
-// An instance of the module. Its free memory has the report, `out`, and what is passed.
+// What a call needs that makes no hash of scrypt. The need of one that does is the module's answer.
+const NO_NEED = Object.freeze({ words: 0, bytes: 0 });
+
+// How many bytes a need is.
+function sizeOf({ words, bytes }) {
+    return WORD_SIZE * words + bytes;
+}
+
+// An instance of the module. Its free memory has the report, `out`, and what is passed; behind all
+// that is what it lends to a call that needs it for scrypt.
 class Instance {
     #compiled;
+    #need;
     #exports;
     #memory;
     #initial;
@@ -107,10 +133,11 @@ class Instance {
     #out;
     #passed;
 
-    constructor(compiled) {
+    // Throws RangeError where there isn't so much memory as is needed.
+    constructor(compiled, need = NO_NEED) {
         this.#compiled = compiled;
+        this.#need = need;
         this.#begin();
-        this.#initial = this.#memory.slice();
         const free = Number(this.#exports.__heap_base.value);
         this.#report = Math.ceil(free / ALIGNMENT) * ALIGNMENT;
         this.#out = this.#report + REPORT_SIZE;
@@ -118,13 +145,26 @@ class Instance {
     }
 
     #begin() {
-        this.#exports = new WebAssembly.Instance(this.#compiled).exports;
-        this.#memory = new Uint8Array(this.#exports.memory.buffer);
+        const { exports } = new WebAssembly.Instance(this.#compiled);
+        this.#initial = new Uint8Array(exports.memory.buffer).slice();
+        const pages = Math.ceil(sizeOf(this.#need) / PAGE_SIZE);
+        if (pages > 0) exports.memory.grow(pages);
+        this.#exports = exports;
+        this.#memory = new Uint8Array(exports.memory.buffer);
     }
 
-    // Where a call writes a string, as it takes that.
+    // Where a call writes a string, as it takes that. It is the same in each instance.
     get out() {
         return [BigInt(this.#out), BigInt(OUT_SIZE)];
+    }
+
+    // The words and the bytes that are lent, as a call takes them.
+    get lent() {
+        const { words, bytes } = this.#need;
+        const isLending = sizeOf(this.#need) > 0;
+        const begin = isLending ? this.#initial.length : this.#report;
+        const end = begin + WORD_SIZE * words;
+        return [BigInt(begin), BigInt(words), BigInt(end), BigInt(bytes)];
     }
 
     // Makes a call that has a report with bytes and numbers, and wipes the memory. `isDone` tells
@@ -143,6 +183,18 @@ class Instance {
         const text = returned === 1 ? this.#textInOut() : null;
         this.#wipe();
         return text;
+    }
+
+    // Makes a call that only tells what memory another one needs.
+    callForNeed(name, ...given) {
+        this.#run(name, [...given, BigInt(this.#report)]);
+        const view = new DataView(this.#memory.buffer, this.#report, NEED_SIZE);
+        const need = {
+            words: Number(view.getBigUint64(0, true)),
+            bytes: Number(view.getBigUint64(8, true)),
+        };
+        this.#wipe();
+        return need;
     }
 
     #run(name, given) {
@@ -183,10 +235,13 @@ class Instance {
 
     #wipe() {
         this.#memory.set(this.#initial);
+        this.#memory.fill(0, this.#initial.length);
     }
 }
 
 // ---- The calls
+
+const OUT_OF_MEMORY = 'MKPASSWD_ERROR_OUT_OF_MEMORY';
 
 // What `verify` finds where it is no error of the caller's that the password doesn't match.
 const NO_MATCH = [
@@ -196,11 +251,14 @@ const NO_MATCH = [
     'MKPASSWD_ERROR_NO_HASH',
 ];
 
-// The calls of a compiled module. All but `login`, `audit` and `passwordError` throw refusals.
+// The calls of a compiled module. `audit` and `passwordError` return errors, and `login` throws one
+// alone: that there is no memory. The others throw refusals.
 class Calls {
+    #compiled;
     #module;
 
     constructor(compiled) {
+        this.#compiled = compiled;
         this.#module = new Instance(compiled);
     }
 
@@ -208,6 +266,25 @@ class Calls {
         const report = this.#module.call(...call);
         if (!report.isDone) throw refusal(report.error);
         return report;
+    }
+
+    // Makes a call that can hash, with the memory that it needs. The memory of an instance never
+    // shrinks, so scrypt gets an instance of its own, whose memory goes when that is collected.
+    #callWith(need, name, ...given) {
+        const instance = this.#instanceFor(need);
+        return instance.call(name, ...instance.lent, ...given);
+    }
+
+    // An instance that lends what is needed. Where there is no memory it is the one that lends
+    // none, whose call reports that it is out of memory.
+    #instanceFor(need) {
+        if (sizeOf(need) === 0) return this.#module;
+        try {
+            return new Instance(this.#compiled, need);
+        } catch (error) {
+            if (error.name !== 'RangeError') throw error;
+            return this.#module;
+        }
     }
 
     // What a policy admits. `bytes` is the most that a login and a new hash may cost;
@@ -232,7 +309,10 @@ class Calls {
     // The hash of a password with a setting or a stored hash.
     hash(password, setting, budget) {
         const given = [passwordBytes(password), bytesOf(setting), in64Bits(budget)];
-        return this.#required('web_hash', ...given, ...this.#module.out).text;
+        const need = this.#module.callForNeed('web_need', ...given);
+        const report = this.#callWith(need, 'web_hash', ...given, ...this.#module.out);
+        if (!report.isDone) throw refusal(report.error);
+        return report.text;
     }
 
     newHash(password, method, rounds, budget) {
@@ -241,7 +321,8 @@ class Calls {
 
     verify(password, stored, budget) {
         const given = [passwordBytes(password), bytesOf(stored), in64Bits(budget)];
-        const report = this.#module.call('web_verify', ...given);
+        const need = this.#module.callForNeed('web_need', ...given);
+        const report = this.#callWith(need, 'web_verify', ...given);
         if (report.isDone) return true;
         if (report.error && !hasError(report, ...NO_MATCH)) throw refusal(report.error);
         return false;
@@ -250,7 +331,7 @@ class Calls {
     // Why no hash can be that of a password, or null. The module looks at the password first, so
     // the empty field hashes nothing.
     passwordError(password) {
-        const report = this.#module.call('web_verify', password, new Uint8Array(), 0n);
+        const report = this.#callWith(NO_NEED, 'web_verify', password, new Uint8Array(), 0n);
         return hasError(report, 'MKPASSWD_ERROR_NO_HASH') ? null : report.error;
     }
 
@@ -258,20 +339,13 @@ class Calls {
     // and a new one costs at most the limit.
     login(password, field, policy) {
         const { method, rounds, budget, limit } = policy;
-        const numbers = [...asNumbers(method, rounds), in64Bits(budget)];
-        const report = this.#module.call('web_login', password, field, ...numbers);
-        if (!report.isDone) {
-            this.#hideScrypt(report, password, numbers);
-            return false;
-        }
+        const given = [password, field, ...asNumbers(method, rounds), in64Bits(budget)];
+        const need = this.#module.callForNeed('web_login_need', ...given);
+        const report = this.#callWith(need, 'web_login', ...given);
+        if (hasError(report, OUT_OF_MEMORY)) throw refusal(report.error);
+        if (!report.isDone) return false;
         const renewed = report.isOutdated ? this.#renewed(password, method, rounds, limit) : null;
         return { renewed };
-    }
-
-    // The module refuses scrypt at once. A login with an empty field takes the time of a new hash.
-    #hideScrypt(report, password, numbers) {
-        if (!hasError(report, 'MKPASSWD_ERROR_OUT_OF_MEMORY')) return;
-        this.#module.call('web_login', password, new Uint8Array(), ...numbers);
     }
 
     // A new hash, or null: without one the old one stays good.
@@ -281,6 +355,20 @@ class Calls {
         } catch {
             return null;
         }
+    }
+
+    // How many bytes of memory `newHash` needs with these arguments.
+    memoryOfNewHash(password, method, rounds, budget) {
+        const setting = bytesOf(this.setting(method, rounds));
+        return sizeOf(this.#module.callForNeed('web_need', password, setting, in64Bits(budget)));
+    }
+
+    // How many bytes of memory `login` needs at once with these arguments: for the check, or for
+    // the new hash that it makes after a match.
+    memoryOfLogin(password, field, { method, rounds, budget, limit }) {
+        const given = [password, field, ...asNumbers(method, rounds), in64Bits(budget)];
+        const need = this.#module.callForNeed('web_login_need', ...given);
+        return Math.max(sizeOf(need), this.memoryOfNewHash(password, method, rounds, limit));
     }
 
     // Whether a new hash would replace a stored one. A field without a hash has none to replace.

@@ -1,5 +1,5 @@
-// mkpasswd @VERSION@: hashes of crypt(5) by sha512crypt, sha256crypt and md5crypt, for node 20 and
-// web pages. LLVM compiled the proved code, and Binaryen lowered it; this script is tested.
+// mkpasswd @VERSION@: hashes of crypt(5) by sha512crypt, sha256crypt, scrypt and md5crypt, for node
+// 20 and web pages. LLVM compiled the proved code, and Binaryen lowered it; this script is tested.
 // mkpasswd.d.ts, in the package of npm, describes each call.
 //
 //     import { LoginQueue } from './mkpasswd.mjs';
@@ -12,7 +12,7 @@
 // errors and results; at the end policies, the queue of logins and what is exported.
 /*@CALLS@*/
 /*@POOL@*/
-const compiled = new WebAssembly.Module(bytesOfBase64('@MODULE@'));
+const compiled = compiledModule('@MODULE@');
 const calls = new Calls(compiled);
 
 // ---- Arguments
@@ -88,10 +88,9 @@ class TooCostly extends Refused {
 const MESSAGES = {
     __proto__: null,
     MKPASSWD_ERROR_PASSWORD_TOO_LONG: 'password too long: it may have 1024 bytes',
-    MKPASSWD_ERROR_OUT_OF_MEMORY:
-        'scrypt is not supported here: only sha512crypt, sha256crypt and md5crypt are',
-    MKPASSWD_ERROR_UNKNOWN_METHOD: 'method must be sha512crypt, sha256crypt or md5crypt',
-    MKPASSWD_ERROR_ROUNDS: 'rounds must be 1000 to 999999999, or 0 for the recommended ones',
+    MKPASSWD_ERROR_UNKNOWN_METHOD: 'method must be sha512crypt, sha256crypt, scrypt or md5crypt',
+    MKPASSWD_ERROR_ROUNDS: 'rounds must be 1000 to 999999999, of scrypt 6 to 11, '
+        + 'or 0 for the recommended ones',
 };
 
 // The error of a call that failed. `excess` says what is too costly if that is why.
@@ -124,8 +123,9 @@ function inThread(name, given, excess) {
 
 let pool;
 
-// Makes a call in a worker. The first one starts the pool.
-async function inWorker(name, given, excess) {
+// Makes a call in a worker, which needs so many bytes of memory for scrypt. The first one starts
+// the pool.
+async function inWorker(name, given, memory, excess) {
     pool ??= startPool(compiled);
     let workers;
     try {
@@ -134,7 +134,7 @@ async function inWorker(name, given, excess) {
         pool = undefined;
         throw error;
     }
-    const { result, failure } = await workers.ask(name, given);
+    const { result, failure } = await workers.ask(name, given, memory);
     if (failure) throw errorOfCall(failure, excess);
     return result;
 }
@@ -167,6 +167,12 @@ function resultOf(login) {
     return login ? new Match(login.renewed) : guarded(false);
 }
 
+// What a login came to that threw: it fails if there was no memory.
+function resultOfError(error) {
+    if (error.reason === OUT_OF_MEMORY) return guarded(false);
+    throw error;
+}
+
 const STATES = {
     __proto__: null,
     MKPASSWD_ERROR_DEAD: 'dead',
@@ -177,8 +183,7 @@ const STATES = {
     MKPASSWD_ERROR_UNKNOWN_SCHEME: 'unknown',
 };
 
-function stateOf({ error, isOutdated, scheme }) {
-    if (scheme === 'scrypt') return 'unknown'; // no login takes it
+function stateOf({ error, isOutdated }) {
     if (error) return STATES[error.name] ?? 'malformed';
     return isOutdated ? 'outdated' : 'current';
 }
@@ -190,9 +195,8 @@ class Description {
         const { error, scheme, cost } = audited;
         const state = stateOf(audited);
         const isMalformed = state === 'malformed';
-        const isScrypt = scheme === 'scrypt';
-        const isHash = cost > 0 && !isMalformed && !isScrypt;
-        this.method = isHash || isScrypt ? scheme : null;
+        const isHash = cost > 0 && !isMalformed;
+        this.method = isHash ? scheme : null;
         this.cost = isHash ? cost : null;
         this.state = state;
         this.reason = isMalformed ? error.name : null;
@@ -256,7 +260,9 @@ class Policy {
     }
 
     async hashAsync(...given) {
-        return inWorker('newHash', this.#toHash(given), excessOfPassword(this.#limit));
+        const toHash = this.#toHash(given);
+        const memory = calls.memoryOfNewHash(...toHash);
+        return inWorker('newHash', toHash, memory, excessOfPassword(this.#limit));
     }
 
     #toHash(given) {
@@ -265,7 +271,12 @@ class Policy {
     }
 
     login(...given) {
-        return resultOf(inThread('login', this.#toLogin(given)));
+        const toLogin = this.#toLogin(given);
+        try {
+            return resultOf(inThread('login', toLogin));
+        } catch (error) {
+            return resultOfError(error);
+        }
     }
 
     loginAsync(...given) {
@@ -273,7 +284,13 @@ class Policy {
     }
 
     async #loginAsync(given) {
-        return resultOf(await inWorker('login', this.#toLogin(given)));
+        const toLogin = this.#toLogin(given);
+        const memory = calls.memoryOfLogin(...toLogin);
+        try {
+            return resultOf(await inWorker('login', toLogin, memory));
+        } catch (error) {
+            return resultOfError(error);
+        }
     }
 
     #toLogin(given) {

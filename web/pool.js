@@ -4,32 +4,41 @@ const HASHER = "@HASHER@";
 
 // Has workers make calls, in turn: at most as many workers as cores, but for the caller's one. An
 // idle worker doesn't keep node running. One that ends fails its own call alone.
+//
+// A call with scrypt tells how much memory it needs. No more such calls run at once than there is
+// memory for, but one always does. Where one waits for memory, calls that need none pass it.
 class Pool {
     #start;
+    #memory;
     #compiled;
     #mostWorkers;
     #countOfWorkers = 0;
+    #usedMemory = 0; // by calls that are running
     #idle = [];
     #waiting = []; // calls without a worker
 
-    // `start` starts a worker that tells its answers and its end.
-    constructor({ cores, start }, compiled) {
+    // `start` starts a worker that tells its answers and its end. `memory` tells how many bytes
+    // all calls may use at once, as it is at the moment.
+    constructor({ cores, start, memory }, compiled) {
         this.#start = start;
+        this.#memory = memory;
         this.#compiled = compiled;
         this.#mostWorkers = Math.max(1, cores - 1);
     }
 
-    // Makes a call. The promise has the worker's answer.
-    ask(name, given) {
+    // Makes a call that needs so many bytes of memory. The promise has the worker's answer.
+    ask(name, given, memory) {
         return new Promise((resolve, reject) => {
-            this.#waiting.push({ message: { name, given }, resolve, reject });
+            const message = { name, given };
+            this.#waiting.push({ message, memory, usedByOthers: Infinity, resolve, reject });
             this.#distribute();
         });
     }
 
     #distribute() {
-        while (this.#waiting.length > 0 && this.#hasWorker()) {
-            const call = this.#waiting.shift();
+        while (this.#hasWorker()) {
+            const call = this.#takeNext();
+            if (!call) return;
             try {
                 this.#pass(call, this.#idle.pop() ?? this.#newWorker());
             } catch (error) {
@@ -42,8 +51,26 @@ class Pool {
         return this.#idle.length > 0 || this.#countOfWorkers < this.#mostWorkers;
     }
 
+    // Takes the call that can start next out of those that wait, if one can.
+    #takeNext() {
+        const [first] = this.#waiting;
+        if (!first) return undefined;
+        if (this.#hasMemoryFor(first)) return this.#waiting.shift();
+        const place = this.#waiting.findIndex(({ memory }) => memory === 0);
+        return place < 0 ? undefined : this.#waiting.splice(place, 1)[0];
+    }
+
+    // Whether a call can have its memory. One that found none waits until others use less.
+    #hasMemoryFor({ memory, usedByOthers }) {
+        if (memory === 0 || this.#usedMemory === 0) return true;
+        const isLessUsed = this.#usedMemory < usedByOthers;
+        return isLessUsed && this.#usedMemory + memory <= this.#memory();
+    }
+
     #pass(call, worker) {
         worker.call = call;
+        call.usedByOthers = this.#usedMemory;
+        this.#usedMemory += call.memory;
         worker.ref?.();
         worker.postMessage(call.message);
     }
@@ -63,8 +90,20 @@ class Pool {
         worker.call = undefined;
         worker.unref?.();
         this.#idle.push(worker);
-        call.resolve(answer);
+        this.#usedMemory -= call.memory;
+        if (this.#lackedMemory(call, answer)) {
+            this.#waiting.unshift(call);
+        } else {
+            call.resolve(answer);
+        }
         this.#distribute();
+    }
+
+    // Whether a call found no memory because others used it. If so, it is to be tried again.
+    #lackedMemory(call, { failure }) {
+        if (failure?.reason !== OUT_OF_MEMORY) return false;
+        call.usedByOthers = Math.max(call.usedByOthers, this.#usedMemory);
+        return call.usedByOthers > 0;
     }
 
     #remove(worker, error) {
@@ -73,6 +112,7 @@ class Pool {
         this.#countOfWorkers -= 1;
         this.#idle = this.#idle.filter((other) => other !== worker);
         worker.terminate();
+        this.#usedMemory -= worker.call?.memory ?? 0;
         worker.call?.reject(error);
         this.#distribute();
     }
@@ -84,9 +124,9 @@ async function moduleOfNode(name) {
     return builtin ?? import(/* webpackIgnore: true */ /* @vite-ignore */ name);
 }
 
-// How node starts workers.
+// How node starts workers, and what memory they may use: half of what is free.
 async function workersOfNode() {
-    const { availableParallelism } = await moduleOfNode('node:os');
+    const { availableParallelism, freemem } = await moduleOfNode('node:os');
     const { Worker } = await moduleOfNode('node:worker_threads');
     // Neither options nor variables of the process are for a worker.
     const options = { __proto__: null, eval: true, execArgv: [], env: {} };
@@ -97,7 +137,12 @@ async function workersOfNode() {
         worker.on('exit', () => end(new Error('the worker that made this call has ended')));
         return worker;
     }
-    return { cores: availableParallelism(), start };
+    function memory() {
+        const free = process.availableMemory?.() ?? freemem();
+        const limit = process.constrainedMemory?.() || Infinity; // 0 where there is none
+        return Math.min(free, limit) / 2;
+    }
+    return { cores: availableParallelism(), start, memory };
 }
 
 const NO_WORKER = 'the browser refuses the worker: '
@@ -111,7 +156,9 @@ function workerOfBrowser(url) {
     }
 }
 
-// How a browser starts workers.
+const GIBIBYTE = 2 ** 30;
+
+// How a browser starts workers, and what memory they may use: a quarter of the device's.
 async function workersOfBrowser() {
     const url = URL.createObjectURL(new Blob([HASHER], { type: 'text/javascript' }));
     function start(tell, end) {
@@ -121,7 +168,8 @@ async function workersOfBrowser() {
         worker.onerror = ({ message }) => end(new Error(message || NO_WORKER));
         return worker;
     }
-    return { cores: navigator.hardwareConcurrency ?? 1, start };
+    const memory = () => (navigator.deviceMemory ?? 2) * GIBIBYTE / 4;
+    return { cores: navigator.hardwareConcurrency ?? 1, start, memory };
 }
 
 // Starts a pool of workers for a compiled module.
