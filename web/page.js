@@ -15,7 +15,8 @@ const SENTENCES = {
     MKPASSWD_ERROR_ABOVE_CEILING:
         'This hash of scrypt takes too much memory for any login. Set a new password.',
     MKPASSWD_ERROR_BAD_SALT: 'This hash of scrypt has no valid salt. Copy it again.',
-    MKPASSWD_ERROR_ROUNDS: 'Give 1000 to 999999999 rounds.',
+    MKPASSWD_ERROR_OUT_OF_MEMORY: 'The browser has too little memory for this hash of scrypt. '
+        + 'Close other pages and try again, or take another browser.',
     MKPASSWD_ERROR_LOCKED: 'This account is locked, so no password matches. '
         + 'To check the hash behind ! or *, remove that.',
     MKPASSWD_ERROR_NO_HASH: 'This account has no hash. Set a password, or lock it.',
@@ -27,15 +28,19 @@ const OUTDATED = 'matches, but the hash is outdated (few rounds, or not sha512cr
     + 'replace it with a new one';
 const NO_BREAK_SPACE = '\u00a0';
 
-const METHODS = ['sha512crypt', 'sha256crypt', 'md5crypt'];
-const DIGEST_LENGTHS = { 1: 22, 5: 43, 6: 86 }; // in characters, by the prefix of the method
+const METHODS = ['sha512crypt', 'sha256crypt', 'scrypt', 'md5crypt'];
+const DIGEST_LENGTHS = { 1: 22, 5: 43, 6: 86, 7: 43 }; // in characters, by the prefix of the method
+const SENTENCE_OF_ROUNDS = 'Give 1000 to 999999999 rounds.';
+const SENTENCE_OF_SCRYPT_ROUNDS = 'Give 6 to 11 rounds: each more doubles time and memory.';
 const GENERATED_CHARACTERS = 'ABCDEFGHIJKLMNOPQRSTUVWXYZabcdefghijklmnopqrstuvwxyz0123456789';
 const GENERATED_LENGTH = 20;
 
 // ---- What the page knows
 
 const rates = {}; // by a method: the cost and the time of a hash that was measured
-let otherRounds = '1000'; // of md5crypt; while that is chosen, those of the other methods
+// The rounds of the methods that aren't chosen, by their kind. While one is, they are in the field.
+const keptRounds = { md5crypt: '1000' };
+let chosenKind = 'SHA-crypt';
 let madeHash;
 let running; // the form's job that a worker does: form, stored, worker, timer, method and cost
 
@@ -95,25 +100,53 @@ function expected({ method, cost }) {
 
 // ---- The estimate below the rounds
 
-// md5crypt has fixed rounds, which stand in the field while it is chosen.
+// What kind of rounds a method has: both of SHA-crypt the same, and those of md5crypt are fixed.
+function kindOfMethod(method) {
+    return method === 'scrypt' || method === 'md5crypt' ? method : 'SHA-crypt';
+}
+
+// Puts the rounds of the chosen method into their field.
 function exchangeRounds() {
     const rounds = element('rounds');
-    const isFixed = valueOf('method') === 'md5crypt';
-    if (rounds.disabled === isFixed) return;
-    rounds.disabled = isFixed;
-    [rounds.value, otherRounds] = [otherRounds, rounds.value];
+    const kind = kindOfMethod(valueOf('method'));
+    if (kind === chosenKind) return;
+    keptRounds[chosenKind] = rounds.value;
+    chosenKind = kind;
+    rounds.value = keptRounds[kind];
+    rounds.disabled = kind === 'md5crypt';
+}
+
+function sentenceOfRounds() {
+    return chosenKind === 'scrypt' ? SENTENCE_OF_SCRYPT_ROUNDS : SENTENCE_OF_ROUNDS;
 }
 
 function warningOfRounds() {
-    if (!element('rounds').validity.valid) return SENTENCES.MKPASSWD_ERROR_ROUNDS;
-    return valueOf('method') === 'md5crypt' ? WEAK : '';
+    const rounds = element('rounds');
+    const isScrypt = chosenKind === 'scrypt';
+    const isScryptsOwn = rounds.value >= 6 && rounds.value <= 11;
+    if (!rounds.validity.valid || (isScrypt && !isScryptsOwn)) return sentenceOfRounds();
+    return chosenKind === 'md5crypt' ? WEAK : '';
+}
+
+// The time of a hash that is to be made, by the one that was measured: it had 5000 rounds, and of
+// scrypt 6, of which each more takes twice the time.
+function timeOfRounds(rounds) {
+    const { time } = rates[valueOf('method')];
+    return chosenKind === 'scrypt' ? time * 2 ** (rounds - 6) : (time * rounds) / 5000;
+}
+
+// The memory of a hash of scrypt with so many rounds: 64 MiB for 7.
+function memoryOfRounds(rounds) {
+    return `${2 ** (rounds - 1)}${NO_BREAK_SPACE}MiB of memory`;
 }
 
 function estimateOfRounds() {
-    const rate = rates[valueOf('method')];
-    if (!rate) return NO_BREAK_SPACE;
-    const time = (rate.time * valueOf('rounds')) / 5000; // of which the measured hash has so many
-    return time > 0 ? `Takes ${expectedTime(time)}.` : NO_BREAK_SPACE;
+    if (!rates[valueOf('method')]) return NO_BREAK_SPACE;
+    const rounds = Number(valueOf('rounds'));
+    const time = timeOfRounds(rounds);
+    if (!(time > 0)) return NO_BREAK_SPACE;
+    const memory = chosenKind === 'scrypt' ? ` and ${memoryOfRounds(rounds)}` : '';
+    return `Takes ${expectedTime(time)}${memory}.`;
 }
 
 // Says how long the hash takes that is to be made, or what is wrong with its rounds.
@@ -131,10 +164,14 @@ function showEstimate() {
 const workerScript = new Blob([element('worker').textContent], { type: 'text/javascript' });
 const workerAddress = URL.createObjectURL(workerScript);
 
-// Starts a job in a worker of its own, and passes on what that posts.
+// Starts a job in a worker of its own, and passes on what that posts. With its last message the
+// worker ends, and its memory goes.
 function startWorker(job, given, take) {
     const worker = new Worker(workerAddress);
-    worker.onmessage = ({ data }) => take(data);
+    worker.onmessage = ({ data }) => {
+        if (data.isLast) worker.terminate();
+        take(data);
+    };
     worker.onerror = ({ message }) => {
         take({ isLast: true, error: { message: message ?? 'it does not say why' } });
     };
@@ -230,9 +267,8 @@ function sentenceOfNoHash(stored) {
 }
 
 function sentenceOfScheme(scheme) {
-    const remedy = scheme === 'scrypt' ? 'Give a line name:hash:password to pwhash check.'
-        : 'Log in on the system that stored it.';
-    return `This is ${scheme ?? 'another scheme'}, which can’t be checked here. ${remedy}`;
+    return `This is ${scheme ?? 'another scheme'}, which can’t be checked here. `
+        + 'Log in on the system that stored it.';
 }
 
 function sentenceOfCost() {
@@ -246,6 +282,7 @@ function sentenceOfError({ name, message }, scheme) {
     if (scheme || name === 'MKPASSWD_ERROR_UNKNOWN_SCHEME') return sentenceOfScheme(scheme);
     if (name === 'MKPASSWD_ERROR_NO_SCHEME') return sentenceOfNoHash(running.stored);
     if (name === 'MKPASSWD_ERROR_OVER_BUDGET') return sentenceOfCost();
+    if (name === 'MKPASSWD_ERROR_ROUNDS') return sentenceOfRounds();
     return SENTENCES[name] ?? `${message[0].toUpperCase()}${message.slice(1)}.`;
 }
 
@@ -447,8 +484,7 @@ function showForms(reason) {
 // Measures methods, one after another.
 function measure([method, ...others]) {
     startWorker('measure', { method }, ({ cost, time }) => {
-        if (!cost) return;
-        rates[method] = { cost, time };
+        if (cost) rates[method] = { cost, time };
         showEstimate();
         if (others.length > 0) measure(others);
     });
@@ -456,10 +492,11 @@ function measure([method, ...others]) {
 
 // Shows the forms with the rounds and the budget that the module recommends, and then measures.
 function begin() {
-    startWorker('recommend', {}, ({ error, rounds, bytes }) => {
+    startWorker('recommend', {}, ({ error, rounds, bytes, scryptRounds }) => {
         showForms(error?.message);
         if (error) return;
         element('rounds').defaultValue = rounds;
+        keptRounds.scrypt = scryptRounds;
         element('budget').defaultValue = bytes;
         measure(METHODS);
     });

@@ -1,7 +1,7 @@
 // A worker of the page, with the module. The page starts one for each job, and ends it with all its
 // memory. A worker posts what is known while it hashes, and last what the job has come to.
 /*@CALLS@*/
-const calls = new Calls(new WebAssembly.Module(bytesOfBase64('@MODULE@')));
+let calls;
 
 // Posts the method and the cost of a hash before it is made, by which the page tells how long that
 // takes. If there is no cost, the call that hashes says why.
@@ -13,6 +13,12 @@ function postCost(method, setting, password) {
         return;
     }
     postMessage({ method, cost });
+}
+
+// The setting of a hash that is measured: of 5000 rounds, of 1000 with md5crypt, and of scrypt's
+// fewest, so that it takes little memory.
+function measuredSetting(method) {
+    return calls.setting(method, method === 'scrypt' ? 6 : 5000);
 }
 
 // Hashes for so many milliseconds, since one hash is too fast for a browser's clock, and returns
@@ -30,12 +36,16 @@ function timeOfHash(setting, milliseconds) {
 }
 
 const jobs = {
-    // The rounds of new hashes and the limit on a check that the module recommends.
-    recommend: () => calls.limit('sha512crypt', 0),
+    // The rounds of new hashes and the limit on a check that the module recommends, and scrypt's
+    // rounds.
+    recommend() {
+        const scryptRounds = calls.limit('scrypt', 0).rounds;
+        return { ...calls.limit('sha512crypt', 0), scryptRounds };
+    },
 
-    // The cost and the time of a hash of 5000 rounds with a method, of 1000 with md5crypt.
+    // The cost and the time of a hash with a method.
     measure({ method }) {
-        const setting = calls.setting(method, 5000);
+        const setting = measuredSetting(method);
         timeOfHash(setting, 250); // slower than later ones: the browser still compiles
         return { cost: calls.cost(setting, 8), time: timeOfHash(setting, 100) };
     },
@@ -62,6 +72,7 @@ const jobs = {
 
 function resultOf(job, given) {
     try {
+        calls ??= new Calls(compiledModule('@MODULE@'));
         return jobs[job](given);
     } catch ({ reason, message }) {
         return { error: { name: reason, message } };
