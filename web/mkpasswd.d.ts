@@ -1,10 +1,9 @@
-// Logins and password hashes of crypt(5) by sha512crypt, sha256crypt and md5crypt. scrypt needs
-// memory, which the module doesn't have.
+// Logins and password hashes of crypt(5) by sha512crypt, sha256crypt, scrypt and md5crypt.
 
 /** A password, a setting or a stored hash. A string is encoded as UTF-8. */
 export type Text = string | Uint8Array;
 
-export type Method = 'sha512crypt' | 'sha256crypt' | 'md5crypt';
+export type Method = 'sha512crypt' | 'sha256crypt' | 'scrypt' | 'md5crypt';
 
 /** What a login returns for a password that matches. */
 export interface Match {
@@ -39,17 +38,13 @@ export type State =
     | 'malformed';
 
 /**
- * What a stored field is. As a string it is `md5crypt:1927022:outdated`, `scrypt:unknown`,
- * `malformed:bad rounds`, `locked` or the like. `mkpasswd --audit` prints more: the rounds, and the
- * names of other schemes.
+ * What a stored field is. As a string it is `md5crypt:1927022:outdated`, `malformed:bad rounds`,
+ * `locked` or the like. `mkpasswd --audit` prints more: the rounds, and the names of other schemes.
  */
 export interface Description {
     /** null if there is no valid setting. */
-    readonly method: Method | 'scrypt' | null;
-    /**
-     * The most that a hash with this setting costs, for a password of 1,024 bytes; null without one
-     * and for scrypt.
-     */
+    readonly method: Method | null;
+    /** The most that a hash with this setting costs, for a password of 1,024 bytes, or null. */
     readonly cost: number | null;
     readonly state: State;
     /** The first broken rule if the state is malformed, by its name in mkpasswd.h; else null. */
@@ -68,9 +63,15 @@ export interface Limit {
     readonly passwordLength: number | null;
 }
 
-/** Thrown for a hash, a password or a policy that is refused. Nothing was hashed. */
+/**
+ * Thrown for a hash, a password or a policy that is refused, and where scrypt finds no memory.
+ * Nothing was hashed.
+ */
 export class Refused extends Error {
-    /** The name that mkpasswd.h has for it, such as MKPASSWD_ERROR_BAD_ROUNDS. */
+    /**
+     * The name that mkpasswd.h has for it, such as MKPASSWD_ERROR_BAD_ROUNDS; without memory it is
+     * MKPASSWD_ERROR_OUT_OF_MEMORY.
+     */
     readonly reason: string;
 }
 
@@ -83,13 +84,17 @@ export class Busy extends Error {}
 export interface PolicyOptions {
     /** By default sha512crypt. */
     readonly method?: Method;
-    /** 1000 to 999999999; undefined, null and 0 stand for 656000. md5crypt ignores it (0). */
+    /**
+     * 1000 to 999999999; undefined, null and 0 stand for 656000. Of scrypt they are 6 to 11, by
+     * default 7, which takes 64 MiB; each more doubles time and memory. md5crypt ignores them (0).
+     */
     readonly rounds?: number | null;
     /**
-     * The most that a hash may cost, as `cost` counts it: the bytes that are digested. Without one
-     * that is twice what a new hash costs with a password of 64 bytes, and at least 150,000,000:
-     * by the recommended policy 253,921,472, which admits passwords of up to 168 bytes. A budget
-     * of 1,300,000,000 admits all of them there.
+     * The most that a hash may cost, as `cost` counts it: the bytes that are digested and that
+     * scrypt mixes, which are at least twice the memory that it takes. Without one that is twice
+     * what a new hash costs with a password of 64 bytes, and at least 150,000,000: by the
+     * recommended policy 253,921,472, which admits passwords of up to 168 bytes. A budget of
+     * 1,300,000,000 admits all of them there.
      */
     readonly budget?: number | null;
 }
@@ -117,8 +122,8 @@ export class Policy {
      * call `loginAsync`.
      *
      * Throws TooCostly if the hash costs more than the budget, so `login` opens what this makes;
-     * and Refused for a password of more than 1,024 bytes or with a zero byte. A lone surrogate is
-     * a TypeError.
+     * and Refused for a password of more than 1,024 bytes or with a zero byte, and where scrypt
+     * finds no memory. A lone surrogate is a TypeError.
      */
     hash(password: Text): string;
 
@@ -132,9 +137,10 @@ export class Policy {
      *
      * It is a match only if the password matches. If `needsRehash` is true of the field, and a new
      * hash is within the budget, `new` is one to store in its place. All else is false: a locked,
-     * malformed or empty field, another scheme, scrypt, a hash above the budget, and a password
-     * that no hash can have (`passwordProblem`). No string or bytes throw, nor does null as a
-     * field; anything else is a TypeError. But if another script has set
+     * malformed or empty field, another scheme, a hash above the budget, a password that no hash
+     * can have (`passwordProblem`), and any password while scrypt finds no memory: only `verify`
+     * tells that from a wrong password, since it throws. No string or bytes throw, nor does null as
+     * a field; anything else is a TypeError. But if another script has set
      * `Object.prototype.matches` or `new`, false would look like a match, so an Error is thrown in
      * its place.
      *
@@ -148,6 +154,9 @@ export class Policy {
      * The same in a worker, so the caller's thread goes on. There are as many as cores, but for one
      * that is left to the caller, and at least one; all calls wait for them in one queue, without
      * a limit. If a worker dies, its call's promise is rejected.
+     *
+     * Calls with scrypt also wait for memory: together they take at most half of what is free (in
+     * a browser a quarter of the device's), but one always runs. Other calls pass them meanwhile.
      */
     loginAsync(password: Text, field: Text | null | undefined): Promise<Verdict>;
 
@@ -156,16 +165,16 @@ export class Policy {
      * for a hash that was cut. It isn't for logins: its time tells which names exist, and it
      * throws.
      *
-     * Throws TooCostly if the hash can cost more than the budget; Refused for scrypt, another
-     * scheme, an invalid setting and a password of more than 1,024 bytes or with a zero byte. A
-     * lone surrogate is a TypeError.
+     * Throws TooCostly if the hash can cost more than the budget; Refused for another scheme, an
+     * invalid setting, a password of more than 1,024 bytes or with a zero byte, and where scrypt
+     * finds no memory. A lone surrogate is a TypeError.
      */
     verify(password: Text, field: Text): boolean;
 
     /**
      * Whether a new hash by this policy would replace the stored one: it is of another method, or
-     * has fewer rounds. A locked or empty field has none. Throws Refused if the setting is invalid
-     * or of another scheme.
+     * has fewer rounds (of scrypt: a smaller N * r * p). A locked or empty field has none. Throws
+     * Refused if the setting is invalid or of another scheme.
      */
     needsRehash(stored: Text): boolean;
 
@@ -174,11 +183,11 @@ export class Policy {
      * null throws.
      *
      * The state is the first of these: `locked`, `none` (empty or null), `no scheme` (no hash at
-     * all, such as a password that was stored as it is), `unknown` (another scheme, or scrypt: the
-     * user needs a new password), `malformed`, `over budget` (without a budget: that of
-     * `mkpasswd --audit`), `dead` (cut or changed, so no password matches it), `outdated` (as
-     * `needsRehash` says; a login renews it), `current`. What is over budget is so for a password
-     * of 1,024 bytes: a login with a shorter one can match.
+     * all, such as a password that was stored as it is), `unknown` (another scheme: the user needs
+     * a new password), `malformed`, `over budget` (without a budget: that of `mkpasswd --audit`),
+     * `dead` (cut or changed, so no password matches it), `outdated` (as `needsRehash` says; a
+     * login renews it), `current`. What is over budget is so for a password of 1,024 bytes: a login
+     * with a shorter one can match.
      */
     describe(field: Text | null | undefined): Description;
 
