@@ -6,7 +6,9 @@ const HASHER = "@HASHER@";
 // idle worker doesn't keep node running. One that ends fails its own call alone.
 //
 // A call with scrypt tells how much memory it needs. No more such calls run at once than there is
-// memory for, but one always does. Where one waits for memory, calls that need none pass it.
+// memory for, but one always does. Where one waits for memory, calls that need none pass it. A
+// worker keeps memory that it no longer uses until that is collected, and gives all back when it
+// ends: so after scrypt it ends if no call waits, or once another call finds no memory.
 class Pool {
     #start;
     #memory;
@@ -91,27 +93,46 @@ class Pool {
         worker.unref?.();
         this.#idle.push(worker);
         this.#usedMemory -= call.memory;
-        if (this.#lackedMemory(call, answer)) {
-            this.#waiting.unshift(call);
+        if (answer.failure?.reason === OUT_OF_MEMORY) {
+            this.#takeLackOfMemory(call, answer);
         } else {
             call.resolve(answer);
+            this.#takeMemoryBack(worker, call);
         }
         this.#distribute();
     }
 
-    // Whether a call found no memory because others used it. If so, it is to be tried again.
-    #lackedMemory(call, { failure }) {
-        if (failure?.reason !== OUT_OF_MEMORY) return false;
-        call.usedByOthers = Math.max(call.usedByOthers, this.#usedMemory);
-        return call.usedByOthers > 0;
+    #takeMemoryBack(worker, { memory }) {
+        if (memory === 0) return;
+        worker.keepsMemory = true;
+        if (this.#waiting.length === 0) this.#end(worker);
     }
 
-    #remove(worker, error) {
-        if (worker.isGone) return; // node tells an error and then the end
+    // Has a call that found no memory tried again where others used it, or idle workers kept it.
+    #takeLackOfMemory(call, answer) {
+        const used = Math.max(call.usedByOthers, this.#usedMemory);
+        const keepers = this.#idle.filter(({ keepsMemory }) => keepsMemory);
+        const isAlone = used === 0 && keepers.length === 0;
+        if (isAlone || call.memory === 0) {
+            call.resolve(answer);
+            return;
+        }
+        for (const worker of keepers) this.#end(worker);
+        call.usedByOthers = used;
+        this.#waiting.unshift(call);
+    }
+
+    #end(worker) {
         worker.isGone = true;
         this.#countOfWorkers -= 1;
         this.#idle = this.#idle.filter((other) => other !== worker);
         worker.terminate();
+    }
+
+    // Takes the end of a worker, of which node tells an error and then the end.
+    #remove(worker, error) {
+        if (worker.isGone) return;
+        this.#end(worker);
         this.#usedMemory -= worker.call?.memory ?? 0;
         worker.call?.reject(error);
         this.#distribute();
