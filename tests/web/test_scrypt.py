@@ -1,0 +1,239 @@
+"""mkpasswd.mjs and scrypt in node: hashes, and the memory that they get.
+
+scrypt.mjs reports what the calls do, in a process of its own for each of its parts. The hashes are
+those of libxcrypt and of hashlib.
+"""
+from __future__ import annotations
+
+import hashlib
+import json
+import os
+from pathlib import Path
+from typing import Any, Callable
+
+import pytest
+from support import ROOT
+from support.libxcrypt import crypt
+from support.model.methods import numeral
+from support.reports import Report, report_of_node
+
+pytestmark = pytest.mark.xdist_group("node scrypt")
+
+PASSWORD = "K\u00e4se \U0001f40e"
+SALT = "SodiumChloride12345678"
+MEBIBYTE = 1 << 20
+MEMORY_OF_DEFAULT = 64 * MEBIBYTE  # N = 2^14 and r = 32, as the program has by default
+MOST_GROWTH = 20  # MiB
+LOGINS = 20
+# V8 gives an instance at most 600 pages of 64 KiB then: too few for the default.
+TOO_LITTLE_MEMORY = "--wasm-max-mem-pages=600"
+
+OUT_OF_MEMORY = "Refused: MKPASSWD_ERROR_OUT_OF_MEMORY"
+
+
+def scrypt_setting(log_n: int, r: int, p: int) -> str:
+    """A setting of scrypt."""
+    return "$7$" + (numeral(log_n, 1) + numeral(r, 5) + numeral(p, 5)).decode() + SALT
+
+
+def of_libxcrypt(password: str, setting: str) -> str:
+    """The hash that libxcrypt makes."""
+    return crypt(password.encode(), setting.encode()).decode()
+
+
+def of_hashlib(log_n: int, r: int, p: int) -> str:
+    """The hash of the password that OpenSSL makes."""
+    digest = hashlib.scrypt(
+        PASSWORD.encode(),
+        salt=SALT.encode(),
+        n=1 << log_n,
+        r=r,
+        p=p,
+        maxmem=(1 << 31) - 2,
+        dklen=32,
+    )
+    groups = [digest[begin : begin + 3] for begin in range(0, len(digest), 3)]
+    text = b"".join(numeral(int.from_bytes(group, "little"), len(group) + 1) for group in groups)
+    return f"{scrypt_setting(log_n, r, p)}${text.decode()}"
+
+
+DEFAULT = scrypt_setting(14, 32, 1)
+SMALL = scrypt_setting(10, 8, 1)
+HASH_OF_DEFAULT = of_libxcrypt(PASSWORD, DEFAULT)
+HASH_OF_SMALL = of_libxcrypt(PASSWORD, SMALL)
+HASH_OF_SHA = of_libxcrypt(PASSWORD, "$6$rounds=656000$saltsaltsaltsalt")
+
+
+@pytest.fixture(scope="module")
+def report_of(node: str, web_build: Path) -> Callable[..., Report]:
+    """Runs a part of scrypt.mjs with its rows and with options of node."""
+
+    def run_part(part: str, rows: Any, *options: str) -> Report:
+        script, module = ROOT / "tests/web/scrypt.mjs", web_build / "mkpasswd.mjs"
+        given = json.dumps(rows).encode()
+        return report_of_node(node, *options, script, module, part, stdin=given)
+
+    return run_part
+
+
+# ---- Hashes
+
+
+@pytest.mark.parametrize(
+    ("log_n", "r", "p"),
+    [
+        pytest.param(14, 32, 1, id="64 MiB, the program's default"),
+        pytest.param(18, 32, 1, id="1 GiB", marks=pytest.mark.slow),
+        pytest.param(10, 8, 3, id="three parts"),
+        pytest.param(2, 1, 1, id="four rows of 128 bytes"),
+    ],
+)
+def test_right_and_wrong_password(
+    report_of: Callable[..., Report], log_n: int, r: int, p: int
+) -> None:
+    stored = of_libxcrypt(PASSWORD, scrypt_setting(log_n, r, p))
+    assert stored == of_hashlib(log_n, r, p)
+    report = report_of("checked", [PASSWORD, stored])
+    assert report["made"] == stored
+    calls = ("verify", "login", "loginAsync")
+    assert report["right"] == dict.fromkeys(calls, True)
+    assert report["wrong"] == dict.fromkeys(calls, False)
+
+
+# ---- Too little memory
+
+
+@pytest.fixture(scope="module")
+def without_memory(report_of: Callable[..., Report]) -> Report:
+    """What calls do where no instance can have as much memory as the default takes."""
+    rows = [PASSWORD, HASH_OF_DEFAULT, HASH_OF_SMALL, HASH_OF_SHA]
+    return report_of("withoutMemory", rows, TOO_LITTLE_MEMORY)
+
+
+@pytest.mark.parametrize(
+    ("place", "outcome"),
+    [
+        pytest.param(0, OUT_OF_MEMORY, id="a new hash"),
+        pytest.param(1, OUT_OF_MEMORY, id="a new hash in a worker"),
+        pytest.param(2, False, id="a login with an unknown name"),
+        pytest.param(3, False, id="a login with an unknown name in a worker"),
+    ],
+)
+def test_policy_of_scrypt_finds_no_memory(
+    without_memory: Report, place: int, outcome: str | bool
+) -> None:
+    assert without_memory["own"][place] == outcome
+
+
+def test_check_says_that_there_is_no_memory(without_memory: Report) -> None:
+    verified, _, _ = without_memory["others"][0]
+    assert verified == OUT_OF_MEMORY
+
+
+def test_login_without_memory_fails(without_memory: Report) -> None:
+    _, result, result_in_worker = without_memory["others"][0]
+    assert result is False
+    assert result_in_worker is False
+
+
+def test_hash_is_described_where_there_is_no_memory_for_it(without_memory: Report) -> None:
+    assert without_memory["state"] == "outdated"
+
+
+@pytest.mark.parametrize(
+    "place",
+    [pytest.param(1, id="scrypt that takes little"), pytest.param(2, id="sha512crypt")],
+)
+def test_other_hashes_are_checked_where_memory_lacks_for_some(
+    without_memory: Report, place: int
+) -> None:
+    right = {"matches": True}
+    assert without_memory["others"][place] == [True, right, right]
+
+
+# ---- Logins at once
+
+
+def workers() -> int:
+    """How many workers mkpasswd.mjs has at most."""
+    return max(1, len(os.sched_getaffinity(0)) - 1)
+
+
+def logins_at_once(count: int) -> list[list[str]]:
+    """Passwords and hashes of logins, every fourth of which has a wrong password."""
+    typed = [PASSWORD if number % 4 else "wrong" for number in range(count)]
+    return [[password, HASH_OF_DEFAULT] for password in typed]
+
+
+def matches(rows: list[list[str]]) -> list[bool]:
+    """Which logins have the right password."""
+    return [password == PASSWORD for password, _ in rows]
+
+
+@pytest.mark.slow
+def test_twenty_logins_at_once_are_answered(report_of: Callable[..., Report]) -> None:
+    rows = logins_at_once(LOGINS)
+    report = report_of("atOnce", rows)
+    assert report["matches"] == matches(rows), report
+    assert report["most"] <= workers(), report
+
+
+@pytest.mark.parametrize(
+    ("free", "most"),
+    [
+        pytest.param(0, 1, id="where none is free, one"),
+        pytest.param(2 * MEMORY_OF_DEFAULT, 1, id="for a single one"),
+        pytest.param(5 * MEMORY_OF_DEFAULT, 2, id="for two"),
+    ],
+)
+def test_no_more_logins_run_at_once_than_half_of_the_free_memory_holds(
+    report_of: Callable[..., Report], free: int, most: int
+) -> None:
+    rows = logins_at_once(6)
+    report = report_of("inFreeMemory", [free, *rows])
+    assert report["matches"] == matches(rows), report
+    assert report["most"] == min(most, workers()), report
+
+
+def test_login_without_scrypt_passes_those_that_wait_for_memory(
+    report_of: Callable[..., Report],
+) -> None:
+    rows = [*logins_at_once(3), [PASSWORD, HASH_OF_SHA]]
+    report = report_of("inFreeMemory", [0, *rows])
+    assert report["matches"] == matches(rows), report
+    assert report["most"] == min(2, workers()), report
+
+
+def test_login_that_finds_no_memory_beside_others_is_tried_again(
+    report_of: Callable[..., Report],
+) -> None:
+    rows = logins_at_once(6)
+    report = report_of("crowded", rows)
+    assert report["matches"] == matches(rows), report
+
+
+# ---- Memory that goes back
+
+
+def test_worker_ends_after_scrypt_where_no_call_waits(report_of: Callable[..., Report]) -> None:
+    rows = logins_at_once(3)
+    assert report_of("oneAfterAnother", rows)["started"] == len(rows)
+
+
+@pytest.fixture(scope="module")
+def growth(report_of: Callable[..., Report]) -> Report:
+    """By how many MiB the resident memory has grown by logins, once it was collected."""
+    rows = [[PASSWORD, HASH_OF_SHA], *logins_at_once(LOGINS)]
+    return report_of("growth", rows, "--expose-gc")
+
+
+@pytest.mark.slow
+@pytest.mark.parametrize(
+    "logins",
+    [
+        pytest.param("inTurn", id="after logins in the caller's thread"),
+        pytest.param("together", id="after twenty logins at once"),
+    ],
+)
+def test_resident_memory_returns(growth: Report, logins: str) -> None:
+    assert growth[logins] <= MOST_GROWTH, growth
