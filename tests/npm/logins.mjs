@@ -5,14 +5,14 @@
 import { readFileSync } from 'node:fs';
 
 const PLACE_OF_DIGESTS = 40; // in a report
-const WITHOUT_REPORT = ['web_scheme_name', 'web_message'];
-const memories = [];
+const WITHOUT_REPORT = ['web_scheme_name', 'web_message', 'web_need', 'web_login_need'];
+const memories = []; // of the instance that is kept, and then of those that lend memory to scrypt
 let digests = 0n;
 const { Instance } = WebAssembly;
 WebAssembly.Instance = function (compiled) {
     const { exports } = new Instance(compiled);
-    const memory = Buffer.from(exports.memory.buffer);
-    memories.push({ memory, initial: Buffer.from(memory) });
+    const initial = Buffer.from(exports.memory.buffer.slice());
+    memories.push({ memory: exports.memory, initial });
 
     function counting(call) {
         return (...words) => {
@@ -28,6 +28,13 @@ WebAssembly.Instance = function (compiled) {
     return { exports: { ...exports, ...Object.fromEntries(calls) } };
 };
 const { Policy } = await import('mkpasswd');
+
+// Whether a memory is as it was, and what it has grown by has zeros alone.
+function isWiped({ memory, initial }) {
+    const bytes = Buffer.from(memory.buffer);
+    const grown = bytes.subarray(initial.length);
+    return bytes.subarray(0, initial.length).equals(initial) && grown.equals(grown.map(() => 0));
+}
 
 // Each is called without its policy.
 const { login, loginAsync, verify, needsRehash, describe, passwordProblem } = new Policy({
@@ -49,12 +56,13 @@ function isAlike(verdict, result) {
 
 async function reported([password, field]) {
     digests = 0n;
+    memories.splice(1);
     const result = outcomeOf(() => login(password, field));
     const report = {
         result,
         digests: Number(digests),
         renewed: result.new,
-        wiped: memories.every(({ memory, initial }) => memory.equals(initial)),
+        wiped: memories.every(isWiped),
         verified: outcomeOf(() => verify(password, field)),
         outdated: outcomeOf(() => needsRehash(field)),
         state: outcomeOf(() => describe(field).state),

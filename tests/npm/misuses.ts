@@ -89,4 +89,4 @@ cost('x');
 // @ts-expect-error
 crypt('x');
 // @ts-expect-error
-setting('scrypt');
+setting('yescrypt');

@@ -12,7 +12,8 @@ type Users = Map<string, string>;
 
 const method: Method = 'sha256crypt';
 const options: PolicyOptions = { method, rounds: 5000, budget: 2 ** 42 };
-const policies = [new Policy(), new Policy(options), new Policy({ rounds: null })];
+const ofScrypt = new Policy({ method: 'scrypt', rounds: 8 });
+const policies = [new Policy(), new Policy(options), new Policy({ rounds: null }), ofScrypt];
 const queued: LoginQueueOptions = { policy: policies[0], failureTime: 5000, size: 200 };
 const queue = new LoginQueue(queued);
 

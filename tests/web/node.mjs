@@ -7,7 +7,7 @@ import vm from 'node:vm';
 const [file, page, rows, costly, audits] = process.argv.slice(2);
 const { Policy, cost, crypt, hash, setting, verify } = await import(file);
 const NO_LIMIT = 2 ** 42;
-const METHODS = ['sha512crypt', 'sha256crypt', 'md5crypt'];
+const ROUNDS = { sha512crypt: 1234, sha256crypt: 1234, scrypt: 6, md5crypt: 1234 };
 
 function outcomeOf(call) {
     try {
@@ -42,7 +42,10 @@ const defaults = [
     outcomeOf(() => hash(longer)),
     outcomeOf(() => verify(longer, standard)),
 ];
-const made = METHODS.map((method) => new Policy({ method, rounds: 1234 }).hash('password'));
+const made = {};
+for (const [method, rounds] of Object.entries(ROUNDS)) {
+    made[method] = new Policy({ method, rounds }).hash('password');
+}
 
 // ---- Checks by the page's worker and by the module
 
@@ -77,7 +80,8 @@ const lines = readFileSync(0, 'utf8').trimEnd().split('\n').map(checked);
 
 // Calls with ever more of the stack left, from none on, and compiled by now, so that it can end in
 // the module.
-const [word, md5crypt] = ['password', made[2]].map((text) => Uint8Array.from(Buffer.from(text)));
+const texts = ['password', made.md5crypt];
+const [word, md5crypt] = texts.map((text) => Uint8Array.from(Buffer.from(text)));
 for (let count = 0; count < 3000; count++) verify(word, md5crypt);
 let calls = 0;
 function callDeeper() {
@@ -95,8 +99,8 @@ console.log(JSON.stringify({
     refused: refusedCalls.map(outcomeOf),
     defaults,
     made,
-    after: outcomeOf(() => verify('password', made[2])),
+    after: outcomeOf(() => verify('password', made.md5crypt)),
     audited: JSON.parse(audits).map(audited),
-    costs: [postedFor('password', made[2])[0].cost, cost(costly, 8)],
+    costs: [postedFor('password', made.md5crypt)[0].cost, cost(costly, 8)],
     checked: lines,
 }));

@@ -12,7 +12,7 @@ from pathlib import Path
 
 import pytest
 from support import ROOT
-from support.model.methods import MD5CRYPT, SHA256CRYPT, SHA512CRYPT, Method
+from support.model.methods import BY_NAME, MD5CRYPT, SCRYPT, SHA256CRYPT, SHA512CRYPT, Method
 from support.model.settings import LEAST_ROUNDS, MOST_ROUNDS, Setting, recommended_setting
 from support.model.work import LONGEST_PASSWORD, cost, login_limit
 from support.reports import Report, report_of_node
@@ -23,6 +23,7 @@ pytestmark = pytest.mark.xdist_group("node")
 POLICIES = 100_000
 HASHING_POLICIES = 100
 METHODS = (MD5CRYPT, SHA256CRYPT, SHA512CRYPT)
+SCRYPT_ROUNDS = range(6, 12)
 
 
 @dataclass(frozen=True)
@@ -62,12 +63,21 @@ class Policy:
         }
 
 
-def random_policy(generator: random.Random, most_rounds: int) -> Policy:
-    """A policy whose budget is often just above or below what some password costs."""
-    method = generator.choice(METHODS)
-    rounds = generator.choice((0, LEAST_ROUNDS, most_rounds, *[-1] * 9))
+def random_rounds(generator: random.Random, method: Method, most_rounds: int) -> int:
+    """Rounds that a method has, or 0."""
+    choices = (0, LEAST_ROUNDS, most_rounds, *[-1] * 9)
+    rounds: int = generator.choice((0, *SCRYPT_ROUNDS) if method is SCRYPT else choices)
     if rounds == -1:
         rounds = int(LEAST_ROUNDS * (most_rounds / LEAST_ROUNDS) ** generator.random())
+    return rounds
+
+
+def random_policy(
+    generator: random.Random, most_rounds: int, methods: tuple[Method, ...] = METHODS
+) -> Policy:
+    """A policy whose budget is often just above or below what some password costs."""
+    method = generator.choice(methods)
+    rounds = random_rounds(generator, method, most_rounds)
     setting = recommended_setting(method, rounds)
     price = cost(setting, generator.randint(0, LONGEST_PASSWORD))
     budgets = (None, price - 1, price, price + 1, int(10 ** generator.uniform(0, 13)))
@@ -84,7 +94,8 @@ def reports_of(node: str, web_build: Path, policies: list[Policy], *, is_hashed:
 
 def test_limits_of_random_policies(node: str, web_build: Path, seed: int) -> None:
     generator = random.Random(seed)
-    policies = [random_policy(generator, MOST_ROUNDS) for _ in range(POLICIES)]
+    methods = (*METHODS, SCRYPT)
+    policies = [random_policy(generator, MOST_ROUNDS, methods) for _ in range(POLICIES)]
     report = reports_of(node, web_build, policies, is_hashed=False)
     assert len(report.value) == POLICIES
     wrong = [
@@ -123,13 +134,14 @@ def test_longest_password_is_hashed_and_a_longer_one_is_refused(
     [
         pytest.param("sha512crypt", 253_921_472, 168, id="sha512crypt"),
         pytest.param("sha256crypt", 211_937_408, 150, id="sha256crypt"),
+        pytest.param("scrypt", 268_491_592, 1024, id="scrypt"),
         pytest.param("md5crypt", 150_000_000, 1024, id="md5crypt"),
     ],
 )
 def test_limit_of_the_recommended_policy_is_the_documented_one(
     node: str, web_build: Path, method: str, limit: int, longest_password: int
 ) -> None:
-    policy = Policy(next(known for known in METHODS if known.name == method), 0, None)
+    policy = Policy(BY_NAME[method], 0, None)
     report = reports_of(node, web_build, [policy], is_hashed=False)
     assert report.value[0]["bytes"] == limit
     assert report.value[0]["passwordLength"] == longest_password

@@ -112,8 +112,8 @@ class Audit:
     policy: tuple[str | int, ...] = ()  # method, rounds and budget
 
 
-# What md5crypt digests of 1,024 bytes, and what 656000 rounds of sha512crypt do: 1927022 and
-# 1297572512 bytes.
+# What md5crypt digests of 1,024 bytes, what 656000 rounds of sha512crypt do, and what scrypt
+# digests and mixes with N = 2^14 and r = 32: 1927022, 1297572512 and 134246820 bytes.
 AUDITS = [
     Audit("a recommended hash", "sha512crypt:1297572512:current", NEW_HASH),
     Audit("a hash of md5crypt", "md5crypt:1927022:outdated", OLD_HASH),
@@ -142,7 +142,26 @@ AUDITS = [
     *(Audit(str(other), "unknown", other.text) for other in OTHER_HASHES),
     Audit("a part of a hash of bcrypt", "unknown", "$2b$05$x"),
     Audit("Argon2", "unknown", "$argon2id$v=19$x"),
-    Audit("scrypt", "scrypt:unknown", SCRYPT_HASH),
+    Audit("a hash of scrypt", "scrypt:134246820:outdated", SCRYPT_HASH),
+    Audit(
+        "a hash of scrypt, which is wanted",
+        "scrypt:134246820:current",
+        SCRYPT_HASH,
+        policy=("scrypt",),
+    ),
+    Audit(
+        "a hash of scrypt with half the rows that are wanted",
+        "scrypt:134246820:outdated",
+        SCRYPT_HASH,
+        policy=("scrypt", 8),
+    ),
+    Audit(
+        "a hash of scrypt that costs a byte more than the budget",
+        "scrypt:134246820:over budget",
+        SCRYPT_HASH,
+        policy=("scrypt", 7, 134_246_819),
+    ),
+    Audit("a hash of scrypt that was cut", "scrypt:134246820:dead", SCRYPT_HASH[:-1]),
     Audit("scrypt without a cost", "malformed:bad cost", "$7$x"),
     Audit("a word", "no scheme", "hello"),
     Audit("a word of thirteen letters, as descrypt has", "unknown", "battery.horse"),
@@ -169,6 +188,12 @@ AUDITS = [
         "MKPASSWD_ERROR_ROUNDS",
         NEW_HASH,
         policy=("sha512crypt", -(2**32)),
+    ),
+    Audit(
+        "rounds that scrypt doesn't have",
+        "MKPASSWD_ERROR_ROUNDS",
+        SCRYPT_HASH,
+        policy=("scrypt", 12),
     ),
     Audit(
         "rounds of md5crypt, which has none",
@@ -209,7 +234,8 @@ def random_hash(generator: random.Random, number: int) -> Stored:
     longest = 39 if number % 9 else LONGEST_PASSWORD
     length = generator.randint(0, longest)
     password = bytes(generator.randint(2, 255) for _ in range(length))  # 1 makes a wrong one
-    prefix = ("$1$", "$5$", "$6$", "$5$rounds=1001$", "$6$rounds=1999$")[number % 5]
+    prefixes = ("$1$", "$5$", "$6$", "$5$rounds=1001$", "$6$rounds=1999$", "$7$46..../....")
+    prefix = prefixes[number % len(prefixes)]
     salt = "".join(generator.choices(SALT_CHARACTERS, k=generator.randint(0, 17)))
     return Stored(password, crypt(password, (prefix + salt).encode()))
 
@@ -250,12 +276,18 @@ def report(
 # ---- Hashes and checks
 
 
-METHODS = ("sha512crypt", "sha256crypt", "md5crypt")
-
-
-@pytest.mark.parametrize("method", METHODS)
-def test_new_hash_is_the_one_of_libxcrypt(report: Report, method: str) -> None:
-    made = report["made"][METHODS.index(method)]
+@pytest.mark.parametrize(
+    ("method", "prefix"),
+    [
+        ("sha512crypt", "$6$rounds=1234$"),
+        ("sha256crypt", "$5$rounds=1234$"),
+        ("scrypt", "$7$BU..../...."),
+        ("md5crypt", "$1$"),
+    ],
+)
+def test_new_hash_is_the_one_of_libxcrypt(report: Report, method: str, prefix: str) -> None:
+    made = report["made"][method]
+    assert made.startswith(prefix)
     assert made == crypt(b"password", made.encode()).decode()
 
 

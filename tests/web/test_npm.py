@@ -246,7 +246,7 @@ FIELDS_OF_FAILURES = {
     "an empty field": "",
     "a locked account": "!",
     "yescrypt": "$y$x",
-    "scrypt": "$7$46..../....s",
+    "scrypt": crypt(b"password", b"$7$46..../....SodiumChloride").decode(),
     "a malformed hash": "$5$rounds=$x",
     "a cut hash": crypt(b"password", b"$6$rounds=5000$saltsaltsaltsalt").decode()[:40],
     "a hostile hash": "$6$rounds=999999999$s$x",
@@ -329,17 +329,22 @@ def policies(user: Site) -> Report:
 
 
 @pytest.mark.parametrize(
-    ("title", "rounds"),
+    ("title", "method", "rounds"),
     [
-        ("nothing", 656_000),
-        ("an empty object", 656_000),
-        ("an object without a prototype", 5000),
-        ("null as rounds", 656_000),
+        ("nothing", "sha512crypt", 656_000),
+        ("an empty object", "sha512crypt", 656_000),
+        ("an object without a prototype", "sha512crypt", 5000),
+        ("null as rounds", "sha512crypt", 656_000),
+        ("scrypt", "scrypt", 7),
+        ("the most rounds of scrypt", "scrypt", 11),
     ],
 )
-def test_policy(policies: Report, title: str, rounds: int) -> None:
-    expected = {"method": "sha512crypt", "rounds": rounds, "budget": None}
+def test_policy(policies: Report, title: str, method: str, rounds: int) -> None:
+    expected = {"method": method, "rounds": rounds, "budget": None}
     assert policies["policies"][title] == expected
+
+
+METHODS = "sha512crypt, sha256crypt, scrypt or md5crypt"
 
 
 @pytest.mark.parametrize(
@@ -361,10 +366,11 @@ def test_policy(policies: Report, title: str, rounds: int) -> None:
         ("true as rounds", "TypeError: rounds must be an integer, not boolean"),
         ("a bigint as rounds", "TypeError: rounds must be an integer, not bigint"),
         ("too few rounds", "Refused: rounds must be 1000 to 999999999"),
+        ("too many rounds of scrypt", "Refused: rounds must be 1000 to 999999999, of scrypt 6 to"),
         ("a number as method", "TypeError: method must be a string, not number"),
         ("null as method", "TypeError: method must be a string, not null"),
-        ("another method", "Refused: method must be sha512crypt, sha256crypt or md5crypt"),
-        ("a method of all objects", "Refused: method must be sha512crypt, sha256crypt or md5crypt"),
+        ("another method", f"Refused: method must be {METHODS}"),
+        ("a method of all objects", f"Refused: method must be {METHODS}"),
         ("a string as budget", "TypeError: budget must be an integer"),
         ("a budget of 0", "RangeError: budget must be above 0"),
         ("an infinite budget", "TypeError: budget must be an integer"),
@@ -481,7 +487,7 @@ class Login:
     @property
     def outdated(self) -> str | bool:
         """What needsRehash returns, or the reason of its error."""
-        if self.refusal and re.search("UNKNOWN|BAD|SETTING", self.refusal):
+        if self.refusal and re.search("UNKNOWN|BAD|SETTING|CEILING", self.refusal):
             return f"MKPASSWD_ERROR_{self.refusal}"
         return self.is_outdated
 
@@ -489,6 +495,7 @@ class Login:
 CURRENT = crypt(b"password", b"$6$rounds=5000$saltsaltsaltsalt").decode()
 OLD = crypt(b"password", b"$1$saltsalt").decode()
 FEW_ROUNDS = crypt(b"password", b"$6$rounds=1000$saltsaltsaltsalt").decode()
+SCRYPT = crypt(b"password", b"$7$BU..../....SodiumChloride").decode()  # of 32 MiB
 HORSE = "K\u00e4se \U0001f40e"
 HASH_OF_HORSE = crypt(HORSE.encode(), b"$6$rounds=5000$saltsaltsaltsalt").decode()
 
@@ -512,6 +519,10 @@ LOGINS = [
     Login("the right password of a hash of few rounds", "password", FEW_ROUNDS, matches=True),
     Login("a password beyond ASCII", HORSE, HASH_OF_HORSE, matches=True),
     Login("a part of a password beyond ASCII", "K\u00e4se", HASH_OF_HORSE),
+    Login("the right password of a hash of scrypt", "password", SCRYPT, matches=True),
+    Login("a wrong password of a hash of scrypt", "passwort", SCRYPT),
+    Login("a hash of scrypt without its last character", "password", SCRYPT[:-1]),
+    Login("the setting of a hash of scrypt", "password", SCRYPT.rpartition("$")[0]),
     Login("a hash without its last character", "password", CURRENT[:-1]),
     Login("the begin of a hash", "password", CURRENT[:40]),
     Login("a hash with a character more", "password", f"{CURRENT}."),
@@ -531,7 +542,8 @@ LOGINS = [
     hidden("5000 characters", "$6$" + "x" * 5000, "SETTING_TOO_LONG"),
     hidden("rounds without a number", "$5$rounds=$x", "BAD_ROUNDS"),
     hidden("the most rounds", "$6$rounds=999999999$s$x", "OVER_BUDGET"),
-    hidden("scrypt", "$7$46..../....s", "OUT_OF_MEMORY"),
+    hidden("scrypt above its ceiling", "$7$M0..../....s", "ABOVE_CEILING"),
+    hidden("scrypt without a cost", "$7$x", "BAD_COST"),
     impossible("1025 bytes", "x" * 1025, CURRENT, "PASSWORD_TOO_LONG"),
     impossible("1025 bytes for an empty field", "x" * 1025, "", "PASSWORD_TOO_LONG"),
     impossible("1025 bytes for a locked field", "x" * 1025, "!", "PASSWORD_TOO_LONG"),
@@ -544,7 +556,7 @@ LOGINS = [
 def random_logins(generator: random.Random) -> list[Login]:
     """Logins with random passwords, right ones and wrong ones."""
     logins = []
-    for prefix in ("$5$", "$6$", "$5$rounds=1001$", "$6$rounds=5999$") * 25:
+    for prefix in ("$5$", "$6$", "$5$rounds=1001$", "$6$rounds=5999$", "$7$46..../....") * 25:
         length = generator.randint(0, 39)
         password = "".join(chr(generator.randint(32, 126)) for _ in range(length))
         salt = "".join(generator.choices(SALT_CHARACTERS, k=generator.randint(1, 16)))
@@ -748,7 +760,6 @@ UNCHECKED_FIELDS = {
     "an unknown name": None,
     "a locked field": "!",
     "yescrypt": "$y$x",
-    "scrypt": "$7$46..../....s",
     "the most rounds": "$6$rounds=999999999$s$x",
 }
 
