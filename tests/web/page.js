@@ -1,11 +1,11 @@
 // Does what a visitor does, as the body of a function that a browser evaluates in the page: makes
 // and checks hashes, has others refused, stops one, and tries to send something. It reports what
-// the page showed. test_page.py defines ROWS, CURRENT and SERVER before it, returns visit() behind
-// it, and knows what the page should show.
+// the page showed. test_page.py defines ROWS, CURRENT, SCRYPT and SERVER before it, returns visit()
+// behind it, and knows what the page should show.
 
 const PASSWORD = 'K\u00e4se \u{1f40e}';
 const WRONG_PASSWORD = 'K\u00e4se';
-const METHODS = ['sha512crypt', 'sha256crypt', 'md5crypt'];
+const ROUNDS = { sha512crypt: 1234, sha256crypt: 1234, scrypt: 6, md5crypt: null };
 
 // ---- What a visitor sees and does
 
@@ -51,7 +51,7 @@ function damaged(stored) {
 async function makeAndCheck(method) {
     set({ password: PASSWORD, repeat: PASSWORD, method });
     const isHashLeft = isShown(element('made'));
-    if (!element('rounds').disabled) set({ rounds: 1234 });
+    if (ROUNDS[method]) set({ rounds: ROUNDS[method] });
     const made = await ended('make', {});
     const stored = element('snippet').textContent;
     const right = await ended('check', { stored: ` ${stored} `, guess: PASSWORD }); // as pasted
@@ -65,7 +65,7 @@ async function makeAndCheck(method) {
 
 async function visitMethods() {
     const visits = [];
-    for (const method of METHODS) visits.push(await makeAndCheck(method));
+    for (const method of Object.keys(ROUNDS)) visits.push(await makeAndCheck(method));
     const fixed = [
         element('rounds').disabled,
         element('rounds').value,
@@ -79,6 +79,21 @@ async function visitMethods() {
         fixed,
         free: [element('rounds').disabled, element('rounds').value],
     };
+}
+
+// What the page says of scrypt's rounds, and of a hash with the program's default cost.
+async function visitScrypt() {
+    set({ method: 'scrypt' });
+    await until(() => element('estimate').textContent.includes('MiB'));
+    const estimates = [[element('rounds').value, element('estimate').textContent]];
+    set({ rounds: 11 });
+    estimates.push(['11', element('estimate').textContent]);
+    const given = { password: PASSWORD, repeat: PASSWORD };
+    const refused = [];
+    for (const rounds of [5, 12, 656000]) refused.push(await ended('make', { ...given, rounds }));
+    const right = await ended('check', { stored: SCRYPT, guess: 'password' });
+    const wrong = await ended('check', { guess: 'passwort' });
+    return { estimates, refused, checked: [right, wrong] };
 }
 
 // ---- Where a hash goes
@@ -252,6 +267,7 @@ async function visitForms() {
     const estimate = element('estimate').textContent;
     const links = document.links.length;
     const recommended = [element('rounds').value, element('budget').value];
+    const scrypt = await visitScrypt();
     const ofMethods = await visitMethods();
     await ended('make', {});
     const stored = element('snippet').textContent;
@@ -270,7 +286,8 @@ async function visitForms() {
     const sent = await tryToSend();
     return {
         ...ofMethods, ...ofRefusals, ...ofGenerated, estimate, links, recommended, stored, phone,
-        wide, places, lines, current, rounds, mistyped, stopped, icon, sent, frequencies: counts,
+        wide, places, lines, current, rounds, mistyped, stopped, icon, sent, scrypt,
+        frequencies: counts,
     };
 }
 

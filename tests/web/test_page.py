@@ -15,7 +15,7 @@ import pytest
 from support import ROOT
 from support.browsers import Browser
 from support.libxcrypt import crypt
-from support.model.methods import SHA512CRYPT
+from support.model.methods import SCRYPT, SHA512CRYPT
 from support.model.settings import read_setting
 from support.model.work import cost, login_limit
 from support.other_hashes import OTHER_HASHES
@@ -26,11 +26,17 @@ pytestmark = pytest.mark.usefixtures("web_build")  # without which no browser ne
 
 PAGE_SCRIPT = ROOT / "tests/web/page.js"
 PASSWORD = "K\u00e4se \U0001f40e"  # what page.js types
-ROUNDS = "1234"  # and the rounds it asks for
+ROUNDS = "1234"  # and the rounds of SHA-crypt that it asks for
 
-METHODS = ("sha512crypt", "sha256crypt", "md5crypt")
-PREFIXES = {"sha512crypt": "$6$", "sha256crypt": "$5$", "md5crypt": "$1$"}
-DIGEST_LENGTHS = {"sha512crypt": 86, "sha256crypt": 43, "md5crypt": 22}
+METHODS = ("sha512crypt", "sha256crypt", "scrypt", "md5crypt")
+DIGEST_LENGTHS = {"sha512crypt": 86, "sha256crypt": 43, "scrypt": 43, "md5crypt": 22}
+# How a hash looks that has the rounds and a whole salt.
+FORMS = {
+    "sha512crypt": rf"\$6\$rounds={ROUNDS}\$[./\w]{{16}}\$\S+",
+    "sha256crypt": rf"\$5\$rounds={ROUNDS}\$[./\w]{{16}}\$\S+",
+    "scrypt": r"\$7\$BU\.{4}/\.{4}[./\w]{22}\$\S+",  # of 6 rounds
+    "md5crypt": r"\$1\$[./\w]{8}\$\S+",
+}
 
 OUTDATED = (
     "The password matches, but the hash is outdated "
@@ -58,6 +64,8 @@ class Unchecked:
 SHA512_HASH = "$6$s$" + "." * 86
 DEAR_HASH = SHA512_HASH.replace("$6$", "$6$rounds=999999999$")
 COST_OF_DEAR_HASH = cost(read_setting(DEAR_HASH.encode()), len("x"))
+DEAR_SCRYPT_HASH = "$7$GU..../....s$" + "." * 43  # of 1 GiB
+COST_OF_DEAR_SCRYPT_HASH = cost(read_setting(DEAR_SCRYPT_HASH.encode()), len("x"))
 ELSEWHERE = "which can\u2019t be checked here. Log in on the system that stored it."
 NOT_A_HASH = "is not a hash of crypt(5). Paste one, or its whole line."
 UNCHECKED = [
@@ -134,11 +142,17 @@ UNCHECKED = [
         answer=f"This is yescrypt, {ELSEWHERE}",
     ),
     Unchecked(
-        "scrypt",
+        "scrypt without a digest",
         stored="$7$46..../....s",
         password="x",
-        answer="This is scrypt, which can\u2019t be checked here. "
-        "Give a line name:hash:password to pwhash check.",
+        answer=f"This hash is cut: 0 of 43 characters. {HOPELESS}",
+    ),
+    Unchecked(
+        "scrypt above the budget",
+        stored=DEAR_SCRYPT_HASH,
+        password="x",
+        answer="Checking this hash can take about N, so it was refused. "
+        f"If you trust it, raise the budget to {COST_OF_DEAR_SCRYPT_HASH}.",
     ),
     Unchecked(
         "scrypt without a cost",
@@ -197,12 +211,16 @@ class Pages:
     slow: Path  # it measures that a hash takes minutes
     module: Path  # it calls mkpasswd.mjs
     module_without_worker: Path  # the same with a policy that refuses workers
+    module_without_webassembly: Path  # and with one that refuses the module
 
 
 # The module and the script that uses it, whose title becomes what it reports.
 MODULE_PAGE = """<!DOCTYPE html><meta charset="utf-8"><title>running</title>
 <meta http-equiv="Content-Security-Policy" content="default-src 'none'; \
 script-src 'unsafe-inline' 'wasm-unsafe-eval'; worker-src blob:">
+<script>
+addEventListener('error', ({ message }) => { document.title = JSON.stringify(message); });
+</script>
 <script type="module">
 @MODULE@
 async function visit() {
@@ -218,7 +236,8 @@ async function visit() {
     const results = {};
     for (const [name, login] of Object.entries(logins)) results[name] = await login;
     const refused = await policy.hashAsync('x\\0').catch(({ reason }) => reason);
-    return { stored, results, renewed: results.outdated.new, refused };
+    const scrypt = await new Policy({ method: 'scrypt', rounds: 6 }).hashAsync('password');
+    return { stored, results, renewed: results.outdated.new, refused, scrypt };
 }
 document.title = JSON.stringify(await visit().catch(String));
 </script>
@@ -260,6 +279,7 @@ def pages(web_build: Path, tmp_path_factory: pytest.TempPathFactory) -> Pages:
         slow=write("3.html", changed(slow, "<title>.*?</title>", "<title>slow</title>")),
         module=write("4.html", module_page),
         module_without_worker=write("5.html", changed(module_page, " worker-src blob:", "")),
+        module_without_webassembly=write("6.html", changed(module_page, " 'wasm-unsafe-eval'", "")),
     )
 
 
@@ -270,6 +290,7 @@ def page_script(server: WebServer) -> str:
         "SERVER": server.address,
         "ROWS": [[row.stored, row.password] for row in UNCHECKED],
         "CURRENT": crypt(b"password", b"$6$rounds=656000$saltsaltsaltsalt").decode(),
+        "SCRYPT": crypt(b"password", b"$7$CU..../....SodiumChloride").decode(),
     }
     defined = [f"const {name} = {json.dumps(value)};\n" for name, value in values.items()]
     script = PAGE_SCRIPT.read_text(encoding="utf-8")
@@ -351,12 +372,7 @@ def test_hash_is_the_one_of_libxcrypt(page: Report, method: str) -> None:
 
 @each_method
 def test_hash_has_the_chosen_method_and_rounds_and_a_whole_salt(page: Report, method: str) -> None:
-    form = rf"\$[56]\$rounds={ROUNDS}\$[./\w]{{16}}\$\S+"
-    if method == "md5crypt":
-        form = r"\$1\$[./\w]{8}\$\S+"
-    stored = made(page, method).stored
-    assert stored.startswith(PREFIXES[method])
-    assert re.fullmatch(form, stored)
+    assert re.fullmatch(FORMS[method], made(page, method).stored)
 
 
 def test_every_hash_has_another_salt(served: Report, opened: Report) -> None:
@@ -377,6 +393,21 @@ def test_page_says_how_long_a_hash_will_take(page: Report) -> None:
     assert re.fullmatch(form, page["estimate"])
 
 
+@pytest.mark.parametrize(
+    ("place", "rounds", "memory"),
+    [
+        pytest.param(0, SCRYPT.recommended, 64, id="the recommended rounds"),
+        pytest.param(1, 11, 1024, id="the most rounds"),
+    ],
+)
+def test_page_says_what_time_and_memory_scrypt_will_take(
+    page: Report, place: int, rounds: int, memory: int
+) -> None:
+    shown, estimate = page["scrypt"]["estimates"][place]
+    assert shown == str(rounds)
+    assert re.fullmatch(rf"Takes (a|about) [\w ]+ and {memory}\u00a0MiB of memory\.", estimate)
+
+
 def test_fields_have_the_recommended_rounds_and_their_budget(page: Report) -> None:
     limit = login_limit(SHA512CRYPT, None, 0)
     assert page["recommended"] == [str(SHA512CRYPT.recommended), str(limit)]
@@ -392,6 +423,14 @@ def test_fields_have_the_recommended_rounds_and_their_budget(page: Report) -> No
 )
 def test_rounds_that_no_hash_has_are_refused(page: Report, place: int) -> None:
     assert page["rounds"][place] == "Give 1000 to 999999999 rounds."
+
+
+@pytest.mark.parametrize(
+    "place", [pytest.param(0, id="5"), pytest.param(1, id="12"), pytest.param(2, id="SHA-crypt's")]
+)
+def test_rounds_that_scrypt_does_not_have_are_refused(page: Report, place: int) -> None:
+    said = page["scrypt"]["refused"][place]
+    assert said == "Give 6 to 11 rounds: each more doubles time and memory."
 
 
 def test_rounds_of_md5crypt_are_fixed_and_the_page_warns_of_it(page: Report) -> None:
@@ -540,6 +579,19 @@ def test_wrong_password_does_not_match(page: Report, method: str) -> None:
     assert without_time(made(page, method).said_of_wrong_password) == NO_MATCH
 
 
+@pytest.mark.parametrize(
+    ("place", "answer"),
+    [
+        pytest.param(0, OUTDATED, id="the right password"),
+        pytest.param(1, NO_MATCH, id="a wrong password"),
+    ],
+)
+def test_hash_of_scrypt_with_the_cost_of_the_program_is_checked(
+    page: Report, place: int, answer: str
+) -> None:
+    assert without_time(page["scrypt"]["checked"][place]) == answer
+
+
 def test_hash_with_the_recommended_rounds_is_not_outdated(page: Report) -> None:
     assert re.match(r"The password matches\. Checked in ", page["current"])
 
@@ -572,7 +624,7 @@ def test_page_says_why_no_password_matches(page: Report, method: str, flaw: Flaw
 @pytest.mark.parametrize("row", UNCHECKED, ids=[row.title for row in UNCHECKED])
 def test_page_says_why_it_cannot_check(page: Report, row: Unchecked) -> None:
     answer = page["refused"][UNCHECKED.index(row)]
-    assert re.sub(r"(?<=about )\d+ (minutes|hours)", "N", answer) == row.answer
+    assert re.sub(r"(?<=about )\d+ (seconds|minutes|hours)", "N", answer) == row.answer
 
 
 def test_budget_is_hidden_until_a_hash_is_above_it(page: Report) -> None:
@@ -661,6 +713,8 @@ def test_page_names_what_a_policy_refuses(
     report = visit(browser, path.as_uri(), page_script)
     named = re.search(r"\b(WebAssembly|script)\b", report["unable"])
     assert named and named[1] == refused, report
+    if refused == "WebAssembly":
+        assert "allow 'wasm-unsafe-eval' in script-src" in report["unable"], report
     assert report["forms"] == 0, report
     assert report["links"] == 4, report  # to the documents, which are beside an installed page
 
@@ -705,6 +759,11 @@ def test_module_makes_the_hash_of_libxcrypt(module: Report) -> None:
     assert module["stored"] == of_libxcrypt("password", module["stored"])
 
 
+def test_module_makes_a_hash_of_scrypt_in_a_worker(module: Report) -> None:
+    assert module["scrypt"].startswith("$7$BU..../....")
+    assert module["scrypt"] == of_libxcrypt("password", module["scrypt"])
+
+
 def test_module_names_the_reason_of_a_refusal(module: Report) -> None:
     assert module["refused"] == "MKPASSWD_ERROR_PASSWORD_ZERO_BYTE"
 
@@ -712,3 +771,8 @@ def test_module_names_the_reason_of_a_refusal(module: Report) -> None:
 def test_module_names_the_policy_that_refuses_its_worker(browser: Browser, pages: Pages) -> None:
     told = browser.evaluate(pages.module_without_worker.as_uri(), TITLE_SCRIPT)
     assert re.match("Error: .*Content-Security-Policy", json.loads(told))
+
+
+def test_module_names_the_policy_that_refuses_webassembly(browser: Browser, pages: Pages) -> None:
+    told = browser.evaluate(pages.module_without_webassembly.as_uri(), TITLE_SCRIPT)
+    assert re.search("'wasm-unsafe-eval' in script-src of the Content-Security-Policy", told), told
