@@ -96,13 +96,19 @@ function refusal(error) {
 const NO_MODULE = 'WebAssembly is refused: '
     + "allow 'wasm-unsafe-eval' in script-src of the Content-Security-Policy of the page";
 
-// Compiles the module. Its bytes are valid, so what refuses it is mostly a policy of the page.
-function compiledModule(base64) {
+// Returns what the engine makes of the module, whose bytes are valid: what refuses it is a lack of
+// memory, which is a RangeError, or a policy of the page. WebKit applies that to instances alone.
+function madeByEngine(make) {
     try {
-        return new WebAssembly.Module(bytesOfBase64(base64));
+        return make();
     } catch (error) {
+        if (error.name === 'RangeError') throw error;
         throw new Error(NO_MODULE, { cause: error });
     }
+}
+
+function compiledModule(base64) {
+    return madeByEngine(() => new WebAssembly.Module(bytesOfBase64(base64)));
 }
 
 const REPORT_SIZE = 80;
@@ -145,7 +151,7 @@ class Instance {
     }
 
     #begin() {
-        const { exports } = new WebAssembly.Instance(this.#compiled);
+        const { exports } = madeByEngine(() => new WebAssembly.Instance(this.#compiled));
         this.#initial = new Uint8Array(exports.memory.buffer).slice();
         const pages = Math.ceil(sizeOf(this.#need) / PAGE_SIZE);
         if (pages > 0) exports.memory.grow(pages);
