@@ -153,6 +153,12 @@ def test_the_status_says_that_a_module_failed(copy: Copy, redirected: str) -> No
     assert done.status == 3, done
 
 
+def test_a_library_that_was_cut_short_is_named(copy: Copy) -> None:
+    os.truncate(copy.library, copy.library.stat().st_size // 2)
+    done = copy.run(*MD5CRYPT, stdin=b"x")
+    assert done.status == 3 and str(copy.library).encode() in done.stderr, done
+
+
 def test_a_library_of_another_version_is_named(copy: Copy, folder: Path) -> None:
     """One with the name but without the calls."""
     save("other.c", b"int other;\n")
