@@ -223,6 +223,21 @@ def test_a_module_that_is_damaged_is_named(copy: Copy) -> None:
     assert b"Traceback" not in done.stderr, done
 
 
+@pytest.mark.parametrize(
+    "left",
+    [
+        pytest.param(b"", id="nothing"),
+        pytest.param(bytes(3000), id="zeros"),
+        pytest.param(b'"""Starts pwhash."""\n\nimport sys\n', id="its beginning"),
+    ],
+)
+def test_what_a_full_disk_left_of_the_first_module_answers_nothing(copy: Copy, left: bytes) -> None:
+    """Python ends such a module with status 0, which would say that the password is right."""
+    (copy.modules / "pwhash/start.py").write_bytes(left)
+    done = copy.run("check", stdin=b"ann:!:wrong\n")
+    assert done.status == 3 and b"start.py is damaged" in done.stderr, done
+
+
 def test_nothing_planted_is_loaded(folder: Path) -> None:
     """Neither modules nor libraries of the current folder, nor by the environment."""
     save("json.py", b"raise SystemExit(0)\n")
