@@ -228,6 +228,29 @@ def test_a_module_that_is_damaged_is_named(copy: Copy) -> None:
     [
         pytest.param(b"", id="nothing"),
         pytest.param(bytes(3000), id="zeros"),
+        pytest.param(b"def watch(", id="its beginning"),
+    ],
+)
+def test_damage_of_the_module_that_tells_of_damage_is_named(copy: Copy, left: bytes) -> None:
+    (copy.modules / "pwhash/unforeseen.py").write_bytes(left)
+    done = copy.run(*MD5CRYPT, stdin=b"x")
+    assert done.status == 3 and b"pwhash.unforeseen can't be loaded" in done.stderr, done
+    assert b"Traceback" not in done.stderr, done
+
+
+def test_a_module_that_the_user_cant_read_is_named(copy: Copy) -> None:
+    (copy.modules / "pwhash/cli.py").chmod(0)
+    as_nobody = ("/usr/bin/setpriv", "--reuid", "65534", "--clear-groups", "--")
+    done = copy.run(*MD5CRYPT, stdin=b"x", before=as_nobody if os.geteuid() == 0 else ())
+    assert done.status == 3 and b"pwhash/cli.py can't be read" in done.stderr, done
+    assert b"libmkpasswd" not in done.stderr, done
+
+
+@pytest.mark.parametrize(
+    "left",
+    [
+        pytest.param(b"", id="nothing"),
+        pytest.param(bytes(3000), id="zeros"),
         pytest.param(b'"""Starts pwhash."""\n\nimport sys\n', id="its beginning"),
     ],
 )

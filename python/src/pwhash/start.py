@@ -26,8 +26,10 @@ def start(library: str, command: str, words: "list[str]") -> NoReturn:
         importlib.import_module("ctypes").CDLL(library)
         sys.path.insert(0, os.path.dirname(os.path.dirname(os.path.realpath(__file__))))
         # So that a module that can't begin ends the process with status 3, too.
-        importlib.import_module("pwhash.unforeseen").watch()
+        watch_unforeseen()
         run = importlib.import_module("pwhash.run").run
+    except PermissionError as error:  # of a module: ctypes raises OSError alone
+        fail(f"{error.filename} can't be read. Install pwhash so that every user can read it.")
     except OSError:
         fail(
             f"{library} is missing, is of another processor or C library, or can't be loaded, "
@@ -42,6 +44,15 @@ def start(library: str, command: str, words: "list[str]") -> NoReturn:
     except ImportError as error:  # of the module of the command, which run loads
         fail(about_import(error))
     raise AssertionError
+
+
+def watch_unforeseen() -> None:
+    """Loads the module that tells of what is unforeseen, as damage of the others is."""
+    name = "pwhash.unforeseen"
+    try:
+        importlib.import_module(name).watch()
+    except (AttributeError, SyntaxError, ValueError):  # it is empty, or isn't Python
+        fail(about_import(ImportError(name=name)))
 
 
 def about_import(error: ImportError) -> str:
