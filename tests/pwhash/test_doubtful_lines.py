@@ -52,6 +52,13 @@ def test_a_line_with_a_character_that_shows_nothing_is_doubtful(character: str) 
         pytest.param(b"$2b$10$abcdefghijklmnopqrstuu", id="bcrypt"),
         pytest.param(b"$apr1$abcdefgh$abcdefghijklmnopqrstuu", id="of Apache"),
         pytest.param(b"{SSHA}abcdefghijklmnop", id="of LDAP"),
+        pytest.param(b"pbkdf2_sha256$600000$abcdefgh$MB1BFwTbAyJL2HfLS6GkQ3Qk=", id="of Django"),
+        pytest.param(b"bcrypt_sha256$$2b$12$abcdefghijklmnopqrstuu", id="bcrypt of Django"),
+        pytest.param(b"scrypt:32768:8:1$abcdefgh$5f4dcc3b5aa765d61d83", id="of Werkzeug"),
+        pytest.param(b"pbkdf2:sha256:600000$abcdefgh$5f4dcc3b5aa7", id="PBKDF2 of Werkzeug"),
+        pytest.param(b"SCRAM-SHA-256$4096:W22ZaJ0SNY7soEsUEjb6gQ==$WG5d=:wf=", id="of PostgreSQL"),
+        pytest.param(b"md5" + b"5f4dcc3b5aa765d61d8327deb882cf99", id="old, of PostgreSQL"),
+        pytest.param(b"*2470C0C06DEE42FD1618BB99005ADCA2EC9D1E19", id="of MySQL"),
         pytest.param(b"!", id="locked"),
         pytest.param(b"!:1::", id="fields behind a lock"),
         pytest.param(b"*:19000:0:99999:7:::", id="fields of a service"),
@@ -68,7 +75,16 @@ def test_a_stored_field_is_no_password(field: bytes) -> None:
 
 
 @pytest.mark.parametrize(
-    "password", [b"$ecret$password1", b"!secret", b"a:1:b", b"{secret}", b"*x*"]
+    "password",
+    [
+        b"$ecret$password1",
+        b"!secret",
+        b"a:1:b",
+        b"{secret}",
+        b"*x*",
+        b"md5$ecret",
+        b"scrypt:secret",
+    ],
 )
 def test_a_password_with_signs_of_hashes_is_hashed(password: bytes) -> None:
     done = pwhash("file", *MD5CRYPT, stdin=b"ann:%b\n" % password)

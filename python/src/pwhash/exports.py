@@ -4,13 +4,17 @@ from __future__ import annotations
 
 import re
 
-# What stands behind a name in /etc/shadow, /etc/passwd and htpasswd.
+# What stands behind a name in /etc/shadow, /etc/passwd, htpasswd and tables of users of databases.
 STORED = re.compile(
     rb"(?s)\$(?:[A-Za-z0-9]{1,2}|[A-Za-z-]*[0-9][A-Za-z0-9-]*)[$,].{8,}"  # the name of a scheme
     rb"|[!*]+(?:\$.*)?(?::[0-9]*)*"  # a lock
     rb"|[^:]*(?::[0-9]*){7}"  # the fields of shadow
     rb"|[^:]*:[^:/]*:[^:/]*:[^:]*(?::(?:/[^:]*)?){2}"  # those of passwd
     rb"|\{[A-Z0-9.-]+\}.{8,}"  # a scheme of LDAP
+    rb"|(?:pbkdf2_sha[0-9]+|bcrypt(?:_sha256)?|argon2|scrypt|sha1|md5)\$.{16,}"  # of Django
+    rb"|(?:pbkdf2:sha[0-9]+(?::[0-9]+)?|scrypt(?::[0-9]+){3})\$.{16,}"  # of Werkzeug
+    rb"|SCRAM-SHA-256\$[0-9]+:.{16,}|md5[0-9a-f]{32}"  # of PostgreSQL
+    rb"|\*[0-9A-F]{40}"  # of MySQL
 )
 # What spreadsheets show in place of a value. The language is the spreadsheet's: #NAME?, #NAAM?.
 ERROR = re.compile(r"#[\u00a1\u00bf]?([^\W\d_][\w/]+)[!?]")
