@@ -59,8 +59,9 @@ def about_import(error: ImportError) -> str:
     """Why a module can't be loaded."""
     if error.name is None:  # the package mkpasswd says what is wrong with the library
         return f"{error}."
-    folder = os.path.dirname(__file__)
-    if error.name.partition(".")[0] in ("pwhash", "mkpasswd"):
+    package = error.name.partition(".")[0]
+    if package in ("pwhash", "mkpasswd"):
+        folder = os.path.join(os.path.dirname(os.path.dirname(__file__)), package)
         return f"the module {error.name} can't be loaded: {folder} is damaged."
     return (
         f"{sys.executable} can't load its own module {error.name}. Install all of Python "

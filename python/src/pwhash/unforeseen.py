@@ -27,7 +27,7 @@ def end(
     kind: Type[BaseException], _: Optional[BaseException], place: Optional[TracebackType]
 ) -> None:
     """Ends the process."""
-    say(f"{about(kind, place)}.")
+    say(f"{about(kind, place)}: pwhash is damaged, or has a fault.")
     os._exit(FAILED)
 
 
