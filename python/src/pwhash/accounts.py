@@ -2,18 +2,14 @@
 
 from __future__ import annotations
 
-import os
-import stat
 from collections.abc import Iterable
 from typing import Dict, List
 
 from pwhash.console import Console
-from pwhash.errors import UsageError, errors_named
 from pwhash.lines import BYTE_ORDER_MARK, Arrivals, Line
-from pwhash.source import open_in_time, refuse_as_output
-from pwhash.text import is_utf8, named
+from pwhash.stored import stored_in
+from pwhash.text import is_utf8
 
-LONGEST_LINE = 1 << 17
 MOST_NAMED = 20  # numbers of lines in a message
 MOST_TOGETHER = 1 << 10  # lines that one word becomes at once
 
@@ -72,30 +68,6 @@ class Accounts:
 def read_fields(path: str, console: Console) -> Dict[bytes, bytes]:
     """The first field of each name in a file name:field."""
     fields: Dict[bytes, bytes] = {}
-    name_of_file = named(path)
-    with errors_named(name_of_file), open(open_fields(path), "rb") as file:
-        refuse_as_output(os.fstat(file.fileno()), name_of_file, console)
-        number, line = 1, file.readline(LONGEST_LINE)
-        while line:
-            if len(line) == LONGEST_LINE:
-                raise UsageError(
-                    f"{name_of_file}, line {number}: longer than 128 KiB, "
-                    "which no line name:field is."
-                )
-            name, colon, rest = line.rstrip(b"\n").partition(b":")
-            if colon:
-                fields.setdefault(name, rest.partition(b":")[0])
-            number, line = number + 1, file.readline(LONGEST_LINE)
-    if not fields:
-        raise UsageError(f"{name_of_file} has no line name:field.")
+    for stored in stored_in(path, console):
+        fields.setdefault(stored.name, stored.field)
     return fields
-
-
-def open_fields(path: str) -> int:
-    """Opens a file, or a pipe that somebody writes, as a shell's <(..) is."""
-    fd = open_in_time(path)
-    kind = os.fstat(fd).st_mode
-    if stat.S_ISREG(kind) or stat.S_ISFIFO(kind):
-        return fd
-    what = "a folder" if stat.S_ISDIR(kind) else "no file"
-    raise UsageError(f"{named(path)} is {what}. Name a file with lines name:field.")

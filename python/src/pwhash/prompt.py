@@ -1,4 +1,4 @@
-"""Asks at the terminal for a password, as bytes, since nothing says which encoding it has."""
+"""Asks at the terminal for passwords, as bytes, since nothing says which encoding they have."""
 
 from __future__ import annotations
 
@@ -8,6 +8,7 @@ import select
 import signal
 import termios
 import time
+from collections.abc import Sequence
 from typing import Any, List, NamedTuple, Set
 
 from pwhash.console import STDERR, STDIN, open_terminal
@@ -39,7 +40,7 @@ PIECE = 4096
 
 
 class Terminal(NamedTuple):
-    """A terminal as it was before the password was asked for, and the signals that wait."""
+    """A terminal as it was before it asked, and the signals that wait."""
 
     fd: int
     before: List[Any]
@@ -47,21 +48,29 @@ class Terminal(NamedTuple):
 
 
 def ask_password() -> bytes:
-    """The password, typed twice while the terminal shows nothing of it.
+    """A new password, if it is the same at both prompts."""
+    password, again = ask_each(b"Password: ", b"Again: ")
+    if again != password:
+        raise UsageError("the two passwords differ. Start again.")
+    return password
+
+
+def ask_each(*prompts: bytes) -> List[bytes]:
+    """What is typed at each prompt, while the terminal shows nothing of it.
 
     Standard input is a terminal, and serves where there is no /dev/tty.
     """
     signal.signal(signal.SIGTSTP, signal.SIG_IGN)  # the shell would show what is typed after Ctrl-Z
     fd = open_terminal()
     if fd is None:
-        return ask_hidden(STDIN)
+        return ask_hidden(STDIN, prompts)
     try:
-        return ask_hidden(fd)
+        return ask_hidden(fd, prompts)
     finally:
         os.close(fd)
 
 
-def ask_hidden(fd: int) -> bytes:
+def ask_hidden(fd: int, prompts: Sequence[bytes]) -> List[bytes]:
     """Asks while signals wait until the terminal is as it was."""
     wait_for_foreground(fd)
     try:
@@ -75,19 +84,11 @@ def ask_hidden(fd: int) -> bytes:
         hide(terminal)
         # A shell shows keys while the program is stopped.
         signal.signal(signal.SIGCONT, lambda *_: hide_again(terminal))
-        return ask_twice(terminal)
+        return [ask(terminal, prompt) for prompt in prompts]
     finally:
         signal.signal(signal.SIGCONT, signal.SIG_DFL)
         restore(terminal)
         signal.pthread_sigmask(signal.SIG_UNBLOCK, waiting)  # one that came ends the run here
-
-
-def ask_twice(terminal: Terminal) -> bytes:
-    """The password, if it is the same at both prompts."""
-    password = ask(terminal, b"Password: ")
-    if ask(terminal, b"Again: ") != password:
-        raise UsageError("the two passwords differ. Start again.")
-    return password
 
 
 def is_in_background(fd: int) -> bool:
@@ -185,6 +186,6 @@ def read_line(terminal: Terminal) -> bytes:
                 raise Stop("a signal ended the run.")
         piece = os.read(terminal.fd, PIECE)
         if not piece:
-            raise UsageError("Ctrl-D came before Return, so nothing is hashed. Start again.")
+            raise UsageError("Ctrl-D came before Return, so nothing is done. Start again.")
         line += piece
     return line[:-1]

@@ -1,0 +1,54 @@
+"""Reads what a file such as /etc/shadow stores for each name, line by line."""
+
+from __future__ import annotations
+
+import os
+import stat
+from typing import Iterator, NamedTuple
+
+from pwhash.console import Console
+from pwhash.errors import UsageError, errors_named
+from pwhash.source import open_in_time, refuse_as_output
+from pwhash.text import named
+
+LONGEST_LINE = 1 << 17
+
+
+class Stored(NamedTuple):
+    """What a line name:field says of the name, without what a second colon begins."""
+
+    number: int
+    name: bytes
+    field: bytes
+
+
+def stored_in(path: str, console: Console) -> Iterator[Stored]:
+    """All lines of a file that have a colon."""
+    name_of_file = named(path)
+    has_fields = False
+    with errors_named(name_of_file), open(open_fields(path), "rb") as file:
+        refuse_as_output(os.fstat(file.fileno()), name_of_file, console)
+        number, line = 1, file.readline(LONGEST_LINE)
+        while line:
+            if len(line) == LONGEST_LINE:
+                raise UsageError(
+                    f"{name_of_file}, line {number}: longer than 128 KiB, "
+                    "which no line name:field is."
+                )
+            name, colon, rest = line.rstrip(b"\n").partition(b":")
+            if colon:
+                has_fields = True
+                yield Stored(number, name, rest.partition(b":")[0])
+            number, line = number + 1, file.readline(LONGEST_LINE)
+    if not has_fields:
+        raise UsageError(f"{name_of_file} has no line name:field.")
+
+
+def open_fields(path: str) -> int:
+    """Opens a file, or a pipe that somebody writes, as a shell's <(..) is."""
+    fd = open_in_time(path)
+    kind = os.fstat(fd).st_mode
+    if stat.S_ISREG(kind) or stat.S_ISFIFO(kind):
+        return fd
+    what = "a folder" if stat.S_ISDIR(kind) else "no file"
+    raise UsageError(f"{named(path)} is {what}. Name a file with lines name:field.")
