@@ -183,6 +183,7 @@ def test_methods_are_offered(shell: Shell, line: str) -> None:
 
 WORDS_OF_PWHASH = {
     "pwhash au": ["audit"],
+    "pwhash ve": ["verify"],
     "pwhash file --for ": ["apache", "dovecot", "ldap", "nginx"],
     "pwhash --for pre": ["preseed-root", "preseed-user"],
 }
@@ -201,6 +202,7 @@ FILES_OFFERED = {
     "mkpasswd --batch < logins > sha": ["sha256sums"],
     "pwhash audit lo": ["logins"],
     "pwhash check --shadow sha": ["sha256sums"],
+    "pwhash verify lo": ["logins"],
 }
 
 

@@ -112,6 +112,7 @@ def test_the_manual_of_mkpasswd_begins_with_the_words_of_its_help(
         pytest.param(["file"], id="pwhash file"),
         pytest.param(["check"], id="pwhash check"),
         pytest.param(["audit"], id="pwhash audit"),
+        pytest.param(["verify"], id="pwhash verify"),
     ],
 )
 def test_the_manual_of_pwhash_has_the_options_of_each_help(words: list[str]) -> None:

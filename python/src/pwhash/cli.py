@@ -24,6 +24,7 @@ from pwhash.options import (
     OneOptions,
     Options,
     Service,
+    VerifyOptions,
 )
 from pwhash.text import named
 
@@ -31,18 +32,25 @@ USAGE = """
   pwhash                             hash a password, which it asks for
   pwhash file passwords -o hashes    hash lines name:password, for chpasswd -e
   pwhash audit /etc/shadow           what is wrong with stored hashes
+  pwhash verify /etc/shadow ann      whether a password is ann's
 
-Hashes are sha512crypt with 656000 rounds. file, check and audit have their own --help."""
+Hashes are sha512crypt with 656000 rounds. Each command has its own --help."""
 FILE_TEXT = "Hashes lines name:password. A file is read twice, first to look for problems."
 CHECK_TEXT = (
     "Checks lines name:field:password, where the field is what is stored: a hash, ! or nothing."
 )
 AUDIT_TEXT = "Shows what is wrong with stored hashes; with --only-problems the worst first."
+VERIFY_TEXT = (
+    "Asks for a password, and says whether it matches NAME's hash in FILE, or without them a hash "
+    "that is asked for too. Standard input that isn't a terminal has both in its first lines. "
+    "Ends with status 0 for yes, 1 for no, and more if it can't tell."
+)
 
 STDIN = "-"
 NUMBER = re.compile("([0-9]{1,20})([kM]?)")
 FACTORS = {"": 1, "k": 1000, "M": 1000000}
 USER_NAME = re.compile("[A-Za-z_][A-Za-z0-9_.@-]{0,63}")
+NAME_OF_LINE = re.compile("[^:#\\0-\\x1f\\x7f][^:\\0-\\x1f\\x7f]*")
 OPTION_NAME = re.compile("--[a-z-]+")
 FORMS = {form.word: form for form in Form}
 # What a method takes as rounds, in words; md5crypt has none to choose.
@@ -299,6 +307,34 @@ def audit_options(parser: Parser, given: argparse.Namespace) -> Options:
     )
 
 
+def verify_parser() -> Parser:
+    """What `pwhash verify` takes."""
+    parser = Parser("verify", VERIFY_TEXT)
+    add_input(parser, "a file with lines name:hash, such as /etc/shadow", None)
+    parser.add_argument("name", nargs="?", metavar="NAME", help="whose hash it is")
+    add_common(parser)
+    return parser
+
+
+def verify_options(parser: Parser, given: argparse.Namespace) -> Options:
+    """The options of `pwhash verify`. No argument is shown, since one may be the password."""
+    budget = min(limit_of(parser, given).budget, library.GREATEST_BUDGET)
+    if given.file is None:
+        return VerifyOptions(budget, "", "")
+    if given.name is None:
+        raise parser.refusal(
+            "give FILE and NAME, or neither: the hash is asked for, or is the second line of "
+            "standard input. Others can see arguments"
+        )
+    if not given.file or not given.name:
+        raise parser.refusal("FILE or NAME is empty")
+    if given.file == STDIN:
+        raise parser.refusal("standard input has the password, so FILE can't be -")
+    if not NAME_OF_LINE.fullmatch(given.name):
+        raise parser.refusal("a NAME has no colon and no control character, and begins with no #")
+    return VerifyOptions(budget, given.file, given.name)
+
+
 class Command(NamedTuple):
     """How to read the command line of one command."""
 
@@ -311,6 +347,7 @@ COMMANDS: Dict[str, Command] = {
     "file": Command(file_parser, file_options),
     "check": Command(check_parser, check_options),
     "audit": Command(audit_parser, audit_options),
+    "verify": Command(verify_parser, verify_options),
 }
 
 

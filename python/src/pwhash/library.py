@@ -196,6 +196,11 @@ def verify(password: bytes, field: bytes, budget: int) -> Union[Verdict, Refusal
     return refusal_of(answer) if verdict is None else verdict
 
 
+def describe(field: bytes) -> mkpasswd.Description:
+    """What a stored field is, whatever it costs."""
+    return mkpasswd.Policy(budget=GREATEST_BUDGET).describe(field)
+
+
 def needs_rehash(policy: Policy, field: bytes) -> bool:
     """Whether a new hash by the policy would replace a stored one."""
     report = _library.needs_rehash(field, policy.numbers).report

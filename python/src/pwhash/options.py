@@ -108,7 +108,15 @@ class AuditOptions(NamedTuple):
     quiet: bool
 
 
-Options = Union[OneOptions, FileOptions, CheckOptions, AuditOptions]
+class VerifyOptions(NamedTuple):
+    """pwhash verify."""
+
+    budget: int
+    path: str  # empty where the hash is asked for
+    name: str
+
+
+Options = Union[OneOptions, FileOptions, CheckOptions, AuditOptions, VerifyOptions]
 
 
 def part_of(out: str) -> str:

@@ -13,7 +13,14 @@ from pwhash import process, unforeseen
 from pwhash.cli import Shown, read_options
 from pwhash.console import STDOUT
 from pwhash.errors import Status, Stop, reason_of
-from pwhash.options import AuditOptions, CheckOptions, FileOptions, OneOptions, Options
+from pwhash.options import (
+    AuditOptions,
+    CheckOptions,
+    FileOptions,
+    OneOptions,
+    Options,
+    VerifyOptions,
+)
 from pwhash.session import Session
 from pwhash.signals import die_of
 from pwhash.text import named
@@ -24,6 +31,7 @@ MODULES = {
     FileOptions: "pwhash.file",
     CheckOptions: "pwhash.check",
     AuditOptions: "pwhash.audit",
+    VerifyOptions: "pwhash.verify",
 }
 
 

@@ -1,0 +1,178 @@
+"""pwhash verify: says whether a password matches a stored hash.
+
+Yes and no are only said of a whole hash that could match. What is wrong with any other field ends
+the run, so that no script takes it for a wrong password.
+"""
+
+from __future__ import annotations
+
+import os
+import re
+import unicodedata
+from typing import List, NamedTuple, Optional
+
+from mkpasswd import State
+
+from pwhash import library
+from pwhash.console import STDIN, STDOUT, Console
+from pwhash.errors import UsageError
+from pwhash.library import OVER_BUDGET, Refusal, Verdict
+from pwhash.lines import BYTE_ORDER_MARK
+from pwhash.options import Input, VerifyOptions
+from pwhash.prompt import ask_each
+from pwhash.session import Session
+from pwhash.source import Source
+from pwhash.stored import Stored, stored_in
+from pwhash.text import APART, is_utf8, is_visible, named, readable
+from pwhash.workers import in_thread
+
+PASSWORD_PROMPT, HASH_PROMPT = b"Password: ", b"Hash (not shown either): "
+# What Dovecot and LDAP write before a hash of crypt(3).
+CRYPT_SCHEME = re.compile(rb"(?i)\A\{(?:CRYPT|(?:SHA512|SHA256|MD5)-CRYPT)\}")
+AROUND_HASH = b" \t\r"  # of a line that was pasted
+MATCHES = b"yes, the password matches"
+DIFFERS = b"no, the password doesn't match"
+ABOUT_STATES = {
+    State.DEAD: "cut or changed, so no password matches",
+    State.LOCKED: "locked, so no password logs in",
+    State.NONE: "empty: there is no hash to compare a password with",
+    State.NO_SCHEME: "no hash, but a password that was stored as it is, or a damaged hash",
+}
+
+
+class Given(NamedTuple):
+    """A password and the stored hash that it is compared with."""
+
+    password: bytes
+    stored: bytes
+    whose: str  # begins a sentence about the hash
+
+
+def run(options: VerifyOptions, session: Session) -> bool:
+    """Compares a password with a hash. Returns whether it doesn't match."""
+    console = session.console
+    given = given_by_file(options, console) if options.path else given_by_user(console)
+    verdict = in_thread(lambda: library.verify(given.password, given.stored, options.budget))
+    if isinstance(verdict, Refusal):
+        raise about_refusal(verdict, given.whose)
+    if verdict is Verdict.MATCH:
+        console.lines(STDOUT, [MATCHES])
+        return False
+    if verdict is not Verdict.WRONG:
+        raise UsageError(f"{given.whose}: {verdict.name.lower()}, so nothing is compared.")
+    console.lines(STDOUT, [DIFFERS])
+    tell_of_bytes(given.password, console)
+    return True
+
+
+def given_by_file(options: VerifyOptions, console: Console) -> Given:
+    """A password that is asked for once it can be compared with the hash of a name in a file."""
+    line = only_line_of(options, console)
+    whose = f"{named(options.path)}, line {line.number} ({readable(line.name)})"
+    stored = whole_hash(line.field, whose)
+    if os.isatty(STDIN):
+        [password] = ask_each(PASSWORD_PROMPT)
+    else:
+        [password] = first_lines(1, console)
+    return Given(password, stored, whose)
+
+
+def given_by_user(console: Console) -> Given:
+    """A password and a hash that are asked for."""
+    if os.isatty(STDIN):
+        password, pasted = ask_each(PASSWORD_PROMPT, HASH_PROMPT)
+    else:
+        password, pasted = first_lines(2, console)
+    if b":" in pasted:
+        raise UsageError(
+            "there is a colon in the hash, as in a whole line of a file. Give only what stands "
+            "between the first colon and the next, or type pwhash verify FILE NAME."
+        )
+    whose = "the hash"
+    return Given(password, whole_hash(pasted.strip(AROUND_HASH), whose), whose)
+
+
+def only_line_of(options: VerifyOptions, console: Console) -> Stored:
+    """The line of a name, which has to be the only one."""
+    name = os.fsencode(options.name)
+    found = [each for each in stored_in(options.path, console) if each.name == name]
+    file = named(options.path)
+    if not found:
+        raise UsageError(f"{file} has no line of this name.")
+    if len(found) > 1:
+        numbers = ", ".join(str(each.number) for each in found[:3])
+        raise UsageError(
+            f"{file} has this name more than once (lines {numbers}), and programs differ in "
+            "which they take. Remove the wrong ones."
+        )
+    return found[0]
+
+
+def first_lines(count: int, console: Console) -> List[bytes]:
+    """The first lines of standard input. Further ones are named if they are there by now."""
+    source = Source(Input(None, counts_lines=False), console)
+    groups = source.lines()
+    lines: List[bytes] = []
+    for group in groups:
+        lines += [line.data for line in group]
+        if len(lines) >= count:
+            break
+    if not lines:
+        raise UsageError("standard input is empty: its first line has to be the password.")
+    if len(lines) < count:
+        raise UsageError(
+            "standard input has one line, the password. The hash has to be the second, or type "
+            "pwhash verify FILE NAME."
+        )
+    further = lines[count:] or [line.data for line in next(groups, [])]
+    if further and further[0]:
+        ignored = "the first line" if count == 1 else "the first two lines"
+        console.say(f"only {ignored} of standard input counted.")
+    return lines[:count]
+
+
+def whole_hash(field: bytes, whose: str) -> bytes:
+    """The hash in a field, without the scheme in front. Refuses what no password can match."""
+    stored = CRYPT_SCHEME.sub(b"", field, count=1)
+    about = about_field(stored)
+    if about is not None:
+        raise UsageError(f"{whose}: {about}.")
+    return stored
+
+
+def about_field(stored: bytes) -> Optional[str]:
+    """Why a stored field isn't a whole hash that some password can match, if it isn't."""
+    found = library.describe(stored)
+    if found.state is State.UNKNOWN or stored.startswith(b"{"):
+        return f"a hash of {found.scheme or 'another scheme'}, which pwhash can't check"
+    if found.state is State.MALFORMED:
+        reason = found.reason.message if found.reason else "unknown"
+        return f"malformed ({reason}), so no password matches"
+    return ABOUT_STATES.get(found.state)
+
+
+def about_refusal(refusal: Refusal, whose: str) -> UsageError:
+    """The error for a comparison that wasn't made."""
+    if refusal == OVER_BUDGET:
+        return UsageError(
+            f"{whose}: {refusal.words}, since it costs more than a login may. If you trust it, "
+            "give the -m and -R that it was made with, or a greater --budget."
+        )
+    return UsageError(f"{refusal.words}: no hash can have this password.")
+
+
+def tell_of_bytes(password: bytes, console: Console) -> None:
+    """Tells why a password that somebody holds for right may differ."""
+    text = password.decode(errors="replace")
+    if b"\r" in password or BYTE_ORDER_MARK in password:
+        console.say(
+            "the password has a carriage return or a byte order mark in it, as files of Windows."
+        )
+    elif text != text.strip():
+        console.say("the password begins or ends with a blank.")
+    elif not is_visible(text):
+        console.say("the password has a control character or an invisible one in it.")
+    elif not is_utf8(password):
+        console.say("the password isn't UTF-8.")
+    elif not unicodedata.is_normalized("NFC", text):
+        console.say(f"the password has {APART}.")

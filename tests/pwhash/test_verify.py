@@ -1,0 +1,325 @@
+"""pwhash verify: yes and no are said of whole hashes alone, and nothing else has status 0 or 1.
+
+Hashes and matches are libxcrypt's.
+"""
+from __future__ import annotations
+
+import os
+import signal
+import time
+
+import pytest
+from support.pwhash_runs import (
+    MARK,
+    MD5,
+    at_terminal,
+    ended,
+    hashed,
+    pwhash,
+    read,
+    save,
+    shell,
+    started,
+    wait_for,
+    working_threads,
+)
+
+YES, NO = b"yes, the password matches\n", b"no, the password doesn't match\n"
+SETTINGS = [
+    pytest.param("$1$saltsalt", id="md5crypt"),
+    pytest.param("$5$rounds=1000$saltsalt", id="sha256crypt"),
+    pytest.param("$6$rounds=1000$saltsalt", id="sha512crypt"),
+    pytest.param("$7$BU..../....saltsalt", id="scrypt"),
+]
+SECRET = b"TopSecret"
+COSTLY = b"$6$rounds=999999999$saltsalt$" + b"x" * 85 + b"."
+FIELDS = [
+    pytest.param(MD5[:-1].encode(), b"cut or changed", id="a hash that was cut"),
+    pytest.param(MD5[:-1].encode() + b"z", b"cut or changed", id="one that was changed"),
+    pytest.param(b"$1$xxxxxxxx$", b"cut or changed", id="a setting"),
+    pytest.param(b"", b"empty", id="nothing"),
+    pytest.param(b"!", b"locked", id="a lock"),
+    pytest.param(b"!" + MD5.encode(), b"locked", id="a locked hash"),
+    pytest.param(b"*", b"locked", id="a star"),
+    pytest.param(b"*0", b"locked", id="what crypt returns for a failure"),
+    pytest.param(b"$y$j9T$abcdefghijklmnopqrstu.$abc", b"yescrypt", id="yescrypt"),
+    pytest.param(b"$2y$05$" + b"a" * 53, b"bcrypt", id="bcrypt"),
+    pytest.param(b"$apr1$xxxxxxxx$UYCIxa628.9qXjpQCjM4a.", b"another scheme", id="Apache's"),
+    pytest.param(b"{SSHA}" + b"a" * 28, b"another scheme", id="LDAP's"),
+    pytest.param(b"TopSecret", b"stored as it is", id="the password as it is"),
+    pytest.param(b"x", b"stored as it is", id="what stands in /etc/passwd"),
+    pytest.param(b"$6$rounds=12x$salt$abc", b"bad rounds", id="rounds that are no number"),
+    pytest.param(MD5.encode() + b"$", b"cut or changed", id="more than a hash"),
+    pytest.param(COSTLY, b"over budget", id="a hostile hash"),
+]
+
+
+def ann_in_file(field: bytes) -> None:
+    save("file", b"an:" + MD5.encode() + b"\nann:" + field + b":1:::\nanna:!\n")
+
+
+# ---- Yes and no
+
+
+@pytest.mark.parametrize("setting", SETTINGS)
+def test_a_password_is_compared_with_the_second_line(setting: str) -> None:
+    stored = hashed(SECRET, setting)
+    done = pwhash("verify", stdin=SECRET + b"\n" + stored + b"\n")
+    assert (done.status, done.out, done.err) == (0, YES, b""), done
+    done = pwhash("verify", stdin=b"topsecret\n" + stored + b"\n")
+    assert (done.status, done.out, done.err) == (1, NO, b""), done
+
+
+@pytest.mark.parametrize("setting", SETTINGS)
+def test_a_password_is_compared_with_the_hash_of_a_name(setting: str) -> None:
+    ann_in_file(hashed(SECRET, setting))
+    done = pwhash("verify", "file", "ann", stdin=SECRET + b"\n")
+    assert (done.status, done.out, done.err) == (0, YES, b""), done
+    done = pwhash("verify", "file", "ann", stdin=b"TopSecre\n")
+    assert (done.status, done.out, done.err) == (1, NO, b""), done
+
+
+@pytest.mark.parametrize(
+    "password",
+    [
+        pytest.param(b"", id="nothing"),
+        pytest.param(b" blanks ", id="blanks"),
+        pytest.param(b"with\r", id="a carriage return"),
+        pytest.param(b"Gr\xfc\xdfe", id="no UTF-8"),
+        pytest.param(b"ann:x", id="a colon"),
+        pytest.param(b"x" * 168, id="the longest of a login"),
+    ],
+)
+def test_a_password_is_compared_as_it_is(password: bytes) -> None:
+    stored = hashed(password, "$6$rounds=1000$saltsalt")
+    ann_in_file(stored)
+    assert pwhash("verify", "file", "ann", stdin=password + b"\n").status == 0
+    assert pwhash("verify", stdin=password + b"\n" + stored).status == 0
+    assert pwhash("verify", stdin=password + b"x\n" + stored).status == 1
+
+
+@pytest.mark.parametrize(
+    "scheme", [b"{CRYPT}", b"{crypt}", b"{SHA512-CRYPT}", b"{SHA256-CRYPT}", b"{MD5-CRYPT}"]
+)
+def test_a_scheme_may_stand_before_the_hash(scheme: bytes) -> None:
+    ann_in_file(scheme + MD5.encode())
+    assert pwhash("verify", "file", "ann", stdin=b"password\n").status == 0
+    assert pwhash("verify", stdin=b"password\n" + scheme + MD5.encode()).status == 0
+    done = pwhash("verify", stdin=b"password\n" + scheme * 2 + MD5.encode())
+    assert done.status == 2 and b"another scheme" in done.err, done
+
+
+@pytest.mark.parametrize("around", [b" %b", b"%b ", b"\t%b\r"])
+def test_blanks_around_a_pasted_hash_do_not_count(around: bytes) -> None:
+    assert pwhash("verify", stdin=b"password\n" + around % MD5.encode()).status == 0
+
+
+@pytest.mark.parametrize(
+    ("password", "reason"),
+    [
+        pytest.param(b"password\r", b"carriage return", id="a carriage return"),
+        pytest.param(MARK + b"password", b"byte order mark", id="a mark"),
+        pytest.param(b"password ", b"blank", id="a blank"),
+        pytest.param(b"pass\x1b[Dword", b"control character", id="an arrow"),
+        pytest.param(b"p\xe4ssword", b"UTF-8", id="Latin-1"),
+        pytest.param("pa\u0308ssword".encode(), b"NFC", id="letters and accents apart"),
+    ],
+)
+def test_a_no_says_what_is_odd_about_the_password(password: bytes, reason: bytes) -> None:
+    done = pwhash("verify", stdin=password + b"\n" + MD5.encode())
+    assert (done.status, done.out) == (1, NO) and reason in done.err, done
+    assert b"word\n" not in done.err and b"ssword" not in done.err.replace(b"password", b""), done
+
+
+def test_lines_that_do_not_count_are_named() -> None:
+    done = pwhash("verify", stdin=b"password\n" + MD5.encode() + b"\nmore\n")
+    assert (done.status, done.out) == (0, YES) and b"first two lines" in done.err, done
+    ann_in_file(MD5.encode())
+    done = pwhash("verify", "file", "ann", stdin=b"password\nmore\n")
+    assert (done.status, done.out) == (0, YES) and b"first line" in done.err, done
+
+
+# ---- Neither
+
+
+def assert_refused(status: int, out: bytes, err: bytes, reason: bytes) -> None:
+    assert status in (2, 3) and out == b"" and reason in err, (status, out, err)
+    assert SECRET not in err and MD5.encode()[12:] not in err, err
+
+
+@pytest.mark.parametrize(("field", "reason"), FIELDS)
+def test_what_no_password_can_match_is_neither_yes_nor_no(field: bytes, reason: bytes) -> None:
+    ann_in_file(field)
+    done = pwhash("verify", "file", "ann", stdin=SECRET + b"\n")
+    assert_refused(done.status, done.out, done.err, reason)
+    assert b"file, line 2 (ann): " in done.err, done
+    done = pwhash("verify", stdin=SECRET + b"\n" + field + b"\n")
+    assert_refused(done.status, done.out, done.err, reason)
+
+
+def test_the_limit_is_that_of_a_login_and_can_be_raised() -> None:
+    stored = hashed(SECRET, "$6$rounds=2000000$saltsalt")
+    data = SECRET + b"\n" + stored
+    assert pwhash("verify", "--budget", "100M", stdin=data).status == 2
+    assert pwhash("verify", "--budget", "0", stdin=data).status == 2
+    assert pwhash("verify", "-R", "2M", stdin=data).status == 0
+    assert pwhash("verify", "--budget", "1000M", stdin=data).status == 0
+
+
+@pytest.mark.parametrize(
+    ("password", "reason"),
+    [
+        pytest.param(SECRET + b"\0", b"zero byte", id="a zero byte"),
+        pytest.param(SECRET * 200, b"too long", id="too long"),
+    ],
+)
+def test_a_password_that_no_hash_can_have_is_refused(password: bytes, reason: bytes) -> None:
+    done = pwhash("verify", stdin=password + b"\n" + MD5.encode())
+    assert_refused(done.status, done.out, done.err, reason)
+
+
+@pytest.mark.parametrize(
+    ("data", "reason"),
+    [
+        pytest.param(b"", b"empty", id="nothing"),
+        pytest.param(SECRET, b"second", id="a password"),
+        pytest.param(SECRET + b"\n", b"second", id="a password and a line feed"),
+        pytest.param(SECRET + b"\nann:" + MD5.encode(), b"colon", id="a line of a file"),
+        pytest.param(SECRET + b"\n'" + MD5.encode() + b"'", b"stored as it is", id="quotes"),
+    ],
+)
+def test_input_without_a_hash_is_refused(data: bytes, reason: bytes) -> None:
+    done = pwhash("verify", stdin=data)
+    assert_refused(done.status, done.out, done.err, reason)
+
+
+@pytest.mark.parametrize(
+    ("words", "reason"),
+    [
+        pytest.param(["file", "eve"], b"no line of this name", id="an unknown name"),
+        pytest.param(["file", "an"], b"cut or changed", id="the beginning of a name"),
+        pytest.param(["file", "bob"], b"(lines 3, 5)", id="a name that stands twice"),
+        pytest.param(["file", "dan"], b"no line of this name", id="a line without a colon"),
+        pytest.param(["file", "cr"], b"bad character", id="a line of Windows"),
+        pytest.param(["file", "TopSecret"], b"no line of this name", id="the password"),
+        pytest.param(["file"], b"FILE and NAME", id="no name"),
+        pytest.param([MD5], b"FILE and NAME", id="the hash"),
+        pytest.param(["file", "ann", "TopSecret"], b"a word too many", id="the password behind it"),
+        pytest.param(["file", "#eve"], b"begins with no #", id="a comment"),
+        pytest.param(["file", "ann:"], b"no colon", id="a colon"),
+        pytest.param(["file", "a\nb"], b"control character", id="a line feed"),
+        pytest.param(["file", ""], b"is empty", id="an empty name"),
+        pytest.param(["", "ann"], b"is empty", id="an empty file"),
+        pytest.param(["-", "ann"], b"standard input", id="standard input"),
+        pytest.param([".", "ann"], b"a folder", id="a folder"),
+        pytest.param(["/dev/zero", "ann"], b"no file", id="a device"),
+        pytest.param(["nowhere", "ann"], b"No such file", id="no file"),
+        pytest.param(["pipe", "ann"], b"nobody writes", id="a pipe"),
+        pytest.param(["void", "ann"], b"no line name:field", id="an empty file"),
+    ],
+)
+def test_words_by_which_nothing_can_be_compared(words: list[str], reason: bytes) -> None:
+    save("void", b"")
+    os.mkfifo("pipe")
+    end = MD5.encode()
+    save(
+        "file",
+        b"an:%b\nann:%b\nbob:%b\n#eve:%b\nbob:%b\ndan\ncr:%b\r\n"
+        % (end[:-1], end, end, end, end, end),
+    )
+    done = pwhash("verify", *words, stdin=SECRET + b"\n")
+    assert_refused(done.status, done.out, done.err, reason)
+
+
+def test_a_file_can_be_a_pipe_of_the_shell() -> None:
+    ann_in_file(MD5.encode())
+    save("password", b"password\n")
+    done = shell('cat file | { "$@" verify /dev/fd/3 ann 3<&0 < password; }')
+    assert (done.status, done.out) == (0, YES), done
+
+
+@pytest.mark.needs("root")
+def test_a_file_that_nobody_may_read_is_neither_yes_nor_no() -> None:
+    ann_in_file(MD5.encode())
+    os.chmod("file", 0)
+    os.chmod(".", 0o755)
+    script = 'exec setpriv --reuid=65534 --clear-groups "$@" verify file ann'
+    done = shell(script, stdin=b"password\n")
+    assert done.status == 3 and done.out == b"" and b"Permission denied" in done.err, done
+
+
+def test_an_answer_that_cannot_be_written_is_neither_yes_nor_no() -> None:
+    data = b"password\n" + MD5.encode()
+    assert shell('exec "$@" verify > /dev/full', stdin=data).status == 3
+    assert shell('exec "$@" verify >&-', stdin=data).status == 3
+    done = shell('"$@" verify >> file', stdin=data)
+    assert (done.status, read("file")) == (0, YES), done
+
+
+@pytest.mark.parametrize("number", [signal.SIGINT, signal.SIGTERM, signal.SIGKILL])
+def test_a_signal_ends_a_comparison_at_once(number: signal.Signals) -> None:
+    with started("verify", "--budget", "9999999M") as process:
+        assert process.stdin is not None
+        process.stdin.write(SECRET + b"\n" + COSTLY + b"\n")
+        process.stdin.flush()
+        wait_for(lambda: working_threads(process.pid, process.pid) > 0)
+        begun = time.monotonic()
+        process.send_signal(number)
+        done = ended(process)
+        assert time.monotonic() - begun < 5 and done.out == b"" and done.status == -number, done
+
+
+@pytest.mark.parametrize("kibibytes", range(4000, 60000, 8000))
+def test_with_little_memory_nothing_is_said_wrongly(kibibytes: int) -> None:
+    data = b"password\n" + hashed(b"password", "$7$BU..../....saltsalt")
+    done = shell(f'ulimit -v {kibibytes}; exec "$@"', "verify", stdin=data)
+    assert done.status in (0, 3) and done.out == (YES if done.status == 0 else b""), done
+
+
+# ---- At a terminal
+
+
+@pytest.mark.needs("python3-pexpect")
+@pytest.mark.parametrize(("typed", "status"), [(b"password", 0), (b"Password", 1)])
+def test_a_pasted_hash_is_compared_and_not_shown(typed: bytes, status: int) -> None:
+    terminal = at_terminal(["verify"], [typed + b"\r", b" " + MD5.encode() + b" \r"])
+    assert terminal.status == status and not terminal.shows_keys_at_prompt, terminal
+    assert MD5.encode() not in terminal.shown and terminal.shows_keys_afterwards, terminal
+    assert terminal.shown.endswith((YES, NO)[status].replace(b"\n", b"\r\n")), terminal
+
+
+@pytest.mark.needs("python3-pexpect")
+@pytest.mark.parametrize(("typed", "status"), [(b"password", 0), (b"", 1), (b"p\xe4ssword", 1)])
+def test_a_name_of_a_file_is_asked_for_a_password_alone(typed: bytes, status: int) -> None:
+    ann_in_file(MD5.encode())
+    terminal = at_terminal(["verify", "file", "ann"], [typed + b"\r"])
+    assert terminal.status == status and b"Hash" not in terminal.shown, terminal
+    assert not terminal.shows_keys_at_prompt and terminal.shows_keys_afterwards, terminal
+
+
+@pytest.mark.needs("python3-pexpect")
+def test_a_locked_name_is_not_asked_for_a_password() -> None:
+    ann_in_file(b"!" + MD5.encode())
+    terminal = at_terminal(["verify", "file", "ann"], [])
+    assert terminal.status == 2 and b"locked" in terminal.shown, terminal
+    assert b"Password" not in terminal.shown, terminal
+
+
+@pytest.mark.needs("python3-pexpect")
+@pytest.mark.parametrize(
+    ("keys", "status"),
+    [
+        pytest.param([b"password\r", b"\x04"], 2, id="Ctrl-D"),
+        pytest.param([b"password\r", b"\x03"], -signal.SIGINT, id="Ctrl-C"),
+        pytest.param([b"password\r", b"\r"], 2, id="Return"),
+    ],
+)
+def test_without_a_hash_nothing_is_compared(keys: list[bytes], status: int) -> None:
+    terminal = at_terminal(["verify"], keys)
+    assert terminal.status == status and terminal.shows_keys_afterwards, terminal
+    assert YES.strip() not in terminal.shown and NO.strip() not in terminal.shown, terminal
+
+
+def test_the_help_says_what_a_status_means() -> None:
+    done = pwhash("verify", "--help")
+    assert done.status == 0 and b"--budget" in done.out and b"status 0" in done.out, done
