@@ -151,6 +151,19 @@ def test_new_passwords_are_those_of_the_file(machine: Machine) -> None:
     assert machine.has_new_password("bob", "pass:word"), followed.lacks("a new hash for bob")
 
 
+@pytest.mark.parametrize("mark", ["new passwords", "good lines"])
+def test_a_new_password_unlocks_no_account(machine: Machine, mark: str) -> None:
+    machine.set_accounts({"ann": OUTDATED, "bob": LOCKED + OUTDATED, "eve": "*"})
+    before = machine.entries()
+    machine.write("passwords", b"ann:password\nbob:password\neve:password\n")
+    followed = machine.follow(mark)
+    assert followed.result.status == 0, followed.lacks("status 0")
+    assert machine.has_new_password("ann", "password"), followed.lacks("a new hash for ann")
+    for name in "bob", "eve":
+        assert machine.entries()[name] == before[name], followed.lacks(f"{name} stays locked")
+        assert f"({name}): locked in " in followed.errors, followed.lacks(f"a message about {name}")
+
+
 def test_a_new_password_that_is_empty_changes_no_account(machine: Machine) -> None:
     machine.set_accounts(THREE_LOCKED)
     before = machine.entries()

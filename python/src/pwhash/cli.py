@@ -219,6 +219,8 @@ def file_parser() -> Parser:
     parser.flag("--look", "only look for problems")
     parser.flag("--skip-refused", "leave out lines that mkpasswd refuses")
     parser.flag("--skip-doubtful", "leave out doubtful lines")
+    locked_text = "leave out names that are locked there, as in /etc/shadow"
+    parser.value("--skip-locked", metavar="SHADOW", help=locked_text)
     parser.flag("--accept-doubtful", "take doubtful lines as they are")
     add_table(parser)
     services = [service.value for service in Service]
@@ -232,7 +234,7 @@ def file_parser() -> Parser:
 def file_options(parser: Parser, given: argparse.Namespace) -> Options:
     """The options of `pwhash file`."""
     refuse_lonely(parser, given, {"resume": "out", "columns": "csv"})
-    refuse_empty(parser, given, "out", "columns")
+    refuse_empty(parser, given, "out", "columns", "skip_locked")
     refuse_out(parser, given.out)
     return FileOptions(
         policy=policy_of(parser, given),
@@ -241,6 +243,7 @@ def file_options(parser: Parser, given: argparse.Namespace) -> Options:
         resume=given.resume,
         only_look=given.look,
         skip_refused=given.skip_refused,
+        skip_locked=given.skip_locked,
         doubtful=doubtful_of(given),
         service=Service(given.service) if given.service else None,
         quiet=given.quiet,
@@ -437,7 +440,7 @@ def refuse_empty(parser: Parser, given: argparse.Namespace, *options: str) -> No
     """Refuses an empty value, as of a variable of a script that isn't set."""
     for option in options:
         if getattr(given, option) == "":
-            raise parser.refusal(f"--{option} is empty")
+            raise parser.refusal(f"--{option.replace('_', '-')} is empty")
 
 
 def refuse_out(parser: Parser, out: Optional[str]) -> None:

@@ -10,6 +10,7 @@ from pwhash.console import STDOUT
 from pwhash.doubts import Doubts
 from pwhash.library import OVER_BUDGET, Refusal
 from pwhash.lines import Arrivals, Line, name_of, refused_to_hash
+from pwhash.locked import Locked
 from pwhash.look import Look
 from pwhash.options import Doubtful, FileOptions
 from pwhash.part import Part, opened, refuse_changed
@@ -28,22 +29,31 @@ def run(options: FileOptions, session: Session) -> bool:
     """
     is_read_twice = options.out is not None or options.only_look
     source = Source(options.input, session.console, is_read_twice)
+    locked = (
+        Locked(options.skip_locked, source.name, session.console) if options.skip_locked else None
+    )
     left_out: Set[int] = set()
     if source.is_regular:
-        left_out = Look(source, options, session.console).left_out()
+        arrivals = unlocked(locked, lines_of(source))
+        left_out = Look(source, options, session.console).left_out(arrivals)
     if options.only_look:
         return bool(left_out)
-    hashing = Hashing(options, source, session)
+    hashing = Hashing(options, source, locked, session)
     if options.out is None:
         session.console.end_last_line(STDOUT)
-        hashing.hash_lines(without(left_out, lines_of(source)), Writer(session.console))
+        hashing.hash_lines(hashing.lines(left_out), Writer(session.console))
         return hashing.has_refused or bool(left_out)
     with opened(options.out, source, options) as part:
         session.part = part
-        hashing.hash_into(part, without(left_out, lines_of(source)))
+        hashing.hash_into(part, hashing.lines(left_out))
         has_problem = hashing.has_refused or bool(left_out)
         session.finish(part, has_problem)
     return has_problem
+
+
+def unlocked(locked: Optional[Locked], arrivals: Arrivals) -> Arrivals:
+    """The lines but for those of locked names, if they are to be left out."""
+    return arrivals if locked is None else locked.without(arrivals)
 
 
 def without(left_out: Set[int], arrivals: Arrivals) -> Arrivals:
@@ -56,16 +66,23 @@ def without(left_out: Set[int], arrivals: Arrivals) -> Arrivals:
 class Hashing:
     """Hashes lines."""
 
-    def __init__(self, options: FileOptions, source: Source, session: Session) -> None:
+    def __init__(
+        self, options: FileOptions, source: Source, locked: Optional[Locked], session: Session
+    ) -> None:
         self.has_refused = False
         self._options = options
         self._source = source
+        self._locked = locked
         self._console = session.console
         self._memory = Memory()
         self._table = library.memory_of_new_hash(options.policy)
         self._part: Optional[Part] = None
         is_table = options.input.columns is not None
         self._doubts = Doubts(options.service, is_table, options.input.windows)
+
+    def lines(self, left_out: Set[int]) -> Arrivals:
+        """The lines to hash."""
+        return without(left_out, unlocked(self._locked, lines_of(self._source)))
 
     def hash_into(self, part: Part, arrivals: Arrivals) -> None:
         """Hashes lines into a part."""
@@ -89,6 +106,8 @@ class Hashing:
         progress.end()
         self._source.refuse_nothing()
         refuse_changed(self._source, self._part)
+        if self._locked is not None:
+            self._locked.refuse_new(self._part.name if self._part else None)
 
     def _looked_at(self, line: Line) -> Line:
         """The line, which is refused if it is doubtful."""

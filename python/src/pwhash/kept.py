@@ -63,6 +63,8 @@ def options_of_choice(options: FileOptions) -> bytes:
     words = [f"--budget={options.policy.budget}"]
     if options.skip_refused:
         words.append("--skip-refused")
+    if options.skip_locked:
+        words.append("--skip-locked")
     words += FLAGS.get(options.doubtful, [])
     if options.service:
         words.append(f"--for={options.service.value}")

@@ -198,7 +198,18 @@ def verify(password: bytes, field: bytes, budget: int) -> Union[Verdict, Refusal
 
 def describe(field: bytes) -> mkpasswd.Description:
     """What a stored field is, whatever it costs."""
-    return mkpasswd.Policy(budget=GREATEST_BUDGET).describe(field)
+    return without_budget().describe(field)
+
+
+def is_locked(field: bytes) -> bool:
+    """Whether a stored field lets nobody in, and begins with a mark that says so."""
+    return describe(field).state is mkpasswd.State.LOCKED
+
+
+@functools.lru_cache(maxsize=None)
+def without_budget() -> mkpasswd.Policy:
+    """A policy by which no field is over the budget."""
+    return mkpasswd.Policy(budget=GREATEST_BUDGET)
 
 
 def needs_rehash(policy: Policy, field: bytes) -> bool:

@@ -11,11 +11,10 @@ from pwhash.console import Console
 from pwhash.doubts import Doubts, shown_name
 from pwhash.errors import ProblemsFound
 from pwhash.library import OVER_BUDGET
-from pwhash.lines import Line, refused_to_hash
+from pwhash.lines import Arrivals, Line, refused_to_hash
 from pwhash.options import Doubtful, FileOptions
 from pwhash.progress import Progress
 from pwhash.source import Source
-from pwhash.table import lines_of
 from pwhash.text import readable
 
 MOST_SHOWN = 20  # of each kind
@@ -34,10 +33,10 @@ class Look:
         self._refused: Set[int] = set()
         self._doubtful: Set[int] = set()
 
-    def left_out(self) -> Set[int]:
+    def left_out(self, arrivals: Arrivals) -> Set[int]:
         """The numbers of the lines to leave out; if the user has to decide first, the run ends."""
         progress = Progress(self._console, "looking", self._source.total)
-        for group in lines_of(self._source):
+        for group in arrivals:
             for line in group:
                 self._look_at(line)
             if group:

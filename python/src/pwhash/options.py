@@ -82,6 +82,7 @@ class FileOptions(NamedTuple):
     resume: bool
     only_look: bool
     skip_refused: bool
+    skip_locked: Optional[str]  # the file that says which names are locked
     doubtful: Doubtful
     service: Optional[Service]
     quiet: bool

@@ -84,7 +84,7 @@ class Comparison(NamedTuple):
         number = line.number if line else place + 1
         return UsageError(
             f"{self.part_name}, line {place + 1}: not of line {number} of {self.source_name}: "
-            "name, password, -m, -R or -S differ, or the line is gone. "
+            "name, password, -m, -R or -S differ, or the line is gone or left out. "
             f"Correct that, or remove {self.part_name}."
         )
 

@@ -1,0 +1,212 @@
+"""pwhash file --skip-locked SHADOW leaves out the names that somebody locked.
+
+Each test sees only what a user sees: the command, its outputs, files and status.
+"""
+from __future__ import annotations
+
+import os
+import re
+
+import pytest
+from support.pwhash_runs import (
+    ANN,
+    BOB,
+    MD5,
+    MD5CRYPT,
+    SLOW,
+    ended,
+    has_begun,
+    pwhash,
+    read,
+    save,
+    shell,
+    started,
+    users,
+    wait_for,
+)
+
+WORDS = ("file", *MD5CRYPT, "--skip-locked", "shadow")
+LIST = b"ann:pw1\neve:pw3\nbob:pw2\n"
+LOCKED = [
+    pytest.param(b"!" + MD5.encode(), id="usermod -L"),
+    pytest.param(b"!!" + MD5.encode(), id="passwd -l of Red Hat"),
+    pytest.param(b"*", id="an account of the system"),
+    pytest.param(b"!*", id="one of systemd"),
+    pytest.param(b"*LK*", id="a lock in words"),
+    pytest.param(b"!$y$j9T$abcdefghijklmnopqrstu.$abc", id="yescrypt"),
+]
+NOT_LOCKED = [
+    pytest.param(MD5.encode(), id="a hash"),
+    pytest.param(b"$y$j9T$abcdefghijklmnopqrstu.$abc", id="yescrypt"),
+    pytest.param(b"", id="nothing"),
+    pytest.param(b"!", id="useradd"),
+    pytest.param(b"!!", id="useradd of Red Hat"),
+]
+
+
+def shadow_with_eve(field: bytes) -> None:
+    lines = [b"root:*", b"ann:" + MD5.encode(), b"eve:" + field, b"bob:!"]
+    save("shadow", b"".join(line + b":19000:0:99999:7:::\n" for line in lines))
+    save("list", LIST)
+
+
+@pytest.mark.parametrize("field", LOCKED)
+def test_a_locked_name_is_left_out_of_a_file(field: bytes) -> None:
+    shadow_with_eve(field)
+    done = pwhash(*WORDS, "list", "-o", "hashes")
+    assert (done.status, read("hashes")) == (0, ANN + BOB), done
+    assert b"list, line 2 (eve): locked in shadow\n" in done.err and b"pw3" not in done.err, done
+
+
+@pytest.mark.parametrize("field", LOCKED)
+def test_a_locked_name_is_left_out_of_a_pipe(field: bytes) -> None:
+    shadow_with_eve(field)
+    done = pwhash(*WORDS, stdin=LIST)
+    assert (done.status, done.out) == (0, ANN + BOB), done
+    assert b"line 2 (eve): locked in shadow\n" in done.err and b"pw3" not in done.err, done
+
+
+@pytest.mark.parametrize("field", NOT_LOCKED)
+def test_a_name_that_nobody_locked_stays(field: bytes) -> None:
+    shadow_with_eve(field)
+    done = pwhash(*WORDS, "list", "-o", "hashes")
+    assert (done.status, done.err) == (0, b"") and b"eve:$1$" in read("hashes"), done
+
+
+@pytest.mark.parametrize(
+    "lines",
+    [
+        pytest.param(b"eve:%b\neve:!%b\n" % (MD5.encode(), MD5.encode()), id="a lock behind"),
+        pytest.param(b"eve:!%b\neve:%b\n" % (MD5.encode(), MD5.encode()), id="a lock before"),
+    ],
+)
+def test_a_name_that_is_locked_in_one_of_its_lines_is_left_out(lines: bytes) -> None:
+    save("shadow", lines)
+    done = pwhash(*WORDS, stdin=LIST)
+    assert (done.status, done.out) == (0, ANN + BOB), done
+
+
+def test_names_of_a_table_are_left_out() -> None:
+    shadow_with_eve(b"!" + MD5.encode())
+    save("table", b"name;password\r\nann;pw1\r\neve;pw3\r\neve;x;y\r\nbob;pw2\r\n")
+    done = pwhash(*WORDS, "--csv", "table", "-o", "hashes")
+    assert (done.status, read("hashes")) == (0, ANN + BOB), done
+    assert b"left out since their names are locked: 2" in done.err, done
+
+
+def test_a_line_that_may_be_a_password_is_refused_as_ever() -> None:
+    shadow_with_eve(b"!" + MD5.encode())
+    done = pwhash(*WORDS, stdin=b"eve\nann:pw1\n")
+    assert (done.status, done.out) == (1, ANN) and b"(eve)" not in done.err, done
+
+
+def test_other_names_that_begin_alike_stay() -> None:
+    save("shadow", b"ann1:!x\nan:!x\nAnn:!x\nann :!x\n")
+    done = pwhash(*WORDS, stdin=b"ann:pw1\n")
+    assert (done.status, done.out, done.err) == (0, ANN, b""), done
+
+
+def test_many_locked_names_are_counted() -> None:
+    save("shadow", b"".join(b"user%d:!x\n" % number for number in range(1000)))
+    save("list", users(1001))
+    done = pwhash(*WORDS, "list", "-o", "hashes")
+    assert done.status == 0 and read("hashes").startswith(b"user1000:"), done
+    assert len(done.err.splitlines()) == 21 and b": 1,000." in done.err, done
+
+
+def test_other_problems_are_shown_beside_locked_names() -> None:
+    shadow_with_eve(b"!" + MD5.encode())
+    save("list", LIST + b"no colon\n")
+    done = pwhash(*WORDS, "list", "-o", "hashes")
+    assert done.status == 1 and not os.path.exists("hashes"), done
+    done = pwhash(*WORDS, "list", "-o", "hashes", "--skip-refused")
+    assert (done.status, read("hashes")) == (1, ANN + BOB), done
+
+
+@pytest.mark.parametrize(
+    ("name", "data", "reason"),
+    [
+        pytest.param("shadow", b"", b"no line name:field", id="an empty file"),
+        pytest.param("shadow", b"ann\n", b"no line name:field", id="no field"),
+        pytest.param("shadow", b"ann:x:1:1::/:\neve:x:1:1::/:\n", b"only says x", id="passwd"),
+        pytest.param("elsewhere", b"", b"shadow: No such file", id="no file"),
+    ],
+)
+@pytest.mark.parametrize("words", [(), ("list", "-o", "hashes")], ids=["a pipe", "a file"])
+def test_nothing_is_hashed_if_nobody_knows_what_is_locked(
+    name: str, data: bytes, reason: bytes, words: tuple[str, ...]
+) -> None:
+    save("list", LIST)
+    save(name, data)
+    done = pwhash(*WORDS, *words, stdin=LIST)
+    assert done.status in (2, 3) and done.out == b"" and reason in done.err, done
+    assert set(os.listdir()) == {"list", name}, done
+
+
+@pytest.mark.needs("root")
+def test_nothing_is_hashed_if_the_file_cannot_be_read() -> None:
+    shadow_with_eve(b"!" + MD5.encode())
+    os.chmod("shadow", 0)
+    os.chmod(".", 0o755)
+    done = shell('exec setpriv --reuid=65534 --clear-groups "$@"', *WORDS, stdin=LIST)
+    assert (done.status, done.out) == (3, b"") and b"Permission denied" in done.err, done
+
+
+def test_the_names_can_come_from_a_pipe() -> None:
+    shadow_with_eve(b"!" + MD5.encode())
+    words = ("file", *MD5CRYPT, "--skip-locked", "/dev/fd/3", "list", "-o", "hashes")
+    done = shell('cat shadow | "$@" 3<&0', *words)
+    assert (done.status, read("hashes")) == (0, ANN + BOB), done
+
+
+def test_a_name_that_is_locked_meanwhile_ends_the_run() -> None:
+    save("shadow", b"user1:" + MD5.encode() + b"\nuser2:!x\n")
+    save("passwords", users(600))
+    words = ("file", *SLOW, "--skip-locked", "shadow", "passwords", "-o", "hashes")
+    with started(*words) as process:
+        wait_for(has_begun)
+        save("shadow", b"user1:!" + MD5.encode() + b"\nuser2:!x\n")
+        done = ended(process)
+    assert done.status == 2 and not os.path.exists("hashes"), done
+    assert b"locked in shadow during the run: remove hashes.part" in done.err, done
+
+
+def test_other_changes_of_the_file_end_no_run() -> None:
+    save("shadow", b"user1:" + MD5.encode() + b"\nuser2:!x\n")
+    save("passwords", users(300))
+    words = ("file", *SLOW, "--skip-locked", "shadow", "passwords", "-o", "hashes")
+    with started(*words) as process:
+        wait_for(has_begun)
+        save("shadow", b"user1:$1$x$y\nuser2:" + MD5.encode() + b"\n")
+        done = ended(process)
+    assert done.status == 0 and read("hashes").count(b"\n") == 299, done
+
+
+def interrupted() -> None:
+    save("shadow", b"user0:!x\nuser1:$1$x$y\n")
+    save("list", users(600))
+    with started("file", *SLOW, "--skip-locked", "shadow", "list", "-o", "hashes") as process:
+        wait_for(has_begun)
+        process.kill()
+    assert os.path.exists("hashes.part")
+
+
+RESUMED = ("file", *SLOW, "list", "-o", "hashes", "--resume")
+
+
+def test_a_run_goes_on_without_the_locked_names() -> None:
+    interrupted()
+    done = pwhash(*RESUMED, "--skip-locked", "shadow")
+    assert done.status == 0 and read("hashes").count(b"\n") == 599, done
+    assert not re.search(rb"(?m)^user0:", read("hashes")), done
+
+
+def test_a_run_does_not_go_on_by_other_names() -> None:
+    interrupted()
+    part = read("hashes.part")
+    done = pwhash(*RESUMED)
+    assert done.status == 2 and b"--skip-locked" in done.err, done
+    save("shadow", b"user0:!x\nuser1:!$1$x$y\n")
+    done = pwhash(*RESUMED, "--skip-locked", "shadow")
+    assert done.status == 2 and b"left out" in done.err, done
+    assert read("hashes.part") == part and not os.path.exists("hashes"), done
