@@ -164,6 +164,46 @@ def test_a_new_password_unlocks_no_account(machine: Machine, mark: str) -> None:
         assert f"({name}): locked in " in followed.errors, followed.lacks(f"a message about {name}")
 
 
+# As Excel saves it in Germany, when asked for UTF-8. The last row's class has a blank behind it.
+SCHOOL = "\ufeffname;login;class\r\nMüller;ann;5a\r\nXu;bob;5b\r\nSchön;eve;5a \r\n".encode()
+
+
+def passwords_in(path: Path) -> dict[str, str]:
+    """The passwords in a list, without its heading."""
+    _, *rows = path.read_text(encoding="utf-8-sig").splitlines()
+    pairs = [row.partition(";") for row in rows]
+    return {name: password for name, _, password in pairs}
+
+
+def test_made_passwords_are_loaded_and_listed_by_class(machine: Machine) -> None:
+    machine.set_accounts(THREE_LOCKED)
+    machine.write("users.csv", SCHOOL)
+    followed = machine.follow("made passwords")
+    assert followed.result.status == 0, followed.lacks("status 0")
+    lists = sorted(path.name for path in (machine.folder / "lists").iterdir())
+    assert lists == ["5a.csv", "5b.csv"], followed.lacks("a list for each class")
+    first = passwords_in(machine.folder / "lists/5a.csv")
+    second = passwords_in(machine.folder / "lists/5b.csv")
+    assert (set(first), set(second)) == ({"ann", "eve"}, {"bob"}), followed.lacks("all names")
+    for name, password in {**first, **second}.items():
+        assert machine.has_new_password(name, password), followed.lacks(f"a new hash for {name}")
+
+
+def test_made_passwords_unlock_nobody_a_year_later(machine: Machine) -> None:
+    machine.set_accounts({"ann": OUTDATED, "bob": LOCKED + OUTDATED, "eve": LOCKED + CURRENT})
+    before = machine.entries()
+    machine.write("users.csv", SCHOOL)
+    followed = machine.follow("made passwords")
+    assert followed.result.status == 0, followed.lacks("status 0")
+    lists = [path.name for path in (machine.folder / "lists").iterdir()]
+    assert lists == ["5a.csv"], followed.lacks("no list for the class of bob, who is locked")
+    passwords = passwords_in(machine.folder / "lists/5a.csv")
+    assert list(passwords) == ["ann"], followed.lacks("ann alone has a password")
+    assert machine.has_new_password("ann", passwords["ann"]), followed.lacks("a new hash for ann")
+    for name in "bob", "eve":
+        assert machine.entries()[name] == before[name], followed.lacks(f"{name} stays locked")
+
+
 def test_a_new_password_that_is_empty_changes_no_account(machine: Machine) -> None:
     machine.set_accounts(THREE_LOCKED)
     before = machine.entries()

@@ -151,6 +151,7 @@ RESTS_OF_OPTIONS = {
     "mkpasswd.proved --check --reh": ["--rehash"],
     "pwhash --gen": ["--generate"],
     "pwhash file --skip-r": ["--skip-refused"],
+    "pwhash file --gen": ["--generate"],
     "pwhash audit --o": ["--only-problems"],
 }
 
@@ -160,7 +161,7 @@ def test_the_rest_of_an_option_is_offered(shell: Shell, line: str) -> None:
     assert_offered(shell, line, RESTS_OF_OPTIONS[line])
 
 
-@pytest.mark.parametrize("line", ["pwhash file --gen", "pwhash audit --reh"])
+@pytest.mark.parametrize("line", ["pwhash check --gen", "pwhash audit --reh"])
 def test_an_option_of_another_command_of_pwhash_is_not_offered(shell: Shell, line: str) -> None:
     assert_offered(shell, line, [])
 
@@ -203,6 +204,8 @@ FILES_OFFERED = {
     "pwhash audit lo": ["logins"],
     "pwhash check --shadow sha": ["sha256sums"],
     "pwhash verify lo": ["logins"],
+    "pwhash file --skip-locked sha": ["sha256sums"],
+    "pwhash file --passwords lo": ["logins"],
 }
 
 

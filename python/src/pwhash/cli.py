@@ -15,16 +15,19 @@ from pwhash.errors import UsageError
 from pwhash.library import Policy
 from pwhash.options import (
     DEFAULT_COLUMNS,
+    GENERATED_LENGTH,
     AuditOptions,
     CheckOptions,
     Doubtful,
     FileOptions,
     Form,
+    Generate,
     Input,
     OneOptions,
     Options,
     Service,
     VerifyOptions,
+    part_of,
 )
 from pwhash.text import named
 
@@ -47,6 +50,7 @@ VERIFY_TEXT = (
 )
 
 STDIN = "-"
+SHORTEST_GENERATED, LONGEST_GENERATED = 8, 64
 NUMBER = re.compile("([0-9]{1,20})([kM]?)")
 FACTORS = {"": 1, "k": 1000, "M": 1000000}
 USER_NAME = re.compile("[A-Za-z_][A-Za-z0-9_.@-]{0,63}")
@@ -223,6 +227,7 @@ def file_parser() -> Parser:
     parser.value("--skip-locked", metavar="SHADOW", help=locked_text)
     parser.flag("--accept-doubtful", "take doubtful lines as they are")
     add_table(parser)
+    add_generate(parser)
     services = [service.value for service in Service]
     service_text = "doubt names that it takes for others"
     parser.value("--for", dest="service", choices=services, help=service_text)
@@ -236,14 +241,17 @@ def file_options(parser: Parser, given: argparse.Namespace) -> Options:
     refuse_lonely(parser, given, {"resume": "out", "columns": "csv"})
     refuse_empty(parser, given, "out", "columns", "skip_locked")
     refuse_out(parser, given.out)
+    policy = policy_of(parser, given)
+    generate = generate_of(parser, given, policy)
     return FileOptions(
-        policy=policy_of(parser, given),
-        input=input_of(parser, given),
+        policy=policy,
+        input=names_of(parser, given) if generate else input_of(parser, given),
         out=given.out,
         resume=given.resume,
         only_look=given.look,
         skip_refused=given.skip_refused,
         skip_locked=given.skip_locked,
+        generate=generate,
         doubtful=doubtful_of(given),
         service=Service(given.service) if given.service else None,
         quiet=given.quiet,
@@ -377,6 +385,17 @@ def add_table(parser: Parser) -> None:
     parser.value("--columns", metavar="A,B", help=text)
 
 
+def add_generate(parser: Parser) -> None:
+    """What new passwords for names need."""
+    parser.flag("--generate", "FILE has names alone: make a password for each")
+    passwords_text = "write names and passwords to the new file LIST, as CSV"
+    parser.value("--passwords", metavar="LIST", help=passwords_text)
+    length_text = "letters and digits of a password, by default 20"
+    parser.value("--length", type=number, metavar="NUMBER", help=length_text)
+    by_text = "LIST is a new folder, with a file for each value of this column"
+    parser.value("--by", metavar="COLUMN", help=by_text)
+
+
 def add_salt(parser: Parser) -> None:
     """-S."""
     text = "up to 16 (md5crypt 8, scrypt 86) of a-zA-Z0-9./, in place of new ones"
@@ -459,6 +478,54 @@ def input_of(parser: Parser, given: argparse.Namespace) -> Input:
     columns = (given.columns or DEFAULT_COLUMNS) if given.csv else None
     path = path_of(parser, given)
     return Input(path, given.windows, columns, counts_lines=not given.quiet)
+
+
+def generate_of(parser: Parser, given: argparse.Namespace, policy: Policy) -> Optional[Generate]:
+    """The passwords to make, if they are to be made."""
+    needs = {"passwords": "generate", "length": "generate", "by": "generate"}
+    refuse_lonely(parser, given, needs)
+    refuse_empty(parser, given, "passwords", "by")
+    if not given.generate:
+        return None
+    length = GENERATED_LENGTH if given.length is None else given.length
+    if not SHORTEST_GENERATED <= length <= LONGEST_GENERATED:
+        raise parser.refusal(f"--length isn't from {SHORTEST_GENERATED} to {LONGEST_GENERATED}")
+    if library.is_over_budget(policy, length):
+        raise parser.refusal(f"--length {length}: over budget, {library.how_long(policy)}")
+    if given.by and not given.csv:
+        raise parser.refusal("--by needs --csv")
+    if not given.look:
+        refuse_lists(parser, given)
+    return Generate(given.passwords or "", length, given.by is not None)
+
+
+def refuse_lists(parser: Parser, given: argparse.Namespace) -> None:
+    """Refuses a LIST that is missing, that is OUT, or that is there although none was written."""
+    if not given.out or not given.passwords:
+        raise parser.refusal(
+            "--generate needs -o OUT for the hashes, and --passwords LIST for the passwords"
+        )
+    of_out = [given.out, part_of(given.out), part_of(given.out) + ".options"]
+    if os.path.realpath(given.passwords) in [os.path.realpath(each) for each in of_out]:
+        raise parser.refusal("-o and --passwords need two different files")
+    if os.path.lexists(given.passwords) and not given.resume:
+        name = named(given.passwords)
+        raise parser.refusal(f"{name} already exists: name another after --passwords, or remove it")
+
+
+def names_of(parser: Parser, given: argparse.Namespace) -> Input:
+    """The file of names, of which a table has one in a column, and perhaps a group in another."""
+    names = given.columns or "name"
+    if "," in names:
+        raise parser.refusal("--columns names one column with --generate, that of the names")
+    columns = f"{names},{given.by}" if given.by else names
+    return Input(
+        path_of(parser, given),
+        given.windows,
+        columns if given.csv else None,
+        counts_lines=not given.quiet,
+        names_only=True,
+    )
 
 
 def path_of(parser: Parser, given: argparse.Namespace) -> Optional[str]:

@@ -6,10 +6,12 @@ from typing import Optional, Set
 
 from pwhash import library
 from pwhash.answers import Answer, Writer, refused, refused_row
-from pwhash.console import STDOUT
+from pwhash.console import STDOUT, Console
 from pwhash.doubts import Doubts
+from pwhash.generate import passwords_on_disk, with_passwords, with_placeholders
 from pwhash.library import OVER_BUDGET, Refusal
 from pwhash.lines import Arrivals, Line, name_of, refused_to_hash
+from pwhash.lists import refuse_open_folder
 from pwhash.locked import Locked
 from pwhash.look import Look
 from pwhash.options import Doubtful, FileOptions
@@ -29,31 +31,50 @@ def run(options: FileOptions, session: Session) -> bool:
     """
     is_read_twice = options.out is not None or options.only_look
     source = Source(options.input, session.console, is_read_twice)
-    locked = (
-        Locked(options.skip_locked, source.name, session.console) if options.skip_locked else None
-    )
-    left_out: Set[int] = set()
+    wanted = Wanted(source, options, session.console)
     if source.is_regular:
-        arrivals = unlocked(locked, lines_of(source))
-        left_out = Look(source, options, session.console).left_out(arrivals)
+        look = Look(source, options, session.console)
+        wanted.left_out = look.left_out(wanted.lines())
     if options.only_look:
-        return bool(left_out)
-    hashing = Hashing(options, source, locked, session)
+        return bool(wanted.left_out)
+    if options.generate is not None:
+        refuse_open_folder(options.generate.passwords)
+    hashing = Hashing(options, source, wanted.locked, session)
     if options.out is None:
         session.console.end_last_line(STDOUT)
-        hashing.hash_lines(hashing.lines(left_out), Writer(session.console))
-        return hashing.has_refused or bool(left_out)
+        hashing.hash_lines(wanted.lines(), Writer(session.console))
+        return hashing.has_refused or bool(wanted.left_out)
     with opened(options.out, source, options) as part:
         session.part = part
-        hashing.hash_into(part, hashing.lines(left_out))
-        has_problem = hashing.has_refused or bool(left_out)
+        arrivals = wanted.lines()
+        if options.generate is not None:
+            passwords = passwords_on_disk(wanted.lines(), part, source, options, session)
+            arrivals = with_passwords(arrivals, passwords, source)
+        hashing.hash_into(part, arrivals)
+        has_problem = hashing.has_refused or bool(wanted.left_out)
         session.finish(part, has_problem)
     return has_problem
 
 
-def unlocked(locked: Optional[Locked], arrivals: Arrivals) -> Arrivals:
-    """The lines but for those of locked names, if they are to be left out."""
-    return arrivals if locked is None else locked.without(arrivals)
+class Wanted:
+    """The lines of a source that are to be hashed, which can be read several times."""
+
+    def __init__(self, source: Source, options: FileOptions, console: Console) -> None:
+        self.left_out: Set[int] = set()  # numbers of lines with problems
+        self.locked: Optional[Locked] = None
+        self._source = source
+        self._generate = options.generate
+        if options.skip_locked is not None:
+            self.locked = Locked(options.skip_locked, source.name, console)
+
+    def lines(self) -> Arrivals:
+        """The lines, but for those that are left out. Names have a placeholder as password."""
+        arrivals = lines_of(self._source)
+        if self._generate is not None:
+            arrivals = with_placeholders(arrivals, self._generate)
+        if self.locked is not None:
+            arrivals = self.locked.without(arrivals)
+        return without(self.left_out, arrivals)
 
 
 def without(left_out: Set[int], arrivals: Arrivals) -> Arrivals:
@@ -79,10 +100,6 @@ class Hashing:
         self._part: Optional[Part] = None
         is_table = options.input.columns is not None
         self._doubts = Doubts(options.service, is_table, options.input.windows)
-
-    def lines(self, left_out: Set[int]) -> Arrivals:
-        """The lines to hash."""
-        return without(left_out, unlocked(self._locked, lines_of(self._source)))
 
     def hash_into(self, part: Part, arrivals: Arrivals) -> None:
         """Hashes lines into a part."""

@@ -23,7 +23,7 @@ FORM = re.compile(
     re.escape(BEGIN)
     + rb"FILE has ([0-9]+ bytes, time -?[0-9]+, inode [0-9]+)\n"
     + rb"lines by (--budget=[0-9]+[a-z =-]*)\n"
-    + rb"(?s:options (|--windows|--csv --columns=.*)\n)"
+    + rb"(?s:options ((?:--generate )?(?:|--windows|--csv --columns=.*))\n)"
 )
 FLAGS = {Doubtful.SKIP: ["--skip-doubtful"], Doubtful.ACCEPT: ["--accept-doubtful"]}
 
@@ -52,10 +52,11 @@ def kept_of(options: FileOptions, source: Source) -> Kept:
 
 
 def options_of_lines(options: FileOptions) -> bytes:
-    """The options that change a line before it is hashed."""
+    """The options that change a line before it is hashed. The columns have that of --by, too."""
+    begin = b"--generate " if options.generate else b""
     if options.input.columns is not None:
-        return os.fsencode(f"--csv --columns={options.input.columns}")
-    return b"--windows" if options.input.windows else b""
+        return begin + os.fsencode(f"--csv --columns={options.input.columns}")
+    return begin + (b"--windows" if options.input.windows else b"")
 
 
 def options_of_choice(options: FileOptions) -> bytes:

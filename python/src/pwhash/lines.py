@@ -25,6 +25,7 @@ class Line(NamedTuple):
     number: int
     data: bytes  # of a refused row only the name
     refused_row: Optional[str] = None  # why pwhash refuses a row
+    group: bytes = b""  # what the row has in the column of --by
 
 
 class FieldsToCheck(NamedTuple):

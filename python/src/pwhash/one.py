@@ -13,7 +13,7 @@ from pwhash.console import STDIN, STDOUT, Console
 from pwhash.errors import Stop, UsageError
 from pwhash.library import OVER_BUDGET, Policy, Refusal
 from pwhash.lines import BYTE_ORDER_MARK, Line
-from pwhash.options import Input, OneOptions
+from pwhash.options import GENERATED_LENGTH, Input, OneOptions
 from pwhash.prompt import ask_password
 from pwhash.session import Session
 from pwhash.source import Source
@@ -21,7 +21,6 @@ from pwhash.text import APART, is_visible
 from pwhash.workers import in_thread
 
 LETTERS = string.ascii_letters + string.digits
-GENERATED_LENGTH = 20
 SECONDS_OF_DAY = 86400
 WITHOUT_IT = "or name:password to pwhash file --accept-doubtful"
 

@@ -9,6 +9,7 @@ from pwhash.library import Policy
 
 PART_SUFFIX = ".part"
 DEFAULT_COLUMNS = "name,password"
+GENERATED_LENGTH = 20  # of a new password
 
 
 class Form(enum.Enum):
@@ -62,6 +63,7 @@ class Input(NamedTuple):
     columns: Optional[str] = None  # of a table, which have the name and the password
     unlock: bool = False  # what is in front of a locked hash is left out
     counts_lines: bool = True  # for the progress
+    names_only: bool = False  # lines and rows have no password
 
 
 class OneOptions(NamedTuple):
@@ -71,6 +73,14 @@ class OneOptions(NamedTuple):
     form: Form
     name: Optional[str]
     generate: bool
+
+
+class Generate(NamedTuple):
+    """Passwords that pwhash file makes."""
+
+    passwords: str  # the file of all, or a folder with a file for each group
+    length: int
+    has_groups: bool
 
 
 class FileOptions(NamedTuple):
@@ -83,6 +93,7 @@ class FileOptions(NamedTuple):
     only_look: bool
     skip_refused: bool
     skip_locked: Optional[str]  # the file that says which names are locked
+    generate: Optional[Generate]
     doubtful: Doubtful
     service: Optional[Service]
     quiet: bool

@@ -46,12 +46,12 @@ class Part:
 
     def keep(self, options: FileOptions) -> None:
         """Keeps what --resume needs, once the lines of the part are known to be right."""
-        before = kept.read(self.path)
-        if before is not None and os.fstat(self.fd).st_size:
+        before, now = kept.read(self.path), kept.kept_of(options, self._source)
+        if before is not None and (os.fstat(self.fd).st_size or before == now):
             return
         if before is not None:  # of a run whose part was removed
             kept.remove(self.path)
-        kept.write(self.path, kept.kept_of(options, self._source))
+        kept.write(self.path, now)
 
     def finish(self, signals: Signals, console: Console) -> None:
         """The part gets the name OUT, if nobody has it by now, and loses its own."""
@@ -271,7 +271,7 @@ def refuse_other_options(before: Kept, now: Kept, name: str, both: str) -> None:
     """Refuses options by which other lines, or other passwords, would be hashed."""
     if before.options != now.options:
         raise UsageError(
-            f"{name} was begun with other --windows, --csv or --columns. "
+            f"{name} was begun with other --windows, --csv, --columns, --generate or --by. "
             f"Give those, or remove {both}, and start again."
         )
     if before.choice != now.choice:

@@ -36,6 +36,7 @@ class Source:
         self.begun = os.fstat(self.fd)
         self.is_regular = stat.S_ISREG(self.begun.st_mode)
         self.has_lines = False
+        self.separator = ","  # of the columns, once its table is read
         self._refuse_unfit(is_read_twice)
         refuse_as_output(self.begun, self.name, console)
         if os.isatty(self.fd):

@@ -39,16 +39,17 @@ class Reader(Protocol):
 
 
 class Columns(NamedTuple):
-    """Which columns of a table are read: the headings of all, and the places of the two."""
+    """Which columns of a table are read: the headings of all, and the places of these."""
 
     headings: Row  # empty where the columns are numbered
     name: int
-    password: int
+    second: Optional[int]  # of the password, or of the group if there is one
     width: int  # the fields of the first row
 
-    def pair_in(self, row: Row) -> Row:
-        """The fields of a row that are in the two columns."""
-        return [cell(row, self.name), cell(row, self.password)]
+    def wanted_in(self, row: Row) -> Row:
+        """The fields of a row that are in these columns."""
+        places = [self.name] if self.second is None else [self.name, self.second]
+        return [cell(row, place) for place in places]
 
 
 def lines_of(source: Source) -> Arrivals:
@@ -64,16 +65,19 @@ class Table:
 
     def __init__(self, source: Source) -> None:
         self._name = source.name
+        self._source = source
+        self._names_only = source.input.names_only
         self._wanted = folded_all(os.fsencode(source.input.columns or "").split(b","))
         self._texts = Texts(source)
         self._row_begin, self._row_size = 1, 0
 
     def lines(self) -> Arrivals:
         """The rows as lines."""
-        if len(self._wanted) != 2 or self._wanted[0] == self._wanted[1]:
+        counts = (1, 2) if self._names_only else (2,)
+        if len(self._wanted) not in counts or len(set(self._wanted)) != len(self._wanted):
             raise self._no_columns()
         begin = self._first_row_with_blank_ones()
-        separator = self._separator(begin)
+        separator = self._source.separator = self._separator(begin)
         texts = self._limited(itertools.chain(begin, self._texts))
         reader = csv.reader(texts, delimiter=separator, strict=True)
         first = self._next_row(reader) or []
@@ -145,17 +149,33 @@ class Table:
         known = names if self._has_names() else NUMBERS
         if any(known.count(each) != 1 for each in self._wanted):
             raise self._no_columns()
-        name, password = (known.index(each) for each in self._wanted)
+        name, second = [*(known.index(each) for each in self._wanted), None][:2]
+        assert name is not None
         # Where columns are numbered, the second field may be a password such as "name".
         above = self._wanted if self._has_names() else [cell(names, name), ""]
-        if above[0] in headings.PASSWORDS or above[1] in headings.NAMES:
+        if self._names_only:
+            self._refuse_passwords(above)
+        elif above[0] in headings.PASSWORDS or above[-1] in headings.NAMES:
             raise UsageError(
                 "--columns names the column of names, then that of passwords. Here the first is "
                 "headed as passwords are, or the second as names are. Correct the order."
             )
-        return Columns(names if self._has_names() else [], name, password, len(first))
+        return Columns(names if self._has_names() else [], name, second, len(first))
+
+    def _refuse_passwords(self, above: Row) -> None:
+        """Refuses passwords in place of names, or as names of lists."""
+        if any(each in headings.PASSWORDS for each in above):
+            raise UsageError(
+                "--columns or --by names a column that is headed as passwords are. Correct that."
+            )
 
     def _no_columns(self) -> UsageError:
+        if self._names_only:
+            return UsageError(
+                "--columns, by default name, and --by need one name each, once in the first row of "
+                f"{self._name}, or if that has no names, numbers, as 1. Save UTF-16 and "
+                "Windows-1252 as UTF-8."
+            )
         return UsageError(
             "--columns, by default name,password, needs two names, each once in the first row of "
             f"{self._name}, or if that has no names, numbers, as 1,2. Save UTF-16 as UTF-8."
@@ -189,7 +209,10 @@ class Table:
         reason = self._refused(row, columns)
         if reason is not None:
             return Line(number, name.encode(BYTES), reason)
-        return Line(number, f"{name}:{row[columns.password]}".encode(BYTES))
+        second = "" if columns.second is None else row[columns.second]
+        if self._names_only:
+            return Line(number, name.encode(BYTES), group=second.encode(BYTES).strip())
+        return Line(number, f"{name}:{second}".encode(BYTES))
 
     def _refused(self, row: Row, columns: Columns) -> Optional[str]:
         if self._is_heading(row, columns):
@@ -202,8 +225,8 @@ class Table:
         joined = self._joined_lines(row)
         if joined is not None:
             return joined
-        if columns.password >= len(row):
-            return "no password field"
+        if columns.second is not None and columns.second >= len(row):
+            return "no field in the column of --by" if self._names_only else "no password field"
         name = cell(row, columns.name)
         if not name:
             return "no name"
@@ -224,7 +247,7 @@ class Table:
         If that table may have its columns in other places, the run ends.
         """
         fields = folded_row(row)
-        if columns.headings and columns.pair_in(fields) == columns.pair_in(columns.headings):
+        if columns.headings and columns.wanted_in(fields) == columns.wanted_in(columns.headings):
             return True
         if is_heading_of_others(fields, columns):
             raise UsageError(
@@ -236,14 +259,14 @@ class Table:
 
 def is_heading_of_others(fields: Row, columns: Columns) -> bool:
     """Whether a row heads a table whose names or passwords are in other columns than these."""
-    name, password = columns.pair_in(fields)
-    if name in headings.PASSWORDS and password in headings.NAMES:
+    wanted = columns.wanted_in(fields)
+    if wanted[0] in headings.PASSWORDS and wanted[-1] in headings.NAMES:
         return True
     if not columns.headings:
         return False
-    has_both_headings = set(columns.pair_in(columns.headings)) <= set(fields)
-    are_headings = {name, password} <= set(columns.headings) - {""}
-    return has_both_headings or are_headings
+    has_all_headings = set(columns.wanted_in(columns.headings)) <= set(fields)
+    are_headings = set(wanted) <= set(columns.headings) - {""}
+    return has_all_headings or are_headings
 
 
 class Texts(Iterator[str]):

@@ -1,0 +1,159 @@
+"""pwhash file --generate: makes a password for each name of a list or a table.
+
+Lines are first looked at with a placeholder in place of the password. Then all passwords are
+written to lists, and only then is the first one hashed, so that none is lost.
+"""
+
+from __future__ import annotations
+
+import os
+import re
+from typing import Dict, List, NamedTuple, Optional
+
+from pwhash import kept, lists
+from pwhash.doubts import NOT_UTF8
+from pwhash.errors import UsageError
+from pwhash.lines import Arrivals, Line, name_of
+from pwhash.lists import Written
+from pwhash.one import random_letter
+from pwhash.options import FileOptions, Generate
+from pwhash.part import Part, refuse_changed
+from pwhash.session import Session
+from pwhash.source import Source
+from pwhash.text import is_utf8, is_visible, named
+
+PLACEHOLDER = b"x"
+# In a spreadsheet these begin a formula, and in some their wide forms of East Asia too.
+FORMULA = re.compile("[\\s\ufeff\u200b]*[-=+@\uff1d\uff0b\uff0d\uff20]")
+IN_NO_LIST = re.compile(rb"[,;|\"\0-\x1f\x7f]")
+LONGEST_FILE_NAME = 255
+
+
+class Names(NamedTuple):
+    """The names that get passwords, and in which list they stand."""
+
+    passwords: Dict[bytes, bytes]
+    groups: Dict[bytes, List[bytes]]  # the names of each list; one of no name without --by
+
+
+def with_placeholders(arrivals: Arrivals, generate: Generate) -> Arrivals:
+    """Lines name:password of lines that are names, with a placeholder that no hash is made of."""
+    placeholder = PLACEHOLDER * generate.length
+    for group in arrivals:
+        yield [with_placeholder(line, placeholder, generate.has_groups) for line in group]
+
+
+def with_placeholder(line: Line, placeholder: bytes, has_groups: bool) -> Line:
+    """A line with a placeholder, or refused."""
+    if line.refused_row is not None:
+        return line
+    reason = about_name(line.data) or (about_group(line.group) if has_groups else None)
+    if reason is not None:
+        return line._replace(data=name_of(line), refused_row=reason)
+    return line._replace(data=line.data + b":" + placeholder)
+
+
+def about_name(name: bytes) -> Optional[str]:
+    """Why a list of passwords can't have a name, if it can't."""
+    if not name:
+        return "no name"
+    if b":" in name:
+        return "a colon: with --generate, lines are names alone"
+    if IN_NO_LIST.search(name):
+        return "a separator of tables, a quote or a control character in the name (a table? --csv)"
+    if FORMULA.match(name.decode(errors="replace")):
+        return "a name that a spreadsheet would take for a formula"
+    return None
+
+
+def about_group(group: bytes) -> Optional[str]:
+    """Why the value in the column of --by names no file, if it doesn't."""
+    if not group:
+        return "nothing in the column of --by, which names the list"
+    if b"/" in group or group.startswith(b"."):
+        return "a slash or a first dot in the column of --by, which names the list"
+    if not is_utf8(group):
+        return f"in the column of --by, {NOT_UTF8}"
+    if not is_visible(group.decode()):
+        return "an invisible character in the column of --by, which names the list"
+    if len(group) + len(lists.SUFFIX) > LONGEST_FILE_NAME:
+        return "too long a value in the column of --by, which names the list"
+    return None
+
+
+def with_passwords(arrivals: Arrivals, passwords: Dict[bytes, bytes], source: Source) -> Arrivals:
+    """The lines with their passwords in place of the placeholder."""
+    for group in arrivals:
+        yield [with_password(line, passwords, source) for line in group]
+
+
+def with_password(line: Line, passwords: Dict[bytes, bytes], source: Source) -> Line:
+    """A line with its password."""
+    name = name_of(line)
+    if name not in passwords:  # of an earlier run, whose FILE or whose locked names were others
+        raise UsageError(
+            f"{source.name}, line {line.number}: the name has no password in the lists. Remove "
+            "them and OUT.part, and start again."
+        )
+    return line._replace(data=name + b":" + passwords[name])
+
+
+def passwords_on_disk(
+    arrivals: Arrivals, part: Part, source: Source, options: FileOptions, session: Session
+) -> Dict[bytes, bytes]:
+    """The password of each name, once it is in a list on disk."""
+    generate = options.generate
+    assert generate is not None
+    has_hashes = os.fstat(part.fd).st_size > 0
+    is_begun = kept.read(part.path) is not None and os.path.lexists(generate.passwords)
+    if options.resume and is_begun:
+        return lists.read(generate.passwords, generate.has_groups)
+    if has_hashes:
+        raise UsageError(
+            f"{part.name} has hashes of passwords that were in {named(generate.passwords)}, which "
+            f"is gone. Remove {part.name}, and start again."
+        )
+    names = new_passwords(arrivals, generate)
+    refuse_changed(source, part)
+    with session.signals.postponed():
+        write_lists(names, generate, source.separator, part, options)
+    return names.passwords
+
+
+def new_passwords(arrivals: Arrivals, generate: Generate) -> Names:
+    """Makes a password for each name. One that stands twice has the same in both places."""
+    names = Names({}, {})
+    for group in arrivals:
+        for line in group:
+            name = name_of(line)
+            if name not in names.passwords:
+                names.passwords[name] = new_password(generate.length)
+            names.groups.setdefault(line.group, []).append(name)
+    return names
+
+
+def new_password(length: int) -> bytes:
+    """Letters and digits. With letters at both ends, a spreadsheet shows them as they are."""
+    while True:
+        password = "".join(random_letter() for _ in range(length))
+        if password[0].isalpha() and password[-1].isalpha():
+            return password.encode("ascii")
+
+
+def write_lists(
+    names: Names, generate: Generate, separator: str, part: Part, options: FileOptions
+) -> None:
+    """Writes all lists and what --resume needs, or nothing of that remains."""
+    written = Written()
+    try:
+        if generate.has_groups:
+            written.make_folder(generate.passwords)
+        for group, members in names.groups.items():
+            path = generate.passwords
+            if generate.has_groups:
+                path = os.path.join(path, os.fsdecode(group) + lists.SUFFIX)
+            written.write(path, separator, [(name, names.passwords[name]) for name in members])
+        part.keep(options)
+    except BaseException:
+        written.remove()
+        raise

@@ -1,0 +1,162 @@
+"""The lists of new passwords: CSV for people, on disk before any of their passwords is hashed.
+
+A list is a new file, which only its owner can read. No field in it needs quotes, and no spreadsheet
+takes one for a formula, since generate.py refuses other names.
+"""
+
+from __future__ import annotations
+
+import contextlib
+import os
+import re
+import stat
+from collections.abc import Iterable
+from typing import Dict, List, Tuple
+
+from pwhash import own_file
+from pwhash.errors import Stop, UsageError, errors_named, reason_of
+from pwhash.lines import BYTE_ORDER_MARK
+from pwhash.text import is_utf8, named
+
+SUFFIX = ".csv"
+HEADING = re.compile(rb"name([,;\t])password")
+FOLDER_MODE = 0o700
+
+Row = Tuple[bytes, bytes]  # a name and its password
+
+
+class Written:
+    """The lists that this run has written, which it can remove while nothing depends on them."""
+
+    def __init__(self) -> None:
+        self._files: List[str] = []
+        self._folders: List[str] = []
+
+    def make_folder(self, path: str) -> None:
+        """Makes the folder of several lists."""
+        refuse_open_folder(path)
+        before = os.umask(0o777 & ~FOLDER_MODE)
+        try:
+            os.mkdir(path, FOLDER_MODE)
+        except FileExistsError:
+            raise exists(path) from None
+        except OSError as error:
+            raise Stop(f"{named(path)}: {reason_of(error)}.") from None
+        finally:
+            os.umask(before)
+        self._folders.append(path)
+        sync_folder_of(path)
+
+    def write(self, path: str, separator: str, rows: Iterable[Row]) -> None:
+        """Writes a list."""
+        if not self._folders:
+            refuse_open_folder(path)
+        content = content_of(separator.encode(), rows)
+        with errors_named(named(path)):
+            try:
+                fd = own_file.create(path)
+            except FileExistsError:
+                raise exists(path) from None
+            self._files.append(path)
+            with open(fd, "wb") as file:
+                file.write(content)
+                file.flush()
+                os.fsync(fd)
+        sync_folder_of(path)
+
+    def remove(self) -> None:
+        """Removes them all."""
+        for path in self._files:
+            with contextlib.suppress(OSError):
+                os.unlink(path)
+        for path in self._folders:
+            with contextlib.suppress(OSError):
+                os.rmdir(path)
+
+
+def content_of(separator: bytes, rows: Iterable[Row]) -> bytes:
+    """A list as a spreadsheet opens it. Excel knows UTF-8 by its byte order mark."""
+    lines = [separator.join(row) for row in [(b"name", b"password"), *rows]]
+    content = b"".join(line + b"\n" for line in lines)
+    needs_mark = is_utf8(content) and not content.isascii()
+    return BYTE_ORDER_MARK + content if needs_mark else content
+
+
+def read(path: str, is_folder: bool) -> Dict[bytes, bytes]:
+    """The passwords of all names in the lists of an earlier run."""
+    passwords: Dict[bytes, bytes] = {}
+    with errors_named(named(path)):
+        files = files_in(path) if is_folder else [path]
+    for file in files:
+        passwords.update(read_list(file))
+    return passwords
+
+
+def files_in(folder: str) -> List[str]:
+    """The lists in a folder that this user's run has made."""
+    status = os.lstat(folder)
+    is_own = stat.S_ISDIR(status.st_mode) and status.st_uid == os.geteuid()
+    if not is_own or stat.S_IMODE(status.st_mode) != FOLDER_MODE:
+        raise UsageError(f"{named(folder)} is no folder that a run of yours has made.")
+    return [os.path.join(folder, name) for name in os.listdir(folder) if name.endswith(SUFFIX)]
+
+
+def read_list(path: str) -> Dict[bytes, bytes]:
+    """The passwords of the names in one list."""
+    with errors_named(named(path)):
+        with open(os.open(path, own_file.FLAGS), "rb") as file:
+            fault = own_file.unfit(os.fstat(file.fileno()))
+            content = b"" if fault else file.read()
+    if content.startswith(BYTE_ORDER_MARK):
+        content = content[len(BYTE_ORDER_MARK) :]
+    heading, *lines = content.split(b"\n")
+    found = HEADING.fullmatch(heading)
+    if fault or not found or not content.endswith(b"\n"):
+        raise changed(path, fault or "it was changed")
+    separator = found[1]
+    rows = [line.partition(separator) for line in lines[:-1]]  # behind the last end is nothing
+    if any(not name or not password or separator in password for name, _, password in rows):
+        raise changed(path, "it was changed")
+    return {name: password for name, _, password in rows}
+
+
+def changed(path: str, fault: str) -> UsageError:
+    """The error for a list that isn't as a run has left it."""
+    return UsageError(
+        f"{named(path)} isn't as the run that began left it ({fault}), so --resume doesn't know "
+        "the passwords. Remove the lists and OUT.part, and start again."
+    )
+
+
+def exists(path: str) -> UsageError:
+    """The error for a name that somebody has."""
+    return UsageError(
+        f"{named(path)} already exists: name another after --passwords, or remove it."
+    )
+
+
+def refuse_open_folder(path: str) -> None:
+    """Refuses a folder where anybody could remove a list, whose passwords would be lost."""
+    folder = folder_of(path)
+    with errors_named(named(folder)):
+        mode = os.stat(folder).st_mode
+    if mode & stat.S_IWOTH and not mode & stat.S_ISVTX:
+        raise UsageError(
+            f"{named(folder)} is a folder in which everybody can write: name another place after "
+            "--passwords."
+        )
+
+
+def sync_folder_of(path: str) -> None:
+    """The name of a file is on disk, too."""
+    with errors_named(named(folder_of(path))):
+        fd = os.open(folder_of(path), os.O_RDONLY | os.O_DIRECTORY)
+        try:
+            os.fsync(fd)
+        finally:
+            os.close(fd)
+
+
+def folder_of(path: str) -> str:
+    """The folder in which a file is."""
+    return os.path.dirname(path.rstrip("/")) or "."

@@ -1,0 +1,259 @@
+"""pwhash file --generate that ends early: no hash is there whose password isn't in a list.
+
+Hashes are compared with libxcrypt's.
+"""
+from __future__ import annotations
+
+import os
+import pathlib
+import random
+import shutil
+import signal
+import time
+
+import pytest
+from support.pwhash_runs import (
+    Ended,
+    ended,
+    has_begun,
+    hashed,
+    in_namespace,
+    pwhash,
+    read,
+    save,
+    started,
+    wait_for,
+)
+
+COUNT = 120
+CLASSES = 4
+ROUNDS = ("-R", "20000")
+ONE = ("file", "--generate", *ROUNDS, "--csv", "table", "-o", "hashes", "--passwords", "lists")
+WORDS = (*ONE, "--by", "class")
+TABLE = b"name;class\n" + b"".join(b"user%d;c%d\n" % (n, n % CLASSES) for n in range(COUNT))
+PART = "hashes.part"
+
+
+@pytest.fixture(autouse=True, name="table")
+def fixture_table(folder: pathlib.Path) -> None:
+    """A table in the scratch folder."""
+    del folder  # the current one
+    save("table", TABLE)
+    os.utime("table", (1e9, 1e9))
+
+
+def passwords_in(lists: str = "lists") -> dict[bytes, bytes]:
+    """The passwords in all lists. A list may be cut only while there are no hashes."""
+    path = pathlib.Path(lists)
+    files = sorted(path.iterdir()) if path.is_dir() else [path]
+    rows = [line.partition(b";") for file in files for line in file.read_bytes().splitlines()]
+    return {name: password for name, _, password in rows if name != b"name"}
+
+
+def hashes_in(name: str) -> dict[bytes, bytes]:
+    """The whole lines of a file of hashes, if it is there."""
+    if not os.path.exists(name):
+        return {}
+    lines = [line.partition(b":") for line in read(name).split(b"\n")[:-1]]
+    return {name_of_line: stored for name_of_line, _, stored in lines}
+
+
+def assert_passwords_of(hashes: dict[bytes, bytes], most: int) -> None:
+    """Fails unless each hash is of a password in a list. `most` hashes are made again."""
+    passwords = passwords_in() if hashes else {}
+    assert set(hashes) <= set(passwords), set(hashes) - set(passwords)
+    for name in random.sample(sorted(hashes), min(most, len(hashes))):
+        assert hashed(passwords[name], hashes[name].decode()) == hashes[name], name
+
+
+def assert_whole(done: Ended) -> None:
+    """Fails unless all names have a hash of their password."""
+    assert done.status == 0, done
+    hashes = hashes_in("hashes")
+    assert len(hashes) == COUNT and set(os.listdir()) == {"table", "hashes", "lists"}, done
+    assert_passwords_of(hashes, 5)
+
+
+def remove_all() -> None:
+    for name in set(os.listdir()) - {"table"}:
+        if os.path.isdir(name):
+            shutil.rmtree(name)
+        else:
+            os.remove(name)
+
+
+def seconds_of_run() -> float:
+    """How long a run takes here."""
+    begun = time.monotonic()
+    assert_whole(pwhash(*WORDS))
+    remove_all()
+    return time.monotonic() - begun
+
+
+def stopped(number: signal.Signals, seconds: float) -> Ended:
+    """A run to which a signal is sent after some time, if it hasn't ended by then."""
+    with started(*WORDS) as process:
+        time.sleep(seconds)
+        process.send_signal(number)
+        return ended(process)
+
+
+@pytest.mark.parametrize("number", [signal.SIGKILL, signal.SIGTERM, signal.SIGINT])
+def test_a_kill_at_any_moment_leaves_no_hash_without_its_password(number: signal.Signals) -> None:
+    whole = seconds_of_run()
+    for _ in range(8):
+        done = stopped(number, random.uniform(0, whole))
+        made = {**hashes_in(PART), **hashes_in("hashes")}
+        assert_passwords_of(made, 3)
+        if not os.path.exists("hashes"):
+            done = pwhash(*WORDS, "--resume")
+        if done.status == 2 and number is signal.SIGKILL:  # the lists may be cut
+            assert b"lists already exists" in done.err and not made, done
+        elif done.status != -number:  # it may be whole when the signal comes
+            assert_whole(done)
+            later = hashes_in("hashes")
+            assert all(later[name] == stored for name, stored in made.items()), done
+        remove_all()
+
+
+@pytest.fixture(name="interrupted")
+def fixture_interrupted(table: None) -> None:
+    """A run that was killed in its midst."""
+    del table
+    with started(*WORDS) as process:
+        wait_for(lambda: has_begun(PART))
+        process.kill()
+    assert os.path.exists(PART) and len(passwords_in()) == COUNT
+
+
+def refused_to_go_on(*words: str, reason: bytes) -> None:
+    before = read(PART)
+    done = pwhash(*words, "--resume")
+    assert done.status == 2 and reason in done.err and done.out == b"", done
+    assert read(PART) == before and not os.path.exists("hashes"), done
+
+
+@pytest.mark.usefixtures("interrupted")
+class TestResuming:
+    """A run that goes on, or doesn't."""
+
+    def test_a_run_goes_on_with_the_same_passwords(self) -> None:
+        before, made = passwords_in(), hashes_in(PART)
+        assert_whole(pwhash(*WORDS, "--resume"))
+        assert passwords_in() == before
+        assert all(hashes_in("hashes")[name] == stored for name, stored in made.items())
+
+    def test_without_resume_nothing_goes_on(self) -> None:
+        done = pwhash(*WORDS)
+        assert done.status == 2 and b"lists already exists" in done.err, done
+
+    def test_a_list_that_is_gone_is_named(self) -> None:
+        os.rename("lists/c1.csv", "c1.csv")
+        refused_to_go_on(*WORDS, reason=b"has no password in the lists")
+
+    def test_lists_that_are_gone_are_named(self) -> None:
+        os.rename("lists", "elsewhere")
+        refused_to_go_on(*WORDS, reason=b"lists, which is gone")
+        assert not os.path.exists("lists")
+
+    @pytest.mark.parametrize(
+        ("old", "new"),
+        [
+            pytest.param(b"\n", b";\n", id="another column"),
+            pytest.param(b"name;password\n", b"", id="no heading"),
+            pytest.param(b"user0;", b"user0;x;", id="another field"),
+            pytest.param(b"\n", b"\r", id="other ends of lines"),
+        ],
+    )
+    def test_a_list_that_was_changed_is_named(self, old: bytes, new: bytes) -> None:
+        save("lists/c0.csv", read("lists/c0.csv").replace(old, new))
+        refused_to_go_on(*WORDS, reason=b"lists/c0.csv isn't as the run that began left it")
+
+    @pytest.mark.parametrize("size", [0, 4, len(b"name;password"), 30])
+    def test_a_list_that_was_cut_is_named(self, size: int) -> None:
+        os.truncate("lists/c0.csv", size)
+        refused_to_go_on(*WORDS, reason=b"lists/c0.csv isn't as the run that began left it")
+
+    def test_another_first_password_is_noticed(self) -> None:
+        lines = read("lists/c0.csv").splitlines(keepends=True)
+        save("lists/c0.csv", b"".join([lines[0], b"user0;AAAAAAAAAAAAAAAAAAAA\n", *lines[2:]]))
+        refused_to_go_on(*WORDS, reason=b"line 1: not of line 2")
+
+    def test_a_list_that_others_can_read_is_refused(self) -> None:
+        os.chmod("lists/c0.csv", 0o644)
+        refused_to_go_on(*WORDS, reason=b"its mode is 0644")
+
+    def test_a_folder_that_others_can_write_is_refused(self) -> None:
+        os.chmod("lists", 0o777)
+        refused_to_go_on(*WORDS, reason=b"no folder that a run of yours has made")
+
+    def test_a_link_is_no_list(self) -> None:
+        os.rename("lists", "elsewhere")
+        os.symlink("elsewhere", "lists")
+        refused_to_go_on(*WORDS, reason=b"no folder that a run of yours has made")
+
+    def test_other_options_do_not_go_on(self) -> None:
+        refused_to_go_on(*ONE, reason=b"--by")
+        words = [word for word in WORDS if word not in ("--generate", "--passwords", "lists")]
+        refused_to_go_on(*words[: words.index("--by")], reason=b"")
+
+    def test_a_table_that_was_changed_does_not_go_on(self) -> None:
+        save("table", TABLE + b"eve;c0\n")
+        refused_to_go_on(*WORDS, reason=b"changed or touched")
+
+
+def test_one_list_goes_on_too() -> None:
+    with started(*ONE) as process:
+        wait_for(lambda: has_begun(PART))
+        process.kill()
+    before = read("lists")
+    done = pwhash(*ONE, "--resume")
+    assert_whole(done)
+    assert read("lists") == before, done
+
+
+def test_of_two_runs_at_once_one_makes_all() -> None:
+    processes = [started(*WORDS) for _ in range(3)]
+    results = [ended(process) for process in processes]
+    whole = [done for done in results if done.status == 0]
+    others = [done for done in results if done.status != 0]
+    assert len(whole) == 1 and {done.status for done in others} == {2}, results
+    assert_whole(whole[0])
+
+
+def test_of_two_runs_with_the_same_lists_one_makes_all() -> None:
+    others = [word if word != "hashes" else "others" for word in WORDS]
+    processes = [started(*words) for words in (WORDS, others)]
+    results = [ended(process) for process in processes]
+    assert sorted(done.status for done in results) == [0, 2], results
+    assert set(os.listdir()) & {"hashes", "others"} == {
+        "hashes" if results[0].status == 0 else "others"
+    }
+    assert not os.path.exists(PART) and not os.path.exists("others.part"), results
+
+
+# The first run may fail, since the disk is small. What it leaves is copied; then there is room.
+SMALL_THEN_LARGE = """
+mkdir full left && mount -t tmpfs -o size=PAGESk,mode=700 none full && cd full
+status=0; "$@" || status=$?
+echo "first $status" >&2
+cp -r . ../left
+mount -o remount,size=9m ../full
+[ $status = 0 ] || "$@" --resume
+cp -r . ../end
+"""
+
+
+@pytest.mark.needs("namespaces")
+@pytest.mark.parametrize("pages", [1, 3, 6, 8, 10, 12])
+def test_a_full_disk_leaves_no_hash_without_its_password(pages: int) -> None:
+    words = ["../table" if word == "table" else word for word in WORDS]
+    done = in_namespace(SMALL_THEN_LARGE.replace("PAGES", str(4 * pages)), *words)
+    os.chdir("left")
+    made = {**hashes_in(PART), **hashes_in("hashes")}
+    assert_passwords_of(made, 5)
+    os.chdir("../end")
+    os.link("../table", "table")
+    is_whole = b"first 0" in done.err
+    assert is_whole or b"first 3" in done.err and b"No space left" in done.err, done
+    assert_whole(done)
