@@ -71,6 +71,9 @@ int openat(int folder, const char *path, int flags, ...)
     return (int)syscall(SYS_openat, folder, path, flags, mode);
 }
 
+/* Python calls it by this name. */
+int openat64(int folder, const char *path, int flags, ...) __attribute__((alias("openat")));
+
 int flock(int file, int operation)
 {
     if (getenv("NO_LOCKS") != NULL)

@@ -153,6 +153,7 @@ RESTS_OF_OPTIONS = {
     "pwhash file --skip-r": ["--skip-refused"],
     "pwhash file --gen": ["--generate"],
     "pwhash audit --o": ["--only-problems"],
+    "pwhash set --del": ["--delete"],
 }
 
 
@@ -184,6 +185,8 @@ def test_methods_are_offered(shell: Shell, line: str) -> None:
 
 WORDS_OF_PWHASH = {
     "pwhash au": ["audit"],
+    "pwhash se": ["set"],
+    "pwhash install --for ": ["apache", "dovecot", "ldap", "nginx"],
     "pwhash ve": ["verify"],
     "pwhash file --for ": ["apache", "dovecot", "ldap", "nginx"],
     "pwhash --for pre": ["preseed-root", "preseed-user"],
@@ -202,6 +205,8 @@ FILES_OFFERED = {
     "mkpasswd -m md5crypt < ": FILES,
     "mkpasswd --batch < logins > sha": ["sha256sums"],
     "pwhash audit lo": ["logins"],
+    "pwhash set lo": ["logins"],
+    "pwhash install lo": ["logins"],
     "pwhash check --shadow sha": ["sha256sums"],
     "pwhash verify lo": ["logins"],
     "pwhash file --skip-locked sha": ["sha256sums"],

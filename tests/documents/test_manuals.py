@@ -112,6 +112,8 @@ def test_the_manual_of_mkpasswd_begins_with_the_words_of_its_help(
         pytest.param(["file"], id="pwhash file"),
         pytest.param(["check"], id="pwhash check"),
         pytest.param(["audit"], id="pwhash audit"),
+        pytest.param(["set"], id="pwhash set"),
+        pytest.param(["install"], id="pwhash install"),
         pytest.param(["verify"], id="pwhash verify"),
     ],
 )

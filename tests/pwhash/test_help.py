@@ -9,7 +9,9 @@ from support.pwhash_runs import pwhash, shell
 
 
 @pytest.mark.parametrize(
-    "command", [(), ("file",), ("check",), ("audit",)], ids=["one", "file", "check", "audit"]
+    "command",
+    [(), ("file",), ("check",), ("audit",), ("set",), ("install",)],
+    ids=["one", "file", "check", "audit", "set", "install"],
 )
 def test_help_names_the_options(command: tuple[str, ...]) -> None:
     done = pwhash(*command, "--help")

@@ -30,6 +30,8 @@ def run_with(python: Interpreter, copy: Copy, *words: Word, stdin: bytes = b"") 
         ),
         pytest.param(("check", "--shadow", "shadow"), b"password\n", b"ann:ok\n", id="check"),
         pytest.param(("audit", "--only-problems", "-"), b"ann:!\n", b"", id="audit"),
+        pytest.param(("set", "--quiet", *MD5CRYPT, "shadow", "bob"), b"password\n", b"", id="set"),
+        pytest.param(("install", "--quiet", "shadow", "new"), b"", b"", id="install"),
     ],
 )
 def test_each_python_runs_it(

@@ -73,7 +73,7 @@ def fixture_site_with_module(site: Site, with_module: Namespaces) -> Site:
     Names that few services take are in the file too.
     """
     with_module.write("/etc/pam.d/example", marked("pam_mkpasswd", "pam").code)
-    site.load_hashes("pam_mkpasswd")
+    site.install_hashes("pam_mkpasswd", "/etc/example.passwords")
     field = site.hashes()[SIX.name]
     with_module.append("/etc/example.passwords", f"a b:{field}\na:b:{field}\n")
     return site

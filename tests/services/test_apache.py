@@ -63,7 +63,7 @@ class TestLoginsByFile(LoginTests):
 
     @pytest.fixture(scope="class", name="door")
     def fixture_door(self, site: Site, tmp_path_factory: pytest.TempPathFactory) -> Iterator[Door]:
-        site.load_hashes("Apache")
+        site.install_hashes("Apache", "/etc/apache2/passwords")
         with apache(site, tmp_path_factory.mktemp("file"), marked("Apache", "apache").code) as door:
             yield door
 

@@ -115,7 +115,7 @@ class TestLoginsByFile(LoginTests):
     def fixture_door(
         self, site: Site, version: Version, tmp_path_factory: pytest.TempPathFactory
     ) -> Iterator[Door]:
-        site.load_hashes("Dovecot")
+        site.install_hashes("Dovecot", "/etc/dovecot/passwords")
         folder = tmp_path_factory.mktemp("file")
         with dovecot(site, folder, version, version.by_file) as door:
             yield door

@@ -8,7 +8,7 @@ from pathlib import Path
 
 import pytest
 from support.documents import marked
-from support.logins import Door, LoginTests, http_verdict
+from support.logins import Door, LoginTests, Verdict, http_verdict
 from support.recipes import Site
 from support.services import serving
 
@@ -35,7 +35,7 @@ http {
 @pytest.fixture(scope="module", name="loaded")
 def fixture_loaded(site: Site) -> Site:
     """The site where the recipe was followed."""
-    site.load_hashes("nginx")
+    site.install_hashes("nginx", "/etc/nginx/passwords")
     return site
 
 
@@ -56,3 +56,23 @@ def test_not_everybody_reads_the_hashes(loaded: Site) -> None:
 
 class TestLogins(LoginTests):
     """Logins to nginx."""
+
+
+def test_a_password_that_pwhash_sets_counts_while_the_service_runs(door: Door) -> None:
+    command = ("pwhash", "set", "-m", "md5crypt", "/etc/nginx/passwords", "eve")
+    door.site.run(*command, stdin="first\n").required()
+    door.assert_verdict("eve", "first", Verdict.ACCEPTED)
+    door.site.run(*command, stdin="second\n").required()
+    door.assert_verdict("eve", "first", Verdict.REFUSED)
+    door.assert_verdict("eve", "second", Verdict.ACCEPTED)
+    mode = door.site.machine.path("/etc/nginx/passwords").stat().st_mode
+    assert stat.S_IMODE(mode) == 0o640
+
+
+def test_a_name_that_pwhash_locks_gets_in_no_more(door: Door) -> None:
+    path = "/etc/nginx/passwords"
+    door.site.run("pwhash", "set", "-m", "md5crypt", path, "tom", stdin="first\n").required()
+    door.site.run("pwhash", "set", "--lock", path, "tom").required()
+    door.assert_verdict("tom", "first", Verdict.REFUSED)
+    door.site.run("pwhash", "set", "--unlock", path, "tom").required()
+    door.assert_verdict("tom", "first", Verdict.ACCEPTED)

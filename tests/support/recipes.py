@@ -53,6 +53,11 @@ def closed_fields() -> dict[str, bytes]:
     }
 
 
+def closed_lines() -> bytes:
+    """The lines of these names."""
+    return b"".join(b"%b:%b\n" % (name.encode(), field) for name, field in closed_fields().items())
+
+
 @dataclass(frozen=True)
 class Site:
     """A machine, and a folder of it where somebody follows the recipes."""
@@ -79,15 +84,19 @@ class Site:
         return self.run("sh", "-euc", commands, stdin=f"{ANN.password}\nmore\n")
 
     def hash_passwords(self) -> None:
-        """Makes the file `hashes` of `passwords` by its recipe, and adds all other users."""
+        """Makes the file `hashes` of `passwords` by its recipe, and adds all other names."""
+        self.hash_passwords_of_users()
+        with (self.folder / "hashes").open("ab") as file:
+            file.write(closed_lines())
+
+    def hash_passwords_of_users(self) -> None:
+        """The same without the names that nobody gets in by."""
         (self.folder / "passwords").write_text(f"{ANN.name}:{ANN.password}\n", encoding="ascii")
         self.follow("hashes for services")
         with (self.folder / "hashes").open("ab") as file:
             for user in USERS:
                 if user.cost is not None:
                     file.write(self.line_of(user))
-            for name, field in closed_fields().items():
-                file.write(name.encode() + b":" + field + b"\n")
 
     def line_of(self, user: User) -> bytes:
         """A user's line, with a hash that the program makes."""
@@ -108,6 +117,15 @@ class Site:
         """Makes the hashes, and loads them by the recipe for a service."""
         self.hash_passwords()
         self.follow(mark)
+
+    def install_hashes(self, mark: str, path: str) -> None:
+        """Makes the hashes of users, and installs them as a file by the recipe for a service.
+
+        The other names are then added, most of which `pwhash install` refuses.
+        """
+        self.hash_passwords_of_users()
+        self.follow(mark)
+        self.machine.append(path, closed_lines())
 
     def add_accounts(self) -> None:
         """Gives all names an account of the system, with a locked password."""

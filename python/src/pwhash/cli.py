@@ -15,6 +15,7 @@ from pwhash.errors import UsageError
 from pwhash.library import Policy
 from pwhash.options import (
     DEFAULT_COLUMNS,
+    Action,
     GENERATED_LENGTH,
     AuditOptions,
     CheckOptions,
@@ -23,9 +24,11 @@ from pwhash.options import (
     Form,
     Generate,
     Input,
+    InstallOptions,
     OneOptions,
     Options,
     Service,
+    SetOptions,
     VerifyOptions,
     part_of,
 )
@@ -35,12 +38,22 @@ USAGE = """
   pwhash                             hash a password, which it asks for
   pwhash file passwords -o hashes    hash lines name:password, for chpasswd -e
   pwhash audit /etc/shadow           what is wrong with stored hashes
+  pwhash set passwords ann           a new password in a password file
+  pwhash install hashes passwords    make hashes a service's password file
   pwhash verify /etc/shadow ann      whether a password is ann's
 
 Hashes are sha512crypt with 656000 rounds. Each command has its own --help."""
 FILE_TEXT = "Hashes lines name:password. A file is read twice, first to look for problems."
 CHECK_TEXT = (
     "Checks lines name:field:password, where the field is what is stored: a hash, ! or nothing."
+)
+SET_TEXT = (
+    "Changes one line name:hash of a service's password file: asks for a new password, and adds "
+    "the line if there is none."
+)
+INSTALL_TEXT = (
+    "Looks at each line name:hash of HASHES, and puts it in the place of TARGET, the password file "
+    "of a service, which keeps its owner and mode."
 )
 AUDIT_TEXT = "Shows what is wrong with stored hashes; with --only-problems the worst first."
 VERIFY_TEXT = (
@@ -54,6 +67,9 @@ SHORTEST_GENERATED, LONGEST_GENERATED = 8, 64
 NUMBER = re.compile("([0-9]{1,20})([kM]?)")
 FACTORS = {"": 1, "k": 1000, "M": 1000000}
 USER_NAME = re.compile("[A-Za-z_][A-Za-z0-9_.@-]{0,63}")
+MODE = re.compile("0?[0-7]{3}")
+MOST_MODE = 0o644
+CONTROL_CHARACTER = re.compile("[\0-\x1f\x7f-\x9f]")
 NAME_OF_LINE = re.compile("[^:#\\0-\\x1f\\x7f][^:\\0-\\x1f\\x7f]*")
 OPTION_NAME = re.compile("--[a-z-]+")
 FORMS = {form.word: form for form in Form}
@@ -227,10 +243,8 @@ def file_parser() -> Parser:
     parser.value("--skip-locked", metavar="SHADOW", help=locked_text)
     parser.flag("--accept-doubtful", "take doubtful lines as they are")
     add_table(parser)
+    add_service(parser, "doubt names that it takes for others")
     add_generate(parser)
-    services = [service.value for service in Service]
-    service_text = "doubt names that it takes for others"
-    parser.value("--for", dest="service", choices=services, help=service_text)
     add_salt(parser)
     add_common(parser)
     return parser
@@ -302,20 +316,108 @@ def audit_parser() -> Parser:
 
 
 def audit_options(parser: Parser, given: argparse.Namespace) -> Options:
-    """The options of `pwhash audit`. A budget of 0, or none, stands for the library's own."""
+    """The options of `pwhash audit`."""
     if given.file is None:
         raise parser.refusal(
             "name a file: pwhash audit /etc/shadow, or for standard input pwhash audit -"
         )
-    limit_of(parser, given)
-    own_budget = min(given.budget or 0, library.GREATEST_BUDGET)
     return AuditOptions(
-        policy=Policy(given.method, given.rounds or 0, own_budget, None, None),
+        policy=judging_policy(parser, given),
         input=Input(path_of(parser, given), unlock=given.locked, counts_lines=not given.quiet),
         only_problems=given.only_problems,
         json=given.json,
         quiet=given.quiet,
     )
+
+
+def set_parser() -> Parser:
+    """What `pwhash set` takes."""
+    parser = Parser("set", SET_TEXT)
+    parser.add_argument("file", nargs="?", metavar="FILE", help="the password file of a service")
+    parser.add_argument("name", nargs="?", metavar="NAME", help="whose line is changed")
+    parser.flag("--generate", "make a password, and show it once on the terminal")
+    parser.flag("--delete", "remove the line")
+    parser.flag("--lock", "let no password in; the hash stays behind a !")
+    parser.flag("--unlock", "let the password in again")
+    add_salt(parser)
+    add_common(parser)
+    return parser
+
+
+def set_options(parser: Parser, given: argparse.Namespace) -> Options:
+    """The options of `pwhash set`."""
+    if not given.file or not given.name:
+        raise parser.refusal("name a password file and whose line to change: pwhash set FILE NAME")
+    refuse_unfit_name(parser, given.name)
+    return SetOptions(
+        policy=policy_of(parser, given),
+        path=given.file,
+        name=os.fsencode(given.name),
+        action=action_of(parser, given),
+        generate=given.generate,
+        quiet=given.quiet,
+    )
+
+
+def action_of(parser: Parser, given: argparse.Namespace) -> Action:
+    """What is to be done. Two things at once contradict each other."""
+    chosen = [each for each in Action if getattr(given, each.name.lower(), False)]
+    if len(chosen) + given.generate > 1:
+        raise parser.refusal("give one of --generate, --delete, --lock and --unlock")
+    return chosen[0] if chosen else Action.PASSWORD
+
+
+def refuse_unfit_name(parser: Parser, name: str) -> None:
+    """Refuses a name that no line can begin with, or that services skip as a comment."""
+    if ":" in name:
+        raise parser.refusal("NAME has a colon in it, with which names end in password files")
+    if CONTROL_CHARACTER.search(name):
+        raise parser.refusal("NAME has a control character in it")
+    if name.startswith("#"):
+        raise parser.refusal("NAME begins with a #, as comments do")
+
+
+def install_parser() -> Parser:
+    """What `pwhash install` takes."""
+    parser = Parser("install", INSTALL_TEXT)
+    parser.add_argument("hashes", nargs="?", metavar="HASHES", help="lines name:hash")
+    parser.add_argument("target", nargs="?", metavar="TARGET", help="the password file")
+    add_service(parser, "refuse names that it takes for others")
+    parser.value("--owner", metavar="USER", help="of a new TARGET, by default who runs this")
+    parser.value(
+        "--group", metavar="GROUP", help="of a new TARGET, by default that of who runs this"
+    )
+    parser.value("--mode", metavar="MODE", help="of a new TARGET, by default 600")
+    add_common(parser)
+    return parser
+
+
+def install_options(parser: Parser, given: argparse.Namespace) -> Options:
+    """The options of `pwhash install`. Hashes are judged as in an audit."""
+    if not given.hashes or not given.target:
+        raise parser.refusal("name two files: pwhash install HASHES TARGET")
+    return InstallOptions(
+        policy=judging_policy(parser, given),
+        hashes=given.hashes,
+        target=given.target,
+        service=Service(given.service) if given.service else None,
+        owner=given.owner,
+        group=given.group,
+        mode=mode_of(parser, given),
+        quiet=given.quiet,
+    )
+
+
+def mode_of(parser: Parser, given: argparse.Namespace) -> Optional[int]:
+    """The mode of a password file, which its owner alone writes, and nobody runs."""
+    if given.mode is None:
+        return None
+    mode = int(given.mode, 8) if MODE.fullmatch(given.mode) else None
+    if mode is None or mode & ~MOST_MODE:
+        raise parser.refusal(
+            "--mode is three octal digits, by which others may read the file at most, as 640"
+        )
+    return mode
 
 
 def verify_parser() -> Parser:
@@ -358,6 +460,8 @@ COMMANDS: Dict[str, Command] = {
     "file": Command(file_parser, file_options),
     "check": Command(check_parser, check_options),
     "audit": Command(audit_parser, audit_options),
+    "set": Command(set_parser, set_options),
+    "install": Command(install_parser, install_options),
     "verify": Command(verify_parser, verify_options),
 }
 
@@ -383,6 +487,12 @@ def add_table(parser: Parser) -> None:
     parser.flag("--csv", "FILE is a table, as spreadsheets export it")
     text = f"names in its first row, or numbers; by default {DEFAULT_COLUMNS}"
     parser.value("--columns", metavar="A,B", help=text)
+
+
+def add_service(parser: Parser, text: str) -> None:
+    """--for SERVICE."""
+    services = [service.value for service in Service]
+    parser.value("--for", dest="service", choices=services, help=text)
 
 
 def add_generate(parser: Parser) -> None:
@@ -430,6 +540,13 @@ def policy_of(parser: Parser, given: argparse.Namespace) -> Policy:
         raise parser.refusal(f"-S: {refused}") from None
     longest = library.longest_password(setting, budget)
     return Policy(given.method, limit.rounds, budget, longest, setting)
+
+
+def judging_policy(parser: Parser, given: argparse.Namespace) -> Policy:
+    """How stored hashes are judged. A budget of 0, or none, stands for the library's own."""
+    limit_of(parser, given)
+    own_budget = min(given.budget or 0, library.GREATEST_BUDGET)
+    return Policy(given.method, given.rounds or 0, own_budget, None, None)
 
 
 def limit_of(parser: Parser, given: argparse.Namespace) -> library.Limit:

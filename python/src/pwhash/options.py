@@ -120,6 +120,39 @@ class AuditOptions(NamedTuple):
     quiet: bool
 
 
+class Action(enum.Enum):
+    """What pwhash set does to a line."""
+
+    PASSWORD = enum.auto()
+    DELETE = enum.auto()
+    LOCK = enum.auto()
+    UNLOCK = enum.auto()
+
+
+class SetOptions(NamedTuple):
+    """pwhash set."""
+
+    policy: Policy
+    path: str
+    name: bytes
+    action: Action
+    generate: bool
+    quiet: bool
+
+
+class InstallOptions(NamedTuple):
+    """pwhash install."""
+
+    policy: Policy
+    hashes: str
+    target: str
+    service: Optional[Service]
+    owner: Optional[str]
+    group: Optional[str]
+    mode: Optional[int]
+    quiet: bool
+
+
 class VerifyOptions(NamedTuple):
     """pwhash verify."""
 
@@ -128,7 +161,15 @@ class VerifyOptions(NamedTuple):
     name: str
 
 
-Options = Union[OneOptions, FileOptions, CheckOptions, AuditOptions, VerifyOptions]
+Options = Union[
+    OneOptions,
+    FileOptions,
+    CheckOptions,
+    AuditOptions,
+    SetOptions,
+    InstallOptions,
+    VerifyOptions,
+]
 
 
 def part_of(out: str) -> str:

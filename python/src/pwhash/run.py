@@ -17,8 +17,10 @@ from pwhash.options import (
     AuditOptions,
     CheckOptions,
     FileOptions,
+    InstallOptions,
     OneOptions,
     Options,
+    SetOptions,
     VerifyOptions,
 )
 from pwhash.session import Session
@@ -31,6 +33,8 @@ MODULES = {
     FileOptions: "pwhash.file",
     CheckOptions: "pwhash.check",
     AuditOptions: "pwhash.audit",
+    SetOptions: "pwhash.set",
+    InstallOptions: "pwhash.install",
     VerifyOptions: "pwhash.verify",
 }
 

@@ -24,6 +24,7 @@ class Session:
         self.signals = Signals(self._end_by_signal)
         self.options: Optional[Options] = None
         self.part: Optional[Part] = None
+        self.changed: Optional[str] = None  # the file that this run has replaced
         self._command = command
         self._words = words
         self._status_if_whole = Status.OK
@@ -74,6 +75,10 @@ class Session:
             with contextlib.suppress(Stop):  # the status still tells
                 self.console.say(f"{number.name} came when {self.part.out_name} was whole.")
             os._exit(self._status_if_whole)
+        if self.changed is not None:
+            with contextlib.suppress(Stop):
+                self.console.say(f"{number.name} came when {self.changed} was changed.")
+            os._exit(Status.OK)
         if self.part is not None:
             self.part.leave(is_wrong_use=False)
         self.fail(Stop(f"{number.name} ended the run."))

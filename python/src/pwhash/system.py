@@ -1,4 +1,4 @@
-"""Two calls of the system that Python has none for."""
+"""Calls of the system that Python has none for."""
 
 from __future__ import annotations
 
@@ -7,7 +7,7 @@ import errno
 import os
 
 PR_SET_DUMPABLE = 4
-AT_FDCWD, RENAME_NOREPLACE = -100, 1
+AT_FDCWD, RENAME_NOREPLACE, RENAME_EXCHANGE = -100, 1, 2
 
 
 def never_dumpable() -> None:
@@ -22,10 +22,22 @@ def rename_to_new(old: str, new: str) -> None:
 
     Raises the OSError ENOSYS or EINVAL where the kernel or the file system can't do that.
     """
-    rename = getattr(ctypes.CDLL(None, use_errno=True), "renameat2", None)
-    if rename is None:
+    rename(AT_FDCWD, old, new, RENAME_NOREPLACE)
+
+
+def exchange(folder: int, one: str, other: str) -> None:
+    """Exchanges two files of an open folder, in one step.
+
+    Raises the OSError ENOSYS or EINVAL where the kernel or the file system can't do that.
+    """
+    rename(folder, one, other, RENAME_EXCHANGE)
+
+
+def rename(folder: int, old: str, new: str, flags: int) -> None:
+    """renameat2(2) within a folder."""
+    call = getattr(ctypes.CDLL(None, use_errno=True), "renameat2", None)
+    if call is None:
         raise OSError(errno.ENOSYS, os.strerror(errno.ENOSYS), new)
-    names = os.fsencode(old), os.fsencode(new)
-    if rename(AT_FDCWD, names[0], AT_FDCWD, names[1], RENAME_NOREPLACE) != 0:
+    if call(folder, os.fsencode(old), folder, os.fsencode(new), flags) != 0:
         number = ctypes.get_errno()
         raise OSError(number, os.strerror(number), new)

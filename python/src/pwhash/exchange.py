@@ -1,0 +1,175 @@
+"""Exchanges the new version of a password file for the old one, as pam_mkpasswd(8) describes.
+
+Whatever comes out keeps a name until this process knows what it is, so no version of the file is
+lost, even if the process is killed in between.
+"""
+
+from __future__ import annotations
+
+import contextlib
+import enum
+import errno
+import os
+import re
+from typing import List, NamedTuple
+
+from pwhash import system
+from pwhash.errors import Stop
+from pwhash.place import Place
+
+# Each exchange after the first needs somebody who changed the file between two calls.
+MOST_EXCHANGES = 8
+NO_EXCHANGE = (errno.EINVAL, errno.ENOSYS, errno.EOPNOTSUPP)
+NOTE = re.compile("([0-9]+) ([0-9]+)")
+
+
+class Outcome(enum.Enum):
+    """What became of an exchange."""
+
+    DONE = enum.auto()
+    FILE_CHANGED = enum.auto()  # and somebody's version stays
+
+
+class Pair(NamedTuple):
+    """The inodes of the two files that are exchanged."""
+
+    old: int
+    new: int
+
+
+def exchange_files(place: Place, old: os.stat_result, new: os.stat_result) -> Outcome:
+    """Exchanges the new file, which has its name, for the old one, if nobody has changed that."""
+    pair = Pair(old.st_ino, new.st_ino)
+    held: List[int] = []
+    try:
+        os.symlink(f"{pair.old} {pair.new}", place.note, dir_fd=place.folder)
+        now = os.stat(place.name, dir_fd=place.folder, follow_symlinks=False)
+        outcome = Outcome.FILE_CHANGED
+        if is_untouched(now, old):
+            outcome = exchange_until_expected(place, old, new, held)
+    except BaseException:
+        clear_up(place, pair, is_known=False)
+        raise
+    else:
+        clear_up(place, pair, is_known=True)
+        return outcome
+    finally:
+        for fd in held:
+            os.close(fd)
+
+
+def clear_up(place: Place, pair: Pair, is_known: bool) -> None:
+    """Removes what the exchange has left, and then the note. If that fails, the next one does it.
+
+    If it isn't known what was left, it may be somebody's version, which stays.
+    """
+    with contextlib.suppress(OSError, Stop):
+        if is_known:
+            os.unlink(place.new, dir_fd=place.folder)
+        else:
+            remove_one_of(place, pair)
+        os.unlink(place.note, dir_fd=place.folder)
+
+
+def exchange_until_expected(
+    place: Place, old: os.stat_result, new: os.stat_result, held: List[int]
+) -> Outcome:
+    """Exchanges the two until what is expected comes out, which is the old file at first.
+
+    Whenever somebody's version comes out instead, it goes back by the next exchange, and what is in
+    its place is expected. So the newest of somebody's versions stays. What came out is held open:
+    until it is closed, no later file gets its inode, by which this process knows a file.
+    """
+    expected, in_place = old, new
+    for _ in range(MOST_EXCHANGES):
+        swap(place)
+        out = os.stat(place.new, dir_fd=place.folder, follow_symlinks=False)
+        flags = os.O_PATH | os.O_NOFOLLOW | os.O_CLOEXEC
+        with contextlib.suppress(OSError):
+            held.append(os.open(place.new, flags, dir_fd=place.folder))
+        if is_unchanged(out, expected):
+            is_done = os.path.samestat(in_place, new)
+            return Outcome.DONE if is_done else Outcome.FILE_CHANGED
+        expected, in_place = in_place, out
+    raise OSError(errno.EBUSY, os.strerror(errno.EBUSY))
+
+
+def swap(place: Place) -> None:
+    """Exchanges what has the new file's name and the password file."""
+    try:
+        system.exchange(place.folder, place.new, place.name)
+    except OSError as error:
+        if error.errno in NO_EXCHANGE:
+            raise Stop(
+                f"the file system of {place.shown} can't exchange two files, as NFS can't. "
+                "The file stays as it was. Move it to a disk of this machine."
+            ) from None
+        raise
+
+
+def is_untouched(now: os.stat_result, before: os.stat_result) -> bool:
+    """Whether a file is the same one, and nobody has changed anything of it, attributes included.
+
+    After an exchange nobody can tell, since that sets the time of the last change.
+    """
+    return os.path.samestat(now, before) and now.st_ctime_ns == before.st_ctime_ns
+
+
+def is_unchanged(now: os.stat_result, before: os.stat_result) -> bool:
+    """Whether nobody has written to a file, or changed its owner or mode."""
+    return version(now) == version(before)
+
+
+def version(status: os.stat_result) -> "tuple[int, ...]":
+    """What an exchange doesn't change of a file."""
+    return (
+        *(status.st_dev, status.st_ino, status.st_size, status.st_mtime_ns),
+        *(status.st_mode, status.st_uid, status.st_gid),
+    )
+
+
+def end_earlier(place: Place) -> None:
+    """Ends the exchange of a process that was killed."""
+    try:
+        note = os.readlink(place.note, dir_fd=place.folder)
+    except FileNotFoundError:
+        with contextlib.suppress(FileNotFoundError):  # without a note it was never in use
+            os.unlink(place.new, dir_fd=place.folder)
+        return
+    pair = read_note(place, note)
+    put_back(place, pair)
+    remove_one_of(place, pair)
+    os.unlink(place.note, dir_fd=place.folder)
+
+
+def read_note(place: Place, note: str) -> Pair:
+    """The two inodes of a note."""
+    found = NOTE.fullmatch(note)
+    if found is None:
+        raise Stop(
+            f"{place.shown}.mkpasswd.exchange is no link that pwhash or pam_mkpasswd made. "
+            "Look at it, and remove it."
+        )
+    return Pair(int(found[1]), int(found[2]))
+
+
+def put_back(place: Place, pair: Pair) -> None:
+    """Puts back what was exchanged by mistake, if the new file is still in its place."""
+    left, now = place.look(place.new), place.look(place.name)
+    if left is None or now is None:
+        return
+    if left.st_ino not in pair and now.st_ino == pair.new:
+        swap(place)
+
+
+def remove_one_of(place: Place, pair: Pair) -> None:
+    """Removes the file that was replaced, or the one that didn't replace it, and no other."""
+    left = place.look(place.new)
+    if left is None:
+        return
+    if left.st_ino not in pair:
+        raise Stop(
+            f"{place.shown}.mkpasswd.new is somebody's version of the file, which two others met. "
+            "Look at it, and put it in its place (mv) or remove it."
+        )
+    os.unlink(place.new, dir_fd=place.folder)

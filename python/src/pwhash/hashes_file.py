@@ -1,0 +1,149 @@
+"""HASHES, which becomes a password file: every line of it is judged before it is installed."""
+
+from __future__ import annotations
+
+import os
+import re
+import stat
+from collections import Counter
+from typing import Dict, List, NamedTuple, Optional
+
+import mkpasswd
+
+from pwhash import library, system_files
+from pwhash.console import Console
+from pwhash.doubts import SERVICE_NAMES
+from pwhash.errors import ProblemsFound, UsageError, errors_named
+from pwhash.field import ANY_METHOD, PREFIXES, Field, field_of, method_of_prefix
+from pwhash.lines import refused_name
+from pwhash.options import InstallOptions, Service
+from pwhash.password_file import read_all
+from pwhash.text import is_visible, named, readable
+
+MOST_SHOWN = 20  # of each kind
+FINE = (mkpasswd.State.CURRENT, mkpasswd.State.OUTDATED, mkpasswd.State.LOCKED)
+REASONS = {
+    mkpasswd.State.NONE: "an empty field, with which some services ask for no password",
+    mkpasswd.State.OVER_BUDGET: "over budget: a login can refuse the hash, or take minutes",
+    mkpasswd.State.MALFORMED: "malformed: others may fail badly with the hash",
+    mkpasswd.State.DEAD: "dead: no password matches, since the hash was cut or changed",
+    mkpasswd.State.NO_SCHEME: "no scheme: a password as it is, or a damaged hash",
+    mkpasswd.State.UNKNOWN: "another scheme, which pwhash can't judge",
+}
+# These services know no prefix in front of a hash of crypt(5).
+WITHOUT_PREFIXES = (Service.APACHE, Service.NGINX)
+
+
+class Hash(NamedTuple):
+    """A line of HASHES."""
+
+    name: bytes
+    field: Field
+    rest: bytes  # with the colon that begins it
+
+    def data(self) -> bytes:
+        """The line."""
+        return self.name + b":" + self.field.data() + self.rest
+
+
+class HashesFile:
+    """The lines of HASHES, and what is wrong with them."""
+
+    def __init__(self, options: InstallOptions, console: Console) -> None:
+        self.lines: List[Hash] = []
+        self.status, content = read(options.hashes)
+        self._shown = named(options.hashes)
+        self._service = options.service
+        self._policy = library.auditor(options.policy)
+        self._console = console
+        self._first: Dict[bytes, int] = {}
+        self._kinds: Counter[str] = Counter()
+        system_files.refuse_shape(content, self._shown)
+        self._judge_all(content)
+
+    def _judge_all(self, content: bytes) -> None:
+        """Judges each line, and ends the run if one is wrong."""
+        lines = content.split(b"\n")
+        if not lines[-1]:
+            lines.pop()
+        if not lines:
+            raise UsageError(f"{self._shown} has no lines.")
+        wrong = 0
+        for number, line in enumerate(lines, 1):
+            reason = self._judged(number, line)
+            if reason is not None:
+                wrong += 1
+                self._show(number, line, reason)
+        if wrong:
+            raise ProblemsFound(
+                f"nothing was installed: {wrong:,} of {len(lines):,} lines of {self._shown} are "
+                "wrong. Correct or remove them."
+            )
+
+    def _judged(self, number: int, line: bytes) -> Optional[str]:
+        """What is wrong with a line, if anything is."""
+        name, colon, rest = line.partition(b":")
+        refusal = refused_name(line)
+        if refusal is not None:
+            return refusal.words
+        if not colon:
+            return "no colon"
+        stored, colon, rest = rest.partition(b":")
+        self.lines.append(Hash(name, field_of(stored), colon + rest))
+        return self._about_name(number, name) or self._about_field(line, field_of(stored))
+
+    def _about_name(self, number: int, name: bytes) -> Optional[str]:
+        """What is wrong with a name."""
+        text = name.decode(errors="replace")
+        if name.startswith(b"#") or not is_visible(text) or text != text.strip():
+            return "a name that begins with #, has an invisible character or a blank at an end"
+        if self._service and not SERVICE_NAMES[self._service].fullmatch(name):
+            return "the service takes the name for another, or skips it"
+        first = self._first.setdefault(name, number)
+        return f"the name again, after line {first}" if first != number else None
+
+    def _about_field(self, line: bytes, field: Field) -> Optional[str]:
+        """What is wrong with a field."""
+        if b"\r" in line:
+            return "a carriage return, with which lines of Windows end (tr -d '\\r')"
+        if field.prefix.upper() not in (b"", ANY_METHOD, *PREFIXES.values()):
+            return "a prefix of a scheme that pwhash can't judge"
+        if field.prefix and self._service in WITHOUT_PREFIXES:
+            return "a prefix that the service doesn't know"
+        return None if field.is_locked else self._about_hash(field)
+
+    def _about_hash(self, field: Field) -> Optional[str]:
+        """What is wrong with a hash that lets somebody in."""
+        description = self._policy.describe(field.stored)
+        if description.state not in FINE:
+            return REASONS[description.state]
+        if method_of_prefix(field.prefix) not in (None, description.scheme):
+            return "a prefix of another method"
+        return None
+
+    def _show(self, number: int, line: bytes, reason: str) -> None:
+        kind = re.sub("[0-9]+", "", reason)
+        self._kinds[kind] += 1
+        if self._kinds[kind] <= MOST_SHOWN:
+            name, colon, _ = line[:64].partition(b":")
+            whose = f" ({readable(name)})" if colon and name else ""  # else perhaps a password
+            self._console.say(f"{self._shown}, line {number}{whose}: {reason}")
+
+
+def read(path: str) -> "tuple[os.stat_result, bytes]":
+    """The status and the content of a regular file."""
+    with errors_named(named(path)):
+        fd = os.open(path, os.O_RDONLY | os.O_CLOEXEC | os.O_NONBLOCK | os.O_NOCTTY)
+        try:
+            status = os.fstat(fd)
+            if not stat.S_ISREG(status.st_mode):
+                raise UsageError(
+                    f"{named(path)} is no regular file. Name one with lines name:hash."
+                )
+            content = read_all(fd, status, named(path))
+            now = os.fstat(fd)
+            if (now.st_size, now.st_mtime_ns) != (len(content), status.st_mtime_ns):
+                raise UsageError(f"{named(path)} was changed meanwhile. Start again.")
+            return status, content
+        finally:
+            os.close(fd)

@@ -1,0 +1,91 @@
+"""The lock of a password file: flock(2) of a file that stays where it is.
+
+pam_mkpasswd(8) describes it. A renewal waits a second for it at a login; pwhash, at which somebody
+looks, waits longer.
+"""
+
+from __future__ import annotations
+
+import contextlib
+import fcntl
+import os
+import time
+from collections.abc import Iterator
+from typing import NamedTuple, Optional
+
+from pwhash.errors import Stop, errors_named
+from pwhash.place import Place
+from pwhash.text import named
+
+SECONDS = 10.0
+PAUSE_SECONDS = 0.02
+OWN_MODE = 0o600
+# If a FIFO has the lock's name, O_NONBLOCK keeps the call from waiting.
+FLAGS = os.O_RDONLY | os.O_CLOEXEC | os.O_NOFOLLOW | os.O_NONBLOCK | os.O_NOCTTY
+NEW_FLAGS = os.O_RDWR | os.O_CREAT | os.O_EXCL | os.O_CLOEXEC | os.O_NOFOLLOW
+
+
+class Owner(NamedTuple):
+    """Whose a file is."""
+
+    user: int
+    group: int
+
+
+@contextlib.contextmanager
+def held(place: Place, owner: Owner) -> Iterator[None]:
+    """Holds the lock for the block. A new one gets the password file's owner."""
+    with errors_named(f"{place.shown}.mkpasswd.lock"):
+        lock = take(place, owner)
+    try:
+        yield
+    finally:
+        os.close(lock)
+
+
+def take(place: Place, owner: Owner) -> int:
+    """Waits for the lock, and returns its descriptor."""
+    end = time.monotonic() + SECONDS
+    lock = try_once(place, owner)
+    while lock is None:
+        if time.monotonic() > end:
+            raise Stop(
+                f"another process holds the lock {named(place.path)}.mkpasswd.lock. "
+                "Nothing was changed: try again."
+            )
+        time.sleep(PAUSE_SECONDS)
+        lock = try_once(place, owner)
+    return lock
+
+
+def try_once(place: Place, owner: Owner) -> Optional[int]:
+    """The descriptor of the lock, or None where somebody has it."""
+    lock = open_lock(place, owner)
+    try:
+        fcntl.flock(lock, fcntl.LOCK_EX | fcntl.LOCK_NB)
+        named_now = place.look(place.lock)
+        # If somebody has removed the file, another process may hold a new one.
+        if named_now is not None and os.path.samestat(os.fstat(lock), named_now):
+            return lock
+    except BlockingIOError:
+        pass
+    except BaseException:
+        os.close(lock)
+        raise
+    os.close(lock)
+    return None
+
+
+def open_lock(place: Place, owner: Owner) -> int:
+    """Opens the lock, or makes it."""
+    with contextlib.suppress(FileNotFoundError):
+        return os.open(place.lock, FLAGS, dir_fd=place.folder)
+    try:
+        lock = os.open(place.lock, NEW_FLAGS, OWN_MODE, dir_fd=place.folder)
+    except FileExistsError:  # somebody else has just made it
+        return os.open(place.lock, FLAGS, dir_fd=place.folder)
+    # A service of that user can then take the lock even if the superuser was the first to change
+    # the file. Only the superuser can give it away, and nobody else has to.
+    with contextlib.suppress(OSError):
+        os.fchown(lock, owner.user, owner.group)
+    return lock

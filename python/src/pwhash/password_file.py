@@ -1,0 +1,107 @@
+"""A password file's bytes: who has a line, what its field is, and what a change makes of them."""
+
+from __future__ import annotations
+
+import contextlib
+import os
+import re
+from collections.abc import Iterator
+from typing import List, NamedTuple, Optional
+
+from pwhash.errors import UsageError
+from pwhash.field import Field, field_of
+from pwhash.place import Place, refuse_strange_file
+
+READ_FLAGS = os.O_RDONLY | os.O_CLOEXEC | os.O_NOCTTY | os.O_NONBLOCK | os.O_NOFOLLOW
+PIECE = 1 << 20
+MOST_BYTES = 1 << 30
+
+
+class Entry(NamedTuple):
+    """Where a name's line and its field are in a file."""
+
+    number: int
+    begin: int
+    end: int  # with the line feed
+    field_begin: int
+    field_end: int
+    field: Field
+
+
+class Opened(NamedTuple):
+    """A file that is open, with what it was before it was read."""
+
+    fd: int
+    status: os.stat_result
+    content: bytes
+
+
+@contextlib.contextmanager
+def opened(place: Place) -> Iterator[Opened]:
+    """Opens the file for the block, and reads all of it."""
+    fd = os.open(place.name, READ_FLAGS, dir_fd=place.folder)
+    try:
+        status = os.fstat(fd)
+        refuse_strange_file(place, status)
+        yield Opened(fd, status, read_all(fd, status, place.shown))
+    finally:
+        os.close(fd)
+
+
+def read_all(fd: int, status: os.stat_result, shown: str) -> bytes:
+    """All bytes of an open file, which are kept in memory."""
+    if status.st_size > MOST_BYTES:
+        raise UsageError(f"{shown} has more than 1 GiB, as no password file has.")
+    pieces: List[bytes] = []
+    piece = os.read(fd, PIECE)
+    while piece:
+        pieces.append(piece)
+        piece = os.read(fd, PIECE)
+    return b"".join(pieces)
+
+
+def find(content: bytes, name: bytes, shown: str) -> Optional[Entry]:
+    """The line of a name, or None. A name that stands twice is refused."""
+    found = list(re.finditer(rb"(?m)^" + re.escape(name) + rb":([^:\n]*)[^\n]*\n?", content))
+    if not found:
+        return None
+    numbers = [1 + content.count(b"\n", 0, each.start()) for each in found]
+    if len(found) > 1:
+        raise UsageError(
+            f"{shown} has the name twice, in lines {numbers[0]} and {numbers[1]}, of which "
+            "services take one or the other. Remove one with an editor."
+        )
+    first = found[0]
+    return Entry(numbers[0], *first.span(), *first.span(1), field_of(first[1]))
+
+
+def with_field(content: bytes, entry: Entry, field: Field) -> bytes:
+    """The content with another field in a line."""
+    return content[: entry.field_begin] + field.data() + content[entry.field_end :]
+
+
+def without_line(content: bytes, entry: Entry) -> bytes:
+    """The content without a line."""
+    return content[: entry.begin] + content[entry.end :]
+
+
+def with_line(content: bytes, line: bytes) -> bytes:
+    """The content with a line more, on a line of its own."""
+    if content and not content.endswith(b"\n"):
+        content += b"\n"
+    return content + line + b"\n"
+
+
+def common_prefix(content: bytes) -> bytes:
+    """The prefix that all fields have, or nothing."""
+    fields = re.findall(rb"(?m)^[^#:\n][^:\n]*:([^:\n]*)", content)
+    prefixes = {field_of(each).prefix for each in fields}
+    return prefixes.pop() if len(prefixes) == 1 else b""
+
+
+def first_odd_line(content: bytes) -> Optional[int]:
+    """The number of the first line that no password file has: without a colon, and no comment."""
+    for number, line in enumerate(content.split(b"\n"), 1):
+        if line.strip() and not line.startswith(b"#") and b":" not in line:
+            return number
+    return None

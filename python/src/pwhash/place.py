@@ -1,0 +1,180 @@
+"""Where a password file is: its folder, and the files that others who replace it put beside it.
+
+The folder is opened once, and everything in it is reached through that descriptor. So whoever
+renames a folder or puts a link in its place meanwhile leads nothing elsewhere.
+"""
+
+from __future__ import annotations
+
+import contextlib
+import os
+import stat
+from collections.abc import Iterator
+from typing import NamedTuple, Optional, Set
+
+from pwhash.errors import UsageError, errors_named
+from pwhash.text import named, quoted
+
+# What others can write, they can exchange for a file of theirs at any moment.
+WRITABLE_BY_OTHERS = stat.S_IWGRP | stat.S_IWOTH
+SUPERUSER = 0
+AS_SUPERUSER = "Run pwhash as its owner or as the superuser, by sudo say."
+
+
+class Place(NamedTuple):
+    """A password file by its open folder and its name there, as pam_mkpasswd(8) calls its files."""
+
+    path: str  # as it was typed
+    folder: int
+    name: str
+
+    @property
+    def shown(self) -> str:
+        """The file's name for a message."""
+        return named(self.path)
+
+    @property
+    def lock(self) -> str:
+        """The file that is locked."""
+        return f"{self.name}.mkpasswd.lock"
+
+    @property
+    def new(self) -> str:
+        """The new file, before it takes the place of the old one, and then the old one."""
+        return f"{self.name}.mkpasswd.new"
+
+    @property
+    def note(self) -> str:
+        """The link that says which files are exchanged."""
+        return f"{self.name}.mkpasswd.exchange"
+
+    def look(self, name: str) -> Optional[os.stat_result]:
+        """What has a name in the folder, or None."""
+        try:
+            return os.stat(name, dir_fd=self.folder, follow_symlinks=False)
+        except FileNotFoundError:
+            return None
+
+    def sync(self) -> None:
+        """Writes the names in the folder to the disk. Not every file system can."""
+        with contextlib.suppress(OSError):
+            os.fsync(self.folder)
+
+
+@contextlib.contextmanager
+def opened_place(path: str) -> Iterator[Place]:
+    """Opens the folder of a password file, once it is sure that this process may be trusted."""
+    refuse_set_id()
+    folder, name = os.path.split(path)
+    if name in ("", ".", ".."):
+        raise UsageError(f"{named(path)} is a folder. Name a password file.")
+    with errors_named(named(path)):
+        # The kernel follows links here, which refuses those of strangers in /tmp, say.
+        descriptor = os.open(folder or ".", os.O_RDONLY | os.O_DIRECTORY | os.O_CLOEXEC)
+    try:
+        yield Place(path, descriptor, name)
+    finally:
+        os.close(descriptor)
+
+
+def refuse_set_id() -> None:
+    """Refuses to write for a caller who lends this process the rights of somebody else."""
+    if len(set(os.getresuid())) != 1 or len(set(os.getresgid())) != 1:
+        raise UsageError(
+            "a set-user-ID or set-group-ID program runs pwhash, which then changes no file. "
+            "Let the superuser run it, by sudo say."
+        )
+
+
+def found_file(place: Place) -> os.stat_result:
+    """The status of the file. A link, and all that is no regular file, are refused."""
+    found = place.look(place.name)
+    if found is None:
+        raise UsageError(
+            f"there is no {place.shown}. If the name is right, make an empty one first: "
+            f"(umask 077; : > {quoted(place.path)})"
+        )
+    refuse_strange_file(place, found)
+    return found
+
+
+def refuse_strange_file(place: Place, found: os.stat_result) -> None:
+    """Refuses a link, and anything else that is no regular file with one name."""
+    if stat.S_ISLNK(found.st_mode):
+        target = os.path.realpath(place.path)
+        raise UsageError(f"{place.shown} is a symbolic link. Name the file: {named(target)}.")
+    if stat.S_ISDIR(found.st_mode):
+        raise UsageError(f"{place.shown} is a folder. Name a password file.")
+    if not stat.S_ISREG(found.st_mode):
+        raise UsageError(f"{place.shown} is no regular file.")
+    if found.st_nlink > 1:
+        raise UsageError(
+            f"{place.shown} has another name too (a hard link), which would keep the old file. "
+            "Remove one of the names."
+        )
+
+
+def refuse_unwritable(place: Place) -> None:
+    """Refuses a file that this user may not change, before a password is asked for."""
+    if not may(place, place.name, os.R_OK | os.W_OK):
+        raise UsageError(f"you aren't allowed to write {place.shown}. {AS_SUPERUSER}")
+    refuse_folder_of_others(place)
+
+
+def refuse_folder_of_others(place: Place) -> None:
+    """Refuses a folder in which this user may make no files."""
+    if not may(place, ".", os.W_OK | os.X_OK):
+        raise UsageError(
+            f"you aren't allowed to make files in the folder of {place.shown}, where the new "
+            f"version has to be. {AS_SUPERUSER}"
+        )
+
+
+def may(place: Place, name: str, mode: int) -> bool:
+    """Whether this process may do this with what has a name in the folder."""
+    return os.access(name, mode, dir_fd=place.folder, effective_ids=True)
+
+
+def refuse_open_folder(place: Place, owner: int) -> None:
+    """Refuses a folder that others can write, or can put another one in the place of.
+
+    The file's owner can change the file anyway. Above the folder, a sticky one, such as /tmp, lets
+    nobody rename what isn't theirs.
+    """
+    trusted = {SUPERUSER, os.geteuid(), owner}
+    with errors_named(f"{place.shown}, a folder above it"):
+        for number, status in enumerate(folders_upwards(place.folder)):
+            refuse_untrusted(place, status, trusted, is_first=number == 0)
+
+
+def folders_upwards(folder: int) -> Iterator[os.stat_result]:
+    """The status of an open folder, and of each above it."""
+    descriptor = os.dup(folder)
+    try:
+        status, below = os.fstat(descriptor), None
+        while below is None or not os.path.samestat(status, below):
+            yield status
+            parent = os.open("..", os.O_PATH | os.O_DIRECTORY | os.O_CLOEXEC, dir_fd=descriptor)
+            os.close(descriptor)
+            descriptor, below = parent, status
+            status = os.fstat(descriptor)
+    finally:
+        os.close(descriptor)
+
+
+def refuse_untrusted(
+    place: Place, status: os.stat_result, trusted: Set[int], is_first: bool
+) -> None:
+    """Refuses a folder of somebody else, or that somebody else can write."""
+    which = "its folder" if is_first else "a folder above it"
+    if status.st_uid not in trusted:
+        raise UsageError(
+            f"{place.shown}: {which} belongs to another user, who could put another file in its "
+            "place. Move it to a folder of its owner or of the superuser."
+        )
+    is_sticky = bool(status.st_mode & stat.S_ISVTX) and not is_first
+    if status.st_mode & WRITABLE_BY_OTHERS and not is_sticky:
+        raise UsageError(
+            f"{place.shown}: others can write {which}, and put another file in its place. "
+            f"Let only its owner write it (chmod go-w), or move {place.shown}."
+        )

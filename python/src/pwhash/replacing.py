@@ -1,0 +1,78 @@
+"""Replaces a password file by a new version of it, in the order of the steps in pam_mkpasswd(8).
+
+Renewals of logins and changes of passwords can do the same at any moment.
+"""
+
+from __future__ import annotations
+
+import contextlib
+import errno
+import stat
+from collections.abc import Iterator
+from typing import Callable
+
+from pwhash import password_file
+from pwhash.errors import Stop, reason_of
+from pwhash.exchange import Outcome, end_earlier, exchange_files
+from pwhash.lock import Owner, held
+from pwhash.new_file import NewFile, copy_attributes, opened_new
+from pwhash.password_file import Opened
+from pwhash.place import Place, found_file
+from pwhash.session import Session
+
+MOST_TRIES = 8
+
+# Makes the new content of the present one. It raises a Stop if nothing can or need be changed.
+Change = Callable[[bytes], bytes]
+
+
+def replace(place: Place, change: Change, session: Session) -> None:
+    """Makes a change of a file, of whatever somebody else has made of it by then."""
+    status = found_file(place)
+    with held(place, Owner(status.st_uid, status.st_gid)), errors_named_of(place):
+        for _ in range(MOST_TRIES):
+            # A signal that comes meanwhile ends the run behind it.
+            with session.signals.postponed():
+                if replace_once(place, change) is Outcome.DONE:
+                    session.changed = place.shown
+                    return
+    raise Stop(f"others change {place.shown} all the time. Nothing was changed: try again.")
+
+
+@contextlib.contextmanager
+def errors_named_of(place: Place) -> Iterator[None]:
+    """Makes each error of the system in the block a sentence: then the old file is in its place."""
+    try:
+        yield
+    except OSError as error:
+        reason = reason_of(error)
+        if error.errno == errno.EPERM:
+            reason += ", as only its owner or the superuser can do this"
+        raise Stop(f"{place.shown}: {reason}. The file stays as it was.") from None
+
+
+def replace_once(place: Place, change: Change) -> Outcome:
+    """Reads the file, and puts the new version in its place."""
+    end_earlier(place)
+    with password_file.opened(place) as old:
+        content = change(old.content)
+        with opened_new(place) as new:
+            return put_in_place(place, old, new, content)
+
+
+def put_in_place(place: Place, old: Opened, new: NewFile, content: bytes) -> Outcome:
+    """Writes the new file, and exchanges it for the old one."""
+    try:
+        new.write(content)
+        copy_attributes(old.fd, new.fd)
+        owner = Owner(old.status.st_uid, old.status.st_gid)
+        new.give(owner, stat.S_IMODE(old.status.st_mode))
+        status = new.status()
+        new.link_as_new()
+    except BaseException:
+        new.remove()
+        raise
+    outcome = exchange_files(place, old.status, status)
+    if outcome is Outcome.DONE:
+        place.sync()
+    return outcome

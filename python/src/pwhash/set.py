@@ -1,0 +1,181 @@
+"""pwhash set: changes one line of a password file."""
+
+from __future__ import annotations
+
+from pwhash import field, library, password_file, system_files
+from pwhash.errors import ProblemsFound, UsageError
+from pwhash.field import Field
+from pwhash.library import Refusal
+from pwhash.lines import refused_name
+from pwhash.one import about_refusal, generated, given
+from pwhash.options import Action, SetOptions
+from pwhash.password_file import Entry
+from pwhash.place import (
+    Place,
+    found_file,
+    opened_place,
+    refuse_open_folder,
+    refuse_unwritable,
+)
+from pwhash.replacing import replace
+from pwhash.session import Session
+from pwhash.text import is_visible, readable
+from pwhash.workers import in_thread
+
+
+def run(options: SetOptions, session: Session) -> bool:
+    """Changes one line. What may keep it from that is found before a password is asked for."""
+    with opened_place(options.path) as place:
+        refuse_unfit(place)
+        line = Line(place, options, session)
+        line.look()
+        if options.action is Action.PASSWORD:
+            line.new_hash = hash_of_password(options, session)
+        if not line.is_so_already:
+            replace(place, line.changed, session)
+        line.tell()
+    return False
+
+
+def refuse_unfit(place: Place) -> None:
+    """Refuses a file of the system, and one that others than its owner can change."""
+    status = found_file(place)
+    system_files.refuse_place(place, status)
+    refuse_open_folder(place, status.st_uid)
+    refuse_unwritable(place)
+
+
+def hash_of_password(options: SetOptions, session: Session) -> bytes:
+    """The hash of a new password, which is made here or asked for."""
+    policy = options.policy
+    password = generated(policy, session.console) if options.generate else given(session.console)
+    new_hash = in_thread(lambda: library.new_hash(policy, password))
+    if isinstance(new_hash, Refusal):
+        raise about_refusal(new_hash, policy)
+    return new_hash
+
+
+class Line:
+    """The line of a name, and what becomes of it."""
+
+    def __init__(self, place: Place, options: SetOptions, session: Session) -> None:
+        self.new_hash = b""  # until the password is known
+        self.is_so_already = False  # what is asked for, so nothing has to be changed
+        self._options = options
+        self._console = session.console
+        self._place = place
+        self._file = place.shown
+        self._name = options.name
+        self._who = readable(options.name)
+        self._sentence = ""
+
+    def look(self) -> None:
+        """Looks whether the change is possible, and whether it is needed."""
+        with password_file.opened(self._place) as file:
+            self.changed(file.content)
+            entry = password_file.find(file.content, self._name, self._file)
+        if entry is None:
+            self._say(f"{self._file} has no {self._who} yet: a line is added.")
+
+    def changed(self, content: bytes) -> bytes:
+        """The content of the file with the line changed."""
+        system_files.refuse_shape(content, self._file)
+        entry = password_file.find(content, self._name, self._file)
+        if entry is None:
+            return self._added(content)
+        if self._options.action is Action.DELETE:
+            self._sentence = f"{self._who} was deleted from {self._file}."
+            return password_file.without_line(content, entry)
+        return password_file.with_field(content, entry, self._new_field(entry))
+
+    def tell(self) -> None:
+        """Tells what was done."""
+        self._say(self._sentence)
+
+    def _say(self, sentence: str) -> None:
+        if not self._options.quiet:
+            self._console.say(sentence)
+
+    def _added(self, content: bytes) -> bytes:
+        """The content with a new line."""
+        if self._options.action is not Action.PASSWORD:
+            raise ProblemsFound(f"{self._file} has no {self._who}.")
+        refuse_new_name(self._name)
+        number = password_file.first_odd_line(content)
+        if number is not None:
+            raise UsageError(
+                f"{self._file}, line {number}: no colon, as each line of a password file has one. "
+                "Is it another file? Nothing was added."
+            )
+        self._sentence = f"{self._who} was added to {self._file}."
+        prefix = password_file.common_prefix(content)
+        if not field.fits(prefix, self._options.policy.method):
+            prefix = b""
+        return password_file.with_line(content, self._name + b":" + prefix + self.new_hash)
+
+    def _new_field(self, entry: Entry) -> Field:
+        """What the name's field becomes."""
+        if self._options.action is Action.LOCK:
+            return self._locked(entry.field)
+        if self._options.action is Action.UNLOCK:
+            return self._unlocked(entry.field)
+        return self._with_hash(entry.field)
+
+    def _with_hash(self, old: Field) -> Field:
+        """The field with the new hash. A locked name stays locked."""
+        if not field.fits(old.prefix, self._options.policy.method):
+            raise self._unfit_prefix(old.prefix)
+        self._sentence = f"{self._who} has a new password in {self._file}"
+        self._sentence += ", and stays locked. --unlock unlocks." if old.is_locked else "."
+        return old._replace(stored=self.new_hash)
+
+    def _unfit_prefix(self, prefix: bytes) -> UsageError:
+        """The error for a prefix that doesn't fit a hash of the method."""
+        shown, fitting = readable(prefix), field.method_of_prefix(prefix)
+        way_out = f"give -m {fitting}, or " if fitting else ""
+        return UsageError(
+            f"{self._who} has {shown} in front of the hash in {self._file}, and the new one is of "
+            f"{self._options.policy.method}: {way_out}change {shown} to {{CRYPT}} if the service "
+            "knows that, or remove it."
+        )
+
+    def _locked(self, old: Field) -> Field:
+        """The field with a mark that lets no password in."""
+        self.is_so_already = old.is_locked
+        if old.is_locked:
+            self._sentence = f"{self._who} is locked in {self._file} already."
+            return old
+        if not old.can_be_locked():
+            raise UsageError(
+                f"{self._who} has no hash in {self._file}, but perhaps a password as it is, and a "
+                "! would only be part of that. First set a new password, or --delete the line."
+            )
+        self._sentence = f"{self._who} is locked in {self._file}."
+        return old._replace(mark=field.LOCK)
+
+    def _unlocked(self, old: Field) -> Field:
+        """The field without its marks, if a hash is left."""
+        self.is_so_already = not old.is_locked
+        if not old.is_locked:
+            self._sentence = f"{self._who} isn't locked in {self._file}."
+            return old
+        if not old.has_hash():
+            raise UsageError(
+                f"{self._who} has no hash behind the lock in {self._file}, or a damaged one. First "
+                "set a password, which stays locked, and then unlock it."
+            )
+        self._sentence = f"{self._who} is unlocked in {self._file}."
+        return old.unlocked()
+
+
+def refuse_new_name(name: bytes) -> None:
+    """Refuses a name that services take for another."""
+    refusal = refused_name(name)
+    if refusal is not None:
+        raise UsageError(f"NAME: {refusal.words}.")
+    text = name.decode(errors="replace")
+    if text != text.strip() or not is_visible(text):
+        raise UsageError(
+            "NAME has an invisible character, or a blank at an end, by which services take it for "
+            "another. Give it without."
+        )

@@ -1,0 +1,63 @@
+"""The system's own files of accounts, which pwhash never replaces.
+
+Other programs lock them by other rules, keep a second file of each, and know dates and ages.
+"""
+
+from __future__ import annotations
+
+import contextlib
+import os
+import re
+
+from pwhash.errors import UsageError
+from pwhash.place import Place
+
+NAMES = ("passwd", "shadow", "group", "gshadow")
+PATHS = (
+    *(f"/etc/{name}{ending}" for name in NAMES for ending in ("", "-")),
+    *(f"/var/backups/{name}.bak" for name in NAMES),
+    "/etc/security/opasswd",
+)
+# The name of such a file, of a copy or of a version that is being edited.
+NAME = re.compile(f"(?:{'|'.join(NAMES)}|opasswd)(?:[-+~]|\\.(?:bak|edit|old|orig|org))?")
+FOLDERS = ("etc", "backups", "security")
+# A line of shadow(5): nine fields, of which the third to the eighth are numbers or empty. Lines of
+# Dovecot's have fewer, or a folder or other words among them.
+SHADOW_LINE = re.compile(rb"(?m)^[^:\n]*:[^:\n]*(?::-?[0-9]*){6}:[^:\n]*$")
+
+
+def refuse_place(place: Place, status: os.stat_result) -> None:
+    """Refuses a file that is one of them by its inode, or by its name in any root."""
+    for path in PATHS:
+        with contextlib.suppress(OSError):
+            if os.path.samestat(os.stat(path), status):
+                raise refusal(place.shown)
+    refuse_name(place)
+
+
+def refuse_name(place: Place) -> None:
+    """Refuses a name that such a file has, in a root that may be that of another system."""
+    if NAME.fullmatch(place.name) and any(is_called(place, folder) for folder in FOLDERS):
+        raise refusal(place.shown)
+
+
+def refuse_shape(content: bytes, shown: str) -> None:
+    """Refuses content that only a shadow file has."""
+    if SHADOW_LINE.search(content):
+        raise refusal(shown)
+
+
+def is_called(place: Place, folder: str) -> bool:
+    """Whether the open folder has this name."""
+    with contextlib.suppress(OSError):
+        named = os.stat(f"../{folder}", dir_fd=place.folder)
+        return os.path.samestat(named, os.fstat(place.folder))
+    return False
+
+
+def refusal(shown: str) -> UsageError:
+    """The error for such a file."""
+    return UsageError(
+        f"{shown} is a file of the system's own accounts, and pwhash changes none. "
+        "Use passwd(1), or for hashes chpasswd(8): chpasswd -e."
+    )

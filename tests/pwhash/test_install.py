@@ -1,0 +1,370 @@
+"""pwhash install: which files of hashes become a password file, and what that keeps."""
+from __future__ import annotations
+
+import grp
+import os
+import pwd
+import stat
+from concurrent.futures import ThreadPoolExecutor
+from pathlib import Path
+
+import pytest
+from support.libxcrypt import crypt
+from support.package import LIBRARY, PACKAGE
+from support.preload import preload_library
+from support.pwhash_runs import (
+    Ended,
+    ended,
+    hashed,
+    in_namespace,
+    pwhash,
+    read,
+    save,
+    started_program,
+)
+
+INSTALL = ("install", "hashes", "target")
+ONE = hashed(b"one")
+SIX = crypt(b"six", b"$6$rounds=656000$abcdefgh")
+HOSTILE = b"$6$rounds=999999999$abcdefgh$" + b"x" * 86
+BCRYPT = crypt(b"password", b"$2b$04$abcdefghijklmnopqrstuu")
+HASHES = b"ann:" + ONE + b"\nbob:" + SIX + b":1000:1000::/home/bob\neve:!" + ONE + b"\n"
+OLD = b"ann:" + SIX + b"\n"
+OWNER, GROUP, MODE = 65534, 4242, 0o640
+LEFT = ["hashes", "target", "target.mkpasswd.lock"]
+STARTED = ("/usr/bin/python3", "-I", "-S", str(PACKAGE / "pwhash/start.py"), str(LIBRARY), "pwhash")
+
+
+def beside() -> list[str]:
+    """The files of the current folder."""
+    return sorted(path.name for path in Path().iterdir())
+
+
+def rights_of(path: str) -> tuple[int, int, int]:
+    status = os.stat(path)
+    return stat.S_IMODE(status.st_mode), status.st_uid, status.st_gid
+
+
+# ---- A file that is there
+
+
+@pytest.mark.needs("root")
+def test_target_has_the_lines_and_keeps_its_owner_and_mode() -> None:
+    save("hashes", HASHES)
+    save("target", OLD)
+    os.chown("target", OWNER, GROUP)
+    os.chmod("target", MODE)
+    os.setxattr("target", "trusted.other", b"value")
+    done = pwhash(*INSTALL)
+    assert (done.status, done.out, read("target"), beside()) == (0, b"", HASHES, LEFT), done
+    assert rights_of("target") == (MODE, OWNER, GROUP)
+    assert os.getxattr("target", "trusted.other") == b"value"
+    assert read("hashes") == HASHES
+
+
+@pytest.mark.parametrize("mark", [b"!", b"!!", b"*"])
+def test_who_is_locked_in_target_stays_locked(mark: bytes) -> None:
+    save("hashes", HASHES)
+    save("target", b"cid:x\nbob:" + mark + b"old:7\n")
+    done = pwhash(*INSTALL)
+    expected = HASHES.replace(b"bob:", b"bob:!")
+    assert (done.status, read("target")) == (0, expected), done
+    assert b"stay locked, as they were: bob." in done.err, done
+
+
+def test_names_that_are_removed_are_named() -> None:
+    save("hashes", HASHES)
+    save("target", b"".join(b"old%d:x\n" % number for number in range(25)) + OLD)
+    done = pwhash(*INSTALL)
+    assert (done.status, read("target")) == (0, HASHES), done
+    assert b"old0, old1" in done.err and b"and 5 others" in done.err, done
+
+
+@pytest.mark.parametrize(
+    ("option", "value", "command"),
+    [("--owner", "1", b"chown"), ("--group", "1", b"chgrp"), ("--mode", "600", b"chmod")],
+)
+def test_another_owner_group_or_mode_of_a_file_that_is_there_is_refused(
+    option: str, value: str, command: bytes
+) -> None:
+    save("hashes", HASHES)
+    save("target", OLD)
+    os.chmod("target", MODE)
+    done = pwhash(*INSTALL, option, value)
+    assert (done.status, read("target")) == (2, OLD) and command in done.err, done
+
+
+def test_its_own_owner_group_and_mode_are_taken() -> None:
+    save("hashes", HASHES)
+    save("target", OLD)
+    os.chmod("target", MODE)
+    own = ("--owner", str(os.geteuid()), "--group", str(os.stat("target").st_gid), "--mode", "640")
+    done = pwhash(*INSTALL, *own)
+    assert (done.status, read("target")) == (0, HASHES), done
+
+
+# ---- A new file
+
+
+def test_a_new_target_is_readable_by_its_owner_alone() -> None:
+    save("hashes", HASHES)
+    done = pwhash(*INSTALL)
+    assert (done.status, read("target"), beside()) == (0, HASHES, LEFT), done
+    assert rights_of("target") == (0o600, os.geteuid(), os.getegid())
+
+
+@pytest.mark.needs("root")
+@pytest.mark.parametrize("is_named", [True, False], ids=["names", "numbers"])
+def test_a_new_target_has_the_owner_group_and_mode_that_are_asked_for(is_named: bool) -> None:
+    save("hashes", HASHES)
+    user, group = pwd.getpwnam("daemon").pw_uid, grp.getgrnam("games").gr_gid
+    given = ("daemon", "games") if is_named else (str(user), str(group))
+    done = pwhash(*INSTALL, "--owner", given[0], "--group", given[1], "--mode", "0640")
+    assert (done.status, read("target")) == (0, HASHES), done
+    assert rights_of("target") == (0o640, user, group)
+    assert rights_of("target.mkpasswd.lock") == (0o600, user, group)
+
+
+def test_a_last_line_without_its_end_gets_one() -> None:
+    save("hashes", HASHES[:-1])
+    done = pwhash(*INSTALL)
+    assert (done.status, read("target")) == (0, HASHES), done
+
+
+@pytest.mark.parametrize(
+    "words",
+    [
+        pytest.param(("--owner", "nobody-of-this-name"), id="an unknown user"),
+        pytest.param(("--group", "nobody-of-this-name"), id="an unknown group"),
+        pytest.param(("--owner", "99999999999"), id="a number that is too great"),
+        pytest.param(("--mode", "666"), id="a file that others write"),
+        pytest.param(("--mode", "755"), id="a program"),
+        pytest.param(("--mode", "u=rw"), id="a mode in letters"),
+        pytest.param(("--mode", "4600"), id="a bit for other users' rights"),
+    ],
+)
+def test_an_owner_group_or_mode_that_does_not_fit_is_refused(words: tuple[str, ...]) -> None:
+    save("hashes", HASHES)
+    done = pwhash(*INSTALL, *words)
+    assert (done.status, beside()) == (2, ["hashes"]), done
+
+
+# ---- Lines that are refused
+
+
+@pytest.mark.parametrize(
+    ("line", "reason", "words"),
+    [
+        pytest.param(b"eva:" + HOSTILE, b"over budget", "", id="a hash that stalls a login"),
+        pytest.param(b"eva:" + SIX[:-1], b"dead", "", id="a hash that was cut"),
+        pytest.param(b"eva:secret", b"no scheme", "", id="a password as it is"),
+        pytest.param(b"eva:", b"empty field", "", id="an empty field"),
+        pytest.param(b"eva:" + BCRYPT, b"another scheme", "", id="another scheme"),
+        pytest.param(b"eva:{PLAIN}secret", b"prefix", "", id="a prefix of passwords"),
+        pytest.param(b"eva:{CRYPT}" + ONE, b"prefix", "--for nginx", id="a prefix for nginx"),
+        pytest.param(b"eva:{MD5-CRYPT}" + SIX, b"another method", "", id="an unfit prefix"),
+        pytest.param(b"eva:{CRYPT}" + HOSTILE, b"over budget", "", id="behind a prefix"),
+        pytest.param(b"eva:" + ONE + b"\r", b"carriage return", "", id="a line of Windows"),
+        pytest.param(b"ann:" + ONE, b"after line 1", "", id="a name again"),
+        pytest.param(b":" + ONE, b"no name", "", id="no name"),
+        pytest.param(b"", b"no name", "", id="an empty line"),
+        pytest.param(b"secret", b"no colon", "", id="no colon"),
+        pytest.param(b"#eva:" + ONE, b"begins with #", "", id="a comment"),
+        pytest.param(b"eva\x01:" + ONE, b"invisible", "", id="a control character"),
+        pytest.param(b" eva:" + ONE, b"blank", "", id="a blank in front"),
+        pytest.param(b"Eva:" + ONE, b"another, or skips", "--for dovecot", id="for Dovecot"),
+        pytest.param(b"e va:" + ONE, b"another, or skips", "--for ldap", id="for LDAP"),
+        pytest.param(b"eva:" + ONE + b":" * 2048, b"too long", "", id="a line that is too long"),
+        pytest.param(b"eva:" + SIX, b"over budget", "--budget 1000", id="over the budget given"),
+    ],
+)
+def test_a_wrong_line_is_named_and_nothing_is_installed(
+    line: bytes, reason: bytes, words: str
+) -> None:
+    save("hashes", HASHES + line + b"\n")
+    save("target", OLD)
+    done = pwhash(*INSTALL, *words.split())
+    assert (done.status, read("target"), beside()) == (1, OLD, ["hashes", "target"]), done
+    assert b"hashes, line 4" in done.err and reason in done.err, done
+    assert b"secret" not in done.err and b"\x01" not in done.err, done
+
+
+@pytest.mark.parametrize("words", ["", "--for dovecot"])
+def test_a_hash_behind_a_prefix_is_installed(words: str) -> None:
+    content = b"ann:{CRYPT}" + ONE + b"\nbob:{SHA512-CRYPT}" + SIX + b"\n"
+    save("hashes", content)
+    done = pwhash(*INSTALL, *words.split())
+    assert (done.status, read("target")) == (0, content), done
+
+
+def test_of_many_wrong_lines_some_are_shown() -> None:
+    save("hashes", b"".join(b"user%d:x\n" % number for number in range(1000)))
+    done = pwhash(*INSTALL)
+    assert done.status == 1 and b"1,000 of 1,000 lines" in done.err, done
+    assert done.err.count(b"\n") == 21, done
+
+
+@pytest.mark.parametrize(
+    ("content", "status"),
+    [
+        pytest.param(None, 3, id="missing"),
+        pytest.param(b"", 2, id="empty"),
+        pytest.param(b"ann:" + SIX + b":19000:0:99999:7:::\n", 2, id="of shadow"),
+    ],
+)
+def test_what_is_no_file_of_hashes_is_refused(content: bytes | None, status: int) -> None:
+    if content is not None:
+        save("hashes", content)
+    save("target", OLD)
+    done = pwhash(*INSTALL)
+    assert (done.status, read("target")) == (status, OLD), done
+
+
+# ---- Targets that are refused
+
+
+def test_a_link_is_refused_and_its_target_is_named() -> None:
+    save("hashes", HASHES)
+    save("other", OLD)
+    os.symlink("other", "target")
+    done = pwhash(*INSTALL)
+    assert (done.status, read("other")) == (2, OLD), done
+    assert os.path.realpath("other").encode() in done.err, done
+
+
+def test_a_link_to_nothing_is_refused() -> None:
+    save("hashes", HASHES)
+    os.symlink("other", "target")
+    done = pwhash(*INSTALL)
+    assert (done.status, beside()) == (2, ["hashes", "target"]), done
+
+
+def test_the_file_itself_is_refused_as_target() -> None:
+    save("hashes", HASHES)
+    done = pwhash("install", "hashes", "./hashes")
+    assert (done.status, beside()) == (2, ["hashes"]), done
+
+
+@pytest.mark.parametrize("has_target", [True, False], ids=["a file", "a new file"])
+def test_a_folder_that_others_can_write_is_refused(has_target: bool) -> None:
+    os.mkdir("folder")
+    save("hashes", HASHES)
+    if has_target:
+        save("folder/target", OLD)
+    os.chmod("folder", 0o777)
+    done = pwhash("install", "hashes", "folder/target")
+    assert done.status == 2 and b"others can write" in done.err, done
+    assert os.listdir("folder") == ["target"] * has_target
+
+
+def test_a_copy_of_shadow_is_refused_by_its_nine_fields() -> None:
+    shadow = b"ann:!:19000:0:99999:7:::\n"
+    save("hashes", HASHES)
+    save("target", shadow)
+    done = pwhash(*INSTALL)
+    assert (done.status, read("target")) == (2, shadow) and b"chpasswd(8)" in done.err, done
+
+
+@pytest.mark.parametrize("name", ["passwd", "shadow", "gshadow-", "group"])
+def test_a_file_of_the_system_is_not_made_in_any_root(name: str) -> None:
+    os.makedirs("root/etc")
+    save("hashes", HASHES)
+    done = pwhash("install", "hashes", f"root/etc/{name}")
+    assert done.status == 2 and b"chpasswd(8)" in done.err, done
+    assert os.listdir("root/etc") == []
+
+
+def test_the_systems_own_file_is_refused() -> None:
+    save("hashes", HASHES)
+    script = """
+        mkdir etc
+        mount -t tmpfs -o mode=755 none etc
+        cp -p /etc/passwd /etc/group /etc/ld.so.cache etc
+        echo ann:x > etc/shadow
+        mount --bind etc /etc
+        "$@" && exit 9
+        [ "$(cat /etc/shadow)" = ann:x ]
+    """
+    done = in_namespace(script, "install", "hashes", "/etc/shadow")
+    assert done.status == 0 and b"chpasswd(8)" in done.err, done
+
+
+# ---- Several runs at once, kills and failures
+
+
+def test_of_runs_at_once_one_file_stays_and_is_whole() -> None:
+    contents = []
+    for number in range(8):
+        contents.append(b"".join(b"user%d:%b\n" % (each + number, ONE) for each in range(5000)))
+        save(f"hashes{number}", contents[-1])
+    with ThreadPoolExecutor(4) as pool:
+        runs = [pool.submit(pwhash, "install", f"hashes{number}", "target") for number in range(8)]
+    ends = [run.result() for run in runs]
+    # Of two that both met no file, one makes it.
+    assert all(done.status in (0, 3) for done in ends), "\n".join(map(str, ends))
+    assert any(done.status == 0 for done in ends) and read("target") in contents
+
+
+def traced(inject: str) -> Ended:
+    """Installs the hashes, while strace does something at a system call."""
+    command = ["strace", "-qq", "-o", "/dev/null", "-e", f"inject={inject}", *STARTED, *INSTALL]
+    return ended(started_program(*command))
+
+
+@pytest.mark.needs("strace")
+@pytest.mark.parametrize(
+    "call", ["flock", "fchown", "fchmod", "fsync", "linkat", "symlinkat", "renameat2", "unlinkat"]
+)
+@pytest.mark.parametrize("has_target", [True, False], ids=["a file", "a new file"])
+def test_an_installation_that_is_killed_leaves_the_old_or_the_new_file(
+    call: str, has_target: bool
+) -> None:
+    save("hashes", HASHES)
+    if has_target:
+        save("target", OLD)
+    traced(f"{call}:signal=KILL:when=1")
+    if has_target or os.path.exists("target"):
+        assert read("target") in (OLD, HASHES)
+    done = pwhash(*INSTALL)
+    assert (done.status, read("target"), beside()) == (0, HASHES, LEFT), done
+
+
+@pytest.mark.needs("strace")
+@pytest.mark.parametrize(
+    ("call", "error"),
+    [("flock", "ENOLCK"), ("fchown", "EPERM"), ("fsync", "ENOSPC"), ("linkat", "EACCES")],
+)
+@pytest.mark.parametrize("has_target", [True, False], ids=["a file", "a new file"])
+def test_a_system_call_that_fails_installs_nothing(call: str, error: str, has_target: bool) -> None:
+    save("hashes", HASHES)
+    if has_target:
+        save("target", OLD)
+    done = traced(f"{call}:error={error}")
+    assert done.status == 3 and done.err.startswith(b"pwhash: "), done
+    assert os.path.exists("target") == has_target and set(beside()) <= set(LEFT), done
+    assert not has_target or read("target") == OLD
+
+
+@pytest.mark.needs("strace")
+@pytest.mark.parametrize("has_target", [True, False], ids=["a file", "a new file"])
+def test_a_signal_that_comes_while_the_file_is_made_undoes_nothing(has_target: bool) -> None:
+    save("hashes", HASHES)
+    if has_target:
+        save("target", OLD)
+    done = traced("fsync:signal=TERM:when=1")
+    assert (done.status, read("target"), beside()) == (0, HASHES, LEFT), done
+    assert b"SIGTERM" in done.err, done
+
+
+@pytest.mark.needs("cc")
+@pytest.mark.parametrize("has_target", [True, False], ids=["a file", "a new file"])
+def test_a_file_system_without_nameless_files_is_enough(has_target: bool, folder: Path) -> None:
+    library = preload_library("between", folder)
+    save("hashes", HASHES)
+    if has_target:
+        save("target", OLD)
+    done = ended(
+        started_program("env", f"LD_PRELOAD={library}", "NO_TMPFILE=1", *STARTED, *INSTALL)
+    )
+    library.unlink()
+    assert (done.status, read("target"), beside()) == (0, HASHES, LEFT), done

@@ -1,0 +1,122 @@
+"""pwhash set while somebody else changes the file, which stays, and on other file systems."""
+from __future__ import annotations
+
+import os
+import pathlib
+import signal
+import stat
+
+import pytest
+from support.package import LIBRARY, PACKAGE
+from support.preload import preload_library
+from support.pwhash_runs import MD5CRYPT, Ended, ended, hashed, pwhash, read, save, started_program
+
+pytestmark = pytest.mark.needs("cc")
+
+SET = ("set", *MD5CRYPT, "passwords", "ann")
+ANN = b"ann:" + hashed(b"password") + b"\n"
+LEFT = ["passwords", "passwords.mkpasswd.lock"]
+STARTED = ("/usr/bin/python3", "-I", "-S", str(PACKAGE / "pwhash/start.py"), str(LIBRARY), "pwhash")
+
+
+@pytest.fixture(scope="module", name="between")
+def fixture_between(tmp_path_factory: pytest.TempPathFactory) -> str:
+    """A library between pwhash and the system, by which a run meets somebody else."""
+    return str(preload_library("between", tmp_path_factory.mktemp("between")))
+
+
+def met(between: str, *variables: str) -> Ended:
+    """Gives Ann a password, while somebody does what the variables say."""
+    command = ("env", f"LD_PRELOAD={between}", *variables, *STARTED, *SET)
+    return ended(started_program(*command), b"password\n")
+
+
+def beside() -> list[str]:
+    return sorted(path.name for path in pathlib.Path().iterdir())
+
+
+def version(number: int) -> bytes:
+    """A version of somebody else, of which each locks another name."""
+    locked = b"".join(b"other%d:!\n" % each for each in range(number))
+    return locked + b"ann:x\n"
+
+
+@pytest.mark.parametrize("changes", range(6))
+def test_the_newest_change_of_somebody_else_stays(between: str, changes: int) -> None:
+    save("passwords", version(0))
+    for number in range(1, changes + 1):
+        save(f"passwords.{number}", version(number))
+    done = met(between)
+    expected = version(changes).replace(b"ann:x\n", ANN)
+    assert (done.status, read("passwords"), beside()) == (0, expected, LEFT), done
+
+
+def test_a_mode_that_somebody_gives_the_file_stays(between: str) -> None:
+    save("passwords", version(1))
+    os.chmod("passwords", 0o640)
+    done = met(between, "CHMOD=1")
+    assert (done.status, read("passwords")) == (0, version(1).replace(b"ann:x\n", ANN)), done
+    assert stat.S_IMODE(os.stat("passwords").st_mode) == 0o604
+
+
+def test_a_file_that_somebody_removes_is_not_made_again(between: str) -> None:
+    save("passwords", version(1))
+    done = met(between, f"REMOVED={os.path.abspath('passwords')}")
+    assert (done.status, beside()) == (3, ["passwords.mkpasswd.lock"]), done
+
+
+@pytest.mark.parametrize(
+    ("variable", "reason"),
+    [
+        pytest.param("NO_EXCHANGE=1", b"can't exchange", id="no exchange"),
+        pytest.param("NO_LOCKS=1", b"passwords.mkpasswd.lock", id="no locks"),
+    ],
+)
+def test_a_file_system_that_can_not_do_it_is_named(
+    between: str, variable: str, reason: bytes
+) -> None:
+    save("passwords", version(1))
+    done = met(between, variable)
+    assert (done.status, read("passwords")) == (3, version(1)) and reason in done.err, done
+    assert beside() == LEFT, done
+
+
+def test_a_file_system_without_nameless_files_is_enough(between: str) -> None:
+    save("passwords", version(1))
+    done = met(between, "NO_TMPFILE=1")
+    expected = version(1).replace(b"ann:x\n", ANN)
+    assert (done.status, read("passwords"), beside()) == (0, expected, LEFT), done
+
+
+@pytest.mark.parametrize("variables", [(), ("NO_TMPFILE=1",)], ids=["without a name", "named"])
+@pytest.mark.parametrize("moment", ["fsync", "exchange", "unlinkat"])
+def test_the_next_run_ends_what_one_began_that_was_killed(
+    between: str, moment: str, variables: tuple[str, ...]
+) -> None:
+    save("passwords", version(2))
+    killed = met(between, f"KILL={moment}", *variables)
+    assert killed.status == -signal.SIGKILL, killed
+    assert read("passwords") in (version(2), version(2).replace(b"ann:x\n", ANN))
+    done = met(between, *variables)
+    expected = version(2).replace(b"ann:x\n", ANN)
+    assert (done.status, read("passwords"), beside()) == (0, expected, LEFT), done
+
+
+def test_the_next_run_puts_back_what_one_took_out_that_was_killed(between: str) -> None:
+    save("passwords", version(0))
+    save("passwords.1", version(1))
+    killed = met(between, "KILL=exchange")
+    assert killed.status == -signal.SIGKILL, killed
+    done = pwhash("set", *MD5CRYPT, "passwords", "bob", stdin=b"password\n")
+    expected = version(1) + ANN.replace(b"ann", b"bob")
+    assert (done.status, read("passwords"), beside()) == (0, expected, LEFT), done
+
+
+def test_a_note_that_can_not_be_read_is_named(between: str) -> None:
+    save("passwords", version(0))
+    save("passwords.1", version(1))
+    met(between, "KILL=exchange")
+    before = beside()
+    done = met(between, "NO_LINKS=1")
+    assert (done.status, beside()) == (3, before), done
+    assert read("passwords.mkpasswd.new") == version(1)

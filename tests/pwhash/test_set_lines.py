@@ -1,0 +1,316 @@
+"""pwhash set: what becomes of the line of a name, and that all others stay."""
+from __future__ import annotations
+
+import re
+
+import pytest
+from support.libxcrypt import crypt
+from support.pwhash_runs import MD5, MD5CRYPT, at_terminal, hashed, pwhash, read, save
+
+BCRYPT = crypt(b"password", b"$2b$04$abcdefghijklmnopqrstuu")
+OLD = hashed(b"old password")
+OTHERS_BEFORE = b"# a comment\n\none:x:1:2\0:\xff\n"
+OTHERS_AFTER = b"ann2:!\nxann:y\nlast:z"
+
+
+def in_file(line: bytes) -> bytes:
+    """A password file with a line among others."""
+    return OTHERS_BEFORE + line + b"\n" + OTHERS_AFTER
+
+
+# ---- A new password
+
+
+@pytest.mark.parametrize(
+    ("before", "after"),
+    [
+        pytest.param(b"ann:OLD", b"ann:NEW", id="a hash"),
+        pytest.param(b"ann:OLD:1000:1000::/home/ann::x=y:z", b"ann:NEW:1000:1000::/home/ann::x=y:z",
+                     id="fields behind it"),
+        pytest.param(b"ann:", b"ann:NEW", id="an empty field"),
+        pytest.param(b"ann::5", b"ann:NEW:5", id="an empty field in front of others"),
+        pytest.param(b"ann:a password", b"ann:NEW", id="a password as it is"),
+        pytest.param(b"ann:{CRYPT}OLD:7", b"ann:{CRYPT}NEW:7", id="a prefix"),
+        pytest.param(b"ann:{crypt}OLD", b"ann:{crypt}NEW", id="a prefix in small letters"),
+        pytest.param(b"ann:{MD5-CRYPT}OLD", b"ann:{MD5-CRYPT}NEW", id="a prefix of the method"),
+    ],
+)  # fmt: skip
+def test_a_new_password_changes_the_hash_alone(before: bytes, after: bytes) -> None:
+    save("passwords", in_file(before.replace(b"OLD", OLD)))
+    done = pwhash("set", *MD5CRYPT, "passwords", "ann", stdin=b"password\n")
+    assert (done.status, done.out) == (0, b""), done
+    assert read("passwords") == in_file(after.replace(b"NEW", MD5.encode())), done
+
+
+@pytest.mark.parametrize(
+    ("before", "after"),
+    [
+        pytest.param(b"ann:!OLD", b"ann:!NEW", id="a hash"),
+        pytest.param(b"ann:!!OLD:1", b"ann:!!NEW:1", id="two marks"),
+        pytest.param(b"ann:!", b"ann:!NEW", id="a mark alone"),
+        pytest.param(b"ann:*", b"ann:*NEW", id="a star"),
+        pytest.param(b"ann:{CRYPT}!OLD", b"ann:{CRYPT}!NEW", id="a mark behind a prefix"),
+        pytest.param(b"ann:!{CRYPT}OLD", b"ann:!{CRYPT}NEW", id="a mark before a prefix"),
+    ],
+)
+def test_a_new_password_unlocks_nobody(before: bytes, after: bytes) -> None:
+    save("passwords", in_file(before.replace(b"OLD", OLD)))
+    done = pwhash("set", *MD5CRYPT, "passwords", "ann", stdin=b"password\n")
+    assert done.status == 0 and b"stays locked" in done.err, done
+    assert read("passwords") == in_file(after.replace(b"NEW", MD5.encode())), done
+
+
+@pytest.mark.parametrize(
+    ("before", "method", "way_out"),
+    [
+        pytest.param(b"{SHA256-CRYPT}$5$x", b"md5crypt", b"-m sha256crypt", id="another method"),
+        pytest.param(b"{SSHA}x", b"md5crypt", b"{CRYPT}", id="another scheme"),
+        pytest.param(b"{PLAIN}x", b"md5crypt", b"{CRYPT}", id="a password as it is"),
+    ],
+)
+def test_a_prefix_that_does_not_fit_the_new_hash_is_refused(
+    before: bytes, method: bytes, way_out: bytes
+) -> None:
+    save("passwords", in_file(b"ann:" + before))
+    done = pwhash("set", *MD5CRYPT, "passwords", "ann", stdin=b"password\n")
+    assert done.status == 2 and method in done.err and way_out in done.err, done
+    assert read("passwords") == in_file(b"ann:" + before), done
+
+
+@pytest.mark.parametrize(
+    ("before", "after"),
+    [
+        pytest.param(b"", b"ann:NEW\n", id="an empty file"),
+        pytest.param(b"bob:x\n", b"bob:x\nann:NEW\n", id="a whole last line"),
+        pytest.param(b"bob:x", b"bob:x\nann:NEW\n", id="a last line without its end"),
+        pytest.param(b"#ann:x\n", b"#ann:x\nann:NEW\n", id="the name in a comment"),
+        pytest.param(b"bob:ann:x\n", b"bob:ann:x\nann:NEW\n", id="the name in a field"),
+        pytest.param(
+            b"#x\nbob:{CRYPT}x\neve:!{CRYPT}x\n",
+            b"#x\nbob:{CRYPT}x\neve:!{CRYPT}x\nann:{CRYPT}NEW\n",
+            id="the prefix of all others",
+        ),
+        pytest.param(
+            b"bob:{CRYPT}x\neve:x\n", b"bob:{CRYPT}x\neve:x\nann:NEW\n", id="some others' prefix"
+        ),
+        pytest.param(b"bob:{SSHA}x\n", b"bob:{SSHA}x\nann:NEW\n", id="a prefix that doesn't fit"),
+    ],
+)
+def test_a_name_without_a_line_gets_one(before: bytes, after: bytes) -> None:
+    save("passwords", before)
+    done = pwhash("set", *MD5CRYPT, "passwords", "ann", stdin=b"password\n")
+    assert done.status == 0 and b"ann was added" in done.err, done
+    assert read("passwords") == after.replace(b"NEW", MD5.encode()), done
+
+
+def test_a_name_in_utf8_gets_a_line() -> None:
+    save("passwords", b"")
+    done = pwhash("set", *MD5CRYPT, "passwords", "jürgen", stdin=b"password\n")
+    assert done.status == 0, done
+    assert read("passwords") == f"jürgen:{MD5}\n".encode()
+
+
+def test_a_new_hash_is_of_the_recommended_cost() -> None:
+    save("passwords", b"ann:x\n")
+    done = pwhash("set", "passwords", "ann", stdin=b"password\n")
+    found = re.fullmatch(rb"ann:(\$6\$rounds=656000\$\S+)\n", read("passwords"))
+    assert done.status == 0 and found and crypt(b"password", found[1]) == found[1], done
+
+
+# ---- Deleting
+
+
+@pytest.mark.parametrize(
+    ("before", "after"),
+    [
+        pytest.param(b"ann:x:1\nbob:y\n", b"bob:y\n", id="first"),
+        pytest.param(b"bob:y\nann:x\n", b"bob:y\n", id="last"),
+        pytest.param(b"bob:y\nann:x", b"bob:y\n", id="last, without its end"),
+        pytest.param(b"ann:!x", b"", id="alone, and locked"),
+    ],
+)
+def test_a_deleted_name_has_no_line(before: bytes, after: bytes) -> None:
+    save("passwords", before)
+    done = pwhash("set", "--delete", "passwords", "ann")
+    assert (done.status, done.out) == (0, b"") and read("passwords") == after, done
+
+
+@pytest.mark.parametrize("option", ["--delete", "--lock", "--unlock"])
+def test_a_name_without_a_line_is_named(option: str) -> None:
+    save("passwords", OTHERS_AFTER)
+    done = pwhash("set", option, "passwords", "ann")
+    assert (done.status, read("passwords")) == (1, OTHERS_AFTER), done
+    assert b"passwords has no ann" in done.err, done
+
+
+# ---- Locking
+
+
+@pytest.mark.parametrize(
+    ("unlocked", "locked"),
+    [
+        pytest.param(b"ann:OLD:1", b"ann:!OLD:1", id="a hash"),
+        pytest.param(b"ann:{CRYPT}OLD", b"ann:{CRYPT}!OLD", id="a prefix"),
+        pytest.param(b"ann:{SSHA}x", b"ann:{SSHA}!x", id="a hash of LDAP"),
+        pytest.param(b"ann:BCRYPT", b"ann:!BCRYPT", id="bcrypt"),
+    ],
+)
+def test_a_lock_is_undone_by_unlocking(unlocked: bytes, locked: bytes) -> None:
+    unlocked, locked = (
+        in_file(each.replace(b"OLD", OLD).replace(b"BCRYPT", BCRYPT)) for each in (unlocked, locked)
+    )
+    save("passwords", unlocked)
+    done = pwhash("set", "--lock", "passwords", "ann")
+    assert (done.status, read("passwords")) == (0, locked), done
+    done = pwhash("set", "--unlock", "passwords", "ann")
+    assert (done.status, read("passwords")) == (0, unlocked), done
+
+
+@pytest.mark.parametrize(
+    ("option", "field"),
+    [
+        pytest.param("--lock", b"!" + OLD, id="locked"),
+        pytest.param("--lock", b"*", id="a star"),
+        pytest.param("--unlock", OLD, id="unlocked"),
+    ],
+)
+def test_what_is_so_already_stays(option: str, field: bytes) -> None:
+    content = in_file(b"ann:" + field)
+    save("passwords", content)
+    done = pwhash("set", option, "passwords", "ann")
+    assert (done.status, read("passwords")) == (0, content), done
+
+
+@pytest.mark.parametrize(
+    "field", [b"a password", b"{PLAIN}secret", b"{PLAIN}$1$secret"], ids=["bare", "nginx", "like"]
+)
+def test_a_password_as_it_is_is_not_locked_by_a_longer_one(field: bytes) -> None:
+    content = in_file(b"ann:" + field)
+    save("passwords", content)
+    done = pwhash("set", "--lock", "passwords", "ann")
+    assert (done.status, read("passwords")) == (2, content) and b"secret" not in done.err, done
+
+
+@pytest.mark.parametrize(
+    "field",
+    [
+        pytest.param(b"!", id="nothing"),
+        pytest.param(b"*", id="nothing behind a star"),
+        pytest.param(b"!secret", id="a password as it is"),
+        pytest.param(b"!" + OLD[:-1], id="a hash that was cut"),
+        pytest.param(b"*LK*", id="a word"),
+    ],
+)
+def test_nothing_but_a_whole_hash_is_unlocked(field: bytes) -> None:
+    content = in_file(b"ann:" + field)
+    save("passwords", content)
+    done = pwhash("set", "--unlock", "passwords", "ann")
+    assert (done.status, read("passwords")) == (2, content) and b"secret" not in done.err, done
+
+
+# ---- What is refused
+
+
+@pytest.mark.parametrize(
+    ("name", "reason"),
+    [
+        pytest.param("a:b", b"colon", id="a colon"),
+        pytest.param("#ann", b"#", id="a comment"),
+        pytest.param("ann\n", b"control character", id="a line feed"),
+        pytest.param("ann\x7f", b"control character", id="a control character"),
+        pytest.param("ann\u0085", b"control character", id="a control character of Unicode"),
+        pytest.param("", b"FILE NAME", id="no name"),
+        pytest.param("x" * 65, b"too long", id="65 bytes"),
+        pytest.param(" ann", b"blank", id="a blank in front"),
+        pytest.param("ann\u200b", b"invisible", id="a space of no width"),
+    ],
+)
+def test_a_name_that_no_line_should_have_is_refused(name: str, reason: bytes) -> None:
+    save("passwords", b"bob:x\n")
+    done = pwhash("set", *MD5CRYPT, "passwords", name, stdin=b"password\n")
+    assert (done.status, read("passwords")) == (2, b"bob:x\n") and reason in done.err, done
+
+
+@pytest.mark.parametrize("words", [(), ("--delete",), ("--lock",)], ids=["set", "delete", "lock"])
+def test_a_name_that_stands_twice_is_refused(words: tuple[str, ...]) -> None:
+    content = b"ann:x\nbob:y\nann:!z\n"
+    save("passwords", content)
+    done = pwhash("set", *words, *MD5CRYPT, "passwords", "ann", stdin=b"password\n")
+    assert (done.status, read("passwords")) == (2, content), done
+    assert b"lines 1 and 3" in done.err, done
+
+
+def test_no_line_is_added_to_another_file() -> None:
+    save("notes", b"127.0.0.1 localhost\n")
+    done = pwhash("set", *MD5CRYPT, "notes", "ann", stdin=b"password\n")
+    assert (done.status, read("notes")) == (2, b"127.0.0.1 localhost\n"), done
+    assert b"notes, line 1" in done.err, done
+
+
+@pytest.mark.parametrize(
+    "words",
+    [
+        pytest.param(("--lock", "--unlock"), id="two actions"),
+        pytest.param(("--generate", "--delete"), id="a password for nobody"),
+        pytest.param(("-R", "10"), id="too few rounds"),
+        pytest.param(("ben",), id="a word too many"),
+    ],
+)
+def test_words_that_contradict_each_other_are_refused(words: tuple[str, ...]) -> None:
+    save("passwords", b"ann:x\n")
+    done = pwhash("set", "passwords", "ann", *words, stdin=b"password\n")
+    assert (done.status, read("passwords")) == (2, b"ann:x\n"), done
+
+
+@pytest.mark.parametrize(
+    "password",
+    [
+        pytest.param(b"", id="nothing"),
+        pytest.param(b"secret\r\n", id="a carriage return"),
+        pytest.param(b"secret\0", id="a zero byte"),
+        pytest.param(b"secret" * 200, id="too long"),
+        pytest.param(b"secret" * 100, id="over the limit"),
+    ],
+)
+def test_a_password_that_is_not_hashed_changes_nothing(password: bytes) -> None:
+    save("passwords", b"ann:x\n")
+    done = pwhash("set", "passwords", "ann", stdin=password)
+    assert (done.status, read("passwords")) == (2, b"ann:x\n"), done
+    assert b"secret" not in done.err and done.out == b"", done
+
+
+# ---- At a terminal
+
+
+def test_a_password_is_asked_for_twice() -> None:
+    save("passwords", b"ann:x\n")
+    terminal = at_terminal(("set", *MD5CRYPT, "passwords", "ann"), [b"secret\r", b"secret\r"])
+    assert terminal.status == 0 and b"secret" not in terminal.shown, terminal
+    assert read("passwords") == b"ann:" + hashed(b"secret") + b"\n", terminal
+
+
+def test_two_passwords_that_differ_change_nothing() -> None:
+    save("passwords", b"ann:x\n")
+    terminal = at_terminal(("set", *MD5CRYPT, "passwords", "ann"), [b"secret\r", b"other\r"])
+    assert (terminal.status, read("passwords")) == (2, b"ann:x\n"), terminal
+
+
+def test_a_new_name_is_shown_before_its_password_is_asked_for() -> None:
+    save("passwords", b"ann:x\n")
+    terminal = at_terminal(("set", *MD5CRYPT, "passwords", "anm"), [b"\x03"])
+    assert b"passwords has no anm" in terminal.shown, terminal
+    assert read("passwords") == b"ann:x\n", terminal
+
+
+def test_a_generated_password_is_shown_and_set() -> None:
+    save("passwords", b"ann:x\n")
+    terminal = at_terminal(("set", "--generate", *MD5CRYPT, "passwords", "ann"), [])
+    shown = re.search(rb"shown only here: (\w{20})\r", terminal.shown)
+    assert terminal.status == 0 and shown, terminal
+    assert read("passwords") == b"ann:" + hashed(shown[1]) + b"\n", terminal
+
+
+def test_no_password_is_generated_without_a_terminal() -> None:
+    save("passwords", b"ann:x\n")
+    done = pwhash("set", "--generate", *MD5CRYPT, "passwords", "ann")
+    assert (done.status, read("passwords")) == (3, b"ann:x\n"), done

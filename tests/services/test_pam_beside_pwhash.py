@@ -1,0 +1,221 @@
+"""pwhash set beside pam_mkpasswd.so: both replace one file, and many of both are killed.
+
+Users log in, which renews their hashes, and change their passwords. Meanwhile an administrator
+locks some of them, adds names and deletes others.
+"""
+from __future__ import annotations
+
+import os
+import random
+import re
+import threading
+import time
+from collections.abc import Sequence
+from concurrent.futures import ThreadPoolExecutor
+from dataclasses import dataclass, field
+from pathlib import Path
+
+import pytest
+from support.libxcrypt import crypt
+from support.namespaces import Namespaces
+from support.pam import Answer
+from support.pam_fields import FILE
+from support.process import Result, run
+from support.pwhash_runs import PWHASH
+
+pytestmark = [
+    pytest.mark.needs("namespaces", "pamtester"),
+    pytest.mark.slow,
+    pytest.mark.xdist_group("pam"),
+]
+
+SEED = int(os.environ.get("SEED", "1"))
+ROUNDS = range(1001, 1009)  # by each of which the hashes of those before are outdated
+USERS = [f"user{number}" for number in range(10, 30)]
+TO_LOCK = [f"lock{number}" for number in range(10, 25)]
+TO_ADD = [f"new{number}" for number in range(10, 25)]
+TO_DELETE = [f"gone{number}" for number in range(10, 25)]
+LOGINS_AT_ONCE, CHANGES_AT_ONCE = 6, 2
+SHARE_OF_KILLED = 0.4
+LONGEST_LOGIN = 0.03  # seconds of a login or a change that is killed
+LONGEST_RUN = 0.4  # seconds of a run of pwhash that is killed
+PAUSE = 0.0005  # seconds between two looks at the file
+ADDED = b"secret of the administrator\n"
+# Where somebody else changed the password or the file, or locked the account.
+OTHERS = (Answer.REFUSED, Answer.DENIED, Answer.IN_USE)
+
+
+def passwords_of(name: str) -> tuple[bytes, bytes]:
+    """The two passwords of a user, each of which takes the other's place."""
+    return (f"secret of {name}".encode(), f"other secret of {name}".encode())
+
+
+@dataclass
+class Watcher:
+    """Looks at the file all the time, for lines that are lost, doubled or torn, or unlocked."""
+
+    path: Path
+    is_over: threading.Event = field(default_factory=threading.Event)
+    locked: set[str] = field(default_factory=set)
+    problems: list[str] = field(default_factory=list)
+
+    def watch(self) -> None:
+        """Looks until it is over."""
+        while not self.is_over.is_set():
+            locked = set(self.locked)  # before the look
+            self.problems += self.wrong(self.path.read_bytes(), locked)
+            time.sleep(PAUSE)
+
+    def wrong(self, content: bytes, locked: set[str]) -> list[str]:
+        """What is wrong with the file."""
+        lines = re.findall(rb"(\w+):(!?)\$[16]\$[\w./$=]+\n", content)
+        names = [name.decode() for name, _ in lines]
+        wrong = [name for name in USERS + TO_LOCK if names.count(name) != 1]
+        wrong += [name for name in TO_ADD + TO_DELETE if names.count(name) > 1]
+        wrong += [name for name in locked if name.encode() + b":!" not in content]
+        if len(lines) != content.count(b"\n"):
+            wrong.append("a torn line")
+        return wrong
+
+
+@dataclass(frozen=True)
+class Beside:
+    """What logins and the administrator did beside each other."""
+
+    watcher: Watcher
+    logins: list[Result]
+    runs: list[Result]  # of pwhash
+    content: bytes
+
+    def fields(self) -> dict[bytes, bytes]:
+        """The fields of the file in the end."""
+        return dict(re.findall(rb"(?m)^(\w+):(.*)$", self.content))
+
+
+@dataclass
+class Administrator:
+    """Changes lines by pwhash. A run that is killed is begun again."""
+
+    machine: Namespaces
+    watcher: Watcher
+    randoms: random.Random
+    results: list[Result] = field(default_factory=list)
+
+    def change(self, words: Sequence[str], name: str) -> None:
+        """Changes a line, and kills some of the runs before."""
+        command = self.machine.entering(PWHASH, "set", *words, FILE, name)
+        while self.randoms.random() < SHARE_OF_KILLED:
+            life = self.randoms.uniform(0.1, LONGEST_RUN)
+            killed = run(*command, stdin=ADDED, timeout=life)
+            if not killed.has_timed_out and killed.status == 0:
+                self.results.append(killed)
+                break
+        else:
+            self.results.append(run(*command, stdin=ADDED))
+        if words == ["--lock"] and self.results[-1].status == 0:
+            self.watcher.locked.add(name)
+
+    def work(self) -> None:
+        """Locks, adds and deletes names, in any order."""
+        tasks = [(["--lock"], name) for name in TO_LOCK]
+        tasks += [(["--delete"], name) for name in TO_DELETE]
+        tasks += [(["-m", "md5crypt"], name) for name in TO_ADD]
+        self.randoms.shuffle(tasks)
+        with ThreadPoolExecutor(CHANGES_AT_ONCE) as pool:
+            for done in [pool.submit(self.change, *task) for task in tasks]:
+                done.result()
+
+
+def visit(machine: Namespaces, randoms: random.Random, turn: int) -> list[Result]:
+    """A login and a change of each user, in any order, of which some are killed."""
+    visits = []
+    for name in USERS + TO_LOCK:
+        old, new = passwords_of(name)
+        if turn % 2:
+            old, new = new, old
+        for operation, typed in (("authenticate", old), ("chauthtok", new + b"\n" + new)):
+            is_killed = randoms.random() < SHARE_OF_KILLED
+            life = randoms.uniform(0, LONGEST_LOGIN) if is_killed else 300
+            visits.append((machine.entering("pamtester", "example", name, operation), typed, life))
+    randoms.shuffle(visits)
+    with ThreadPoolExecutor(LOGINS_AT_ONCE) as pool:
+        running = [
+            pool.submit(run, *command, stdin=typed + b"\n", timeout=life)
+            for command, typed, life in visits
+        ]
+    return [each.result() for each in running]
+
+
+@pytest.fixture(scope="module", name="with_file")
+def fixture_with_file(with_module: Namespaces) -> Namespaces:
+    names = USERS + TO_LOCK + TO_DELETE
+    hashes = [crypt(passwords_of(name)[0], b"$6$rounds=1000$abcdefgh") for name in names]
+    lines = [b"%b:%b\n" % (name.encode(), stored) for name, stored in zip(names, hashes)]
+    with_module.write(FILE, b"".join(lines), 0o600)
+    return with_module
+
+
+@pytest.fixture(scope="module", name="beside")
+def fixture_beside(with_file: Namespaces) -> Beside:
+    machine, randoms = with_file, random.Random(SEED)
+    watcher = Watcher(machine.path(FILE))
+    administrator = Administrator(machine, watcher, random.Random(SEED + 1))
+    logins: list[Result] = []
+    with ThreadPoolExecutor(2) as pool:
+        working = [pool.submit(watcher.watch), pool.submit(administrator.work)]
+        try:
+            for turn, rounds in enumerate(ROUNDS):
+                line = f"required pam_mkpasswd.so file={FILE} rounds={rounds} budget=1000000 renew"
+                machine.write("/etc/pam.d/example", f"auth {line}\npassword {line}\n")
+                logins += visit(machine, randoms, turn)
+            working[1].result()
+        finally:
+            watcher.is_over.set()
+        working[0].result()
+    return Beside(watcher, logins, administrator.results, machine.read(FILE))
+
+
+def test_each_run_of_pwhash_that_is_not_killed_succeeds(beside: Beside) -> None:
+    # A run that was killed may have deleted the name before.
+    failed = [
+        result
+        for result in beside.runs
+        if result.status and not (result.status == 1 and b" has no gone" in result.stderr)
+    ]
+    assert not failed, "\n".join(map(str, failed[:3]))
+
+
+def test_each_login_that_is_not_killed_succeeds_or_meets_somebody_else(beside: Beside) -> None:
+    failed = [
+        result
+        for result in beside.logins
+        if result.status
+        and not result.has_timed_out
+        and not any(answer.value.encode() in result.stderr for answer in OTHERS)
+    ]
+    assert not failed, "\n".join(map(str, failed[:3]))
+
+
+def test_the_file_is_whole_at_each_moment_and_no_lock_is_undone(beside: Beside) -> None:
+    assert beside.watcher.problems == []
+
+
+def test_in_the_end_each_change_is_there(beside: Beside) -> None:
+    fields = beside.fields()
+    expected = sorted(USERS + TO_LOCK + TO_ADD)
+    assert sorted(name.decode() for name in fields) == expected
+    assert [name for name in TO_LOCK if not fields[name.encode()].startswith(b"!")] == []
+    added = [fields[name.encode()] for name in TO_ADD]
+    assert [stored for stored in added if crypt(ADDED.rstrip(b"\n"), stored) != stored] == []
+
+
+def test_in_the_end_each_hash_is_of_one_of_its_owners_passwords(beside: Beside) -> None:
+    fields = beside.fields()
+    for name in USERS + TO_LOCK:
+        stored = fields[name.encode()].lstrip(b"!")
+        hashes = [crypt(password, stored) for password in passwords_of(name)]
+        assert stored in hashes, f"{name}: {stored!r}"
+
+
+def test_hashes_were_renewed_meanwhile(beside: Beside) -> None:
+    assert beside.content.count(f"rounds={ROUNDS[-1]}$".encode()) > len(USERS) / 2
