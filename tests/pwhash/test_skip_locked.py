@@ -33,6 +33,8 @@ LOCKED = [
     pytest.param(b"*", id="an account of the system"),
     pytest.param(b"!*", id="one of systemd"),
     pytest.param(b"*LK*", id="a lock in words"),
+    pytest.param(b"{CRYPT}!" + MD5.encode(), id="a lock behind Dovecot's prefix"),
+    pytest.param(b"!{SHA512-CRYPT}" + MD5.encode(), id="a lock before it"),
     pytest.param(b"!$y$j9T$abcdefghijklmnopqrstu.$abc", id="yescrypt"),
 ]
 NOT_LOCKED = [

@@ -13,7 +13,7 @@ from pwhash import library
 from pwhash.console import Console
 from pwhash.errors import UsageError
 from pwhash.lines import Arrivals, Line, name_of
-from pwhash.stored import stored_in
+from pwhash.stored import stored_in, without_prefix
 from pwhash.text import named, readable
 
 NO_PASSWORD_YET = (b"!", b"!!")  # the latter on Red Hat's systems
@@ -62,7 +62,8 @@ class Locked:
         has_fields = False
         for stored in stored_in(self._path, self._console):
             has_fields = has_fields or stored.field != IN_SHADOW
-            if stored.field not in NO_PASSWORD_YET and library.is_locked(stored.field):
+            is_locked = library.is_locked(without_prefix(stored.field))
+            if is_locked and stored.field not in NO_PASSWORD_YET:
                 self._names.add(stored.name)
         if not has_fields:
             raise UsageError(

@@ -7,7 +7,6 @@ the run, so that no script takes it for a wrong password.
 from __future__ import annotations
 
 import os
-import re
 import unicodedata
 from typing import List, NamedTuple, Optional
 
@@ -22,13 +21,11 @@ from pwhash.options import Input, VerifyOptions
 from pwhash.prompt import ask_each
 from pwhash.session import Session
 from pwhash.source import Source
-from pwhash.stored import Stored, stored_in
+from pwhash.stored import Stored, stored_in, without_prefix
 from pwhash.text import APART, is_utf8, is_visible, named, readable
 from pwhash.workers import in_thread
 
 PASSWORD_PROMPT, HASH_PROMPT = b"Password: ", b"Hash (not shown either): "
-# What Dovecot and LDAP write before a hash of crypt(3).
-CRYPT_SCHEME = re.compile(rb"(?i)\A\{(?:CRYPT|(?:SHA512|SHA256|MD5)-CRYPT)\}")
 AROUND_HASH = b" \t\r"  # of a line that was pasted
 MATCHES = b"yes, the password matches"
 DIFFERS = b"no, the password doesn't match"
@@ -132,8 +129,8 @@ def first_lines(count: int, console: Console) -> List[bytes]:
 
 
 def whole_hash(field: bytes, whose: str) -> bytes:
-    """The hash in a field, without the scheme in front. Refuses what no password can match."""
-    stored = CRYPT_SCHEME.sub(b"", field, count=1)
+    """The hash in a field, without a prefix. Refuses what no password can match."""
+    stored = without_prefix(field)
     about = about_field(stored)
     if about is not None:
         raise UsageError(f"{whose}: {about}.")
