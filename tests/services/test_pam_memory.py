@@ -26,7 +26,9 @@ LEAST_FOUND = 16  # characters of a digest in a row
 def fixture_looked_at(tmp_path_factory: pytest.TempPathFactory) -> tuple[str, ...]:
     """The command that has a service's memory written to a file before it ends its use of PAM."""
     library = preload_library("memory_at_end", tmp_path_factory.mktemp("memory"))
-    return ("env", f"LD_PRELOAD={library}", f"MEMORY={MEMORY}")
+    # A call that is bound only when it is made has the dynamic linker save all registers on the
+    # stack, and in one may be what a strlen has just read.
+    return ("env", "LD_BIND_NOW=1", f"LD_PRELOAD={library}", f"MEMORY={MEMORY}")
 
 
 @pytest.fixture(autouse=True)
