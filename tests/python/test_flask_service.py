@@ -30,7 +30,7 @@ pytestmark = [
 ]
 
 RECOMMENDED = "$6$rounds=656000$"
-SECONDS = 2  # until a failure is answered: the document has 5
+SECONDS = 2  # until a failure is answered: the document has 6
 LATE = 0.1  # seconds
 ATTEMPTS = 10
 LONGEST_WAIT = 60  # seconds, for what should come soon

@@ -1,6 +1,6 @@
 """Answers failed logins a fixed time after they began, so that timing tells nothing about names.
 
-    logins = FixedTime(seconds=5, threads=4, queued=4, failed=1000)
+    logins = FixedTime(seconds=6, threads=4, queued=4, failed=1000)
     future = logins.submit(login, database, name, password)
 
 submit() returns a concurrent.futures.Future: future.result() waits for the answer in a thread, and
