@@ -196,6 +196,33 @@ def test_input_without_a_hash_is_refused(data: bytes, reason: bytes) -> None:
 
 
 @pytest.mark.parametrize(
+    "first",
+    [
+        pytest.param(MD5.encode(), id="a hash"),
+        pytest.param(b" %b\r" % MD5.encode(), id="a hash with blanks around it"),
+        pytest.param(MD5[:-1].encode(), id="a hash that was cut"),
+        pytest.param(b"$y$j9T$abcdefghijklmnopqrstu.$abc", id="yescrypt"),
+    ],
+)
+@pytest.mark.parametrize("second", [SECRET, b"with:colon", b""])
+def test_a_hash_before_the_password_is_named(first: bytes, second: bytes) -> None:
+    done = pwhash("verify", stdin=first + b"\n" + second + b"\n")
+    assert_refused(done.status, done.out, done.err, b"the password first, then the hash")
+
+
+def test_a_password_that_begins_with_a_dollar_is_no_hash() -> None:
+    done = pwhash("verify", stdin=b"$ecret\n" + SECRET + b"\n")
+    assert_refused(done.status, done.out, done.err, b"stored as it is")
+
+
+def test_a_password_may_be_a_hash() -> None:
+    stored = hashed(MD5.encode(), "$6$rounds=1000$saltsalt")
+    for prefix in b"", b"{CRYPT}", b" ":
+        done = pwhash("verify", stdin=MD5.encode() + b"\n" + prefix + stored + b"\n")
+        assert (done.status, done.out) == (0, YES), done
+
+
+@pytest.mark.parametrize(
     ("words", "reason"),
     [
         pytest.param(["file", "eve"], b"no line of this name", id="an unknown name"),

@@ -58,8 +58,9 @@ INSTALL_TEXT = (
 AUDIT_TEXT = "Shows what is wrong with stored hashes; with --only-problems the worst first."
 VERIFY_TEXT = (
     "Asks for a password, and says whether it matches NAME's hash in FILE, or without them a hash "
-    "that is asked for too. Standard input that isn't a terminal has both in its first lines. "
-    "Ends with status 0 for yes, 1 for no, and more if it can't tell."
+    "that is asked for too. Standard input that isn't a terminal has the password in its first "
+    "line, and the hash in its second. Ends with status 0 for yes, 1 for no, and more if it can't "
+    "tell."
 )
 
 STDIN = "-"

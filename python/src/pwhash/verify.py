@@ -80,13 +80,25 @@ def given_by_user(console: Console) -> Given:
         password, pasted = ask_each(PASSWORD_PROMPT, HASH_PROMPT)
     else:
         password, pasted = first_lines(2, console)
+    pasted = pasted.strip(AROUND_HASH)
+    has_hash = begins_as_hash(without_prefix(pasted))
+    if begins_as_hash(password.strip(AROUND_HASH)) and not has_hash:
+        raise UsageError(
+            "there is a hash in the place of the password, and none in its own. Give the password "
+            "first, then the hash."
+        )
     if b":" in pasted:
         raise UsageError(
             "there is a colon in the hash, as in a whole line of a file. Give only what stands "
             "between the first colon and the next, or type pwhash verify FILE NAME."
         )
     whose = "the hash"
-    return Given(password, whole_hash(pasted.strip(AROUND_HASH), whose), whose)
+    return Given(password, whole_hash(pasted, whose), whose)
+
+
+def begins_as_hash(field: bytes) -> bool:
+    """Whether a field has the mark of a scheme, such as $6$, as any hash that is checked."""
+    return field.startswith(b"$") and library.describe(field).scheme is not None
 
 
 def only_line_of(options: VerifyOptions, console: Console) -> Stored:
