@@ -130,10 +130,11 @@ def assert_refused(done: Ended, reason: bytes) -> None:
 def test_a_file_that_is_not_there_is_named_and_made_by_the_command_that_is_shown() -> None:
     done = set_ann()
     assert_refused(done, b"there is no passwords")
-    subprocess.run(["sh", "-c", done.err.decode().split("first: ")[1]], check=True)
+    command = done.err.decode().split("read: ")[1].replace("GROUP", str(os.getgid()))
+    subprocess.run(["sh", "-c", command], check=True)
     done = set_ann()
     assert (done.status, read("passwords")) == (0, AFTER.replace(b":1", b"")), done
-    assert stat.S_IMODE(os.stat("passwords").st_mode) == 0o600
+    assert stat.S_IMODE(os.stat("passwords").st_mode) == 0o640
 
 
 def test_a_link_is_refused_and_its_target_is_named() -> None:

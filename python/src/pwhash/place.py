@@ -91,8 +91,8 @@ def found_file(place: Place) -> os.stat_result:
     found = place.look(place.name)
     if found is None:
         raise UsageError(
-            f"there is no {place.shown}. If the name is right, make an empty one first: "
-            f"(umask 077; : > {quoted(place.path)})"
+            f"there is no {place.shown}. If the name is right, make an empty one first, which the "
+            f"group of the service can read: install -m 640 -g GROUP /dev/null {quoted(place.path)}"
         )
     refuse_strange_file(place, found)
     return found
