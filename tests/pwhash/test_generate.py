@@ -239,6 +239,13 @@ def test_a_row_that_is_none_of_an_account_is_refused(row: bytes, reason: str) ->
     assert_hashes_of(rows_of("lists/5a.csv"))
 
 
+def test_a_row_that_ends_before_the_column_of_names_is_refused_for_that() -> None:
+    save("table", b"class;surname;name\n5a;M\xfcller;ann\n5a;eve\n")
+    done = pwhash(*BY_CLASS, "table")
+    assert done.status == 1 and b"no field in the column of names" in done.err, done
+    assert lines_named_in(done.err) == [3] and sorted(os.listdir()) == ["table"], done
+
+
 def test_lines_with_passwords_get_no_other_ones() -> None:
     save("names", b"ann:secret\nbob\n")
     done = pwhash(*WORDS, "names", "--passwords", "list")

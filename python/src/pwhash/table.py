@@ -227,6 +227,8 @@ class Table:
             return joined
         if columns.second is not None and columns.second >= len(row):
             return "no field in the column of --by" if self._names_only else "no password field"
+        if columns.name >= len(row):
+            return "no field in the column of names"
         name = cell(row, columns.name)
         if not name:
             return "no name"
