@@ -222,9 +222,10 @@ class Table:
                 f"{len(row)} fields, where the first row has {columns.width}: "
                 "a separator in a field needs quotes"
             )
-        joined = self._joined_lines(row)
-        if joined is not None:
-            return joined
+        return self._joined_lines(row) or self._refused_fields(row, columns)
+
+    def _refused_fields(self, row: Row, columns: Columns) -> Optional[str]:
+        """What is wrong with the fields of a row that are used."""
         if columns.second is not None and columns.second >= len(row):
             return "no field in the column of --by" if self._names_only else "no password field"
         if columns.name >= len(row):
