@@ -357,7 +357,7 @@ PAGES_FOR_ALL = 8  # so many have room for all that a recipe makes
 USERS = [f"user{number}" for number in range(1, 61)]
 # $0 is the size of the disk, $1 the recipe. What it makes for a service is printed.
 ON_SMALL_DISK = """\
-mount -t tmpfs -o size=$0k none full && cd full && ln -s ../passwords ../list . || exit
+mount -t tmpfs -o size=$0k,mode=755 none full && cd full && ln -s ../passwords ../list . || exit
 sh -c "$1"
 cat at.passwords 2> /dev/null
 """

@@ -10,9 +10,9 @@ from collections.abc import Iterator
 
 import pytest
 from support.package import LIBRARY, PACKAGE
+from support.pwhash_copies import Copy
 from support.pwhash_runs import (
     MD5CRYPT,
-    PWHASH,
     Ended,
     ended,
     hashed,
@@ -100,11 +100,11 @@ def test_the_lock_belongs_to_the_owner_of_the_file_and_nothing_else_is_left() ->
 
 @pytest.mark.needs("root")
 @pytest.mark.usefixtures("reachable")
-def test_a_service_changes_its_own_file() -> None:
+def test_a_service_changes_its_own_file(copy: Copy) -> None:
     os.chown(".", OWNER, OWNER)
     save("passwords", BEFORE)
     os.chown("passwords", OWNER, OWNER)
-    command = (*OTHER_USER, PWHASH, *SET)
+    command = (*OTHER_USER, str(copy.pwhash), *SET)
     done = ended(started_program(*command), b"password\n")
     assert (done.status, read("passwords")) == (0, AFTER), done
 
@@ -209,10 +209,10 @@ def test_a_folder_of_another_user_is_refused() -> None:
         pytest.param(0o666, b"aren't allowed to make files", id="the folder"),
     ],
 )
-def test_who_may_not_write_the_file_gets_a_sentence(mode: int, reason: bytes) -> None:
+def test_who_may_not_write_the_file_gets_a_sentence(copy: Copy, mode: int, reason: bytes) -> None:
     save("passwords", BEFORE)
     os.chmod("passwords", mode)
-    done = ended(started_program(*OTHER_USER, PWHASH, *SET), b"password\n")
+    done = ended(started_program(*OTHER_USER, str(copy.pwhash), *SET), b"password\n")
     assert_refused(done, reason)
     assert read("passwords") == BEFORE
 

@@ -8,6 +8,7 @@ import os
 import re
 
 import pytest
+from support.pwhash_copies import Copy
 from support.pwhash_runs import (
     ANN,
     BOB,
@@ -146,12 +147,12 @@ def test_nothing_is_hashed_if_nobody_knows_what_is_locked(
 
 
 @pytest.mark.needs("root")
-def test_nothing_is_hashed_if_the_file_cannot_be_read() -> None:
+def test_nothing_is_hashed_if_the_file_cannot_be_read(copy: Copy) -> None:
     shadow_with_eve(b"!" + MD5.encode())
     os.chmod("shadow", 0)
     os.chmod(".", 0o755)
-    done = shell('exec setpriv --reuid=65534 --clear-groups "$@"', *WORDS, stdin=LIST)
-    assert (done.status, done.out) == (3, b"") and b"Permission denied" in done.err, done
+    done = copy.run(*WORDS, stdin=LIST, before=("setpriv", "--reuid=65534", "--clear-groups"))
+    assert (done.status, done.stdout) == (3, b"") and b"Permission denied" in done.stderr, done
 
 
 def test_the_names_can_come_from_a_pipe() -> None:

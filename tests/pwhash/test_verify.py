@@ -9,6 +9,7 @@ import signal
 import time
 
 import pytest
+from support.pwhash_copies import Copy
 from support.pwhash_runs import (
     MARK,
     MD5,
@@ -268,13 +269,13 @@ def test_a_file_can_be_a_pipe_of_the_shell() -> None:
 
 
 @pytest.mark.needs("root")
-def test_a_file_that_nobody_may_read_is_neither_yes_nor_no() -> None:
+def test_a_file_that_nobody_may_read_is_neither_yes_nor_no(copy: Copy) -> None:
     ann_in_file(MD5.encode())
     os.chmod("file", 0)
     os.chmod(".", 0o755)
-    script = 'exec setpriv --reuid=65534 --clear-groups "$@" verify file ann'
-    done = shell(script, stdin=b"password\n")
-    assert done.status == 3 and done.out == b"" and b"Permission denied" in done.err, done
+    nobody = ("setpriv", "--reuid=65534", "--clear-groups")
+    done = copy.run("verify", "file", "ann", stdin=b"password\n", before=nobody)
+    assert (done.status, done.stdout) == (3, b"") and b"Permission denied" in done.stderr, done
 
 
 def test_an_answer_that_cannot_be_written_is_neither_yes_nor_no() -> None:
