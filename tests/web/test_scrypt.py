@@ -25,7 +25,7 @@ MEBIBYTE = 1 << 20
 MEMORY_OF_DEFAULT = 64 * MEBIBYTE  # N = 2^14 and r = 32, as the program has by default
 MOST_GROWTH = 20  # MiB
 LOGINS = 20
-# V8 gives an instance at most 600 pages of 64 KiB then: too few for the default.
+# node gives an instance at most 600 pages of 64 KiB then: too few for the default.
 TOO_LITTLE_MEMORY = "--wasm-max-mem-pages=600"
 
 OUT_OF_MEMORY = "Refused: MKPASSWD_ERROR_OUT_OF_MEMORY"
