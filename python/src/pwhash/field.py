@@ -20,6 +20,10 @@ PREFIXES = {
     "sha256crypt": b"{SHA256-CRYPT}",
     "md5crypt": b"{MD5-CRYPT}",
 }
+# Each of them in front of a field, in capital letters or not.
+FOR_CRYPT = re.compile(
+    rb"(?i)\A(?:" + b"|".join(map(re.escape, (ANY_METHOD, *PREFIXES.values()))) + rb")"
+)
 # Prefixes of hashes in Base64. Behind any other, as {PLAIN}, a mark could be part of a password.
 IN_BASE64 = (b"{SHA}", b"{SSHA}")
 # What is no password as it is, and no damaged hash.
@@ -81,6 +85,11 @@ def field_of(data: bytes) -> Field:
     found = FORM.fullmatch(data)
     assert found is not None  # each part may be empty
     return Field(*found.groups())
+
+
+def without_prefix(field: bytes) -> bytes:
+    """A field without the prefix of a hash of crypt(3), such as {CRYPT}, if it begins with one."""
+    return FOR_CRYPT.sub(b"", field, count=1)
 
 
 def method_of_prefix(prefix: bytes) -> Optional[str]:

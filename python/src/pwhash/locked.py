@@ -12,8 +12,9 @@ from typing import Optional, Set
 from pwhash import library
 from pwhash.console import Console
 from pwhash.errors import UsageError
+from pwhash.field import without_prefix
 from pwhash.lines import Arrivals, Line, name_of
-from pwhash.stored import stored_in, without_prefix
+from pwhash.stored import stored_in
 from pwhash.text import named, readable
 
 NO_PASSWORD_YET = (b"!", b"!!")  # the latter on Red Hat's systems

@@ -3,7 +3,6 @@
 from __future__ import annotations
 
 import os
-import re
 import stat
 from typing import Iterator, NamedTuple
 
@@ -13,8 +12,6 @@ from pwhash.source import open_in_time, refuse_as_output
 from pwhash.text import named
 
 LONGEST_LINE = 1 << 17
-# What Dovecot and LDAP write before a hash of crypt(3).
-PREFIX = re.compile(rb"(?i)\A\{(?:CRYPT|(?:SHA512|SHA256|MD5)-CRYPT)\}")
 
 
 class Stored(NamedTuple):
@@ -45,11 +42,6 @@ def stored_in(path: str, console: Console) -> Iterator[Stored]:
             number, line = number + 1, file.readline(LONGEST_LINE)
     if not has_fields:
         raise UsageError(f"{name_of_file} has no line name:field.")
-
-
-def without_prefix(field: bytes) -> bytes:
-    """A stored field without a prefix, such as {CRYPT}."""
-    return PREFIX.sub(b"", field, count=1)
 
 
 def open_fields(path: str) -> int:

@@ -15,13 +15,14 @@ from mkpasswd import State
 from pwhash import library
 from pwhash.console import STDIN, STDOUT, Console
 from pwhash.errors import UsageError
+from pwhash.field import without_prefix
 from pwhash.library import OVER_BUDGET, Refusal, Verdict
 from pwhash.lines import BYTE_ORDER_MARK
 from pwhash.options import Input, VerifyOptions
 from pwhash.prompt import ask_each
 from pwhash.session import Session
 from pwhash.source import Source
-from pwhash.stored import Stored, stored_in, without_prefix
+from pwhash.stored import Stored, stored_in
 from pwhash.text import APART, is_utf8, is_visible, named, readable
 from pwhash.workers import in_thread
 
