@@ -42,7 +42,7 @@ USAGE = """
   pwhash install hashes passwords    make hashes a service's password file
   pwhash verify /etc/shadow ann      whether a password is ann's
 
-Hashes are sha512crypt with 656000 rounds. Each command has its own --help."""
+Hashes are {method} with {rounds} rounds. Each command has its own --help."""
 FILE_TEXT = "Hashes lines name:password. A file is read twice, first to look for problems."
 CHECK_TEXT = (
     "Checks lines name:field:password, where the field is what is stored: a hash, ! or nothing."
@@ -131,7 +131,7 @@ class Parser(argparse.ArgumentParser):
     def __init__(self, command: str, description: Optional[str]) -> None:
         super().__init__(
             prog=f"pwhash {command}" if command else "pwhash",
-            usage=None if command else USAGE,
+            usage=None if command else usage(),
             description=description,
             formatter_class=Formatter,
             allow_abbrev=False,
@@ -192,6 +192,17 @@ class Once(argparse.Action):
             parser.error(f"{option_string} is given twice")
         self._is_given = True
         setattr(namespace, self.dest, values)
+
+
+def usage() -> str:
+    """What `pwhash --help` begins with. The rounds are the library's."""
+    method = next(iter(library.METHODS))
+    return USAGE.format(method=method, rounds=usual_rounds(method))
+
+
+def usual_rounds(method: str) -> int:
+    """The rounds of new hashes of a method, if nobody chooses others."""
+    return library.limit(method, None, None).rounds
 
 
 def number(text: str) -> int:
@@ -520,7 +531,10 @@ def add_common(parser: Parser) -> None:
     parser.value(
         "-m", "--method", metavar="TYPE", choices=methods, default=methods[0], help=method_text
     )
-    rounds_text = "from 1000, by default 656k; with scrypt 6 to 11, by default 7"
+    rounds_text = (
+        f"from 1000, by default {usual_rounds(methods[0]) // 1000}k; "
+        f"with scrypt 6 to 11, by default {usual_rounds('scrypt')}"
+    )
     parser.value("-R", "--rounds", type=number, metavar="NUMBER", help=rounds_text)
     budget_text = (
         "what a line may cost in bytes; by default a login's limit, in audits any new hash"
@@ -562,7 +576,7 @@ def about_rounds(method: str, rounds: int) -> str:
     """The message about rounds that new hashes of a method can't have."""
     if method not in ROUNDS:
         return f"-R {rounds}: leave it out, since {method} has no rounds to choose"
-    usual = library.limit(method, None, None).rounds
+    usual = usual_rounds(method)
     return f"-R {rounds} with -m {method} isn't from {ROUNDS[method]}, by default {usual}"
 
 
