@@ -1,149 +1,186 @@
-# make             builds ./mkpasswd, the proved program; make run also hashes a first password
-# make static      builds build/x86-64/mkpasswd, which needs nothing of the system but the kernel
-# make lib         builds the C libraries, and with Debian's libpam0g-dev the PAM module
-# make web         builds build/mkpasswd.html, a page that makes and checks hashes, and
-#                  build/mkpasswd.mjs, for node
-# make npm         makes build/npm, the package of it for npm pack
-# make install     installs all of it below PREFIX (default /usr/local); make uninstall removes it
-# make test        tests what is built: ONLY='audit and not scrypt' the tests whose names match
-#                  (pytest -k); with STRICT=1 a tool that is missing is a failure
-# make lint        runs formatters and linters over all that isn't proved
-# make check       every check there is: lint, layers, gate, tests; with ANEW=1 the gate proves
-#                  everything anew
-# make bench       measures beside other programs, with the options in BENCH, and writes what
-#                  docs/SPEED.md shows
-# make pictures    makes the pictures in docs again: the page, a terminal, the plots
-# make soak        answers LINES random lines of each kind, by SEED; make fuzz makes random calls,
-#                  for FUZZ_SECONDS each
-# make specification    writes build/SPECIFICATION.md; make site all documents as web pages
-# make evidence    measures a commit for docs/EVIDENCE.md, for some hours
-# make dist        packs an archive; make image one for containers; make wheel a Python wheel;
-#                  make deb Debian packages
+# What can be made, and by which command: make help.
 #
-# CPU=x86-64-v3 builds for such processors. The default is x86-64-v2, and x86-64 for make static,
-# dist, image and wheel. Say it to each make, also to make install. TARGET=aarch64 is for ARM: make
-# builds its archive and wheel, make image the image.
+# These words may be given to each make, also to make install:
+#
+#   CPU=x86-64-v3     the level of x86-64 to build for. The default is x86-64-v2, and x86-64 for
+#                     what is taken to other machines: make static, dist, image and wheel.
+#   TARGET=aarch64    builds for ARM: make its archive and its wheel, make image its image.
+#   CC, CPPFLAGS, CFLAGS, LDFLAGS    compile and link the C code, in place of the flags below.
+#   PREFIX, LIBDIR, DESTDIR    where make install puts what it installs.
 PREFIX ?= /usr/local
 LIBDIR ?= $(PREFIX)/lib
 RT ?= rt
 CPU =
 TARGET =
 
+# The flags by which Debian hardens C, which runs as root here.
+CPPFLAGS ?= -Wdate-time -D_FORTIFY_SOURCE=2
+CFLAGS ?= -g -O2 '-ffile-prefix-map=$(CURDIR)=.' -fstack-protector-strong \
+	-fstack-clash-protection -Wformat -Werror=format-security
+LDFLAGS ?= -Wl,-z,relro -Wl,-z,now
+
+# The scripts take these from the environment, whatever characters they have.
+export DESTDIR PREFIX LIBDIR ARCHIVE RT
+
+.DEFAULT_GOAL := all
+.PHONY: help all run static lib web npm pictures install uninstall test lint layers gate check \
+	bench soak fuzz evidence specification site dist wheel image deb clean FORCE
+.DELETE_ON_ERROR .SECONDARY:
+# rt takes all cores for itself.
+.NOTPARALLEL:
+
+# Lists each target, with the comment above it that begins with two number signs.
+help:
+	@awk '/^## / { text = text substr($$0, 4) "\n                      "; next } \
+		text && /^[a-z]+:/ { sub(/:.*/, ""); sub(/ +$$/, "", text); \
+			printf "make %-16s %s", $$0, text } \
+		{ text = "" }' Makefile
+
+
+# ---- What there is to build
+
 SOURCES := crates.txt $(shell find crates -path '*/out' -prune \
 	-o \( -name '*.rt' -o -name '*.antt' \) -print)
+PAM_SOURCES := $(wildcard c/pam/*.c)
+PAM_HEADERS := $(wildcard c/pam/*.h)
 VERSION := $(shell tools/version)
-# Where the build for CPU is, and whom the archive, the wheel and the image are for.
+
+# Where the build for this machine is, and what the archive, the wheel and the image are built for.
 OWN = build/$(or $(CPU),x86-64-v2)
 FOR = $(or $(TARGET),$(CPU),x86-64)
 ARCHIVE ?= mkpasswd-$(VERSION)-$(subst -,_,$(FOR))-linux.tar.gz
-# The web pages are made where Debian's pandoc and mandoc are there, and the one that hashes where
-# its binaryen is; archives and packages always have them.
+
+# These are built where Debian's packages for them are installed: the web pages need pandoc and
+# mandoc, the page that hashes needs binaryen, the PAM module PAM's headers. Archives and packages
+# always have them.
 SITE := $(shell tools/site --check 2> /dev/null && echo build/site/index.html)
 WEB := $(shell tools/web --check 2> /dev/null && echo build/mkpasswd.html build/mkpasswd.mjs)
-NPM = $(addprefix build/npm/,package.json README.md mkpasswd.mjs mkpasswd.d.ts)
-# So is the PAM module where PAM's headers are.
 PAM := $(if $(wildcard /usr/include/security/pam_modules.h),pam_mkpasswd.so)
+HAS_ARM = $(findstring /,$(shell aarch64-linux-gnu-gcc -print-file-name=libc.a 2> /dev/null))
+
+NPM = $(addprefix build/npm/,package.json README.md mkpasswd.mjs mkpasswd.d.ts)
 COMPLETIONS = build/completions/mkpasswd.bash
 REASONS = python/src/mkpasswd/_reasons.py
-BUILT = mkpasswd $(COMPLETIONS) lib build/x86-64-v3/libmkpasswd.so.3 $(WEB) \
+INSTALLED = mkpasswd $(COMPLETIONS) lib build/x86-64-v3/libmkpasswd.so.3 $(WEB) \
 	build/SPECIFICATION.md $(SITE)
 PACKED = $(addprefix build/$(FOR)/,mkpasswd libmkpasswd.a libmkpasswd.so.3) $(COMPLETIONS) $(WEB) \
 	build/SPECIFICATION.md \
 	$(if $(TARGET),,$(addprefix build/$(FOR)/,$(PAM)) build/x86-64-v3/libmkpasswd.so.3) $(REASONS)
 ARM = $(addprefix build/aarch64/,mkpasswd libmkpasswd.a libmkpasswd.so.3)
-HAS_ARM = $(findstring /,$(shell aarch64-linux-gnu-gcc -print-file-name=libc.a 2> /dev/null))
-TRIED = $(BUILT) $(PACKED) $(if $(WEB),$(NPM)) $(if $(HAS_ARM),$(ARM))
-# The scripts take these from the environment, whatever characters they have.
-export DESTDIR PREFIX LIBDIR ARCHIVE RT
+TESTED = $(INSTALLED) $(PACKED) $(if $(WEB),$(NPM)) $(if $(HAS_ARM),$(ARM))
 
-.PHONY: all run static lib web npm pictures fuzz test check lint layers specification site gate \
-	evidence bench soak install uninstall dist image wheel deb clean FORCE
-.DELETE_ON_ERROR .SECONDARY:
-# rt takes all cores for itself.
-.NOTPARALLEL:
 
+# ---- The program and the libraries
+
+## builds ./mkpasswd, the proved program (with TARGET=aarch64: its archive and wheel)
 all: $(if $(TARGET),dist wheel,mkpasswd)
 
-# The proved object of the program for a processor, and that of the calls for C.
+## builds it, and hashes a first password
+run: mkpasswd
+	@./mkpasswd -m md5crypt -S xxxxxxxx password
+
+## builds build/x86-64/mkpasswd, which needs nothing of the system but the kernel
+static: build/$(FOR)/mkpasswd
+
+## builds the C libraries and, with Debian's libpam0g-dev, the PAM module
+lib: libmkpasswd.a libmkpasswd.so.3 $(PAM) $(REASONS)
+
+libmkpasswd.a libmkpasswd.so.3 pam_mkpasswd.so: %: $(OWN)/% build/cpu
+	cp $< $@
+
+# The errors for Python, from the header's list.
+$(REASONS): c/mkpasswd.h tools/reasons
+	tools/reasons python > $@
+
+# The processor of the last build. A build for another one rewrites this file, and so all that
+# depends on it.
+build/cpu: FORCE
+	@mkdir -p build
+	@echo '$(CPU)' | cmp -s - $@ || echo '$(CPU)' > $@
+
+# What is proved, as an object for a processor: the program, and the calls for C.
 build/%/program.o: $(SOURCES) tools/for-cpu
 	tools/for-cpu $* $(@F)
 
 build/%/libcrypt_c.a: $(SOURCES) tools/for-cpu
 	tools/for-cpu $* $(@F)
 
-# The compiler and the binutils for the processor of a file, and what else a program calls: C of the
-# toolchain, or ours.
-TOOLS = $(if $(filter build/aarch64/%,$@),aarch64-linux-gnu-)
-COMPILE = $(if $(TOOLS),$(TOOLS)gcc,$(CC)) -std=c99 -Wall -Wextra -O2
-RUNTIME = $(if $(TOOLS),c/runtime.c,$$(dirname $$($(RT) doc))/c/libos_c.a)
+# A file below build/aarch64 is made by the compiler and the binutils for ARM.
+CROSS = $(if $(filter build/aarch64/%,$@),aarch64-linux-gnu-)
+STANDARD = c99
+COMPILE = $(if $(CROSS),$(CROSS)gcc,$(CC)) -std=$(STANDARD) -Wall -Wextra -Ic $(CPPFLAGS) $(CFLAGS)
+LINK = $(if $(CROSS),$(CROSS)gcc,$(CC)) $(CFLAGS) $(LEVEL) $(LDFLAGS)
 # The level of x86-64 that a file needs, so that glibc refuses it on a lesser processor.
+LEVEL = $(addprefix -Wl$(comma)-z$(comma),$(NEEDED))
+NEEDED = $(filter x86-64-v%,$(subst /, ,$(if $(filter build/%,$@),$@,$(OWN))))
 comma := ,
-LEVEL = $(addprefix -Wl$(comma)-z$(comma), \
-	$(filter x86-64-v%,$(subst /, ,$(if $(filter build/%,$@),$@,$(OWN)))))
-LINKED = -Wl,-z,relro -Wl,-z,now $(LEVEL) $(LDFLAGS) -o $@
+
+# How memory is allocated: a program of one thread keeps its last large block, a library none.
+build/%/heap-of-program.o: c/heap.c
+	@mkdir -p $(@D)
+	$(COMPILE) -DKEEPS=1 -fPIE -c -o $@ $<
+
+build/%/heap-of-library.o: c/heap.c
+	@mkdir -p $(@D)
+	$(COMPILE) -DKEEPS=0 -fPIC -c -o $@ $<
+
+build/aarch64/runtime.o: c/runtime.c
+	@mkdir -p $(@D)
+	$(COMPILE) -fPIE -c -o $@ $<
+
+build/%/calls.o: c/calls.c c/mkpasswd.h
+	@mkdir -p $(@D)
+	$(COMPILE) -fPIC -c -o $@ $<
+
+# What else the program calls. The toolchain has it for x86-64 alone.
+RUNTIME = $(if $(CROSS),build/aarch64/runtime.o,$$(dirname $$($(RT) doc))/c/libos_c.a)
 
 # The program that takes the system's C library, and the one that brings its own.
-mkpasswd: $(OWN)/program.o c/heap.c build/cpu
-	$(COMPILE) -DKEEPS=1 -fPIE -pie -Wl,--gc-sections $(LINKED) $< c/heap.c $(RUNTIME)
+mkpasswd: $(OWN)/program.o $(OWN)/heap-of-program.o build/cpu
+	$(LINK) -fPIE -pie -Wl,--gc-sections -o $@ $(filter %.o,$^) $(RUNTIME)
 
-build/%/mkpasswd: build/%/program.o c/heap.c c/runtime.c
-	$(COMPILE) -DKEEPS=1 -fPIE -static-pie -s -Wl,--gc-sections $(LINKED) $< c/heap.c $(RUNTIME)
+build/%/mkpasswd: build/%/program.o build/%/heap-of-program.o
+	$(LINK) -fPIE -static-pie -s -Wl,--gc-sections -o $@ $(filter-out %/runtime.o,$^) $(RUNTIME)
 
-# The processor of the last build. Building for another one rewrites this file, and so all that
-# depends on it.
-build/cpu: FORCE
-	@mkdir -p build
-	@echo '$(CPU)' | cmp -s - $@ || echo '$(CPU)' > $@
+build/aarch64/mkpasswd: build/aarch64/runtime.o
+
+# The library as one object: the proved calls, and the C code that draws a salt, allocates and
+# wipes. It offers what the version script lists.
+build/%/mkpasswd.o: build/%/libcrypt_c.a build/%/calls.o build/%/heap-of-library.o c/libmkpasswd.map
+	cd $(@D) && $(CROSS)ar x libcrypt_c.a crypt_c.o
+	$(CROSS)ld -r $(addprefix -z ,$(NEEDED)) -o $@ $(@D)/crypt_c.o $(filter %.o,$^)
+	sed -n 's/^ *\(mkpasswd_[a-z_]*\);$$/\1/p' c/libmkpasswd.map > $(@D)/calls
+	$(CROSS)objcopy --keep-global-symbols=$(@D)/calls $@
+
+build/%/libmkpasswd.a: build/%/mkpasswd.o
+	rm -f $@
+	$(CROSS)ar rcsD $@ $<
+
+build/%/libmkpasswd.so.3: build/%/mkpasswd.o c/libmkpasswd.map
+	$(LINK) -shared -Wl,-soname,$(@F) -Wl,--version-script=c/libmkpasswd.map \
+		-Wl,--no-undefined-version -Wl,-z,defs -o $@ $<
+
+# The module has the library in it, and offers nothing to the service that loads it but PAM's calls.
+build/%/pam_mkpasswd.so: STANDARD = gnu11
+build/%/pam_mkpasswd.so: build/%/libmkpasswd.a $(PAM_SOURCES) $(PAM_HEADERS) c/pam/module.map \
+		c/mkpasswd.h
+	$(COMPILE) -fPIC -shared $(LEVEL) $(LDFLAGS) -Wl,--version-script=c/pam/module.map \
+		-Wl,--no-undefined-version -Wl,-z,defs -o $@ $(PAM_SOURCES) $< -lpam
 
 # The completions, from the help of a program that runs on this machine.
 $(COMPLETIONS): mkpasswd libmkpasswd.so.3 bin/pwhash python/src/pwhash/cli.py tools/completions
 	@mkdir -p $(@D)
 	tools/completions ./mkpasswd bin/pwhash $(@D)
 
-run: mkpasswd
-	@./mkpasswd -m md5crypt -S xxxxxxxx password
 
-static: build/$(FOR)/mkpasswd
+# ---- JavaScript
 
-lib: libmkpasswd.a libmkpasswd.so.3 $(PAM) $(REASONS)
-
-# The errors for Python, from the header's list.
-$(REASONS): c/mkpasswd.h tools/reasons
-	tools/reasons python > $@
-
-libmkpasswd.a libmkpasswd.so.3 pam_mkpasswd.so: %: $(OWN)/% build/cpu
-	cp $< $@
-
-# One object of the proved calls, and the few lines of C that draw a salt, allocate and wipe. It
-# offers what the version script does.
-build/%/mkpasswd.o: build/%/libcrypt_c.a c/calls.c c/heap.c c/mkpasswd.h c/libmkpasswd.map
-	cd $(@D) && $(TOOLS)ar x libcrypt_c.a crypt_c.o
-	$(COMPILE) -DKEEPS=0 -fPIC -Ic -r -nostdlib $(LEVEL) -o $@ $(@D)/crypt_c.o c/calls.c c/heap.c
-	sed -n 's/^ *\(mkpasswd_[a-z_]*\);$$/\1/p' c/libmkpasswd.map > $(@D)/calls
-	$(TOOLS)objcopy --keep-global-symbols=$(@D)/calls $@
-
-build/%/libmkpasswd.a: build/%/mkpasswd.o
-	rm -f $@
-	$(TOOLS)ar rcsD $@ $<
-
-build/%/libmkpasswd.so.3: build/%/mkpasswd.o c/libmkpasswd.map
-	$(COMPILE) -shared -Wl,-soname,$(@F) -Wl,--version-script=c/libmkpasswd.map \
-		-Wl,--no-undefined-version -Wl,-z,defs $(LINKED) $<
-
-PAM_SOURCES := $(wildcard c/pam/*.c)
-
-# The library is in it, and offers nothing to the service that loads the module.
-build/%/pam_mkpasswd.so: build/%/libmkpasswd.a $(PAM_SOURCES) $(wildcard c/pam/*.h) \
-		c/pam/module.map c/mkpasswd.h
-	$(COMPILE) -std=gnu11 -fPIC -fstack-protector-strong -D_FORTIFY_SOURCE=2 -shared -Ic \
-		-Wl,--version-script=c/pam/module.map -Wl,--no-undefined-version -Wl,-z,defs $(LINKED) \
-		$(PAM_SOURCES) $< -lpam
-
-# The calls for a page, as a module of WebAssembly, and what is made around it.
+## builds build/mkpasswd.html, a page that makes and checks hashes, and build/mkpasswd.mjs, for node
 web:
 	tools/web --check
 	$(MAKE) build/mkpasswd.html build/mkpasswd.mjs
 
+## builds build/npm, the same for npm pack
 npm:
 	tools/web --check
 	$(MAKE) $(NPM)
@@ -165,49 +202,68 @@ build/mkpasswd.html build/mkpasswd.mjs $(NPM): build/mkpasswd.wasm tools/web too
 	@mkdir -p $(@D)
 	tools/web $< $@
 
-pictures: web
-	tools/pictures
-	tools/bench-page
-	tools/terminal
 
-# Each target keeps what it found in build/fuzz, from where the next run begins.
+# ---- Checks
+
+## runs every check there is: lint, layers, gate and test; with ANEW=1 the gate proves all anew, and
+## with STRICT=1 a tool that is missing is a failure
+check: lint layers gate $(TESTED)
+	tools/test
+
+## runs formatters and linters over all that isn't proved
+lint: $(REASONS)
+	tools/reasons check
+	tools/lint
+
+## checks which crate uses which, and that the specification can be written
+layers: specification
+	tools/test program/test_sources.py
+
+# The gate leaves the object of the program that it proved, but none if all proofs were kept.
+## proves all crates and their tests, and has every wrong body refused
+gate:
+	rm -f crates/program/out/program.o
+	tools/gate $(if $(ANEW),--anew)
+	[ -e crates/program/out/program.o ] || tools/for-cpu x86-64-v2 program.o
+	install -D -m 644 -t build/x86-64-v2 crates/program/out/program.o
+
+## tests what is built; ONLY='audit and not scrypt' chooses tests by name, as pytest -k does
+test: $(TESTED)
+	tools/test $(if $(ONLY),-k '$(ONLY)')
+
+## answers LINES random lines of each kind, by SEED, and compares with what the rules say
+soak: mkpasswd
+	tools/soak $(if $(LINES),--lines $(LINES)) $(if $(SEED),--seed $(SEED)) ./mkpasswd
+
 FUZZERS := $(patsubst tests/c/fuzz_%.c,build/fuzz/%,$(wildcard tests/c/fuzz_*.c))
 
-# What is fuzzed besides the library.
-build/fuzz/pam: FUZZED = $(PAM_SOURCES)
-
-build/fuzz/%: tests/c/fuzz_%.c tests/c/fuzz.h $(PAM_SOURCES) $(wildcard c/pam/*.h) c/mkpasswd.h \
-		libmkpasswd.a
-	@mkdir -p $@.corpus
-	clang -std=gnu11 -Wall -Wextra -Werror -g -O1 -fsanitize=fuzzer,address,undefined \
-		-fno-sanitize-recover=all -Ic $< $(FUZZED) libmkpasswd.a -Wl,--no-as-needed -lcrypt -o $@
-
+## makes random calls of the library and the PAM module, FUZZ_SECONDS of each kind; what they find
+## interesting stays in build/fuzz, where the next run begins
 fuzz: $(FUZZERS)
 	for fuzzer in $(FUZZERS); do \
 		$$fuzzer -max_total_time=$(or $(FUZZ_SECONDS),300) -max_len=1600 -timeout=20 \
 			-print_final_stats=1 -artifact_prefix=$$fuzzer. $$fuzzer.corpus || exit 1; \
 	done
 
-test: $(TRIED)
-	tools/test $(if $(ONLY),-k '$(ONLY)')
+build/fuzz/pam: FUZZED = $(PAM_SOURCES)
 
-# What needs nothing built comes first: lint, the layers, the specification and the gate.
-check: lint layers gate $(TRIED)
-	tools/test
+build/fuzz/%: tests/c/fuzz_%.c tests/c/fuzz.h $(PAM_SOURCES) $(PAM_HEADERS) c/mkpasswd.h \
+		libmkpasswd.a
+	@mkdir -p $@.corpus
+	clang -std=gnu11 -Wall -Wextra -Werror -g -O1 -fsanitize=fuzzer,address,undefined \
+		-fno-sanitize-recover=all -Ic $< $(FUZZED) libmkpasswd.a -Wl,--no-as-needed -lcrypt -o $@
 
-lint: $(REASONS)
-	tools/reasons check
-	tools/lint
 
-layers: specification
-	tools/test program/test_sources.py
+# ---- Documents
 
+## writes build/SPECIFICATION.md: what is proved, with every definition that it rests on
 specification: build/SPECIFICATION.md
 
 build/SPECIFICATION.md: tools/specification tools/specification.md $(SOURCES)
 	@mkdir -p build
 	tools/specification > $@
 
+## writes all documents and manuals as web pages, in build/site
 site: build/site/index.html
 
 build/site/index.html: tools/site $(wildcard *.md docs/* man/* examples/* c/*.h) $(WEB) \
@@ -215,49 +271,56 @@ build/site/index.html: tools/site $(wildcard *.md docs/* man/* examples/* c/*.h)
 	rm -rf build/site && mkdir -p build/site
 	tools/site build/site
 
-# The gate leaves the object that it proved, so only other processors need another one. A gate that
-# found all proofs kept leaves no object.
-gate:
-	rm -f crates/program/out/program.o
-	tools/gate $(if $(ANEW),--anew)
-	[ -e crates/program/out/program.o ] || tools/for-cpu x86-64-v2 program.o
-	install -D -m 644 -t build/x86-64-v2 crates/program/out/program.o
-
-evidence:
-	tools/evidence
-
+## measures beside other programs, with the options in BENCH, and writes docs/SPEED.md
 bench: mkpasswd libmkpasswd.a build/x86-64/mkpasswd build/x86-64-v3/mkpasswd build/mkpasswd.mjs
 	tools/bench $(BENCH) docs/speed.json
 	tools/bench-page
 
-soak: mkpasswd
-	tools/soak $(if $(LINES),--lines $(LINES)) $(if $(SEED),--seed $(SEED)) ./mkpasswd
+## makes the pictures in docs again: the page, a terminal, the plots
+pictures: web
+	tools/pictures
+	tools/bench-page
+	tools/terminal
 
-install: $(BUILT)
+## measures a commit for docs/EVIDENCE.md, for some hours
+evidence:
+	tools/evidence
+
+
+# ---- Packages
+
+## installs all of it below PREFIX (default /usr/local)
+install: $(INSTALLED)
 	tools/install
 
+## removes what make install installs
 uninstall:
 	tools/install --remove
 
+## packs an archive, to be unpacked into any prefix
 dist:
 	tools/site --check
 	tools/web --check
 	$(MAKE) $(PACKED) build/site/index.html
 	tools/pack $(FOR)
 
+## packs the Python package, as a wheel
 wheel: build/$(FOR)/libmkpasswd.so.3 $(REASONS)
 	tools/wheel --check
 	tools/wheel $< .
 
+## packs a container image
 image: build/$(FOR)/mkpasswd
 	tools/image $< mkpasswd:$(VERSION) mkpasswd-$(VERSION)-$(subst -,_,$(FOR))-image.tar
 
-# The packages depend on sse4.2-support, which refuses processors that the default build is not for.
+# They depend on sse4.2-support, which refuses processors that the default build is not for.
+## packs Debian packages
 deb:
 	tools/deb --check
-	$(MAKE) $(BUILT)
+	$(MAKE) $(INSTALLED)
 	tools/deb .
 
+## removes all that was made here
 clean:
 	rm -rf mkpasswd libmkpasswd.a libmkpasswd.so.3 pam_mkpasswd.so build crates/*/out $(REASONS) \
 		mkpasswd-*-linux.tar.gz mkpasswd-*-image.tar mkpasswd-*.whl *.deb

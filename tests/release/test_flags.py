@@ -1,0 +1,180 @@
+"""make compiles and links the C code by a packager's flags, and hardens it by default.
+
+The C code is compiled in a copy of the tree, over the objects of the proved code that this tree
+has built.
+"""
+from __future__ import annotations
+
+import os
+import shutil
+from dataclasses import dataclass
+from pathlib import Path
+
+import pytest
+from support import ROOT
+from support.careless_logins import calls_of_each_kind
+from support.driver import COUNTS_STATIC, SOURCE, Driver
+from support.library import WARNINGS
+from support.model.calls import System
+from support.needs import built
+from support.process import Result, Word, assert_result, run
+
+PROCESSOR = "x86-64-v2"
+PROVED = ("program.o", "libcrypt_c.a")
+FILES = ("mkpasswd", "libmkpasswd.a", "libmkpasswd.so.3", "pam_mkpasswd.so")
+STATIC = f"build/{PROCESSOR}/mkpasswd"
+# What make's own environment would tell another make.
+NOTHING_OF_MAKE: dict[str, str | None] = {
+    name: None
+    for name in ("CC", "CFLAGS", "CPPFLAGS", "LDFLAGS", "CPU", "MAKEFLAGS", "MAKELEVEL", "TARGET")
+}
+SANITIZERS = "-fsanitize=address,undefined"
+# blhc reads what comes after this line.
+BEGIN_OF_A_LOG = b"dpkg-buildpackage: info: source package mkpasswd\n"
+
+pytestmark = pytest.mark.needs("cc", "make", "/usr/include/security/pam_modules.h")
+
+
+@dataclass(frozen=True)
+class Tree:
+    """A copy of what make needs in order to compile the C code."""
+
+    folder: Path
+
+    def make(self, *words: Word) -> Result:
+        """Runs make, for which the proved objects are up to date."""
+        kept = [word for name in PROVED for word in ("-o", f"build/{PROCESSOR}/{name}")]
+        return run("make", *kept, *words, cwd=self.folder, env=NOTHING_OF_MAKE)
+
+    def commands(self, *words: Word) -> list[str]:
+        """The commands by which make would compile and link, each in one line."""
+        lines = self.make("--always-make", "--dry-run", *words, *FILES).required().stdout.decode()
+        return lines.replace("\\\n", " ").splitlines()
+
+
+def copied(folder: Path) -> Tree:
+    """Copies what make needs."""
+    for name in ("c", "tools"):
+        shutil.copytree(ROOT / name, folder / name)
+    shutil.copy(ROOT / "Makefile", folder)
+    version = Path("crates/crypt_core/src/version.rt")  # which tools/version reads
+    for path in (version, Path("crates.txt"), Path("build/cpu")):
+        (folder / path).parent.mkdir(parents=True, exist_ok=True)
+        shutil.copy(ROOT / path, folder / path)
+    (folder / "build/cpu").write_text("\n", encoding="ascii")
+    objects = folder / "build" / PROCESSOR
+    objects.mkdir()
+    for name in PROVED:
+        shutil.copy(built(f"build/{PROCESSOR}/{name}", "gate lib"), objects)
+    return Tree(folder)
+
+
+@pytest.fixture(scope="module", name="tree")
+def fixture_tree(tmp_path_factory: pytest.TempPathFactory) -> Tree:
+    """A copy in which nothing is compiled."""
+    return copied(tmp_path_factory.mktemp("tree"))
+
+
+# ---- A packager's flags
+
+
+def test_each_command_has_the_compiler_and_the_flags_of_a_packager(tree: Tree) -> None:
+    commands = tree.commands(
+        "CC=gcc -pipe", "CPPFLAGS=-DOURS", "CFLAGS=-O3 -Wundef", "LDFLAGS=-Wl,-O2"
+    )
+    compiled = [command for command in commands if ".c" in command and "gcc" in command]
+    linked = [command for command in commands if " -o " in command and "-Wl," in command]
+    assert len(compiled) >= 4 and len(linked) == 3, commands
+    for command in {*compiled, *linked}:
+        assert command.startswith("gcc -pipe ") and "-O3 -Wundef" in command
+        assert "-fstack-protector" not in command and "-z,relro" not in command
+    assert all("-DOURS" in command for command in compiled)
+    assert all("-Wl,-O2" in command for command in linked)
+
+
+def test_flags_of_the_environment_are_honoured(tree: Tree) -> None:
+    kept = [word for name in PROVED for word in ("-o", f"build/{PROCESSOR}/{name}")]
+    changes = NOTHING_OF_MAKE | {"CFLAGS": "-O1 -DFROM_ENVIRONMENT"}
+    words = ("make", *kept, "--always-make", "--dry-run", "libmkpasswd.a")
+    commands = run(*words, cwd=tree.folder, env=changes).required().stdout
+    assert commands.count(b"-DFROM_ENVIRONMENT") == 2, commands
+
+
+# ---- Hardening
+
+
+@pytest.mark.needs("blhc")
+def test_blhc_finds_no_flag_missing(tree: Tree, tmp_path: Path) -> None:
+    """--debian: gcc makes programs independent of their place without being told."""
+    log = tmp_path / "log"
+    lines = "\n".join(tree.commands(STATIC)).encode() + b"\n"
+    log.write_bytes(BEGIN_OF_A_LOG + lines)
+    assert_result(run("blhc", "--debian", "--bindnow", "--arch", "amd64", log))
+
+
+# What there is no need of, and hardening-check doesn't find: the proved code writes within its
+# bounds, and the compiler of the toolchain marks no target of a jump. A program's few C functions
+# have no array on the stack, and copy only what has a size that the compiler doesn't know.
+PROVED_CODE = ("--nocfprotection",)
+NO_ARRAYS = ("--nostackprotector", "--nofortify")
+
+
+@pytest.mark.needs("hardening-check")
+@pytest.mark.parametrize(
+    ("name", "without"),
+    [
+        pytest.param("mkpasswd", (*PROVED_CODE, *NO_ARRAYS), id="the program"),
+        pytest.param(STATIC, (*PROVED_CODE, *NO_ARRAYS), id="the static program"),
+        pytest.param("libmkpasswd.so.3", (*PROVED_CODE, "--nofortify"), id="the library"),
+        pytest.param("pam_mkpasswd.so", PROVED_CODE, id="the PAM module"),
+    ],
+)
+def test_hardening_check_finds_nothing(tree: Tree, name: str, without: tuple[str, ...]) -> None:
+    tree.make(name).required()
+    result = run("hardening-check", *without, tree.folder / name)
+    assert result.status == 0, result
+
+
+# ---- Sanitizers
+
+
+@pytest.fixture(scope="module", name="sanitized")
+def fixture_sanitized(tmp_path_factory: pytest.TempPathFactory) -> Tree:
+    """A copy whose C code is compiled with gcc's sanitizers, and stops at what they find."""
+    tree = copied(tmp_path_factory.mktemp("sanitized"))
+    flags = f"CFLAGS=-g -O1 {SANITIZERS} -fno-sanitize-recover=all"
+    result = tree.make(flags, "CPPFLAGS=", *FILES)
+    assert b"warning" not in result.required().stderr, result
+    return tree
+
+
+def test_the_program_hashes_with_sanitizers(sanitized: Tree) -> None:
+    words = ("-m", "md5crypt", "-S", "xxxxxxxx", "password")
+    printed = b"$1$xxxxxxxx$UYCIxa628.9qXjpQCjM4a.\n"  # libxcrypt's
+    assert_result(run(sanitized.folder / "mkpasswd", *words), stdout=printed)
+
+
+@pytest.mark.parametrize("refused", range(5))
+def test_the_library_makes_all_calls_with_sanitizers(
+    sanitized: Tree, tmp_path: Path, refused: int
+) -> None:
+    """Once with memory, and once with each allocation refused."""
+    program = tmp_path / "caller"
+    words: list[Word] = ["gcc", "-std=c99", *WARNINGS, "-g", "-DSANITIZED", SANITIZERS]
+    library = sanitized.folder / "libmkpasswd.a"
+    included = sanitized.folder / "c"
+    assert_result(
+        run(*words, *COUNTS_STATIC, f"-I{included}", SOURCE, library, "-o", program), status=0
+    )
+    numbers = b"".join(number.to_bytes(8, "little") for number in (1, 2, 3))
+    driver = Driver((program,))
+    driver.assert_by_the_rules(calls_of_each_kind(), System(refused, numbers), threads=8)
+
+
+def test_the_module_is_loaded_with_sanitizers(sanitized: Tree) -> None:
+    """Its calls are tested by fuzzing, with clang's sanitizers: make fuzz."""
+    script = "import ctypes, sys; ctypes.CDLL(sys.argv[1]).pam_sm_authenticate"
+    runtime = run("gcc", "-print-file-name=libasan.so").required().stdout.decode().strip()
+    changes = {"LD_PRELOAD": os.path.realpath(runtime), "ASAN_OPTIONS": "detect_leaks=0"}
+    module = sanitized.folder / "pam_mkpasswd.so"
+    assert_result(run("/usr/bin/python3", "-c", script, module, env=changes))
