@@ -1,0 +1,149 @@
+"""The service that docs/C.md shows lets in who knows the password, and nobody else."""
+from __future__ import annotations
+
+from pathlib import Path
+
+import pytest
+from support.documents import marked
+from support.library import SOURCES, Builder
+from support.libxcrypt import crypt
+from support.process import Result, Word, assert_result, run
+from support.stored_fields import MD5CRYPT
+
+CURRENT = crypt(b"password", b"$6$rounds=656000$ab")
+BCRYPT = crypt(b"password", b"$2b$05$abcdefghijklmnopqrstuu")
+YESCRYPT = crypt(b"password", b"$y$j75$abcdefghijklmnopqrst.1$")
+ASKS = "mkpasswd_login(password, mkpasswd_field(is_known ? field : NULL), NULL, &report)"
+ASKS_BOTH = "matches(typed, is_known ? field : NULL, &report)"
+
+
+def built(builder: Builder, folder: Path, code: str, *words: Word) -> Path:
+    """The service with this code of the page, compiled without a warning."""
+    page = folder / "page.c"
+    page.write_text(code, encoding="ascii")
+    program = builder.build(SOURCES / "c_page.c", "-D_DEFAULT_SOURCE", page, *words)
+    return program.rename(folder / "service")
+
+
+@pytest.fixture(scope="module", name="service")
+def fixture_service(builder: Builder, tmp_path_factory: pytest.TempPathFactory) -> Path:
+    """The service of the page."""
+    names = ("users in C", "new password in C", "whole login in C")
+    code = "".join(marked(name, "c").code for name in names)
+    return built(builder, tmp_path_factory.mktemp("service"), code)
+
+
+@pytest.fixture(scope="module", name="moving_service")
+def fixture_moving_service(builder: Builder, tmp_path_factory: pytest.TempPathFactory) -> Path:
+    """The service that has users with hashes of libxcrypt's."""
+    login = marked("whole login in C", "c").code
+    assert ASKS in login
+    names = ("users in C", "new password in C", "moving in C")
+    code = "".join(marked(name, "c").code for name in names) + login.replace(ASKS, ASKS_BOTH)
+    return built(builder, tmp_path_factory.mktemp("moving"), code, "-Wl,--no-as-needed", "-lcrypt")
+
+
+def assert_renewed(result: Result, password: bytes) -> None:
+    """Fails the test unless somebody is in, and has a new hash of the password."""
+    new = result.required().stdout.removesuffix(b"\n")
+    assert new.startswith(b"$6$rounds=656000$"), result
+    assert crypt(password, new) == new
+
+
+# ---- The login
+
+
+def test_a_match_gets_in_and_keeps_a_hash_that_is_current(service: Path) -> None:
+    assert_result(run(service, CURRENT, "password"), stdout=CURRENT + b"\n")
+
+
+def test_a_match_of_an_old_hash_gets_in_and_a_new_one(service: Path) -> None:
+    assert_renewed(run(service, MD5CRYPT, "password"), b"password")
+
+
+@pytest.mark.parametrize(
+    ("field", "logged"),
+    [
+        pytest.param(CURRENT, b"ann: wrong password\n", id="the hash of another password"),
+        pytest.param(b"!" + CURRENT, b"ann: locked\n", id="a locked account"),
+        pytest.param(BCRYPT, b"ann: unknown scheme\n", id="bcrypt"),
+        pytest.param(b"$6$rounds=999999999$ab$x", b"ann: over budget\n", id="a costly hash"),
+        pytest.param(b"-", b"somebody: no hash\n", id="an unknown name, which isn't logged"),
+    ],
+)
+def test_nobody_else_gets_in(service: Path, field: bytes, logged: bytes) -> None:
+    assert_result(run(service, field, "passwort"), status=1, stdout=field + b"\n", stderr=logged)
+
+
+def test_an_account_that_is_locked_meanwhile_stays_outside(service: Path) -> None:
+    result = run(service, CURRENT, "password", env={"LOCKED": "1"})
+    assert_result(result, status=1, stdout=CURRENT + b"\n")
+
+
+# ---- A new password
+
+
+def test_a_new_password_is_hashed(service: Path) -> None:
+    result = run(service, CURRENT, "password", "correct horse").required()
+    new = result.stdout.split(b"\n")[1]
+    assert crypt(b"correct horse", new) == new and new.startswith(b"$6$rounds=656000$")
+
+
+@pytest.mark.parametrize(
+    ("password", "sentence"),
+    [
+        pytest.param("", b"The password is empty.", id="an empty one"),
+        pytest.param("x" * 169, b"The password is too long.", id="one above the limit"),
+        pytest.param("x" * 1025, b"The password is too long.", id="one of 1,025 bytes"),
+    ],
+)
+def test_a_new_password_that_cannot_be_is_refused(
+    service: Path, password: str, sentence: bytes
+) -> None:
+    result = run(service, CURRENT, "password", password).required()
+    assert result.stdout.split(b"\n")[1] == sentence, result
+
+
+# ---- Moving
+
+
+@pytest.mark.parametrize(
+    "field", [pytest.param(BCRYPT, id="bcrypt"), pytest.param(YESCRYPT, id="yescrypt")]
+)
+def test_a_match_of_another_scheme_gets_in_and_a_new_hash(
+    moving_service: Path, field: bytes
+) -> None:
+    assert_renewed(run(moving_service, field, "password"), b"password")
+
+
+@pytest.mark.parametrize(
+    "field",
+    [
+        pytest.param(BCRYPT, id="bcrypt"),
+        pytest.param(YESCRYPT, id="yescrypt"),
+        pytest.param(BCRYPT[:-1], id="bcrypt, cut"),
+        pytest.param(b"$2b$05$", id="no hash of bcrypt"),
+        pytest.param(MD5CRYPT, id="md5crypt"),
+    ],
+)
+def test_another_password_stays_outside(moving_service: Path, field: bytes) -> None:
+    result = run(moving_service, field, "passwort")
+    assert_result(result, status=1, stdout=field + b"\n", stderr=b"ann: wrong password\n")
+
+
+@pytest.mark.parametrize(
+    "field", [pytest.param(BCRYPT[:-1], id="bcrypt, cut"), pytest.param(b"$2b$05$", id="no hash")]
+)
+def test_a_damaged_hash_of_another_scheme_lets_nobody_in(
+    moving_service: Path, field: bytes
+) -> None:
+    result = run(moving_service, field, "password")
+    assert_result(result, status=1, stdout=field + b"\n", stderr=b"ann: wrong password\n")
+
+
+def test_the_policy_is_one_that_the_compiler_takes(builder: Builder, tmp_path: Path) -> None:
+    source = tmp_path / "policy.c"
+    code = marked("policy in C", "c").code
+    check = "int main(void) { return !mkpasswd_limit(&policy, NULL); }\n"
+    source.write_text(f"#include <mkpasswd.h>\n{code}{check}", encoding="ascii")
+    assert_result(run(builder.build(source)))
