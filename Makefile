@@ -259,7 +259,8 @@ build/fuzz/%: tests/c/fuzz_%.c tests/c/fuzz.h $(PAM_SOURCES) $(PAM_HEADERS) c/mk
 ## writes build/SPECIFICATION.md: what is proved, with every definition that it rests on
 specification: build/SPECIFICATION.md
 
-build/SPECIFICATION.md: tools/specification tools/specification.md $(SOURCES)
+build/SPECIFICATION.md: tools/specification $(wildcard tools/spec_page/*.py) \
+		tools/specification.md $(SOURCES)
 	@mkdir -p build
 	tools/specification > $@
 

@@ -1,0 +1,157 @@
+"""What the names in a definition, a type or a call stand for."""
+
+from __future__ import annotations
+
+import re
+from collections.abc import Iterable, Iterator, Mapping
+from dataclasses import dataclass
+from functools import lru_cache
+from typing import Union
+
+from .antt import definitions_of
+from .imports import Import, imports_of
+from .rattle import all_types, types_of, unshown_types
+from .sources import Entry, Stop, crates, is_file
+
+# A name, which follows no point: of `job.maker` only `job`
+WORD = re.compile(r"(?<![\w.'])[^\W\d][\w']*")
+# `-- The salt.`, `// The salt.`, `"rounds="`, which have no names
+COMMENT_OR_STRING = re.compile(r' *(?:--|//).*|"(?:[^"\\\n]|\\.)*"')
+# Where the clauses of a call or the view of a type begin: `    ensures { IsReady turns input.old }`
+CLAUSES = re.compile(r"^(?:impl| +requires| +ensures)", re.MULTILINE)
+# The name of a field, an argument or a variant: `    pub maker` of `    pub maker: Maker,`
+FIELD = re.compile(r"^    (?:pub )?\w+", re.MULTILINE)
+# A type of the code, as clauses name it: `specs.declared.setting.fault.SettingFault.TheVariants`
+DECLARED = re.compile(
+    r"specs\.(?:declared|contracts)\."
+    r"(?P<module>[a-z]\w*(?:\.[a-z]\w*)*)\.(?P<name>[A-Z]\w*)(?:\.TheVariants)?"
+)
+
+
+@dataclass(frozen=True, order=True)
+class Outside:
+    """A name of a module of the toolchain, or its whole module, whose name is empty."""
+
+    module: str
+    name: str
+
+
+Meaning = Union[Entry, Outside]
+
+
+@dataclass(frozen=True)
+class Reached:
+    """All that some entries lead to."""
+
+    entries: frozenset[Entry]
+    outside: frozenset[Outside]
+
+
+def reached(start: Iterable[Entry]) -> Reached:
+    """What these entries use, what that uses, and so on."""
+    seen: set[Meaning] = set()
+    left = list(start)
+    while left:
+        for meanings in names_of(left.pop()).values():
+            for meaning in meanings:
+                if meaning not in seen and isinstance(meaning, Entry):
+                    left.append(meaning)
+                seen.add(meaning)
+    return Reached(
+        frozenset(meaning for meaning in seen if isinstance(meaning, Entry)),
+        frozenset(meaning for meaning in seen if isinstance(meaning, Outside)),
+    )
+
+
+@lru_cache(maxsize=None)
+def names_of(entry: Entry) -> Mapping[str, tuple[Meaning, ...]]:
+    """What the words of an entry stand for, other than itself.
+
+    Any word counts that its file declares or imports, also one that is only an argument's name: the
+    page may have a definition too many, and lacks none.
+    """
+    pairs = names_of_definition(entry) if entry.is_definition else names_of_code(entry)
+    names: dict[str, tuple[Meaning, ...]] = {}
+    for word, meaning in pairs:
+        known = names.get(word, ())
+        if meaning != entry and meaning not in known:
+            names[word] = (*known, meaning)
+    return names
+
+
+def words_of(text: str) -> list[str]:
+    """The words of a text, each once."""
+    return list(dict.fromkeys(WORD.findall(text)))
+
+
+def names_of_definition(entry: Entry) -> Iterator[tuple[str, Meaning]]:
+    """The words that a definition's file defines or imports."""
+    own = definitions_of(entry.place.path)
+    imports = imports_of(entry.place.path)
+    for word in words_of(COMMENT_OR_STRING.sub("", entry.code)):
+        if word in own:
+            yield word, own[word]
+        else:
+            yield from ((word, followed(imported)) for imported in imports.get(word, ()))
+
+
+def names_of_code(entry: Entry) -> Iterator[tuple[str, Meaning]]:
+    """The words of a type or a call that are types, and those that its clauses import."""
+    code = COMMENT_OR_STRING.sub("", entry.code)
+    clauses = CLAUSES.search(code)
+    border = clauses.start() if clauses else len(code)
+    for word in words_of(FIELD.sub("", code[:border])):
+        if not word.isupper():  # a parameter such as R, or the length of an array
+            yield from ((word, meaning) for meaning in types_named(word, entry))
+    imports = imports_of(entry.place.path)
+    for word in words_of(code[border:]):
+        if word in imports:
+            yield from ((word, followed(imported)) for imported in imports[word])
+        else:
+            yield from ((word, meaning) for meaning in types_named(word, entry))
+
+
+def types_named(word: str, entry: Entry) -> list[Entry]:
+    """The type of this name, if any, which some code uses."""
+    types = all_types().get(word, ())
+    if not types and word in unshown_types():
+        place = unshown_types()[word]
+        raise Stop(f"{entry.place}: {entry.name} uses {word} of {place}, which the page can't show")
+    if len(types) > 1:
+        places = " or ".join(str(found.place) for found in types)
+        raise Stop(f"{entry.place}: {entry.name} uses {word}, which may be that of {places}")
+    return list(types)
+
+
+def followed(imported: Import) -> Meaning:
+    """What an imported name stands for."""
+    crate, _, module = imported.module.partition(".")
+    if crate not in crates():
+        return Outside(imported.module, imported.name)
+    declared = DECLARED.fullmatch(module)
+    if declared:
+        return declared_type(imported, crate, declared["module"], declared["name"])
+    path = f"crates/{imported.module.replace('.', '/')}.antt"
+    if is_file(path):
+        definition = definitions_of(path).get(imported.name)
+        passed_on = imports_of(path).get(imported.name, ())
+        if definition:
+            return definition
+        if len(passed_on) == 1:
+            return followed(passed_on[0])
+    raise unfollowed(imported)
+
+
+def declared_type(imported: Import, crate: str, module: str, name: str) -> Entry:
+    """A type of the code, which clauses import by its module."""
+    path = f"crates/{crate}/src/{module.replace('.', '/')}.rt"
+    declared = types_of(path).get(name) if is_file(path) else None
+    if not declared:
+        raise unfollowed(imported)
+    return declared
+
+
+def unfollowed(imported: Import) -> Stop:
+    """The error for a name whose definition isn't found."""
+    what = f"{imported.name} of {imported.module}" if imported.name else imported.module
+    return Stop(f"{imported.place}: {what} has no definition that the page can show")
