@@ -3,6 +3,7 @@ somewhere."""
 from __future__ import annotations
 
 import re
+import shutil
 from collections.abc import Iterator
 from dataclasses import dataclass
 from pathlib import Path
@@ -10,6 +11,7 @@ from xml.etree import ElementTree
 
 import pytest
 from support import ROOT
+from support.documents import documents, lines_of
 from support.needs import built
 from support.process import Changes, Result, assert_result, run
 
@@ -69,6 +71,19 @@ def test_the_pages_are_well_formed(site: Site) -> None:
         except ElementTree.ParseError as error:
             problems.append(f"{page.name}: {error}")
     assert not problems, "expected: pages that are well-formed\n" + "\n".join(problems)
+
+
+def heading_of(page: Path) -> str:
+    """The first heading of a page, without its tags."""
+    return next("".join(each.itertext()) for each in elements_of(page) if each.tag == "h1")
+
+
+@pytest.mark.parametrize("document", documents(), ids=lambda document: str(document.name))
+def test_each_document_has_its_page(site: Site, document: Path) -> None:
+    site.result.required()
+    name = "index" if document.stem == "README" else document.stem.lower()
+    title = lines_of(document)[0].removeprefix("# ").replace("`", "")
+    assert heading_of(site.folder / f"{name}.html") == title
 
 
 # ---- Links
@@ -134,3 +149,95 @@ def test_no_link_is_dead(site: Site) -> None:
         if not (site.folder / link.target).is_file()
     ]
     assert not dead, "expected: links that lead somewhere\n" + "\n".join(dead)
+
+
+# ---- What a small tree leads to
+
+MANUAL = """.Dd November 30, 2026
+.Dt PWHASH 1
+.Os
+.Sh NAME
+.Nm pwhash
+.Nd hash passwords
+.Sh SEE ALSO
+.Xr crypt 5
+"""
+FILES = {
+    "README.md": "# Read me\n\nSee [the guide](docs/GUIDE.md#first)\nand [pwhash](man/pwhash.1).\n",
+    "docs/GUIDE.md": "# Guide\n\n## First\n\n[A script](../tools/guide).\n\n![P](p.png)\n",
+    "docs/p.png": "",
+    "docs/site.css": "",
+    "docs/site.html": "<html><title>TITLE</title>\n<body>BODY</body></html>\n",
+    "man/pwhash.1": MANUAL,
+    "tools/guide": "#!/bin/sh\necho a < b\n",
+    "build/SPECIFICATION.md": "# Specification\n",
+}
+
+
+@dataclass(frozen=True)
+class Tree:
+    """A folder with some documents."""
+
+    folder: Path
+
+    def change(self, path: str, old: str, new: str) -> None:
+        """Changes a piece of a file."""
+        file = self.folder / path
+        text = file.read_text(encoding="utf-8")
+        assert old in text, f"expected: {old} in {path}\n{text}"
+        file.write_text(text.replace(old, new), encoding="utf-8")
+
+    def write_site(self) -> Site:
+        """Writes the pages."""
+        folder = self.folder / "site"
+        folder.mkdir()
+        return Site(folder, run(self.folder / "tools/site", folder))
+
+
+@pytest.fixture(name="tree")
+def fixture_tree(tmp_path: Path) -> Tree:
+    for path, text in FILES.items():
+        file = tmp_path / path
+        file.parent.mkdir(exist_ok=True)
+        file.write_text(text, encoding="utf-8")
+    shutil.copy(ROOT / "tools/site", tmp_path / "tools")
+    return Tree(tmp_path)
+
+
+def test_a_file_that_is_linked_replaces_no_document(tree: Tree) -> None:
+    """The guide's page is guide.html, and the linked script has the name guide."""
+    site = tree.write_site()
+    site.result.required()
+    assert heading_of(site.folder / "guide.html") == "Guide"
+    targets = [link.target for link in links_in(site.folder / "guide.html")]
+    scripts = [target for target in targets if target.endswith("guide.html")]
+    assert len(scripts) == 1, targets
+    assert "echo a &lt; b" in (site.folder / scripts[0]).read_text(encoding="utf-8")
+
+
+def test_a_manual_of_another_program_has_no_link(tree: Tree) -> None:
+    site = tree.write_site()
+    site.result.required()
+    text = (site.folder / "pwhash.1.html").read_text(encoding="utf-8")
+    assert "crypt(5)" in text
+    assert "crypt.5" not in text
+
+
+@pytest.mark.parametrize(
+    ("path", "old", "new", "place"),
+    [
+        pytest.param("README.md", "docs/GUIDE", "docs/GIUDE", "README.md:3", id="a file"),
+        pytest.param("README.md", "man/pwhash.1", "man/pwhash.8", "README.md:4", id="a manual"),
+        pytest.param("docs/GUIDE.md", "(p.png)", "(q.png)", "docs/GUIDE.md:7", id="a picture"),
+        pytest.param(
+            "man/pwhash.1", "crypt 5", "mkpasswd 1", "man/pwhash.1:8", id="a manual in a manual"
+        ),
+    ],
+)
+def test_what_a_link_leads_to_and_is_not_there_is_an_error(
+    tree: Tree, path: str, old: str, new: str, place: str
+) -> None:
+    tree.change(path, old, new)
+    result = tree.write_site().result
+    assert result.status == 1, result
+    assert f" {place}: " in result.stderr.decode(), result
