@@ -1,12 +1,26 @@
-"""Checks lines `name:hash:password` as mkpasswd --check does, but by passlib: scrypt is OpenSSL's, and the others its own Python.
-Its other backend for them is libxcrypt."""
+"""Checks lines `name:hash:password` as mkpasswd --check does, but by passlib.
+
+Scrypt is OpenSSL's, and the other methods are passlib's own Python: its other backend for them is
+libxcrypt, which tools/bench measures by itself.
+"""
+
+from __future__ import annotations
+
 import sys
-from passlib import hash
+
+from passlib import hash as hashers
 from passlib.context import CryptContext
 
-for method in hash.md5_crypt, hash.sha256_crypt, hash.sha512_crypt:
-    method.set_backend("builtin")
-context = CryptContext(["md5_crypt", "sha256_crypt", "sha512_crypt", "scrypt"])
-for line in sys.stdin:
-    name, stored, password = line.rstrip("\n").split(":")
-    print(name, "ok" if context.verify(password, stored) else "no", sep=":")
+
+def main() -> None:
+    """Answers each line with its name and `ok` or `no`."""
+    for hasher in (hashers.md5_crypt, hashers.sha256_crypt, hashers.sha512_crypt):
+        hasher.set_backend("builtin")
+    context = CryptContext(["md5_crypt", "sha256_crypt", "sha512_crypt", "scrypt"])
+    for line in sys.stdin:
+        name, stored, password = line.rstrip("\n").split(":")
+        print(name, "ok" if context.verify(password, stored) else "no", sep=":")
+
+
+if __name__ == "__main__":
+    main()
