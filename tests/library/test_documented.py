@@ -29,9 +29,9 @@ WITHOUT_MATCH = {
 @pytest.fixture(scope="session", name="service")
 def fixture_service(builder: Builder, tmp_path_factory: pytest.TempPathFactory) -> Path:
     """A service with the login that README shows."""
-    folder = tmp_path_factory.mktemp("login")
-    (folder / "login.h").write_text(marked("login in C", "c").code, encoding="ascii")
-    return builder.build(SOURCES / "service.c", f"-I{folder}")
+    login = tmp_path_factory.mktemp("login") / "login.c"
+    login.write_text(marked("login in C", "c").code, encoding="ascii")
+    return builder.build(SOURCES / "service.c", "-include", SOURCES / "service.h", login)
 
 
 @pytest.fixture(scope="session", name="digests_of_a_login")
