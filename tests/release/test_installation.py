@@ -1,6 +1,7 @@
 """tools/install: where files go, who may use them, and that an uninstallation takes them away."""
 from __future__ import annotations
 
+import shlex
 import stat
 from dataclasses import dataclass
 from pathlib import Path
@@ -15,6 +16,14 @@ pytestmark = pytest.mark.xdist_group("archive")  # so that it is packed once
 LIBRARIES = "usr/lib/x86_64-linux-gnu"
 # Which files of the archive say what only holds for that.
 OF_ARCHIVES = ("share/doc/mkpasswd/README", "share/doc/mkpasswd/SHA256SUMS")
+HASHED = ("-m", "md5crypt", "-S", "xxxxxxxx")
+HASH = b"$1$xxxxxxxx$UYCIxa628.9qXjpQCjM4a.\n"  # of `password`, as libxcrypt makes it
+
+
+def places(**given: str) -> dict[str, str | None]:
+    """The variables of tools/install, of which none but these are set."""
+    names = ("DESTDIR", "PREFIX", "LIBDIR", "PAMDIR", "FROM")
+    return {**{name: None for name in names}, **given}
 
 
 @dataclass(frozen=True)
@@ -25,13 +34,7 @@ class Destination:
 
     def install(self, *words: Word, mask: str = "022") -> Result:
         """Installs what is built, or with --remove takes it away."""
-        environment = {
-            "DESTDIR": str(self.folder),
-            "PREFIX": "/usr",
-            "LIBDIR": f"/{LIBRARIES}",
-            "PAMDIR": None,
-            "FROM": None,
-        }
+        environment = places(DESTDIR=str(self.folder), PREFIX="/usr", LIBDIR=f"/{LIBRARIES}")
         script = f'umask {mask} && exec "$0" "$@"'
         return run("sh", "-c", script, ROOT / "tools/install", *words, env=environment)
 
@@ -123,6 +126,55 @@ def test_a_second_uninstallation_does_nothing(tmp_path: Path) -> None:
     destination.install().required()
     destination.install("--remove").required()
     assert_result(destination.install("--remove"))
+
+
+# ---- A prefix that shells, pkg-config and sed take for something else
+
+
+@pytest.fixture(scope="module", name="prefix")
+def fixture_prefix(archive: Archive, tmp_path_factory: pytest.TempPathFactory) -> Path:
+    """A prefix with all that was installed there, and nowhere below it."""
+    assert archive.tree.is_dir()
+    prefix = tmp_path_factory.mktemp("local") / r"""a "b" & c|d's \1"""
+    run(ROOT / "tools/install", env=places(PREFIX=str(prefix))).required()
+    return prefix
+
+
+def test_pwhash_runs_below_a_prefix_with_blanks_and_quotes(prefix: Path) -> None:
+    assert_result(run(prefix / "bin/pwhash", *HASHED, stdin=b"password\n"), stdout=HASH)
+
+
+@pytest.mark.needs("pkg-config")
+def test_pkg_config_says_a_prefix_with_blanks_and_quotes(prefix: Path) -> None:
+    folder = str(prefix / "lib/pkgconfig")
+    command = ("pkg-config", "--cflags", "--libs", "mkpasswd")
+    result = run(*command, env={"PKG_CONFIG_PATH": folder}).required()
+    expected = [f"-I{prefix}/include", f"-L{prefix}/lib", "-lmkpasswd"]
+    assert shlex.split(result.stdout.decode()) == expected
+
+
+# ---- What is refused
+
+
+def test_a_prefix_with_a_line_feed_is_refused(tmp_path: Path) -> None:
+    environment = places(DESTDIR=str(tmp_path), PREFIX="/usr\n")
+    result = run(ROOT / "tools/install", env=environment)
+    assert result.status == 2, str(result)
+    assert files_below(tmp_path) == []
+
+
+def test_what_is_installed_stays_where_something_is_not_built(tmp_path: Path) -> None:
+    destination = Destination(tmp_path / "installed")
+    destination.install().required()
+    program = destination.folder / "usr/bin/mkpasswd"
+    before = program.read_bytes()
+    built = tmp_path / "built"  # without the libraries
+    built.mkdir()
+    (built / "mkpasswd").write_bytes(b"another program")
+    environment = places(DESTDIR=str(destination.folder), PREFIX="/usr", FROM=str(built))
+    result = run(ROOT / "tools/install", env=environment)
+    assert result.status == 1 and b"libmkpasswd.a" in result.stderr, str(result)
+    assert program.read_bytes() == before
 
 
 @pytest.mark.parametrize("name", ["PREFIX", "LIBDIR", "PAMDIR"])
