@@ -1,4 +1,4 @@
-"""What the tools that install and pack share: the version, templates, and how they stop.
+"""What the tools that install and pack share: version, time, archives, the glibc needed.
 
 These tools run by `python3 -B`: root, who installs, leaves no compiled module in somebody's clone.
 """
@@ -8,12 +8,18 @@ from __future__ import annotations
 import contextlib
 import os
 import re
+import signal
 import subprocess
 import sys
+import tarfile
+import tempfile
 from collections.abc import Callable, Iterator, Mapping
+from datetime import datetime, timezone
 from pathlib import Path
+from types import FrameType
 
 ROOT = Path(__file__).resolve().parent.parent
+DATED_MANUAL = ROOT / "man/mkpasswd.1"
 PLACE = re.compile(r"@([A-Z_]+)@")  # in a file to be filled, such as @VERSION@
 
 
@@ -28,6 +34,15 @@ def naming(file: Path) -> Iterator[None]:
         yield
     except Stop as stop:
         raise Stop(f"{file}: {stop}") from None
+
+
+@contextlib.contextmanager
+def changing(path: Path) -> Iterator[None]:
+    """Stops with a sentence that names a file or folder where the block fails to change it."""
+    try:
+        yield
+    except OSError as error:
+        raise Stop(f"{path}: {error.strerror}.") from None
 
 
 def output_of(*command: str | Path) -> str:
@@ -67,6 +82,28 @@ def version() -> str:
     return printed
 
 
+def time_of_files() -> int:
+    """The time of all that is packed, in seconds since 1970.
+
+    It is SOURCE_DATE_EPOCH, or else the date of mkpasswd's manual, so that the same files have the
+    same bytes whenever they are packed.
+    """
+    given = os.environ.get("SOURCE_DATE_EPOCH")
+    if given:
+        if not re.fullmatch("[0-9]+", given):
+            raise Stop(f"SOURCE_DATE_EPOCH has to be a number of seconds, and {given} is none.")
+        return int(given)
+    # `.Dd November 30, 2026`
+    found = re.search(r"^\.Dd (.+)$", read_bytes(DATED_MANUAL).decode(), re.MULTILINE)
+    if not found:
+        raise Stop(f"{DATED_MANUAL} has no line .Dd with its date.")
+    try:
+        date = datetime.strptime(found[1], "%B %d, %Y")
+    except ValueError:
+        raise Stop(f"{DATED_MANUAL}: {found[1]} is no date such as January 31, 2026.") from None
+    return int(date.replace(tzinfo=timezone.utc).timestamp())
+
+
 def with_value(text: str, start: str, value: str) -> str:
     """A text whose one line that begins so, such as `modules=`, goes on with this value."""
     pattern = rf"^{re.escape(start)}.*$"
@@ -93,8 +130,68 @@ def filled(template: str, values: Mapping[str, str | None]) -> str:
     return "".join(lines)
 
 
+def oldest_glibc(file: Path) -> str:
+    """The oldest version of glibc that has every symbol that a shared library needs."""
+    # `0x0020:   Name: GLIBC_2.25  Flags: none  Version: 3`
+    found = re.findall(r"\bName: GLIBC_(\S+)", output_of("readelf", "--version-info", file))
+    unknown = [name for name in found if not re.fullmatch(r"\d+(\.\d+)+", name)]
+    if unknown:
+        raise Stop(f"{file} needs GLIBC_{unknown[0]}, which is no version.")
+    if not found:
+        raise Stop(f"{file} needs no version of glibc.")
+    newest = max([int(number) for number in name.split(".")] for name in found)
+    return ".".join(map(str, newest))
+
+
+def files_below(folder: Path) -> list[str]:
+    """The names of all files and links below a folder, but of no folder, in the order of bytes."""
+    paths = [path for path in folder.rglob("*") if path.is_symlink() or not path.is_dir()]
+    return sorted(str(path.relative_to(folder)) for path in paths)
+
+
+def write_tar(archive: Path, folder: Path, time: int) -> None:
+    """Writes all files and links below a folder into an archive, whose bytes they alone determine.
+
+    Python's tarfile writes the same headers on Debian 12 and 13; those of GNU tar differ.
+    """
+
+    def same_everywhere(member: tarfile.TarInfo) -> tarfile.TarInfo:
+        member.uid = member.gid = 0
+        member.uname = member.gname = ""
+        member.mtime = time
+        member.mode = 0o755 if member.mode & 0o111 else 0o644
+        return member
+
+    with changing(archive), tarfile.open(archive, "w", format=tarfile.USTAR_FORMAT) as tar:
+        for name in files_below(folder):
+            tar.add(folder / name, name, recursive=False, filter=same_everywhere)
+
+
+def install_below(folder: Path, **places: str) -> None:
+    """Installs what make has built below a folder, by tools/install, whose variables are given."""
+    environment = {**os.environ, **places, "DESTDIR": str(folder)}
+    done = subprocess.run([ROOT / "tools/install"], env=environment, check=False)
+    if done.returncode != 0:
+        raise Stop("tools/install failed.")
+
+
+@contextlib.contextmanager
+def scratch_folder() -> Iterator[Path]:
+    """A folder that is removed at the end of the block."""
+    with tempfile.TemporaryDirectory(prefix="mkpasswd-") as folder:
+        yield Path(folder)
+
+
+def end_by_signal(number: int, _frame: FrameType | None) -> None:
+    """Ends the tool with the status that a shell has for it, once its blocks have cleaned up."""
+    sys.exit(128 + number)
+
+
 def run_tool(main: Callable[[], None]) -> None:
-    """Runs a tool, and says why it stops."""
+    """Runs a tool, and says why it stops. A signal leaves no scratch folder behind."""
+    for number in (signal.SIGINT, signal.SIGTERM, signal.SIGHUP):
+        if signal.getsignal(number) is not signal.SIG_IGN:
+            signal.signal(number, end_by_signal)
     try:
         main()
     except Stop as stop:
