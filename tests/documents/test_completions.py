@@ -185,6 +185,7 @@ def test_methods_are_offered(shell: Shell, line: str) -> None:
 
 WORDS_OF_PWHASH = {
     "pwhash au": ["audit"],
+    "pwhash ca": ["calibrate"],
     "pwhash se": ["set"],
     "pwhash install --for ": ["apache", "dovecot", "ldap", "nginx"],
     "pwhash ve": ["verify"],
@@ -220,7 +221,15 @@ def test_files_are_offered_where_one_is_read_or_written(shell: Shell, line: str)
 
 
 @pytest.mark.parametrize(
-    "line", ["mkpasswd ", "mkpasswd lo", "mkpasswd --check lo", "pwhash check -R "]
+    "line",
+    [
+        "mkpasswd ",
+        "mkpasswd lo",
+        "mkpasswd --check lo",
+        "pwhash check -R ",
+        "pwhash calibrate ",
+        "pwhash calibrate lo",
+    ],
 )
 def test_no_file_is_offered_where_none_is_read(shell: Shell, line: str) -> None:
     assert_offered(shell, line, [])

@@ -115,6 +115,7 @@ def test_the_manual_of_mkpasswd_begins_with_the_words_of_its_help(
         pytest.param(["set"], id="pwhash set"),
         pytest.param(["install"], id="pwhash install"),
         pytest.param(["verify"], id="pwhash verify"),
+        pytest.param(["calibrate"], id="pwhash calibrate"),
     ],
 )
 def test_the_manual_of_pwhash_has_the_options_of_each_help(words: list[str]) -> None:

@@ -18,6 +18,7 @@ from pwhash.options import (
     Action,
     GENERATED_LENGTH,
     AuditOptions,
+    CalibrateOptions,
     CheckOptions,
     Doubtful,
     FileOptions,
@@ -41,6 +42,7 @@ USAGE = """
   pwhash set passwords ann           a new password in a password file
   pwhash install hashes passwords    make hashes a service's password file
   pwhash verify /etc/shadow ann      whether a password is ann's
+  pwhash calibrate 300ms             rounds with which no login takes longer
 
 Hashes are {method} with {rounds} rounds. Each command has its own --help."""
 FILE_TEXT = "Hashes lines name:password. A file is read twice, first to look for problems."
@@ -62,11 +64,17 @@ VERIFY_TEXT = (
     "line, and the hash in its second. Ends with status 0 for yes, 1 for no, and more if it can't "
     "tell."
 )
+CALIBRATE_TEXT = (
+    "Measures how long hashes take on this machine, and prints for each method the rounds and the "
+    "budget with which checking a login takes at most TIME of one core, whatever hash is stored."
+)
 
 STDIN = "-"
 SHORTEST_GENERATED, LONGEST_GENERATED = 8, 64
 NUMBER = re.compile("([0-9]{1,20})([kM]?)")
 FACTORS = {"": 1, "k": 1000, "M": 1000000}
+TIME = re.compile("([0-9]{1,6}(?:[.][0-9]{1,6})?)(ms|s)")
+SECONDS = {"ms": 0.001, "s": 1.0}
 USER_NAME = re.compile("[A-Za-z_][A-Za-z0-9_.@-]{0,63}")
 MODE = re.compile("0?[0-7]{3}")
 MOST_MODE = 0o644
@@ -460,6 +468,30 @@ def verify_options(parser: Parser, given: argparse.Namespace) -> Options:
     return VerifyOptions(budget, given.file, given.name)
 
 
+def calibrate_parser() -> Parser:
+    """What `pwhash calibrate` takes."""
+    parser = Parser("calibrate", CALIBRATE_TEXT)
+    time_text = "with its unit: 300ms, 0.3s, 2s"
+    parser.add_argument("time", nargs="?", metavar="TIME", help=time_text)
+    methods = list(ROUNDS)
+    method_text = f"{', '.join(methods)}; by default each"
+    parser.value("-m", "--method", metavar="TYPE", choices=methods, help=method_text)
+    parser.flag("--quiet", "show no progress, and no advice")
+    return parser
+
+
+def calibrate_options(parser: Parser, given: argparse.Namespace) -> Options:
+    """The options of `pwhash calibrate`."""
+    if given.time is None:
+        raise parser.refusal("name the time that a login may take: pwhash calibrate 300ms")
+    found = TIME.fullmatch(given.time)
+    if found is None:
+        raise parser.refusal("TIME is a number with its unit, ms or s, as 300ms, 0.3s or 2s")
+    methods = tuple(ROUNDS) if given.method is None else (given.method,)
+    seconds = float(found[1]) * SECONDS[found[2]]
+    return CalibrateOptions(given.time, seconds, methods, given.quiet)
+
+
 class Command(NamedTuple):
     """How to read the command line of one command."""
 
@@ -475,6 +507,7 @@ COMMANDS: Dict[str, Command] = {
     "set": Command(set_parser, set_options),
     "install": Command(install_parser, install_options),
     "verify": Command(verify_parser, verify_options),
+    "calibrate": Command(calibrate_parser, calibrate_options),
 }
 
 

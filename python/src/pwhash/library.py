@@ -16,6 +16,7 @@ from mkpasswd._library import PASSWORD_LIMIT, Answer, Numbers
 from pwhash.errors import Stop
 
 METHODS = ("sha512crypt", "sha256crypt", "md5crypt", "scrypt")
+LENGTH_OF_LIMITS = 64  # of the password by whose cost the library sets limits
 GREATEST_ROUNDS, GREATEST_BUDGET = 2**32 - 1, 2**64 - 1
 
 
@@ -155,6 +156,11 @@ def new_cost(policy: Policy, length: int) -> int:
 def setting_of_new_hash(method: str, rounds: int) -> bytes:
     """A setting with a salt as long as those of new hashes, on whose length a cost depends."""
     return setting(method, rounds, _calls.new_salt(method).encode("ascii"))
+
+
+def limit_without_floor(method: str, rounds: int) -> int:
+    """What the library takes for the limit of a method and rounds, unless its floor is higher."""
+    return 2 * cost(setting_of_new_hash(method, rounds), LENGTH_OF_LIMITS)
 
 
 def memory_of_new_hash(policy: Policy) -> int:

@@ -3,7 +3,7 @@
 from __future__ import annotations
 
 import enum
-from typing import NamedTuple, Optional, Union
+from typing import NamedTuple, Optional, Tuple, Union
 
 from pwhash.library import Policy
 
@@ -161,6 +161,15 @@ class VerifyOptions(NamedTuple):
     name: str
 
 
+class CalibrateOptions(NamedTuple):
+    """pwhash calibrate."""
+
+    time: str  # that a login may take, as it was typed
+    seconds: float
+    methods: Tuple[str, ...]
+    quiet: bool
+
+
 Options = Union[
     OneOptions,
     FileOptions,
@@ -169,6 +178,7 @@ Options = Union[
     SetOptions,
     InstallOptions,
     VerifyOptions,
+    CalibrateOptions,
 ]
 
 

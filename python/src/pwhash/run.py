@@ -15,6 +15,7 @@ from pwhash.console import STDOUT
 from pwhash.errors import Status, Stop, reason_of
 from pwhash.options import (
     AuditOptions,
+    CalibrateOptions,
     CheckOptions,
     FileOptions,
     InstallOptions,
@@ -36,6 +37,7 @@ MODULES = {
     SetOptions: "pwhash.set",
     InstallOptions: "pwhash.install",
     VerifyOptions: "pwhash.verify",
+    CalibrateOptions: "pwhash.calibrate",
 }
 
 

@@ -1,0 +1,74 @@
+"""How long hashes take on this machine for what they cost: the most that is measured.
+
+A cost counts bytes, but digests work on blocks. So a hash takes longest for its cost where its
+messages are a byte too long for a block, or empty. A login computes any hash within its budget,
+whoever stored it, so that these are measured, of each method.
+"""
+
+from __future__ import annotations
+
+import functools
+import time
+from typing import Dict, List, NamedTuple
+
+from pwhash import library
+from pwhash.console import Console
+from pwhash.errors import Stop
+from pwhash.library import Refusal
+from pwhash.workers import in_thread
+
+SECONDS = 2.0  # for which hashes are measured, again and again
+LEAST_TIMES = 3
+COST_AT_ONCE = 5_000_000  # or the cost of one hash, if that is more
+
+
+class Dear(NamedTuple):
+    """A hash that takes long for its cost, by its setting and the length of the password."""
+
+    setting: bytes
+    length: int
+
+
+# Found by counting instructions for other lengths of password and salt. Scrypt mixes faster than it
+# digests, so this has N = 2, with r = 3300, p = 1 and a salt that takes another block.
+DEAREST = (
+    Dear(b"$1$", 0),
+    Dear(b"$5$rounds=90000$", 12),
+    Dear(b"$5$rounds=150000$", 0),
+    Dear(b"$6$rounds=45000$", 24),
+    Dear(b"$7$/Yn.../...." + b"x" * 52, 0),
+)
+
+
+def seconds_of_cost(console: Console, is_quiet: bool) -> float:
+    """The seconds of a processor that a cost of 1 takes at most."""
+    measured: Dict[Dear, List[float]] = {dear: [] for dear in DEAREST}
+    begun = time.monotonic()
+    elapsed = 0.0
+    while elapsed < SECONDS or len(measured[DEAREST[0]]) < LEAST_TIMES:
+        for dear, times in measured.items():
+            times.append(in_thread(functools.partial(measure, dear)))
+        elapsed = time.monotonic() - begun
+        if not is_quiet:
+            text = f"measuring: {min(99, int(100 * elapsed / SECONDS))} %"
+            console.show_progress(text, text)
+    console.clear_progress()
+    return max(median(times) for times in measured.values())
+
+
+def measure(dear: Dear) -> float:
+    """The seconds that a cost of 1 takes once, in this thread."""
+    cost = library.cost(dear.setting, dear.length)
+    password = b"x" * dear.length
+    times = max(1, COST_AT_ONCE // cost)
+    begun = time.thread_time()
+    for _ in range(times):
+        hashed = library.hash_by(password, dear.setting, library.GREATEST_BUDGET)
+        if isinstance(hashed, Refusal):
+            raise Stop(f"the library refuses to hash: {hashed.words}.")
+    return (time.thread_time() - begun) / (times * cost)
+
+
+def median(numbers: List[float]) -> float:
+    """The number in the middle, or the greater of two. The module statistics is slow to import."""
+    return sorted(numbers)[len(numbers) // 2]

@@ -1,0 +1,347 @@
+"""pwhash calibrate: the rounds and the budget for a time, on a machine whose speed is given.
+
+The numbers are computed by the formulas of docs/FORMATS.md. A real machine is measured only where
+its speed makes no difference to what is expected.
+"""
+from __future__ import annotations
+
+import ast
+import re
+import signal
+import time
+from pathlib import Path
+
+import pytest
+from support import ROOT
+from support.library import COMPILER
+from support.needs import built, needed
+from support.package import tried_package
+from support.policy_limits import SCRYPT, SHA256CRYPT, SHA512CRYPT, Policy, new_cost
+from support.process import Result, run
+from support.pwhash_copies import Copy
+from support.pwhash_runs import PWHASH, ended, pwhash, shell, started, wait_for, working_threads
+
+with tried_package():
+    import mkpasswd
+with needed("python3-pexpect"):
+    import pexpect
+
+NUMBERS = {"sha512crypt": SHA512CRYPT, "sha256crypt": SHA256CRYPT, "scrypt": SCRYPT}
+LINE = re.compile(r"-m (\S+) -R (\d+) --budget (\d+)")
+CODE = re.compile(r"pwhash: \w+ in C (\{.*\}), in Python Policy(\(.*\))")
+SPEED = '''\
+"""A machine on which a cost of a billion takes ten seconds."""
+
+
+def seconds_of_cost(*_):
+    return 10 / 1_000_000_000
+'''
+COST_OF_SECOND = 100_000_000
+FLOOR = 150_000_000  # of the library's own limit
+EVER = "999999s"
+
+
+@pytest.fixture(name="calibrate")
+def fixture_calibrate(copy: Copy) -> Copy:
+    """A pwhash on such a machine."""
+    (copy.modules / "pwhash/speed.py").write_text(SPEED, encoding="ascii")
+    return copy
+
+
+def answer(calibrate: Copy, *words: str) -> Result:
+    """What is printed and said, with status 0."""
+    done = calibrate.run("calibrate", *words)
+    assert done.status == 0, done
+    return done
+
+
+def policies_in(out: bytes) -> list[Policy]:
+    """The policies that were printed, which are all that was printed."""
+    return [policy_in(line) for line in out.decode().splitlines()]
+
+
+def policy_in(line: str) -> Policy:
+    """The policy in a line that was printed."""
+    found = LINE.fullmatch(line)
+    assert found, line
+    return Policy(NUMBERS[found[1]], int(found[2]), int(found[3]))
+
+
+# ---- Rounds and budgets
+
+
+@pytest.mark.parametrize(
+    ("given", "expected"),
+    [
+        # 30,000,000, half of which a new hash of 64 bytes may cost. With 1000 rounds more it costs
+        # 15,104,016 and 15,030,832. Scrypt's least costs 67,136,932.
+        pytest.param(
+            "300ms",
+            [Policy(SHA512CRYPT, 77_000, 29_820_992), Policy(SHA256CRYPT, 92_000, 29_738_624)],
+            id="far below the floor of the library's limit",
+        ),
+        # 140,000,000, which is more than twice what scrypt's least costs.
+        pytest.param(
+            "1.4s",
+            [
+                Policy(SHA512CRYPT, 360_000, 139_355_424),
+                Policy(SHA256CRYPT, 430_000, 138_928_672),
+                Policy(SCRYPT, 6, 134_273_864),
+            ],
+            id="a little below it",
+        ),
+        # 200,000,000. These are the library's limits for these rounds, scrypt's is the floor.
+        pytest.param(
+            "2s",
+            [
+                Policy(SHA512CRYPT, 510_000, 197_412_512),
+                Policy(SHA256CRYPT, 610_000, 197_077_280),
+                Policy(SCRYPT, 6, FLOOR),
+            ],
+            id="above it",
+        ),
+        pytest.param(
+            EVER,
+            [
+                Policy(SHA512CRYPT, 990_000_000, 383_177_161_120),
+                Policy(SHA256CRYPT, 990_000_000, 319_817_161_056),
+                Policy(SCRYPT, 11, 4_295_023_432),
+            ],
+            id="the most",
+        ),
+    ],
+)
+def test_the_rounds_are_the_most_by_which_a_login_has_time(
+    calibrate: Copy, given: str, expected: list[Policy]
+) -> None:
+    assert policies_in(answer(calibrate, given).stdout) == expected
+
+
+@pytest.mark.parametrize("method", NUMBERS)
+def test_more_time_never_gives_fewer_rounds_or_a_lower_budget(calibrate: Copy, method: str) -> None:
+    rounds = budget = 0
+    for seconds in (1.35, 1.4, 1.49, 1.5, 1.51, 1.6, 2, 2.6, 2.7, 5, 5.5, 60, 999999):
+        done = answer(calibrate, f"{seconds}s", "-m", method)
+        policy = policy_in(done.stdout.decode().rstrip("\n"))
+        assert policy.rounds >= rounds and policy.budget >= budget, done
+        assert policy.budget <= seconds * COST_OF_SECOND, done
+        rounds, budget = policy.rounds, policy.budget
+
+
+@pytest.mark.parametrize("given", ["50ms", "300ms", "1.4s", "1.5s", "3s", EVER])
+def test_a_budget_is_the_limit_that_the_library_has_for_the_policy(
+    calibrate: Copy, given: str
+) -> None:
+    """From the floor on also where no budget is given. A new hash of 64 bytes is within it."""
+    for policy in policies_in(answer(calibrate, given).stdout):
+        name = next(name for name, number in NUMBERS.items() if number == policy.method)
+        limit = mkpasswd.Policy(name, policy.rounds, policy.budget).limit()
+        assert limit.cost == policy.budget and limit.longest_password >= 64, policy
+        assert new_cost(policy.method, policy.rounds, 64) <= policy.budget / 2, policy
+        if policy.budget >= FLOOR:
+            assert mkpasswd.Policy(name, policy.rounds).limit().cost == policy.budget, policy
+
+
+@pytest.mark.parametrize(
+    ("given", "method"),
+    [("3ms", "sha256crypt"), ("4ms", "sha512crypt"), ("1.3s", "scrypt"), ("0ms", "scrypt")],
+)
+def test_too_little_time_for_the_least_rounds_is_a_sentence(
+    calibrate: Copy, given: str, method: str
+) -> None:
+    """They have budgets of 341,280, of 405,344 and of 134,273,864, which take ten times as many
+    nanoseconds."""
+    done = calibrate.run("calibrate", given, "-m", method)
+    assert (done.status, done.stdout) == (1, b"") and done.stderr.count(b"\n") == 1, done
+    assert method.encode() in done.stderr and b"even with -R" in done.stderr, done
+
+
+def test_with_a_method_for_the_time_the_others_are_named(calibrate: Copy) -> None:
+    done = answer(calibrate, "300ms")
+    assert b"scrypt takes longer: even with -R 6" in done.stderr, done
+    assert b"134,273,864" in done.stderr and b"1.4 s" in done.stderr, done
+
+
+NOISY = """
+SECONDS = 1e-9
+MEASURED = {dear: iter([5e-9, 5e-9, 5e-9]) for dear in DEAREST}
+MEASURED[DEAREST[1]] = iter([1e-8, 9e-8, 1e-8])
+
+
+def measure(dear):
+    return next(MEASURED[dear])
+"""
+
+
+def test_the_slowest_hash_counts_but_no_moment_in_which_something_else_ran(copy: Copy) -> None:
+    with open(copy.modules / "pwhash/speed.py", "a", encoding="ascii") as module:
+        module.write(NOISY)
+    done = answer(copy, "300ms", "-m", "sha512crypt")
+    assert done.stdout == b"-m sha512crypt -R 77000 --budget 29820992\n", done
+
+
+# ---- What can be pasted
+
+
+def test_a_line_is_taken_as_options(calibrate: Copy) -> None:
+    for line in answer(calibrate, "1.4s").stdout.decode().splitlines():
+        done = pwhash(*line.split(), stdin=b"x" * 64 + b"\n")
+        assert done.status == 0, done
+        done = pwhash("verify", *line.split(), stdin=b"x" * 64 + b"\n" + done.out)
+        assert done.status == 0, done
+
+
+LIMIT_OF = """
+#include "mkpasswd.h"
+#include <stdio.h>
+
+int main(void)
+{
+    static const struct mkpasswd_policy policies[] = {%s};
+    struct mkpasswd_report report;
+
+    for (size_t place = 0; place < sizeof policies / sizeof *policies; place++)
+        if (mkpasswd_limit(&policies[place], &report))
+            printf("%%u %%u %%llu\\n", policies[place].method, (unsigned)report.rounds,
+                (unsigned long long)report.cost);
+    return 0;
+}
+"""
+
+
+@pytest.mark.parametrize("given", ["300ms", "2s"])
+def test_the_forms_for_c_and_python_have_the_same_limit(
+    calibrate: Copy, folder: Path, given: str
+) -> None:
+    done = answer(calibrate, given)
+    expected = policies_in(done.stdout)
+    codes = CODE.findall(done.stderr.decode())
+    (folder / "limits.c").write_text(LIMIT_OF % ", ".join(code[0] for code in codes), "ascii")
+    library = built("libmkpasswd.a", "lib")
+    run(COMPILER, f"-I{ROOT}/c", "limits.c", library, "-o", "limits", cwd=folder).required()
+    limits = run(folder / "limits").required().stdout.decode()
+    lines = [f"{each.method} {each.rounds} {each.budget}\n" for each in expected]
+    assert limits == "".join(lines), done
+    for code, policy in zip(codes, expected):
+        limit = mkpasswd.Policy(*ast.literal_eval(code[1])).limit()
+        assert (limit.rounds, limit.cost) == (policy.rounds, policy.budget), done
+
+
+def test_a_budget_below_the_floor_has_to_be_given(calibrate: Copy) -> None:
+    done = answer(calibrate, "300ms")
+    assert b"give the budget, too" in done.stderr and b"150,000,000" in done.stderr, done
+    done = answer(calibrate, "2s")
+    assert b"give the budget" not in done.stderr, done
+
+
+def test_a_login_that_renews_a_hash_is_said_to_take_longer(calibrate: Copy) -> None:
+    assert b"twice as long" in answer(calibrate, "300ms").stderr
+
+
+def test_a_quiet_run_gives_no_advice(calibrate: Copy) -> None:
+    done = answer(calibrate, "300ms", "--quiet", "-m", "sha256crypt")
+    assert (done.stdout, done.stderr) == (b"-m sha256crypt -R 92000 --budget 29738624\n", b""), done
+
+
+# ---- Options
+
+
+@pytest.mark.parametrize("given", ["300ms", "0.3s", "000300ms", "0.300000s", "300.0ms"])
+def test_a_time_has_several_forms(calibrate: Copy, given: str) -> None:
+    done = answer(calibrate, "-m", "sha512crypt", given)
+    assert done.stdout == b"-m sha512crypt -R 77000 --budget 29820992\n", done
+
+
+@pytest.mark.parametrize(
+    "given",
+    [
+        pytest.param("300", id="no unit"),
+        pytest.param("0.3", id="a fraction without a unit"),
+        pytest.param("ms", id="a unit alone"),
+        pytest.param("", id="nothing"),
+        pytest.param("300 ms", id="a blank inside"),
+        pytest.param("0,3s", id="a comma"),
+        pytest.param(".3s", id="no digit before the point"),
+        pytest.param("3.s", id="no digit behind it"),
+        pytest.param("1e3ms", id="an exponent"),
+        pytest.param("+3s", id="a sign"),
+        pytest.param("300MS", id="capitals"),
+        pytest.param("300µs", id="another unit"),
+        pytest.param("2min", id="minutes"),
+        pytest.param("٣s", id="other digits"),
+        pytest.param("3s\n", id="a line feed"),
+        pytest.param("infs", id="infinity"),
+        pytest.param("9" * 5000 + "s", id="5000 digits"),
+        pytest.param("hunter2", id="a password"),
+    ],
+)
+def test_what_is_no_time_is_refused_with_a_right_form(given: str) -> None:
+    done = pwhash("calibrate", given)
+    assert (done.status, done.out) == (2, b"") and b"300ms, 0.3s or 2s" in done.err, done
+    assert b"hunter2" not in done.err and len(done.err) < 200, done
+
+
+@pytest.mark.parametrize(
+    ("words", "reason"),
+    [
+        pytest.param([], b"pwhash calibrate 300ms", id="no time"),
+        pytest.param(["300ms", "2s"], b"a word too many", id="two times"),
+        pytest.param(["300ms", "-m", "md5crypt"], b"scrypt", id="a method without rounds"),
+        pytest.param(["300ms", "-m", "bcrypt"], b"scrypt", id="no method"),
+        pytest.param(["300ms", "--budget", "1M"], b"--budget", id="a budget"),
+        pytest.param(["-300ms"], b"calibrate --help", id="a minus"),
+    ],
+)
+def test_words_by_which_nothing_can_be_measured(words: list[str], reason: bytes) -> None:
+    done = pwhash("calibrate", *words)
+    assert (done.status, done.out) == (2, b"") and reason in done.err, done
+
+
+def test_the_help_shows_how_a_time_is_written() -> None:
+    done = pwhash("calibrate", "--help")
+    assert done.status == 0 and b"300ms" in done.out and b"--method" in done.out, done
+
+
+# ---- A real machine
+
+
+def test_a_machine_is_measured() -> None:
+    """None is so slow, and none so fast."""
+    done = pwhash("calibrate", EVER)
+    assert done.status == 0 and [each.rounds for each in policies_in(done.out)] == [
+        990_000_000,
+        990_000_000,
+        11,
+    ], done
+    done = pwhash("calibrate", "0.000001ms")
+    assert (done.status, done.out) == (1, b"") and done.err.count(b"takes longer") == 3, done
+
+
+def test_a_signal_ends_it_at_once() -> None:
+    with started("calibrate", "300ms") as process:
+        wait_for(lambda: working_threads(process.pid, process.pid) > 0)
+        begun = time.monotonic()
+        process.send_signal(signal.SIGINT)
+        done = ended(process)
+        assert done.status == -signal.SIGINT and done.out == b"", done
+        assert time.monotonic() - begun < 5, done
+
+
+def test_what_cannot_be_written_is_a_failure() -> None:
+    assert shell('exec "$@" > /dev/full', "calibrate", EVER).status == 3
+
+
+@pytest.mark.parametrize("kibibytes", range(4000, 60000, 8000))
+def test_with_little_memory_there_is_a_result_or_a_message(kibibytes: int) -> None:
+    done = shell(f'ulimit -v {kibibytes}; exec "$@"', "calibrate", "300ms")
+    has_message = done.status == 3 and done.out == b"" and b"pwhash: " in done.err
+    assert has_message or done.status in (0, 1) and b"Error" not in done.err, done
+
+
+@pytest.mark.parametrize("words", [["300ms"], ["300ms", "--quiet"]])
+def test_the_terminal_shows_progress_unless_it_shall_not(words: list[str]) -> None:
+    child = pexpect.spawn(PWHASH, ["calibrate", *words], timeout=60)
+    child.expect(pexpect.EOF)
+    child.close()
+    is_shown = re.search(rb"measuring: \d+ %", child.before) is not None
+    assert is_shown is ("--quiet" not in words), child.before
