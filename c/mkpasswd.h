@@ -194,10 +194,11 @@ struct mkpasswd_policy {
      * p = 1. 0 is 656000, and 7 for scrypt. md5crypt ignores them. */
     uint32_t rounds;
     /* The most bytes that a hash may digest and mix, as `cost` of a report counts them. 0 is twice
-     * what a new hash of this policy costs for a password of 64 bytes, and at least 150000000;
-     * nobody who logs in can raise it. A longer password whose new hash would cost more is refused
-     * at once, whatever is stored; mkpasswd_limit() reports its length, and the limit in bytes.
-     * With a large enough budget of your own all MKPASSWD_PASSWORD_LIMIT bytes work.
+     * what a new hash of this policy costs for a password of 64 bytes, and at least 150000000,
+     * which can take more than a second (`pwhash calibrate` finds a budget for a time); nobody who
+     * logs in can raise it. A longer password whose new hash would cost more is refused at once,
+     * whatever is stored; mkpasswd_limit() reports its length, and the limit in bytes. With a large
+     * enough budget of your own all MKPASSWD_PASSWORD_LIMIT bytes work.
      *
      * Only scrypt needs memory: 64 MiB for each new hash at its recommended rounds, and never more
      * than half as many bytes as the budget. */
