@@ -92,7 +92,7 @@ def fixture_unpacked(packages: Packages, tmp_path_factory: pytest.TempPathFactor
             {"FORMATS", "GUIDE", "README", "SECURITY", "SPECIFICATION", "SPEED"},
             id="mkpasswd",
         ),
-        pytest.param("libmkpasswd-dev", {"SECURITY"}, id="libmkpasswd-dev"),
+        pytest.param("libmkpasswd-dev", {"C", "SECURITY"}, id="libmkpasswd-dev"),
         pytest.param("python3-mkpasswd", {"PYTHON", "SECURITY"}, id="python3-mkpasswd"),
     ],
 )
