@@ -14,6 +14,9 @@
  *
  * Libraries keep none (-DKEEPS=0), since a service wants its memory back, and wipe what they free.
  */
+/* glibc's functions that check these calls would check nothing here, since the compiler knows the
+ * size of no block, and musl, with which the library links too, has none of them. */
+#undef _FORTIFY_SOURCE
 #define _GNU_SOURCE /* for MADV_HUGEPAGE */
 #include <malloc.h>
 #include <stdbool.h>
