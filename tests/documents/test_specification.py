@@ -299,6 +299,13 @@ def test_a_name_that_is_imported_twice_leads_to_both(tree: Tree) -> None:
         ),
         pytest.param(
             "crates/high/src/lib.rt",
+            "pub extern",
+            "pub unsafe extern",
+            "crates/high/src/lib.rt:7",
+            id="a call of another form",
+        ),
+        pytest.param(
+            "crates/high/src/lib.rt",
             "\n{\n",
             " {\n",
             "crates/high/src/lib.rt:7",

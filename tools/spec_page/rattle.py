@@ -11,11 +11,11 @@ from .imports import IMPORT
 from .sources import Entry, Place, Stop, code_files, crates, is_file, lines_of
 
 # A type or a constant: `pub(crate) enum Outcome {`, `pub const VERSION_NUMBER: u32 = 20001;`
-TYPE = re.compile(r"pub(?:\(\w+\))? (?:struct|enum|const) (?P<name>\w+)")
+TYPE = re.compile(r"pub(?:\(\w+\))? (?:struct|enum|const) (?!fn\b)(?P<name>\w+)")
 # What a signature may name and no page shows: `pub trait Counted: Drop {`, `struct Piece {`
 UNSHOWN = re.compile(
     r"(?:pub(?:\(\w+\))? )?(?:type|trait|union|static) (?P<name>\w+)"
-    r"|(?:struct|enum|const) (?P<private>\w+)"
+    r"|(?:struct|enum|const) (?!fn\b)(?P<private>\w+)"
 )
 # A type that may have a view, also a private one: `pub struct Input<I: Read> {`, `struct Piece {`
 STRUCT = re.compile(r"(?:pub(?:\(\w+\))? )?(?:struct|enum) (?P<name>\w+)")
@@ -31,8 +31,10 @@ OTHER_MEMBERS = ("coded", "inverse")
 COMMENT_OR_ATTRIBUTE = re.compile(r" *(?://|#\[)")
 # What ends a type of several lines: `}`, `];`
 END = re.compile(r"[}\])]+;?")
-# `pub extern "C" fn mkpasswd_version() -> u32`
+# A call for C: `pub extern "C" fn mkpasswd_version() -> u32`
 EXPORT = re.compile(r'pub extern "C" fn (?P<name>\w+)\b')
+# The same in any form: `pub unsafe extern "C" fn mkpasswd_version() -> u32`
+ANY_EXPORT = re.compile(r'[^/]*\bextern "C" fn\b')
 
 
 # Types and constants
@@ -171,6 +173,8 @@ def exported_calls(path: str) -> Iterator[Entry]:
         found = EXPORT.match(line)
         if found:
             yield call_at(path, index, found["name"])
+        elif ANY_EXPORT.match(line):
+            raise Stop(f'{Place(path, index + 1)}: a call begins with `pub extern "C" fn`')
 
 
 def functions(module: str, name: str) -> Iterator[Entry]:
