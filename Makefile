@@ -267,8 +267,8 @@ build/SPECIFICATION.md: tools/specification $(wildcard tools/spec_page/*.py) \
 ## writes all documents and manuals as web pages, in build/site
 site: build/site/index.html
 
-build/site/index.html: tools/site $(wildcard *.md docs/* man/* examples/* c/*.h) $(WEB) \
-		build/SPECIFICATION.md tools/version
+build/site/index.html: tools/site tools/version $(wildcard *.md docs/* man/* c/* web/README.md) \
+		$(WEB) $(SOURCES) build/SPECIFICATION.md
 	rm -rf build/site && mkdir -p build/site
 	tools/site build/site
 
