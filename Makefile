@@ -60,12 +60,13 @@ HAS_ARM = $(findstring /,$(shell aarch64-linux-gnu-gcc -print-file-name=libc.a 2
 
 NPM = $(addprefix build/npm/,package.json README.md mkpasswd.mjs mkpasswd.d.ts)
 COMPLETIONS = build/completions/mkpasswd.bash
-REASONS = python/src/mkpasswd/_reasons.py
+# What make writes for the Python package: its errors, and for its build the version.
+MODULES = python/src/mkpasswd/_reasons.py python/src/mkpasswd_version.py
 INSTALLED = mkpasswd $(COMPLETIONS) lib build/x86-64-v3/libmkpasswd.so.3 $(WEB) \
 	build/SPECIFICATION.md $(SITE)
 PACKED = $(addprefix build/$(FOR)/,mkpasswd libmkpasswd.a libmkpasswd.so.3) $(COMPLETIONS) $(WEB) \
 	build/SPECIFICATION.md \
-	$(if $(TARGET),,$(addprefix build/$(FOR)/,$(PAM)) build/x86-64-v3/libmkpasswd.so.3) $(REASONS)
+	$(if $(TARGET),,$(addprefix build/$(FOR)/,$(PAM)) build/x86-64-v3/libmkpasswd.so.3) $(MODULES)
 ARM = $(addprefix build/aarch64/,mkpasswd libmkpasswd.a libmkpasswd.so.3)
 TESTED = $(INSTALLED) $(PACKED) $(if $(WEB),$(NPM)) $(if $(HAS_ARM),$(ARM))
 
@@ -83,14 +84,16 @@ run: mkpasswd
 static: build/$(FOR)/mkpasswd
 
 ## builds the C libraries and, with Debian's libpam0g-dev, the PAM module
-lib: libmkpasswd.a libmkpasswd.so.3 $(PAM) $(REASONS)
+lib: libmkpasswd.a libmkpasswd.so.3 $(PAM) $(MODULES)
 
 libmkpasswd.a libmkpasswd.so.3 pam_mkpasswd.so: %: $(OWN)/% build/cpu
 	cp $< $@
 
-# The errors for Python, from the header's list.
-$(REASONS): c/mkpasswd.h tools/reasons
+python/src/mkpasswd/_reasons.py: c/mkpasswd.h tools/reasons
 	tools/reasons python > $@
+
+python/src/mkpasswd_version.py: crates/crypt_core/src/version.rt tools/version
+	echo 'VERSION = "$(VERSION)"' > $@
 
 # The processor of the last build. A build for another one rewrites this file, and so all that
 # depends on it.
@@ -211,7 +214,7 @@ check: lint layers gate $(TESTED)
 	tools/test
 
 ## runs formatters and linters over all that isn't proved
-lint: $(REASONS)
+lint: $(MODULES)
 	tools/reasons check
 	tools/lint
 
@@ -306,7 +309,7 @@ dist:
 	tools/pack $(FOR)
 
 ## packs the Python package, as a wheel
-wheel: build/$(FOR)/libmkpasswd.so.3 $(REASONS)
+wheel: build/$(FOR)/libmkpasswd.so.3 $(MODULES)
 	tools/wheel --check
 	tools/wheel $< .
 
@@ -323,5 +326,5 @@ deb:
 
 ## removes all that was made here
 clean:
-	rm -rf mkpasswd libmkpasswd.a libmkpasswd.so.3 pam_mkpasswd.so build crates/*/out $(REASONS) \
+	rm -rf mkpasswd libmkpasswd.a libmkpasswd.so.3 pam_mkpasswd.so build crates/*/out $(MODULES) \
 		mkpasswd-*-linux.tar.gz mkpasswd-*-image.tar mkpasswd-*.whl *.deb

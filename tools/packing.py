@@ -1,4 +1,4 @@
-"""What the tools that install and pack share: version, time, archives, the glibc needed.
+"""What the tools that install and pack share: version, time, archives, and what code needs.
 
 These tools run by `python3 -B`: root, who installs, leaves no compiled module in somebody's clone.
 """
@@ -6,8 +6,10 @@ These tools run by `python3 -B`: root, who installs, leaves no compiled module i
 from __future__ import annotations
 
 import contextlib
+import enum
 import os
 import re
+import shutil
 import signal
 import subprocess
 import sys
@@ -20,11 +22,20 @@ from types import FrameType
 
 ROOT = Path(__file__).resolve().parent.parent
 DATED_MANUAL = ROOT / "man/mkpasswd.1"
+ELF_MAGIC = b"\x7fELF"  # how a file of machine code begins
+MACHINE_OFFSET = 18  # of the field e_machine in its header, which has two bytes
 PLACE = re.compile(r"@([A-Z_]+)@")  # in a file to be filled, such as @VERSION@
 
 
 class Stop(Exception):
     """Why a tool stops: a sentence for the user."""
+
+
+class Machine(enum.Enum):
+    """A family of processors, by its number in the header of an ELF file."""
+
+    X86_64 = 62
+    AARCH64 = 183
 
 
 @contextlib.contextmanager
@@ -130,6 +141,16 @@ def filled(template: str, values: Mapping[str, str | None]) -> str:
     return "".join(lines)
 
 
+def machine_of(file: Path) -> Machine:
+    """Which processors a file of machine code is for."""
+    header = read_bytes(file)[: MACHINE_OFFSET + 2]
+    number = int.from_bytes(header[MACHINE_OFFSET:], "little")
+    numbers = {machine.value for machine in Machine}
+    if not header.startswith(ELF_MAGIC) or number not in numbers:
+        raise Stop(f"{file} has no machine code for x86-64 or ARM.")
+    return Machine(number)
+
+
 def oldest_glibc(file: Path) -> str:
     """The oldest version of glibc that has every symbol that a shared library needs."""
     # `0x0020:   Name: GLIBC_2.25  Flags: none  Version: 3`
@@ -165,6 +186,28 @@ def write_tar(archive: Path, folder: Path, time: int) -> None:
     with changing(archive), tarfile.open(archive, "w", format=tarfile.USTAR_FORMAT) as tar:
         for name in files_below(folder):
             tar.add(folder / name, name, recursive=False, filter=same_everywhere)
+
+
+def check_python_modules(source: Path) -> None:
+    """Stops where a module that make writes for the Python package is missing or outdated."""
+    read_bytes(source / "src/mkpasswd/_reasons.py")
+    module = source / "src/mkpasswd_version.py"
+    if f'"{version()}"' not in read_bytes(module).decode():
+        raise Stop(f"{module} has another version: run make lib.")
+
+
+def copy_python(folder: Path, *packages: str) -> None:
+    """Copies into a folder what Python's tools need to build these packages of the tree."""
+    source = ROOT / "python"
+    check_python_modules(source)
+    names = ["pyproject.toml", "src/mkpasswd_version.py"]
+    for package in packages:
+        modules = (source / "src" / package).glob("*.py")
+        names += [f"src/{package}/py.typed", *(str(file.relative_to(source)) for file in modules)]
+    with changing(folder):
+        for name in names:
+            (folder / name).parent.mkdir(parents=True, exist_ok=True)
+            shutil.copyfile(source / name, folder / name)
 
 
 def install_below(folder: Path, **places: str) -> None:

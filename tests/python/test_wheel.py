@@ -8,6 +8,7 @@ from pathlib import Path
 import pytest
 from support import ROOT
 from support.interpreters import OLDEST, interpreters
+from support.needs import built
 from support.package import ELSEWHERE, LIBRARY, PACKAGE, tried_package
 from support.process import Result, run
 from support.stored_strings import MD5
@@ -51,6 +52,7 @@ def fixture_folder(tmp_path_factory: pytest.TempPathFactory) -> Path:
 @pytest.fixture(scope="module", name="wheel")
 def fixture_wheel(folder: Path) -> Path:
     """The wheel of this tree."""
+    built("python/src/mkpasswd_version.py", "lib")
     run(ROOT / "tools/wheel", LIBRARY, folder / "first").required()
     return only_file(folder / "first")
 
@@ -69,6 +71,12 @@ def test_a_wheel_is_named_after_the_version_and_the_c_library_that_it_needs(whee
     newest = max(symbols, key=lambda symbol: [int(number) for number in symbol.split(".")])
     tag = f"manylinux_{newest.replace('.', '_')}_x86_64"
     assert wheel.name == f"mkpasswd-{version}-py3-none-{tag}.whl"
+
+
+def test_a_file_that_is_no_library_gives_no_wheel(wheel: Path, folder: Path) -> None:
+    result = run(ROOT / "tools/wheel", wheel, folder / "none")
+    assert result.status == 1 and wheel.name.encode() in result.stderr, str(result)
+    assert not (folder / "none").exists()
 
 
 def modules_of(package: str) -> list[str]:

@@ -65,6 +65,7 @@ def test_readme_md_says_which_glibc_is_old_enough(archive: Archive) -> None:
 @pytest.mark.needs("objdump", "python3-build", "python3-setuptools", "python3-wheel")
 def test_the_name_of_the_wheel_says_which_glibc_is_old_enough(tmp_path: Path) -> None:
     library = built(f"build/{PROCESSOR}/{LIBRARY}", f"TARGET={PROCESSOR}")
+    built("python/src/mkpasswd_version.py", "lib")
     run(ROOT / "tools/wheel", library, tmp_path).required()
     (wheel,) = tmp_path.iterdir()
     glibc = oldest_glibc(library).replace(".", "_")

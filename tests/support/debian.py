@@ -88,7 +88,8 @@ def need_packages() -> None:
         missing("DEB=1", "tests of the packages take ten minutes and 3 GB")
     for path in ("libmkpasswd.so.3", "build/x86-64-v3/libmkpasswd.so.3"):
         built(path, "deb")
-    built("python/src/mkpasswd/_reasons.py", "lib")
+    for path in ("mkpasswd/_reasons.py", "mkpasswd_version.py"):
+        built(f"python/src/{path}", "lib")
     built("build/site", "site")
     built("build/mkpasswd.mjs", "web")
 
