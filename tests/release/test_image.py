@@ -13,7 +13,10 @@ from support.needs import not_applicable
 from support.process import Result, Word, assert_result, run
 from support.release import Archive
 
-pytestmark = pytest.mark.xdist_group("archive")  # so that it is packed once
+pytestmark = [
+    pytest.mark.needs("skopeo", "umoci"),
+    pytest.mark.xdist_group("archive"),  # so that it is packed once
+]
 
 NAME = "mkpasswd:test"
 LOADED = f"localhost/{NAME}"
@@ -22,9 +25,10 @@ HASH = b"$1$xxxxxxxx$UYCIxa628.9qXjpQCjM4a.\n"  # as libxcrypt makes it
 NOTHING_RUNS = rb"^Error: .*OCI (?:permission denied|runtime error)"
 
 
-def make_image(archive: Archive, file: Path) -> Path:
+def make_image(archive: Archive, file: Path, mask: str = "022", zone: str = "UTC") -> Path:
     """Makes an image of the program in the archive."""
-    run(ROOT / "tools/image", archive.tree / "bin/mkpasswd", NAME, file).required()
+    words = (ROOT / "tools/image", archive.tree / "bin/mkpasswd", NAME, file)
+    run("sh", "-c", f'umask {mask} && exec "$0" "$@"', *words, env={"TZ": zone}).required()
     return file
 
 
@@ -35,15 +39,21 @@ def fixture_image(archive: Archive, tmp_path_factory: pytest.TempPathFactory) ->
 
 
 def test_another_image_has_the_same_bytes(archive: Archive, image: Path, tmp_path: Path) -> None:
-    assert make_image(archive, tmp_path / "again.tar").read_bytes() == image.read_bytes()
+    again = make_image(archive, tmp_path / "again.tar", mask="077", zone="Asia/Tokyo")
+    assert again.read_bytes() == image.read_bytes()
 
 
-@pytest.mark.needs("skopeo")
-@pytest.mark.parametrize("form", ["oci", "docker"])
-def test_it_is_an_image_for_linux_on_amd64(image: Path, form: str) -> None:
+def test_it_is_an_image_for_linux_on_amd64(image: Path) -> None:
     shown = "{{.Os}} {{.Architecture}}"
-    result = run("skopeo", "inspect", "--format", shown, f"{form}-archive:{image}")
+    result = run("skopeo", "inspect", "--format", shown, f"docker-archive:{image}")
     assert_result(result, stdout=b"linux amd64\n")
+
+
+def test_a_file_that_is_no_program_gives_no_image(tmp_path: Path) -> None:
+    file = tmp_path / "image.tar"
+    result = run(ROOT / "tools/image", ROOT / "README.md", NAME, file)
+    assert result.status == 1 and b"README.md" in result.stderr, str(result)
+    assert not file.exists()
 
 
 # ---- By podman
