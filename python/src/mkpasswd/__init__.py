@@ -12,11 +12,13 @@ with another method, other rounds or a budget of its own makes one Policy, and c
 functions of that.
 
 The C library of mkpasswd, whose calls are proved, does the hashing. It knows the cost of a hash
-before it makes one, so a stored hash that would take minutes is refused at once.
+before it makes one, so a stored hash that would take minutes is never made.
 
 A password or a stored hash is bytes, or a str, which is encoded as UTF-8. A new hash is always a
-str. A password that has a zero byte or a lone surrogate, or more than 1,024 bytes, raises
-ValueError, except in login(), which is False. No exception has the password in it.
+str.
+
+No hash can have a password with a zero byte, with a lone surrogate, or of more than 1,024 bytes:
+login() is False for it, and hash() raises ValueError. No exception has the password in it.
 
 Any number of threads may call at once. Other threads run while a hash is made.
 """

@@ -20,17 +20,28 @@ if TYPE_CHECKING:
 
 
 class State(enum.Enum):
-    """What describe() finds a stored field to be. The value is the word that an audit prints."""
+    """What describe() finds a stored field to be. The value is the word that an audit prints.
 
-    CURRENT = "current"  #: a whole hash, which login() lets in by and leaves as it is
-    OUTDATED = "outdated"  #: a whole hash that a new one would replace: needs_rehash() is true
-    DEAD = "dead"  #: a valid setting, but no password matches: the hash was cut or changed
-    OVER_BUDGET = "over budget"  #: some password costs more than the budget
-    LOCKED = "locked"  #: it begins with "!" or "*"
-    NONE = "none"  #: it is empty, or None
-    NO_SCHEME = "no scheme"  #: a password that was stored as it is, or a damaged hash
-    UNKNOWN = "unknown"  #: a hash of another scheme, such as yescrypt, which is not judged
-    MALFORMED = "malformed"  #: its setting is invalid; the description's `reason` says why
+    CURRENT      a whole hash, which needs_rehash() leaves as it is
+    OUTDATED     a whole hash that a new one should replace: needs_rehash() is True
+    DEAD         a valid setting, but no password matches, since the hash was cut or changed
+    OVER_BUDGET  a hash that costs too much, at least with a long password
+    LOCKED       begins with "!" or "*"
+    NONE         is empty, or None
+    NO_SCHEME    no hash: a password that was stored as it is, or a damaged hash
+    UNKNOWN      a hash of another scheme, such as yescrypt, of which nothing more is known
+    MALFORMED    a setting that is invalid; the description's `reason` says why
+    """
+
+    CURRENT = "current"
+    OUTDATED = "outdated"
+    DEAD = "dead"
+    OVER_BUDGET = "over budget"
+    LOCKED = "locked"
+    NONE = "none"
+    NO_SCHEME = "no scheme"
+    UNKNOWN = "unknown"
+    MALFORMED = "malformed"
 
 
 _STATES: Dict[Optional[Reason], State] = {
@@ -45,16 +56,26 @@ _STATES: Dict[Optional[Reason], State] = {
 
 
 class Description(NamedTuple):
-    """What describe() returns. str() is what `mkpasswd --audit` prints behind the name."""
+    """What describe() returns. str() is what `mkpasswd --audit` prints behind the name.
+
+    What a field doesn't have is None.
+
+    state    a State
+    scheme   the name of the scheme in crypt(5), also of another scheme if it is known
+    cost     the most that a hash with this setting can cost, for a password of 1,024 bytes
+    rounds   those of SHA-crypt and md5crypt
+    n, r, p  scrypt's numbers
+    reason   the first rule that a malformed setting breaks, a Reason
+    """
 
     state: State
-    scheme: Optional[str] = None  #: its name in crypt(5), also of another scheme if that is known
-    cost: Optional[int] = None  #: the most that a password of 1,024 bytes costs
-    rounds: Optional[int] = None  #: of SHA-crypt and md5crypt
-    n: Optional[int] = None  #: scrypt's N,
-    r: Optional[int] = None  #: its r,
-    p: Optional[int] = None  #: and its p
-    reason: Optional[Reason] = None  #: the first rule that a malformed setting breaks
+    scheme: Optional[str] = None
+    cost: Optional[int] = None
+    rounds: Optional[int] = None
+    n: Optional[int] = None
+    r: Optional[int] = None
+    p: Optional[int] = None
+    reason: Optional[Reason] = None
 
     def __str__(self) -> str:
         if self.reason is not None:
@@ -68,11 +89,16 @@ class Description(NamedTuple):
 
 
 class Limit(NamedTuple):
-    """What limit() returns."""
+    """What limit() returns.
 
-    cost: int  #: the most that a hash may cost, as cost() counts it
-    longest_password: int  #: the bytes of the longest password that hash() takes; 0 if none
-    rounds: int  #: those of new hashes; 0 for md5crypt, and if hash() takes no password
+    cost              the most that a hash may cost, as cost() counts it
+    longest_password  the bytes of the longest password that hash() takes; 0 if it takes none
+    rounds            those of new hashes; 0 for md5crypt, and if hash() takes no password
+    """
+
+    cost: int
+    longest_password: int
+    rounds: int
 
 
 class Policy:
@@ -87,10 +113,12 @@ class Policy:
     rounds of SHA-crypt, 1000 to 999999999; for scrypt it is 6 to 11, for N = 2^(rounds + 7), r = 32
     and p = 1. None and 0 stand for the recommended number. md5crypt ignores it.
 
-    `budget` is the most that a hash may cost, as cost() counts it: the bytes that are digested, and
-    for scrypt those that are mixed. None stands for twice what a new hash costs with a password of
-    64 bytes, and at least for 150,000,000; limit() says how much that is. A budget of 1,300,000,000
-    admits every password with the recommended rounds.
+    `budget` is the most that a hash may cost, as cost() counts it. None stands for twice what a new
+    hash costs with a password of 64 bytes, and at least for 150,000,000; limit() says how much that
+    is. A budget of 1,300,000,000 admits every password with the recommended rounds.
+
+    With a budget below the cost of a new hash, login() refuses unknown names at once, which tells
+    that they don't exist.
 
     Raises TypeError, also for a float or a bool; ValueError for a budget below 1; Refused, which is
     a ValueError, for an unknown method or rounds that it does not take.
@@ -153,17 +181,24 @@ class Policy:
         >>> mkpasswd.login("password", field=None)
         False
 
-        Nothing that a user can type or a database can hold as str or bytes raises an exception. A
-        password that no hash can have, a locked or malformed field, another scheme, a hash that
-        costs more than the budget, and too little memory for scrypt are all False.
+        It is False for a wrong password, and for a password that no hash can have; for a field that
+        is empty, locked, malformed, of another scheme, or that costs more than the budget; and if
+        there is too little memory for scrypt.
 
-        A field that can't be checked costs what a new hash costs, so the time does not tell which
-        names exist, as long as all hashes are made by this policy. A password that no hash can
-        have, or of which a new hash would cost more than the limit of a policy without a budget, is
-        refused at once, for every name.
+        How long it takes depends on the field and the password:
+
+        - A stored hash takes as long as its rounds need. An old one with fewer rounds than this
+          policy's takes less time than a new hash. While such hashes are stored, the time of a
+          failure can tell which names exist; mkpasswd.fixed_time hides that.
+        - A field that can't be checked takes as long as a new hash, and so does None. So an unknown
+          name takes as long as a user whose hash is new.
+        - A password that no hash can have is refused at once, for every name. So is one above
+          limit().longest_password, unless the policy has a budget of its own.
 
         At level DEBUG the logger "mkpasswd" says why it is False. Password and field are not in the
-        message. Raises TypeError alone, for what is neither str nor bytes.
+        message.
+
+        Raises TypeError for what is neither str nor bytes, and nothing else.
         """
         stored = b"" if field is None else _calls.text_bytes(field, "field")
         try:
@@ -179,9 +214,9 @@ class Policy:
     def needs_rehash(self, stored: Text) -> bool:
         """Return whether a new hash by this policy should replace the stored one.
 
-        It is True if the method is another one, whatever the stored hash costs, or the same with
-        more rounds, or for scrypt with a greater N * r * p. It is False for a hash with more rounds
-        than these, and for an empty or locked field. It checks no password.
+        It is True if the new hash would have another method, whatever the stored one costs; more
+        rounds; or for scrypt a greater N * r * p. It is False for a hash with as many rounds or
+        more, and for an empty or locked field. It checks no password.
 
         >>> mkpasswd.needs_rehash("$6$rounds=20000$salt$x")
         True
@@ -205,9 +240,12 @@ class Policy:
         >>> mkpasswd.hash("password").startswith("$6$rounds=656000$")
         True
 
-        Raises TooCostly, before anything is hashed, if the hash costs more than the budget, so that
-        login() lets in by what is made; ValueError if no hash can have the password; OSError if the
-        system has no random bytes; MemoryError.
+        Raises ValueError if no hash can have the password: one with a zero byte, a lone surrogate
+        or more than 1,024 bytes. Raises TooCostly, which is a ValueError too, if the hash would
+        cost more than the budget: login() would not accept it. Nothing is hashed then.
+
+        Raises MemoryError if there is too little for scrypt, and OSError if the system has no
+        random bytes.
         """
         answer = _library.new(_calls.password_bytes(password), self._numbers)
         if not answer.is_yes:
@@ -226,13 +264,17 @@ class Policy:
         >>> str(mkpasswd.describe("$6$rounds=0$salt$x"))
         'malformed:bad rounds'
 
-        A hash is over budget if a password of 1,024 bytes can cost more than the budget. Without a
-        budget, it is if that can cost more than with a new hash of this policy and of the
-        recommended one, or if login() refuses each password as too costly. A hash with more rounds
-        than the policy's can be over budget though login() takes it: audit with the policy that
-        made it.
+        A hash is over budget if a password of 1,024 bytes can cost more than the policy's budget.
+        If the policy has none, a hash is over budget in two cases:
 
-        Raises TypeError alone, for what is neither str nor bytes.
+        - A password of 1,024 bytes can cost more than with this policy's method and rounds, and
+          more than with the recommended ones.
+        - Even the empty password costs more than the policy's limit, so login() is always False.
+
+        In the first case login() can still be True, for a shorter password. So audit hashes with
+        the policy that made them.
+
+        Raises TypeError for what is neither str nor bytes, and nothing else.
         """
         text = b"" if field is None else _calls.text_bytes(field, "field")
         answer = _library.audit(text, self._numbers)
@@ -256,7 +298,7 @@ class Policy:
         Limit(cost=253921472, longest_password=168, rounds=656000)
 
         The cost is the budget, or what None stands for. hash() takes every password of up to
-        `longest_password` bytes, and none that is longer; see for_length().
+        `longest_password` bytes, and raises TooCostly for a longer one; see for_length().
         """
         return self._limit
 
@@ -264,7 +306,9 @@ class Policy:
         """Return the most that a hash with this setting costs, for any password of so many bytes.
 
         It is what a budget is compared with: the bytes that are digested, and for scrypt those that
-        are mixed. It is the same for every policy, and nothing is hashed.
+        are mixed. It is the same for every policy. Nothing is hashed.
+
+        Don't log it: with a setting, it tells how long a password is.
 
         >>> mkpasswd.cost("$1$xxxxxxxx$UYCIxa628.9qXjpQCjM4a.", 8)
         36239
@@ -279,13 +323,15 @@ class Policy:
         return answer.report.cost
 
     def setting(self, salt: Optional[Text] = None) -> str:
-        """Return a setting for crypt.crypt(), with a salt of yours, or without one a new salt.
+        """Return a setting for crypt.crypt(), with this salt, or with a new one if it is None.
 
         >>> mkpasswd.Policy().setting("saltstring")
         '$6$rounds=656000$saltstring'
 
-        Two passwords with one salt can be guessed together: hash() draws a new one for each. Raises
-        Refused for a salt that the method does not take whole.
+        Give each password a salt of its own, as hash() does: those with one salt can be guessed
+        together.
+
+        Raises Refused for a salt that the method does not take whole.
         """
         given = _calls.new_salt(self._method) if salt is None else salt
         answer = _library.setting(self._numbers, _calls.text_bytes(given, "salt"))
@@ -296,9 +342,11 @@ class Policy:
     def for_length(self, password_len: int) -> Policy:
         """Return a policy with which a password of so many bytes is within this policy's limit.
 
-        It is this policy, or for a longer password one with fewer rounds of SHA-crypt. It is for
-        services that can't refuse long passwords. needs_rehash() of this policy calls such a hash
-        outdated, and its rounds tell whoever sees it about how long the password is.
+        It is this policy itself if that admits the password, and otherwise one with fewer rounds of
+        SHA-crypt. It is for services that can't refuse long passwords.
+
+        A hash with fewer rounds tells whoever sees it about how long the password is, and
+        needs_rehash() of this policy is True for it.
 
         >>> mkpasswd.Policy().for_length(1024)
         Policy(method='sha512crypt', rounds=118822, budget=253921472)

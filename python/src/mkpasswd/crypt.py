@@ -85,18 +85,20 @@ def crypt(
     """Return the hash of `word` with a setting.
 
     `salt` is a setting or a stored hash; one of `methods`, for a new salt; or None, for the first
-    of them. If it is not a setting of these methods, the result is "*0" ("*1" if the salt begins
-    with "*0"), which no password matches; also for "$2b$" and all others that crypt(3) may know.
+    of them.
+
+    If it is no setting of these methods, the result is "*0", which no password matches ("*1" if the
+    salt begins with "*0"). That is so for "$2b$", too, and for all others that crypt(3) may know.
 
     >>> crypt("password", "!")
     '*0'
 
-    Unlike the standard library's, it raises TooCostly if the hash costs more than the budget (by
-    default that of mkpasswd.Policy()), and takes bytes too. The result is always a str, so decode a
-    field of bytes before you compare them.
+    Unlike the standard library's, it takes bytes too. The result is always a str, so decode a field
+    of bytes before you compare them.
 
-    Raises ValueError too if no hash can have the password, or for a budget below 1; MemoryError if
-    there is too little for scrypt.
+    Unlike the standard library's, it raises TooCostly if the hash can cost more than the budget, by
+    default that of mkpasswd.Policy(). Raises ValueError too if no hash can have the password, or
+    for a budget below 1; MemoryError if there is too little for scrypt.
     """
     setting = mksalt(salt) if salt is None or isinstance(salt, _Method) else salt
     secret = _calls.password_bytes(word)

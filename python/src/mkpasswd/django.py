@@ -6,9 +6,9 @@
 Django reads the algorithm in front of the first "$", so a hash is stored as "mkpasswd$6$..". Put
 "mkpasswd" in front of hashes of these methods that come from elsewhere.
 
-A password whose hash would cost more than the policy's limit gets fewer rounds, so that Django can
-renew the hash of everybody who logs in; see Policy.for_length(). PasswordValidator refuses such
-passwords when they are set.
+When Django renews the hash of a user who logs in, it can't ask for a shorter password. So one whose
+hash would cost more than the policy's limit gets fewer rounds; see Policy.for_length().
+PasswordValidator refuses such passwords when they are chosen.
 """
 from __future__ import annotations
 
@@ -44,8 +44,10 @@ _FORMS = (
 class InvalidPassword(PermissionDenied, ValueError):
     """A password that no hash can have: of more than 1,024 bytes, or with a zero byte.
 
-    It is raised too where scrypt lacks memory. For an unknown name, Django's authenticate() hashes
-    what was typed. It takes this for a login that failed, so that unknown names don't stand out.
+    It is raised too if scrypt finds no memory.
+
+    For an unknown name, Django's authenticate() hashes the password that was typed. Because this is
+    a PermissionDenied, that is a failed login there, and no error by which the name stood out.
     """
 
 
@@ -92,7 +94,7 @@ class MkpasswdPasswordHasher(BasePasswordHasher):
             raise InvalidPassword(str(error)) from None
 
     def verify(self, password: str, encoded: str) -> bool:
-        """Return whether the password matches, at the cost of a new hash if nothing can tell."""
+        """Return whether it matches. A field that can't be checked costs what a new hash does."""
         field = self._field(encoded)
         try:
             policy = self._policy_for(password)
@@ -107,7 +109,7 @@ class MkpasswdPasswordHasher(BasePasswordHasher):
         return False
 
     def harden_runtime(self, password: str, encoded: str) -> None:
-        """Spend what a new hash costs more than verify() has done for this one."""
+        """Hash as much as a new hash costs more than verify() has done with this one."""
         field = self._field(encoded)
         # What can't be hashed costs nothing for an unknown name either.
         with suppress(MemoryError, ValueError):

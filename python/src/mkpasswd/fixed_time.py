@@ -3,9 +3,14 @@
     logins = FixedTime(seconds=6, threads=4, queued=4, failed=1000)
     future = logins.submit(login, database, name, password)
 
-submit() returns a concurrent.futures.Future: future.result() waits for the answer in a thread, and
-`await asyncio.wrap_future(future)` in asyncio. A login that succeeds is answered at once. While a
-failure waits, it takes no thread and no place in the queue, so the next login already runs.
+A login is a function of yours that returns True or False. submit() returns a future of
+concurrent.futures: in a thread, future.result() waits for the answer, and in asyncio
+`await asyncio.wrap_future(future)`.
+
+1. The login waits for one of the threads, and runs there.
+2. If it returns True, that is the answer, at once.
+3. If it fails, the answer comes when the fixed time since submit() has passed. Meanwhile the
+   failure holds no thread and no place in the queue, so the next login already runs.
 """
 from __future__ import annotations
 
@@ -27,17 +32,19 @@ class Busy(Exception):
 class FixedTime:
     """Runs logins, which are functions that return True or False, in threads of its own.
 
-    A login that returns anything but True, or raises an exception, is answered `seconds` after
-    submit(); if it takes longer, at twice that time, at three times, and so on. So choose more
-    seconds than the costliest login takes behind a full queue: math.ceil(1 + queued / threads)
-    times the seconds of one login.
+    A login fails if it returns anything but True, or raises an exception.
 
-    `threads` logins run at once, and `queued` more wait for a thread. `failed` failures wait for
-    their time. Above these numbers, submit() raises Busy.
+    `seconds` is when a failure is answered, counted from submit(). A failure that took longer is
+    answered at twice that time, at three times, and so on. To avoid that, choose more seconds than
+    the costliest login takes behind a full queue: math.ceil(1 + queued / threads) times the seconds
+    of one login.
 
-    The threads start with the first login, so a server may make a FixedTime before it makes its
-    workers by fork(); the numbers hold for each worker. After the first login, fork() copies no
-    thread, and submit() raises RuntimeError in the new process.
+    `threads` is how many logins run at once, `queued` how many more may wait for a thread, and
+    `failed` how many failures may wait for their time. Above these numbers, submit() raises Busy.
+
+    The threads start with the first login. Until then, a server may make its worker processes by
+    fork(); each has these numbers of its own. Later, fork() copies no thread, and submit() raises
+    RuntimeError in the new process.
 
     Raises ValueError for seconds that are negative or not finite, and without a thread.
     """
@@ -56,10 +63,12 @@ class FixedTime:
         self._process: Optional[int] = None  # the one that has the threads
 
     def submit(self, login: Callable[..., bool], *arguments: Any, **named: Any) -> Future[bool]:
-        """Run login(*arguments, **named) soon, and return its answer as a future.
+        """Run login(*arguments, **named) in a thread, and return its answer as a future.
 
-        Raises Busy; OSError or RuntimeError if the system has no more files or threads; and
-        RuntimeError after a fork(). The future raises what the login raised.
+        If the login raises an exception, so does the future, after the fixed time.
+
+        Raises Busy if there are too many logins; OSError or RuntimeError if the system has no more
+        files or threads; and RuntimeError if the process was made by fork() after the first login.
         """
         began = time.monotonic()
         if self._process not in (None, os.getpid()):

@@ -6,13 +6,15 @@
 They take passlib's options (`sha512_crypt__rounds`, ..), and their hashes are the same. By default
 they make the recommended rounds, and hashes with fewer are outdated.
 
-What a hash may cost is mkpasswd.Policy's limit for the handler's rounds, or the option `budget`:
-`sha512_crypt__budget` of a CryptContext, or `sha512_crypt.using(budget=..)`. For a hash above that,
-verify() is false. A password whose hash would cost more gets fewer rounds, so hash() takes every
-password of up to 1,024 bytes without a zero byte; see mkpasswd.Policy.for_length().
+A hash may cost as much as mkpasswd.Policy's limit for the handler's rounds. The option `budget`
+sets another limit: `sha512_crypt__budget` of a CryptContext, or `sha512_crypt.using(budget=..)`.
+For a stored hash above it, verify() is false.
 
-They are registered in place of passlib's own, so that CryptContext.from_string() and others that
-know a name alone find them.
+hash() takes every password of up to 1,024 bytes without a zero byte. One whose hash would cost more
+than the limit gets fewer rounds; see mkpasswd.Policy.for_length().
+
+They are registered in place of passlib's own handlers, so that CryptContext.from_string() and
+others that know only a name find them.
 """
 from __future__ import annotations
 
