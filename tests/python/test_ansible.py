@@ -6,7 +6,7 @@ import re
 import secrets
 
 import pytest
-from support.package import environment_of, recipe_under, tried_package
+from support.package import environment_of, recipe, tried_package
 from support.process import run
 from support.stored_strings import MD5
 
@@ -71,7 +71,7 @@ def fixture_messages(tmp_path_factory: pytest.TempPathFactory) -> dict[str, str]
             vault = run(*command, env=environment, cwd=folder).required().stdout.decode()
             file.write(vault[vault.index(f"{name}:") :].partition("\nEncryption")[0] + "\n")
     (folder / "filter_plugins").mkdir()
-    (folder / "filter_plugins/mkpasswd.py").write_text(recipe_under("Ansible"), encoding="ascii")
+    (folder / "filter_plugins/mkpasswd.py").write_text(recipe("Ansible"), encoding="ascii")
     play = {
         "hosts": "localhost",
         "gather_facts": False,

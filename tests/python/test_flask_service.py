@@ -18,7 +18,13 @@ from pathlib import Path
 from typing import Any
 
 import pytest
-from support.package import MOVING_CHANGES, changed_recipe, crypt, recipe_under, tried_package
+from support.package import (
+    changed,
+    crypt,
+    recipe,
+    tried_package,
+    whole_login_of_a_moving_service,
+)
 
 with tried_package():
     from mkpasswd.fixed_time import FixedTime
@@ -69,11 +75,11 @@ LOCKED = ("locked", "locked bcrypt")
 
 def code_of_service() -> str:
     """What somebody writes who follows the document."""
+    fixed_time = recipe("failures after a fixed time")
     sections = [
-        changed_recipe("A whole login", MOVING_CHANGES),
-        recipe_under("Moving from other hashes"),
-        changed_recipe("Failures after a fixed time", {"seconds=6": f"seconds={SECONDS}"}),
-        recipe_under("Flask"),
+        whole_login_of_a_moving_service(),
+        changed(fixed_time, {"seconds=6": f"seconds={SECONDS}"}),
+        recipe("Flask"),
     ]
     return "\n\n".join(sections)
 
@@ -99,7 +105,7 @@ class Service:
 @pytest.fixture(name="service")
 def fixture_service(tmp_path: Path, monkeypatch: pytest.MonkeyPatch) -> Service:
     with contextlib.closing(sqlite3.connect(tmp_path / "users.db")) as database:
-        database.execute("CREATE TABLE users (name TEXT PRIMARY KEY, hash TEXT)")
+        database.execute(recipe("the table", "sql"))
         database.executemany("INSERT INTO users VALUES (?, ?)", fields_before().items())
         database.commit()
     path = tmp_path / "service.py"
@@ -176,6 +182,7 @@ def test_the_log_has_the_names_of_users_and_no_password(
     for name, password in typed:
         assert service.post(name, password) == 403
     warnings = [record.getMessage() for record in caplog.records if record.levelname == "WARNING"]
-    assert warnings == ["login failed: 'pbkdf2'", "login failed: 'locked'", "login failed: None"]
+    logged = ["'pbkdf2'", "'locked'", "None"]
+    assert warnings == [f"login failed: {name} from '127.0.0.1'" for name in logged]
     for _, password in typed:
         assert password not in caplog.text

@@ -3,8 +3,9 @@ from __future__ import annotations
 
 import asyncio
 import contextlib
+import doctest
+import hashlib
 import importlib
-import runpy
 import sqlite3
 import time
 from concurrent.futures import ThreadPoolExecutor
@@ -12,14 +13,18 @@ from pathlib import Path
 from typing import Any
 
 import pytest
+from support import ROOT
+from support.documents import Block, blocks_of
 from support.package import (
-    MOVING_CHANGES,
     Cook,
-    changed_recipe,
+    changed,
     crypt,
-    recipe_under,
+    kind_raised,
+    recipe,
     run_python,
     tried_package,
+    whole_login,
+    whole_login_of_a_moving_service,
 )
 from support.stored_strings import COSTLY, MD5, SHA512, title
 
@@ -31,12 +36,13 @@ RECOMMENDED = "$6$rounds=656000$"
 # A right hash, none, a locked one, one that costs too much, and NULL.
 USERS = {"ann": MD5, "joe": "", "bob": "!" + MD5, "eve": COSTLY, "kim": None}
 WRONG_PASSWORDS = ["passw0rd", "", "x\0", "\ud800", "x" * 1025, MD5, "!"]
+ADDRESS = "203.0.113.7"
 
 
 @pytest.fixture(name="database")
 def fixture_database() -> sqlite3.Connection:
     users = sqlite3.connect(":memory:")
-    users.execute("CREATE TABLE users (name TEXT PRIMARY KEY, hash TEXT)")
+    users.execute(recipe("the table", "sql"))
     users.executemany("INSERT INTO users VALUES (?, ?)", USERS.items())
     users.commit()
     return users
@@ -46,12 +52,45 @@ def fields_of(users: sqlite3.Connection) -> dict[str, Any]:
     return dict(users.execute("SELECT name, hash FROM users"))
 
 
+# ---- What an interpreter shows
+
+
+def interpreter_blocks() -> list[Block]:
+    """The blocks of the document that show an interpreter."""
+    return [block for block in blocks_of(ROOT / "docs/PYTHON.md") if block.language == "pycon"]
+
+
+@pytest.mark.parametrize("block", interpreter_blocks(), ids=str)
+def test_an_interpreter_prints_what_is_shown(block: Block) -> None:
+    names = {"mkpasswd": mkpasswd}
+    path, line = str(block.place.path), block.place.line
+    test = doctest.DocTestParser().get_doctest(block.code, names, str(block), path, line - 1)
+    shown: list[str] = []
+    result = doctest.DocTestRunner(verbose=False).run(test, out=shown.append)
+    assert result.attempted > 0 and result.failed == 0, "".join(shown)
+
+
 # ---- A whole login
 
 
+@pytest.fixture(name="names")
+def fixture_names(cook: Cook) -> dict[str, Any]:
+    """What the service of the section has."""
+    return cook.run(whole_login())
+
+
 @pytest.fixture(name="login")
-def fixture_login(cook: Cook) -> Any:
-    return cook.follow("A whole login")["login"]
+def fixture_login(names: dict[str, Any]) -> Any:
+    return from_an_address(names)
+
+
+def from_an_address(names: dict[str, Any]) -> Any:
+    """The login of a service, from one address."""
+
+    def login(database: sqlite3.Connection, name: str | None, password: str) -> Any:
+        return names["login"](database, name, password, ADDRESS)
+
+    return login
 
 
 @pytest.mark.parametrize("name", [*USERS, "nobody", None], ids=str)
@@ -78,13 +117,30 @@ def test_an_outdated_hash_is_renewed(database: sqlite3.Connection, login: Any) -
     assert login(database, "ann", "password") is True
 
 
-def test_a_new_user_gets_a_hash_that_is_kept(database: sqlite3.Connection, cook: Cook) -> None:
-    names = cook.follow("A whole login")
+def test_a_new_user_gets_a_hash_that_is_kept(
+    database: sqlite3.Connection, names: dict[str, Any], login: Any
+) -> None:
     names["register"](database, "zoe", "pässword")
     stored = fields_of(database)["zoe"]
     assert stored.startswith(RECOMMENDED) and stored == crypt("pässword", stored)
-    assert names["login"](database, "zoe", "pässword") is True
+    assert login(database, "zoe", "pässword") is True
     assert fields_of(database)["zoe"] == stored
+
+
+@pytest.mark.parametrize("password", ["", "x\0", "x" * 169, "x" * 1025], ids=title)
+def test_nobody_is_registered_with_a_password_that_can_not_be_used(
+    database: sqlite3.Connection, names: dict[str, Any], password: str
+) -> None:
+    with pytest.raises(ValueError):
+        names["register"](database, "zoe", password)
+    assert fields_of(database) == USERS
+
+
+def test_a_known_name_is_not_registered_again(
+    database: sqlite3.Connection, names: dict[str, Any]
+) -> None:
+    assert kind_raised(names["register"], database, "ann", "x") is sqlite3.IntegrityError
+    assert fields_of(database) == USERS
 
 
 def test_a_database_that_can_not_be_written_keeps_the_old_hash(
@@ -154,10 +210,12 @@ def test_two_logins_at_once_renew_a_hash_once(
 
 @pytest.mark.parametrize(
     ("name", "logged"),
-    [("ann", "login failed: 'ann'"), ("my password", "login failed: None")],
-    ids=["a user", "no user"],
+    [
+        pytest.param("ann", f"login failed: 'ann' from '{ADDRESS}'", id="a user"),
+        pytest.param("my password", f"login failed: None from '{ADDRESS}'", id="no user"),
+    ],
 )
-def test_the_log_of_a_failure_names_users_alone(
+def test_the_log_of_a_failure_has_the_address_and_names_users_alone(
     database: sqlite3.Connection,
     login: Any,
     caplog: pytest.LogCaptureFixture,
@@ -165,24 +223,99 @@ def test_the_log_of_a_failure_names_users_alone(
     logged: str,
 ) -> None:
     assert login(database, name, "passw0rd") is False
-    assert [record.getMessage() for record in caplog.records] == [logged]
+    assert [(record.name, record.getMessage()) for record in caplog.records] == [("logins", logged)]
 
 
-# ---- Moving from other hashes
+def test_the_log_has_a_user_who_was_locked_during_the_login(
+    database: sqlite3.Connection,
+    login: Any,
+    monkeypatch: pytest.MonkeyPatch,
+    caplog: pytest.LogCaptureFixture,
+) -> None:
+    new = _library.new
 
-MOVING = "Moving from other hashes"
+    def lock(*arguments: Any) -> Any:
+        database.execute(recipe("lock an account", "sql"))
+        return new(*arguments)
+
+    monkeypatch.setattr(_library, "new", lock)
+    assert login(database, "ann", "password") is False
+    assert fields_of(database)["ann"] == "!" + MD5
+    messages = [record.getMessage() for record in caplog.records]
+    assert messages == [f"login failed: 'ann' from '{ADDRESS}'"]
+
+
+# ---- Changes of passwords, and locks
+
+
+def test_a_password_is_changed(
+    database: sqlite3.Connection, names: dict[str, Any], login: Any
+) -> None:
+    assert names["change_password"](database, "ann", "password", "pässword") is True
+    stored = fields_of(database)["ann"]
+    assert stored.startswith(RECOMMENDED) and stored == crypt("pässword", stored)
+    assert login(database, "ann", "password") is False
+
+
+@pytest.mark.parametrize("name", [*USERS, "nobody"])
+@pytest.mark.parametrize("old", ["passw0rd", ""])
+def test_a_wrong_password_changes_none(
+    database: sqlite3.Connection, names: dict[str, Any], name: str, old: str
+) -> None:
+    assert names["change_password"](database, name, old, "pässword") is False
+    assert fields_of(database) == USERS
+
+
+@pytest.mark.parametrize("new", ["", "x\0", "x" * 169, "x" * 1025], ids=title)
+def test_a_new_password_that_can_not_be_used_keeps_the_old_one(
+    database: sqlite3.Connection, names: dict[str, Any], new: str
+) -> None:
+    with pytest.raises(ValueError):
+        names["change_password"](database, "ann", "password", new)
+    assert fields_of(database) == USERS
+
+
+@pytest.mark.parametrize("change", ["!" + MD5, SHA512], ids=["a lock", "another change"])
+def test_a_change_of_a_password_undoes_no_other_change(
+    database: sqlite3.Connection,
+    names: dict[str, Any],
+    monkeypatch: pytest.MonkeyPatch,
+    change: str,
+) -> None:
+    new = _library.new
+
+    def meanwhile(*arguments: Any) -> Any:
+        database.execute("UPDATE users SET hash = ? WHERE name = 'ann'", (change,))
+        return new(*arguments)
+
+    monkeypatch.setattr(_library, "new", meanwhile)
+    assert names["change_password"](database, "ann", "password", "pässword") is False
+    assert fields_of(database)["ann"] == change
+
+
+def test_a_lock_locks_one_account(database: sqlite3.Connection, login: Any) -> None:
+    database.execute(recipe("lock an account", "sql"))
+    assert login(database, "ann", "password") is False
+    fields = fields_of(database)
+    assert fields.pop("ann") == "!" + MD5
+    assert fields == {name: field for name, field in USERS.items() if name != "ann"}
+
+
+# ---- Moving an existing service
+
 OLD_SCHEMES = pytest.mark.parametrize("scheme", ["bcrypt", "pbkdf2"])
 OLD_NEEDS = pytest.mark.needs("python3-passlib", "python3-bcrypt", "python3-werkzeug")
 
 
+@pytest.fixture(name="moving")
+def fixture_moving(cook: Cook) -> dict[str, Any]:
+    """What a service has that moves, as the document says."""
+    return cook.run(whole_login_of_a_moving_service())
+
+
 @pytest.fixture(name="moving_login")
-def fixture_moving_login(cook: Cook) -> Any:
-    """The whole login with the fallback, put in as the document says."""
-    names = cook.follow(MOVING, mkpasswd=mkpasswd)
-    path = cook.folder / "moving_login.py"
-    path.write_text(changed_recipe("A whole login", MOVING_CHANGES), encoding="utf-8")
-    given = {name: names[name] for name in ("matches", "is_outdated")}
-    return runpy.run_path(str(path), init_globals=given)["login"]
+def fixture_moving_login(moving: dict[str, Any]) -> Any:
+    return from_an_address(moving)
 
 
 def old_hash(scheme: str, password: str) -> str:
@@ -190,8 +323,8 @@ def old_hash(scheme: str, password: str) -> str:
     if scheme == "bcrypt":
         handler = importlib.import_module("passlib.hash").bcrypt
         return str(handler.using(rounds=4).hash(password))
-    security = importlib.import_module("werkzeug.security")
-    return str(security.generate_password_hash(password, "pbkdf2:sha256:1000"))
+    digest = hashlib.pbkdf2_hmac("sha256", password.encode(), b"saltsalt", 1000)
+    return f"pbkdf2:sha256:1000$saltsalt${digest.hex()}"
 
 
 def store(users: sqlite3.Connection, field: str) -> None:
@@ -238,12 +371,87 @@ def test_a_password_that_ours_do_not_take_keeps_its_old_hash(
 
 @OLD_NEEDS
 @OLD_SCHEMES
-@pytest.mark.parametrize("damage", ["!{}", "*", "{}x", "x{}", "$2b$", "pbkdf2:", "pbkdf2:sha256$"])
+@pytest.mark.parametrize("damage", ["!{}", "*", "{}x", "x{}"])
 def test_a_locked_or_damaged_old_hash_lets_nobody_in(
     database: sqlite3.Connection, moving_login: Any, scheme: str, damage: str
 ) -> None:
     store(database, damage.format(old_hash(scheme, "password")))
     assert moving_login(database, "ann", "password") is False
+
+
+@OLD_NEEDS
+@pytest.mark.parametrize(
+    "field",
+    [
+        *("$2b$", "$2b$99$abcdefghijklmnopqrstuu", "$2b$04$é"),
+        *("pbkdf2:", "pbkdf2:sha256$", "pbkdf2:sha256$s$ab", "pbkdf2:nothing:1$s$ab"),
+        *("pbkdf2:sha256:x$s$ab", "pbkdf2:sha256:0$s$ab", "pbkdf2:sha256:1$s$é"),
+        *("pbkdf2:sha256:9999999999$s$ab", f"pbkdf2:sha256:{2**70}$s$ab", "scrypt:x$s$ab"),
+    ],
+    ids=title,
+)
+def test_an_old_hash_that_its_check_refuses_lets_nobody_in_and_is_not_logged(
+    database: sqlite3.Connection,
+    moving_login: Any,
+    caplog: pytest.LogCaptureFixture,
+    field: str,
+) -> None:
+    store(database, field)
+    assert moving_login(database, "ann", "s3cret") is False
+    assert fields_of(database)["ann"] == field
+    assert caplog.records
+    assert field not in caplog.text and "s3cret" not in caplog.text
+
+
+@OLD_NEEDS
+@OLD_SCHEMES
+def test_a_password_of_an_old_hash_is_changed(
+    database: sqlite3.Connection, moving: dict[str, Any], scheme: str
+) -> None:
+    old = old_hash(scheme, "password")
+    store(database, old)
+    assert moving["change_password"](database, "ann", "passw0rd", "pässword") is False
+    assert fields_of(database)["ann"] == old
+    assert moving["change_password"](database, "ann", "password", "pässword") is True
+    new = fields_of(database)["ann"]
+    assert new.startswith(RECOMMENDED) and new == crypt("pässword", new)
+
+
+@OLD_NEEDS
+def test_a_hash_that_was_stored_as_bytes_moves_once_it_is_text(
+    database: sqlite3.Connection, moving_login: Any
+) -> None:
+    database.execute(
+        "UPDATE users SET hash = ? WHERE name = 'ann'", (old_hash("bcrypt", "password").encode(),)
+    )
+    database.execute(recipe("turn bytes into text", "sql"))
+    assert moving_login(database, "ann", "passw0rd") is False
+    assert moving_login(database, "ann", "password") is True
+    assert fields_of(database)["ann"].startswith(RECOMMENDED)
+
+
+@OLD_NEEDS
+@pytest.mark.needs("python3-argon2")
+def test_a_user_with_a_hash_of_argon2_gets_in_and_moves(
+    database: sqlite3.Connection, cook: Cook
+) -> None:
+    code = whole_login_of_a_moving_service() + "\n\n" + recipe("check Argon2")
+    login = from_an_address(cook.run(code))
+    hasher = importlib.import_module("argon2").PasswordHasher(time_cost=1, memory_cost=1024)
+    old = hasher.hash("password")
+    for field in old[:-1], "$argon2", "!" + old:
+        store(database, field)
+        assert login(database, "ann", "password") is False
+    store(database, old)
+    assert login(database, "ann", "passw0rd") is False
+    assert login(database, "ann", "password") is True
+    assert fields_of(database)["ann"].startswith(RECOMMENDED)
+
+
+def test_a_table_shows_which_kinds_of_hashes_it_has(database: sqlite3.Connection) -> None:
+    store(database, "$2b$04$abcdefghijklmnopqrstuu")
+    kinds = dict(database.execute(recipe("see what is stored", "sql")))
+    assert kinds == {"$2b": 1, "": 1, "!$1": 1, "$6$": 1, None: 1}
 
 
 @OLD_NEEDS
@@ -258,19 +466,21 @@ def test_all_others_log_in_as_before(
 # ---- Failures after a fixed time
 
 
-@pytest.fixture(name="fixed_time")
-def fixture_fixed_time(
-    database: sqlite3.Connection,
-    cook: Cook,
-    login: Any,
-    tmp_path: Path,
-    monkeypatch: pytest.MonkeyPatch,
-) -> dict[str, Any]:
-    """The section, followed in a folder where the database is."""
-    monkeypatch.chdir(tmp_path)
+def folder_with(database: sqlite3.Connection, folder: Path, monkeypatch: Any) -> None:
+    """Makes a folder the current one, with the database in the file that the document names."""
+    monkeypatch.chdir(folder)
     with contextlib.closing(sqlite3.connect("users.db")) as users:
         database.backup(users)
-    return cook.follow("Failures after a fixed time", login=login)
+
+
+@pytest.fixture(name="fixed_time")
+def fixture_fixed_time(
+    database: sqlite3.Connection, cook: Cook, tmp_path: Path, monkeypatch: pytest.MonkeyPatch
+) -> dict[str, Any]:
+    """A service with both forms of the answer, in a folder where the database is."""
+    folder_with(database, tmp_path, monkeypatch)
+    forms = ("failures after a fixed time", "asyncio with a fixed time")
+    return cook.run("\n\n".join([whole_login(), *map(recipe, forms)]))
 
 
 @pytest.fixture(name="answer", params=["threads", "asyncio"])
@@ -282,14 +492,24 @@ def fixture_answer(fixed_time: dict[str, Any], request: pytest.FixtureRequest) -
 
 
 def test_the_right_password_is_answered_by_true(answer: Any) -> None:
-    assert answer("ann", "password") is True
+    assert answer("ann", "password", ADDRESS) is True
 
 
 @pytest.mark.parametrize("name", ["ann", "nobody"])
-def test_a_wrong_password_is_answered_after_five_seconds(answer: Any, name: str) -> None:
+def test_a_wrong_password_is_answered_after_six_seconds(answer: Any, name: str) -> None:
     began = time.monotonic()
-    assert answer(name, "passw0rd") is False
-    assert time.monotonic() - began >= 5
+    assert answer(name, "passw0rd", ADDRESS) is False
+    assert time.monotonic() - began >= 6
+
+
+def test_the_costliest_login_is_measured(cook: Cook, capsys: pytest.CaptureFixture[str]) -> None:
+    """With a policy that costs less."""
+    imported = "import mkpasswd\n"
+    cheaper = f"{imported}\nmkpasswd = mkpasswd.Policy(rounds=1000)\n"
+    cook.run(changed(recipe("measure the costliest login"), {imported: cheaper}))
+    alone, with_others = capsys.readouterr().out.splitlines()
+    assert float(alone.removeprefix("alone: ")) > 0
+    assert float(with_others.removeprefix("with all threads busy: ")) > 0
 
 
 # ---- The others
@@ -298,43 +518,59 @@ def test_a_wrong_password_is_answered_after_five_seconds(answer: Any, name: str)
 def test_an_audit_prints_each_field(
     database: sqlite3.Connection, cook: Cook, capsys: pytest.CaptureFixture[str]
 ) -> None:
-    cook.follow("Audit", database=database, mkpasswd=mkpasswd)
+    cook.follow("audit", database=database, mkpasswd=mkpasswd)
     costly = f"sha512crypt:2500000:{mkpasswd.cost(COSTLY, 1024)}:over budget"
     answers = ["md5crypt:1000:1927022:outdated", "none", "locked", costly, "none"]
     expected = [f"{name!r}:{answer}" for name, answer in zip(USERS, answers)]
     assert capsys.readouterr().out.splitlines() == expected
 
 
-def test_the_log_has_the_name(cook: Cook, capsys: pytest.CaptureFixture[str]) -> None:
-    names = cook.follow("Logging")
-    try:
-        names["user"].set("ann\n")
-        mkpasswd.login("password", field="!")
-    finally:
-        names["logger"].removeHandler(names["handler"])
-        names["logger"].setLevel("NOTSET")
-        names["logger"].propagate = True
-    assert capsys.readouterr().err.endswith(" 'ann\\n': login refused: locked\n")
+@pytest.mark.parametrize(
+    ("name", "password", "problem"),
+    [
+        pytest.param("zoe", "pässword", None, id="none"),
+        pytest.param("zoe", "x" * 169, "at most 168 bytes", id="a long password"),
+        pytest.param("zoe", "x\0", "zero byte", id="a zero byte"),
+        pytest.param("zoe", "", "empty", id="an empty password"),
+        pytest.param("ann", "pässword", "another name", id="a known name"),
+    ],
+)
+def test_a_form_says_why_somebody_can_not_be_registered(
+    database: sqlite3.Connection, cook: Cook, name: str, password: str, problem: str | None
+) -> None:
+    names = cook.run(whole_login() + "\n\n" + recipe("errors"))
+    answer = names["problem_of_registration"](database, name, password)
+    if problem is None:
+        assert answer is None
+        assert crypt(password, fields_of(database)[name]) == fields_of(database)[name]
+    else:
+        assert problem in answer and fields_of(database) == USERS
 
 
-THREE_LOGINS = """
+LOGINS_OF_ALL_KINDS = f"""
+import flask
+
+app = flask.Flask(__name__)
 database = sqlite3.connect(":memory:")
 database.execute("CREATE TABLE users (name TEXT PRIMARY KEY, hash TEXT)")
 database.execute("INSERT INTO users VALUES ('ann', '!')")
-for name in "ann", "nobody", "ann":
-    login(database, name, "password")
+for name in "ann", "nobody":
+    login(database, name, "password", {ADDRESS!r})
+    app.logger.warning("flask")
 """
 
 
-def test_the_log_of_a_whole_login_has_each_name_and_each_line_once() -> None:
-    """The first warning gives the root logger a handler, which would repeat the lines."""
-    read = "    field = stored_hash(database, name)\n"
-    with_name = f"{read}    user.set(None if field is None else name)\n"
-    login = changed_recipe("A whole login", {read: with_name})
-    result = run_python(recipe_under("Logging") + login + THREE_LOGINS).required()
-    of_ann = [" 'ann': login refused: locked", "WARNING:root:login failed: 'ann'"]
-    of_nobody = [" None: login refused: no hash", "WARNING:root:login failed: None"]
-    expected = [*of_ann, *of_nobody, *of_ann]
+@pytest.mark.needs("python3-flask")
+def test_the_log_has_each_line_once() -> None:
+    result = run_python(recipe("logging") + whole_login() + LOGINS_OF_ALL_KINDS).required()
+    expected = [
+        " MainThread mkpasswd: login refused: locked",
+        f" MainThread logins: login failed: 'ann' from '{ADDRESS}'",
+        " WARNING in <string>: flask",
+        " MainThread mkpasswd: login refused: no hash",
+        f" MainThread logins: login failed: None from '{ADDRESS}'",
+        " WARNING in <string>: flask",
+    ]
     lines = result.stderr.decode().splitlines()
     assert len(lines) == len(expected), result
     assert all(line.endswith(end) for line, end in zip(lines, expected)), result
@@ -348,10 +584,19 @@ def test_asyncio_waits_for_a_login(cook: Cook, password: str, is_match: bool) ->
     assert asyncio.run(login(password, MD5)) is is_match
 
 
+@pytest.fixture(name="app")
+def fixture_app(
+    database: sqlite3.Connection, cook: Cook, tmp_path: Path, monkeypatch: pytest.MonkeyPatch
+) -> Any:
+    """Flask's application, which answers failures at once."""
+    folder_with(database, tmp_path, monkeypatch)
+    fixed_time = changed(recipe("failures after a fixed time"), {"seconds=6": "seconds=0"})
+    return cook.run("\n\n".join([whole_login(), fixed_time, recipe("Flask")]))["app"]
+
+
 @pytest.fixture(name="post")
-def fixture_post(cook: Cook, fixed_time: dict[str, Any]) -> Any:
-    """Posts a form to Flask's application, in a thread, and returns the status at once."""
-    app = cook.follow("Flask", answer=fixed_time["login_by_name"])["app"]
+def fixture_post(app: Any) -> Any:
+    """Posts a form to the application, in a thread, and returns the status."""
 
     def post(**form: str) -> int:
         with ThreadPoolExecutor(1) as threads:
@@ -386,9 +631,26 @@ def test_flask_refuses_half_a_form(post: Any, form: dict[str, str]) -> None:
     assert post(**form) == 400
 
 
+@pytest.mark.needs("python3-flask")
+@pytest.mark.parametrize("is_trusted", [False, True], ids=["no proxy", "a proxy"])
+def test_the_log_of_flask_has_the_address_of_the_client(
+    app: Any, cook: Cook, caplog: pytest.LogCaptureFixture, is_trusted: bool
+) -> None:
+    if is_trusted:
+        cook.follow("behind a proxy", app=app)
+    environment = {"REMOTE_ADDR": "192.0.2.1"}
+    headers = {"X-Forwarded-For": f"198.51.100.1, {ADDRESS}"}
+    form = {"name": "ann", "password": "passw0rd"}
+    client = app.test_client()
+    client.post("/login", data=form, headers=headers, environ_overrides=environment)
+    address = ADDRESS if is_trusted else "192.0.2.1"
+    messages = [record.getMessage() for record in caplog.records if record.name == "logins"]
+    assert messages == [f"login failed: 'ann' from '{address}'"]
+
+
 @pytest.fixture(name="matches")
 def fixture_matches(cook: Cook) -> Any:
-    return cook.follow("The standard library's crypt")["matches"]
+    return cook.follow("the standard library's crypt")["matches"]
 
 
 def test_crypt_matches_the_right_password_alone(matches: Any) -> None:

@@ -9,7 +9,7 @@ import pytest
 from support import ROOT
 from support.interpreters import OLDEST, interpreters
 from support.needs import built
-from support.package import ELSEWHERE, LIBRARY, PACKAGE, tried_package
+from support.package import ELSEWHERE, LIBRARY, PACKAGE, recipe, tried_package
 from support.process import Result, run
 from support.stored_strings import MD5
 
@@ -99,8 +99,7 @@ def test_a_wheel_is_of_one_processor(wheel: Path) -> None:
 
 
 def test_the_commands_of_the_document_install_it(wheel: Path, tmp_path: Path) -> None:
-    text = (ROOT / "docs/PYTHON.md").read_text(encoding="utf-8")
-    commands = text.split("```sh\n")[1].split("```")[0]
+    commands = recipe("into a venv", "sh")
     assert "--no-index" in commands
     shutil.copy(wheel, tmp_path)
     environment: dict[str, str | None] = {**ELSEWHERE, "PATH": "/usr/bin:/bin"}

@@ -13,7 +13,6 @@ from __future__ import annotations
 import contextlib
 import ctypes
 import os
-import re
 import runpy
 import sys
 from collections.abc import Callable, Iterator
@@ -23,6 +22,7 @@ from typing import Any
 import pytest
 
 from . import ROOT, libxcrypt
+from .documents import marked
 from .model.hashes import hash_of
 from .model.settings import read_setting
 from .needs import missing
@@ -92,40 +92,64 @@ def crypt(password: str | bytes, setting: str) -> str:
     return text.decode()
 
 
-def recipe_under(heading: str) -> str:
-    """The first block in Python below a heading of docs/PYTHON.md."""
-    text = (ROOT / "docs/PYTHON.md").read_text(encoding="utf-8")
-    for section in re.split(r"\n#{2,} ", text)[1:]:
-        title, _, rest = section.partition("\n")
-        if title == heading:
-            return rest.split("```python\n")[1].split("```")[0]
-    raise AssertionError(f"docs/PYTHON.md has no heading {heading!r}")
+# ---- Recipes of docs/PYTHON.md, which are blocks below `<!-- tested: Python, NAME -->`
 
 
-def changed_recipe(heading: str, changes: dict[str, str]) -> str:
-    """A recipe with code put in the place of other code, as the document tells its reader to do."""
-    code = recipe_under(heading)
+def recipe(name: str, language: str = "python") -> str:
+    """The code of a recipe."""
+    return marked(f"Python, {name}", language).code
+
+
+# The blocks of "A whole login", in the order in which a reader copies them.
+WHOLE_LOGIN = (
+    "read and replace a hash",
+    "register a user",
+    "log a user in",
+    "change a password",
+)
+
+
+def whole_login() -> str:
+    """What a reader of the document has in a file after "A whole login"."""
+    return "\n\n".join(recipe(name) for name in WHOLE_LOGIN)
+
+
+def whole_login_of_a_moving_service() -> str:
+    """The same with the checks of old hashes, and with the lines that the document changes."""
+    code = whole_login()
+    for old, new in line_changes(recipe("change the login", "diff")).items():
+        code = changed(code, {old: new})
+    return code + "\n\n" + recipe("check old hashes")
+
+
+def line_changes(diff: str) -> dict[str, str]:
+    """New lines by old ones, of a diff in which one line after the other is changed."""
+    lines = diff.splitlines()
+    marks = [line[0] for line in lines]
+    assert marks == ["-", "+"] * (len(lines) // 2), diff
+    return {old[1:]: new[1:] for old, new in zip(lines[::2], lines[1::2])}
+
+
+def changed(code: str, changes: dict[str, str]) -> str:
+    """Code of the document with other code in the place of some."""
     for old, new in changes.items():
-        assert code.count(old) == 1, f"expected: {old!r} once below {heading!r} in:\n{code}"
+        assert code.count(old) == 1, f"expected: {old!r} once in:\n{code}"
         code = code.replace(old, new)
     return code
 
 
-# How "A whole login" changes for a service that moves from other hashes.
-MOVING_CHANGES = {
-    "mkpasswd.login(password, field=field)": "matches(password, field)",
-    "mkpasswd.needs_rehash(field)": "is_outdated(field)",
-}
-
-
 class Cook:
-    """Runs recipes of docs/PYTHON.md, each from a file of a folder, so that failures show lines."""
+    """Runs code of docs/PYTHON.md from files of a folder, so that failures show lines."""
 
     def __init__(self, folder: Path) -> None:
         self.folder = folder
 
-    def follow(self, heading: str, **names: object) -> dict[str, Any]:
+    def follow(self, name: str, **names: object) -> dict[str, Any]:
         """The names that a recipe defines, where these are defined before it."""
-        path = self.folder / f"{heading.replace(' ', '_')}.py"
-        path.write_text(recipe_under(heading), encoding="utf-8")
+        return self.run(recipe(name), **names)
+
+    def run(self, code: str, **names: object) -> dict[str, Any]:
+        """The names that some code defines, where these are defined before it."""
+        path = self.folder / "service.py"
+        path.write_text(code, encoding="utf-8")
         return runpy.run_path(str(path), init_globals=names)
