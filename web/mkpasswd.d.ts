@@ -131,22 +131,28 @@ export class Policy {
     hashAsync(password: Text): Promise<string>;
 
     /**
-     * Checks the password of a login, at the same cost for every name. The field is what is stored
-     * for the name, and null for a name that doesn't exist. The password comes first: swapped,
-     * whoever types a hash of what is stored gets in.
+     * Checks the password of a login. The field is what is stored for the name, and null for a name
+     * that doesn't exist. The password comes first: swapped, whoever types a hash of what is stored
+     * gets in.
      *
      * It is a match only if the password matches. If `needsRehash` is true of the field, and a new
-     * hash is within the budget, `new` is one to store in its place. All else is false: a locked,
-     * malformed or empty field, another scheme, a hash above the budget, a password that no hash
-     * can have (`passwordProblem`), and any password while scrypt finds no memory: only `verify`
-     * tells that from a wrong password, since it throws. No string or bytes throw, nor does null as
-     * a field; anything else is a TypeError. But if another script has set
-     * `Object.prototype.matches` or `new`, false would look like a match, so an Error is thrown in
-     * its place.
+     * hash is within the budget, `new` is one to store in its place.
      *
-     * A field that can't be checked costs what a new hash costs, so the time doesn't tell which
-     * names exist, as long as all hashes are made by this policy. It blocks the thread for that
-     * time: a server makes a LoginQueue.
+     * It is false for a wrong password; for a password that no hash can have (`passwordProblem`);
+     * for a field that is empty, locked, malformed, of another scheme or above the budget; and for
+     * any password while scrypt finds no memory. Only `verify` tells that from a wrong password,
+     * since it throws.
+     *
+     * A stored hash takes as long as its rounds need. An old one with fewer rounds than this
+     * policy's takes less time than a new hash, so while such hashes are stored, the time of a
+     * failure can tell which names exist: a LoginQueue hides that. A field that can't be checked
+     * takes as long as a new hash, and so does null.
+     *
+     * It blocks the thread for that time: a server makes a LoginQueue.
+     *
+     * No string or bytes throw, nor does null as a field; anything else is a TypeError. But if
+     * another script has set `Object.prototype.matches` or `new`, false would look like a match, so
+     * an Error is thrown in its place.
      */
     login(password: Text, field: Text | null | undefined): Verdict;
 
@@ -213,15 +219,20 @@ export interface LoginQueueOptions {
     readonly policy?: Policy;
     /** The milliseconds from a call to the answer of a login that fails: by default 5000. */
     readonly failureTime?: number;
-    /** How many calls may be waiting for a worker or being hashed: by default 1000. */
+    /**
+     * How many calls may be waiting for a worker or being hashed: by default 1000. The next one is
+     * rejected with Busy. Failures that wait for their time don't count.
+     */
     readonly size?: number;
 }
 
 /**
- * The logins and new hashes of a server, which waits neither for them nor for failures: workers
- * hash, in the order of the calls, and a login that fails is answered at a fixed time after its
- * call, so the time doesn't tell why. While it waits for that, it is no longer in the queue: its
- * worker has gone on to the next call, and a match is answered at once.
+ * The logins and new hashes of a server. Workers hash, in the order of the calls, so the server's
+ * thread goes on meanwhile.
+ *
+ * A match is answered at once. A login that fails is answered at a fixed time after its call, so
+ * the time doesn't tell why. While it waits for that, it is no longer in the queue: its worker has
+ * gone on to the next call.
  *
  * A failure that takes longer, since the queue is long, is answered at twice that time, at three
  * times and so on. So let `failureTime` be longer than the costliest login takes, and `size` what

@@ -125,12 +125,11 @@ def test_typescript_accepts_uses_and_refuses_misuses(
 # ---- The programs of README
 
 
-def program_of_readme(web_build: Path, place: int) -> str:
-    """A program in the README of the package."""
+def program_of_readme(web_build: Path, heading: str, language: str = "js") -> str:
+    """The program below a heading in the README of the package."""
     readme = (web_build / "npm/README.md").read_text(encoding="utf-8")
-    programs = re.findall(r"^```js\n(.*?)^```$", readme, re.MULTILINE | re.DOTALL)
-    program: str = programs[place]
-    return program
+    (section,) = [part for part in readme.split("\n## ") if part.startswith(f"{heading}\n")]
+    return section.split(f"```{language}\n")[1].split("```\n")[0]
 
 
 # What stands before the first program: it is for a name and a password.
@@ -151,13 +150,17 @@ def login_of_readme(user: Site, program: str, name: str, password: str) -> Repor
     return user.report_of("program.mjs", name, password)
 
 
+def faster(program: str) -> str:
+    """A program where a failure takes less than its five seconds."""
+    changed = program.replace("new LoginQueue()", "new LoginQueue({ failureTime: 1000 })")
+    assert changed != program, "the program makes no queue with the usual time"
+    return changed
+
+
 @pytest.fixture(scope="module")
 def login_program(web_build: Path) -> str:
-    """The program with a login, where a failure takes less than its five seconds."""
-    program = program_of_readme(web_build, 0)
-    faster = re.sub(r"\b5000\b", "1000", program)
-    assert faster != program, "a failure takes no 5000 milliseconds"
-    return faster
+    """The program with a login."""
+    return faster(program_of_readme(web_build, "A first login"))
 
 
 @pytest.mark.parametrize(
@@ -183,6 +186,17 @@ def test_program_of_readme_renews_an_outdated_hash(user: Site, login_program: st
     assert stored == crypt(b"password", stored.encode()).decode(), report
 
 
+@pytest.mark.parametrize("change", ["users.set(name, '!')", "users.delete(name)"])
+def test_program_of_readme_refuses_who_was_locked_meanwhile(
+    user: Site, login_program: str, change: str
+) -> None:
+    after = "const result = await queue.login(password, field);\n"
+    changed = login_program.replace(after, f"{after}{change};\n")
+    assert changed != login_program, "the program has no such login"
+    report = login_of_readme(user, changed, "ann", "correct horse")
+    assert report["entered"] == [], report
+
+
 def test_program_of_readme_lets_nobody_in_without_its_await(user: Site, login_program: str) -> None:
     careless = login_program.replace("await queue.login", "queue.login")
     assert careless != login_program, "the program awaits no login"
@@ -196,7 +210,7 @@ def reason_program(web_build: Path) -> str:
     field = crypt(b"password", b"$6$rounds=1000$saltsaltsaltsalt").decode()
     given = f"const [password, field] = [process.argv[2], '{field}'];\n"
     printed = "console.log(JSON.stringify({ reason }));\n"
-    return given + program_of_readme(web_build, 1) + printed
+    return given + program_of_readme(web_build, "Why a login failed") + printed
 
 
 @pytest.mark.parametrize(
@@ -214,24 +228,93 @@ def test_program_of_readme_tells_why_a_login_failed(
     assert report["reason"] == reason, report
 
 
-# What the programs of README are for, in TypeScript.
-DECLARED = """
-declare const users: Map<string, string>;
-declare const name: string, password: string, field: string;
-declare function letIn(name: string): void;
+# A queue with room for one login, and a user whose password is "password".
+OF_A_BUSY_SERVICE = """
+import { LoginQueue, Policy } from 'mkpasswd';
+const policy = new Policy({ rounds: 1000 });
+const queue = new LoginQueue({ policy, failureTime: 0, size: 1 });
+const users = new Map([['ann', '$1$xxxxxxxx$UYCIxa628.9qXjpQCjM4a.']]);
+"""
+STATUSES = """
+const right = await statusOfLogin('ann', 'password');
+const wrong = await statusOfLogin('ann', 'passwort');
+const both = await Promise.all([statusOfLogin('ann', 'password'), statusOfLogin('ann', 'x')]);
+console.log(JSON.stringify({ right, wrong, both }));
+"""
+
+
+def test_program_of_readme_answers_by_statuses_of_http(user: Site, web_build: Path) -> None:
+    program = program_of_readme(web_build, "Too many logins")
+    text = OF_A_BUSY_SERVICE + program + STATUSES
+    (user.folder / "statuses.mjs").write_text(text, encoding="utf-8")
+    report = user.report_of("statuses.mjs")
+    assert (report["right"], report["wrong"], report["both"]) == (200, 403, [200, 503]), report
+
+
+def test_program_of_readme_measures_the_costliest_login(user: Site, web_build: Path) -> None:
+    """With a policy that costs less."""
+    program = program_of_readme(web_build, "When a failure is answered")
+    (user.folder / "measure.mjs").write_text(OF_A_BUSY_SERVICE + program, encoding="utf-8")
+    printed = user.run(user.node, "measure.mjs").stdout.decode()
+    assert re.fullmatch(r"the costliest login: [\d.]+m?s\n", printed), printed
+
+
+def test_program_of_readme_makes_hashes_by_another_policy(user: Site, web_build: Path) -> None:
+    program = program_of_readme(web_build, "Another policy")
+    printed = "console.log(JSON.stringify({ made: await queue.hash('password') }));\n"
+    (user.folder / "policy.mjs").write_text(program + printed, encoding="utf-8")
+    made = user.report_of("policy.mjs")["made"]
+    assert made.startswith("$7$") and made == crypt(b"password", made.encode()).decode(), made
+
+
+# What stands before the programs of README, in TypeScript.
+LET_IN = "declare function letIn(name: string): void;\n"
+USERS = "declare const users: Map<string, string>;\n"
+TYPED = "declare const name: string, password: string;\n"
+FIELD = "declare const field: string, password: string;\n"
+QUEUE = "import { LoginQueue } from 'mkpasswd';\ndeclare const queue: LoginQueue;\n"
+
+
+@pytest.mark.needs("tsc")
+@pytest.mark.parametrize(
+    ("heading", "language", "declared"),
+    [
+        pytest.param("A first login", "js", USERS + TYPED + LET_IN, id="a login"),
+        pytest.param("When a failure is answered", "js", QUEUE, id="a measurement"),
+        pytest.param("Why a login failed", "js", FIELD, id="a reason"),
+        pytest.param("Another policy", "js", "", id="a policy"),
+        pytest.param("TypeScript", "ts", "", id="TypeScript"),
+    ],
+)
+def test_typescript_accepts_programs_of_readme(
+    user: Site, web_build: Path, heading: str, language: str, declared: str
+) -> None:
+    program = program_of_readme(web_build, heading, language)
+    text = f"{declared}{program}export {{}};\n"
+    (user.folder / "readme.ts").write_text(text, encoding="utf-8")
+    options = ("--noEmit", "--strict", "--target", "es2022", "--module", "nodenext")
+    assert_result(run("tsc", *options, "readme.ts", cwd=user.folder))
+
+
+# What decides by a login in TypeScript: a password of any type, with the right hash and others.
+DECISIONS = """
+const field = '$1$xxxxxxxx$UYCIxa628.9qXjpQCjM4a.';
+const tries = [['password', field], ['passwort', field], ['password', undefined], [5, field]];
+console.log(JSON.stringify({
+    decisions: await Promise.all(tries.map(([typed, stored]) => mayEnter(typed, stored))),
+}));
 """
 
 
 @pytest.mark.needs("tsc")
-@pytest.mark.parametrize("place", [0, 1])
-def test_typescript_accepts_programs_of_readme(user: Site, web_build: Path, place: int) -> None:
-    program = program_of_readme(web_build, place)
-    declared = DECLARED.replace(", field: string", "") if "const field" in program else DECLARED
-    script = f"readme{place}.ts"
-    text = f"{declared}{program}export {{}};\n"
-    (user.folder / script).write_text(text, encoding="utf-8")
-    options = ("--noEmit", "--strict", "--target", "es2022", "--module", "nodenext")
-    assert_result(run("tsc", *options, script, cwd=user.folder))
+def test_program_of_readme_in_typescript_decides(user: Site, web_build: Path) -> None:
+    program = faster(program_of_readme(web_build, "TypeScript", "ts"))
+    (user.folder / "decide.mts").write_text(program, encoding="utf-8")
+    options = ("--strict", "--target", "es2022", "--module", "nodenext")
+    assert_result(run("tsc", *options, "decide.mts", cwd=user.folder))
+    compiled = (user.folder / "decide.mjs").read_text(encoding="utf-8")
+    (user.folder / "decide.mjs").write_text(compiled + DECISIONS, encoding="utf-8")
+    assert user.report_of("decide.mjs")["decisions"] == [True, False, False, False]
 
 
 # ---- The queue of logins
