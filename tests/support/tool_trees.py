@@ -1,0 +1,73 @@
+"""Trees of their own in which the tools around rt run, with an rt that does what a test says."""
+from __future__ import annotations
+
+import shutil
+import time
+from collections.abc import Callable
+from dataclasses import dataclass
+from pathlib import Path
+
+from . import ROOT
+from .process import Changes, Result, Word, changed_environment, run
+
+COPIED = ("tools/for-cpu", "tools/rt_output.py")
+CRATES = ("program", "crypt_c", "crypt_web")
+SECONDS_TO_WAIT = 60
+
+
+@dataclass(frozen=True)
+class ToolTree:
+    """A copy of the tools, beside empty crates."""
+
+    folder: Path
+
+    @property
+    def program(self) -> Path:
+        """The rt of this tree."""
+        return self.folder / "rt"
+
+    def path(self, name: str) -> Path:
+        """A file of this tree."""
+        return self.folder / name
+
+    def rt_is(self, script: str) -> None:
+        """Makes an rt of a script for sh."""
+        self.program.write_text(f"#!/bin/sh\n{script}\n", encoding="utf-8")
+        self.program.chmod(0o755)
+
+    def rt_prints(self, lines: bytes, status: int = 0) -> None:
+        """Makes an rt that prints this and ends."""
+        self.path("rt.lines").write_bytes(lines)
+        self.rt_is(f'cat "$0.lines"\nexit {status}')
+
+    def environment(self, changes: Changes | None = None) -> Changes:
+        """What the tools get: this rt, and nothing of how the tests themselves were called."""
+        return {"RT": str(self.program), "RT_JOBS": None, **(changes or {})}
+
+    def whole_environment(self) -> dict[str, str]:
+        """The same, with all that the tests' own environment has."""
+        return changed_environment(self.environment())
+
+    def run(self, tool: str, *words: Word, env: Changes | None = None) -> Result:
+        """Runs a tool, from another folder than the tree's."""
+        command = (self.path(f"tools/{tool}"), *words)
+        return run(*command, env=self.environment(env), cwd=self.folder.parent)
+
+
+def tool_tree(folder: Path) -> ToolTree:
+    """Makes such a tree."""
+    tree = ToolTree(folder)
+    for name in COPIED:
+        tree.path(name).parent.mkdir(parents=True, exist_ok=True)
+        shutil.copy(ROOT / name, tree.path(name))
+    for crate in CRATES:
+        tree.path(f"crates/{crate}").mkdir(parents=True)
+    return tree
+
+
+def wait_for(condition: Callable[[], bool]) -> None:
+    """Waits until something is so."""
+    end = time.monotonic() + SECONDS_TO_WAIT
+    while not condition():
+        assert time.monotonic() < end, f"waited for {SECONDS_TO_WAIT} seconds"
+        time.sleep(0.01)
