@@ -1,4 +1,4 @@
-"""Runs rt for tools/for-cpu, and deals with what it writes.
+"""Runs rt for tools/gate and tools/for-cpu, and deals with what it writes.
 
 All of it goes to build/log/NAME.log. The user sees how far rt is, a line for each crate, and the
 first lines that say what fails. On a terminal a text replaces the one before about the same crate;

@@ -10,7 +10,11 @@ from pathlib import Path
 from . import ROOT
 from .process import Changes, Result, Word, changed_environment, run
 
-COPIED = ("tools/for-cpu", "tools/rt_output.py")
+COPIED = (
+    *("tools/for-cpu", "tools/gate", "tools/rt_output.py"),
+    # tools/gate asks pwhash about the machine.
+    *("python/src/pwhash/__init__.py", "python/src/pwhash/machine.py"),
+)
 CRATES = ("program", "crypt_c", "crypt_web")
 SECONDS_TO_WAIT = 60
 

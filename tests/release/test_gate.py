@@ -1,0 +1,359 @@
+"""tools/gate: what its user sees of rt, and what fails it."""
+from __future__ import annotations
+
+import os
+import re
+import signal
+import subprocess
+from pathlib import Path
+
+import pytest
+from support.needs import need, not_applicable
+from support.process import Result, kill_group, run, started, status_of
+from support.pwhash_runs import GROUP_VERSION_1, GROUP_VERSION_2, available
+from support.tool_trees import ToolTree, tool_tree, wait_for
+
+# Lines of a run of rt ci from nothing, of which there are thousands.
+PROVED = b"""\
+== prims_core
+empty contracts: 0 found; tried 91 of 91 functions
+fn prims_core::table::fill: proved
+logic=proved functions=91 sum=dac8208d650f15bf native=nat,char,string logic-built=trusted
+rt: prims_core proved
+rt: prims_core: trying its must-fail edits (2)
+== kdf_core
+logic=proved functions=39 sum=dac8208d650f15bf native=nat,char,string logic-built=trusted
+rt: kdf_core proved
+"""
+TRIED = b"""\
+rt: must-fail prims_core/adds.edit: refused, as it must be: proofs/A.antt:1:2: error: no
+rt: must-fail prims_core/forgets.edit: refused, as it must be
+rt: program ran, and wrote what its file stdout has
+rt: ok; handles allowed: none; must-fail edits: 2 refused
+12 passed, 0 failed
+"""
+BAD_EDIT = b"""\
+rt: must-fail kdf_core/old.edit: BAD EDIT: an 'old:' text is in src/lib.rs 0 times, and not once
+rt: note: bad must-fail edits, as told above: 1. They fail nothing here
+12 passed, 0 failed
+"""
+LOG = "build/log/gate.log"
+
+
+@pytest.fixture(name="tree")
+def fixture_tree(tmp_path: Path) -> ToolTree:
+    return tool_tree(tmp_path / "tree")
+
+
+def lines_of(result: Result) -> list[str]:
+    """What a command printed, by lines."""
+    return result.stdout.decode().splitlines()
+
+
+# ---- What the user sees
+
+
+def test_each_crate_has_a_line_where_there_is_no_terminal(tree: ToolTree) -> None:
+    tree.rt_prints(PROVED + TRIED)
+    result = tree.run("gate").required()
+    subjects = [re.split("[: ]", line)[0] for line in lines_of(result)]
+    assert subjects == ["prims_core", "kdf_core", "must-fail", "12"], result
+    assert result.stdout.endswith(b"\n12 passed, 0 failed\n"), result
+
+
+@pytest.mark.needs("python3-pexpect")
+def test_each_crate_has_a_line_that_changes_at_a_terminal(tree: ToolTree) -> None:
+    import pexpect
+
+    tree.rt_prints(PROVED + TRIED)
+    child = pexpect.spawn(
+        str(tree.path("tools/gate")), env=tree.whole_environment(), dimensions=(24, 50), timeout=60
+    )
+    child.expect(pexpect.EOF)
+    shown = child.before.decode()
+    texts = [text for line in shown.split("\r\n") for text in line.split("\r\033[K")]
+    assert max(map(len, texts)) < 50, shown
+    lines = [line.rpartition("\033[K")[2] for line in shown.split("\r\n")]
+    subjects = [re.split("[: ]", line)[0] for line in lines]
+    assert subjects == ["prims_core", "kdf_core", "must-fail", "12", ""], shown
+    assert "kdf_core: 39 functions proved" in shown, shown
+
+
+def test_a_character_that_the_encoding_lacks_stops_nothing(tree: ToolTree) -> None:
+    tree.rt_prints("src/lib.rt:1:1: error: a \u2264 b\n".encode() + PROVED)
+    result = tree.run("gate", env={"PYTHONIOENCODING": "ascii"}).required()
+    assert b"src/lib.rt:1:1: error: a \\u2264 b\n" in result.stdout, result
+
+
+def test_bytes_that_are_not_utf_8_are_shown_and_kept(tree: ToolTree) -> None:
+    lines = b"src/lib.rt:1:1: error: \xff\xfe\n== kdf_core\nno line end \xff"
+    tree.rt_prints(lines, status=1)
+    result = tree.run("gate")
+    assert result.status == 1, result
+    assert b"src/lib.rt:1:1: error: " in result.stdout, result
+    assert tree.path(LOG).read_bytes() == lines
+
+
+def test_the_first_lines_that_fail_are_shown(tree: ToolTree) -> None:
+    failing = [f"src/lib.rt:{number}:1: error: no proof" for number in range(1, 31)]
+    tree.rt_prints("\n".join([*failing, "0 passed, 1 failed"]).encode(), status=1)
+    result = tree.run("gate")
+    assert [line for line in lines_of(result) if "error" in line] == failing[:20], result
+    assert b"0 passed, 1 failed\n" in result.stdout, result
+    assert LOG.encode() in result.stdout, result
+
+
+def test_the_last_lines_are_shown_where_none_says_what_fails(tree: ToolTree) -> None:
+    lines = [f"line {number}" for number in range(1, 31)]
+    tree.rt_prints("\n".join(lines).encode(), status=1)
+    result = tree.run("gate")
+    assert lines_of(result)[:20] == lines[10:], result
+    assert LOG.encode() in result.stdout, result
+
+
+# ---- What the log has
+
+
+def test_all_that_rt_writes_is_kept(tree: ToolTree) -> None:
+    tree.path("rt.lines").write_bytes(PROVED + TRIED)
+    tree.rt_is('cat "$0.lines"; echo "an error of rt" >&2')
+    tree.run("gate").required()
+    assert tree.path(LOG).read_bytes() == PROVED + TRIED + b"an error of rt\n"
+
+
+def test_a_full_disk_only_costs_the_log(tree: ToolTree) -> None:
+    tree.path(LOG).parent.mkdir(parents=True)
+    tree.path(LOG).symlink_to("/dev/full")
+    tree.rt_prints(PROVED + TRIED)
+    result = tree.run("gate").required()
+    assert b"\n12 passed, 0 failed\n" in result.stdout, result
+    assert LOG.encode() in result.stdout and b"No space left on device" in result.stdout, result
+
+
+def test_a_log_that_cannot_be_made_is_named_before_rt_runs(tree: ToolTree) -> None:
+    tree.path("build").write_bytes(b"")  # where the folder should be
+    tree.rt_is('> "$0.ran"')
+    result = tree.run("gate")
+    assert result.status == 1 and b"build/log" in result.stderr, result
+    assert b"Traceback" not in result.stderr, result
+    assert not tree.path("rt.ran").exists()
+
+
+def test_a_full_disk_behind_standard_output_ends_rt(tree: ToolTree) -> None:
+    tree.path("rt.lines").write_bytes(PROVED)
+    tree.rt_is(
+        "trap 'echo it still writes; touch \"$0.ended\"; exit 143' TERM\n"
+        'cat "$0.lines"\n'
+        "while kill -0 $PPID; do sleep 0.05; done"
+    )
+    command = (tree.path("tools/gate"),)
+    result = run(*command, stdout=Path("/dev/full"), env=tree.environment())
+    assert result.status == 1, result
+    assert result.stderr == b"gate: standard output: No space left on device\n", result
+    assert tree.path("rt.ended").exists()
+
+
+# ---- What fails the gate
+
+
+@pytest.mark.parametrize("status", [1, 2, 3])
+def test_the_status_is_that_of_rt(tree: ToolTree, status: int) -> None:
+    tree.rt_prints(PROVED, status)
+    result = tree.run("gate")
+    assert result.status == status, result
+
+
+def test_a_mutant_that_cannot_be_tried_is_a_failure_though_rt_passes(tree: ToolTree) -> None:
+    tree.rt_prints(PROVED + BAD_EDIT)
+    result = tree.run("gate")
+    assert result.status == 1, result
+    assert b"kdf_core/old.edit: BAD EDIT" in result.stdout, result
+    assert result.stderr.startswith(b"gate: 1 "), result
+
+
+def test_an_rt_that_is_killed_is_a_failure_that_names_the_signal(tree: ToolTree) -> None:
+    tree.rt_is("echo '== prims_core'; kill -KILL $$")
+    result = tree.run("gate")
+    assert result.status == 128 + signal.SIGKILL, result
+    assert b"signal 9 (Killed)" in result.stdout, result
+
+
+@pytest.mark.parametrize(
+    ("program", "reason"),
+    [
+        pytest.param("/no/such/rt", b"/no/such/rt", id="a path that leads nowhere"),
+        pytest.param("no-such-rt", b"no-such-rt", id="a name that isn't on the PATH"),
+    ],
+)
+def test_a_missing_rt_is_named(tree: ToolTree, program: str, reason: bytes) -> None:
+    result = tree.run("gate", env={"RT": program})
+    assert result.status == 1 and result.stdout == b"", result
+    assert result.stderr.startswith(b"gate: " + reason) and result.stderr.count(b"\n") == 1, result
+
+
+def test_an_rt_that_the_system_cannot_run_is_named(tree: ToolTree) -> None:
+    tree.rt_is("")
+    tree.program.write_bytes(b"\x7fELF")
+    result = tree.run("gate")
+    assert result.status == 1, result
+    assert result.stderr == f"gate: {tree.program}: Exec format error\n".encode(), result
+
+
+# ---- Signals
+
+# It notes each signal, and ends once the test lets it, or once its gate is gone.
+NOTES_SIGNALS = """\
+for name in INT TERM HUP QUIT TSTP CONT; do
+    trap "echo $name >> '$0.signals'" $name
+done
+echo '== prims_core'
+while [ ! -e "$0.may-end" ] && kill -0 $PPID; do sleep 0.05; done
+exit 3
+"""
+
+
+def has_begun(tree: ToolTree) -> bool:
+    """Whether the gate has read what rt has written."""
+    return tree.path(LOG).exists() and tree.path(LOG).read_bytes() != b""
+
+
+def noted(tree: ToolTree) -> str:
+    """The signals that rt has got."""
+    path = tree.path("rt.signals")
+    return path.read_text(encoding="ascii") if path.exists() else ""
+
+
+@pytest.mark.parametrize("name", ["INT", "TERM", "HUP", "QUIT"])
+def test_a_signal_goes_on_to_rt_and_the_gate_ends_after_it(tree: ToolTree, name: str) -> None:
+    tree.rt_is(NOTES_SIGNALS)
+    number = signal.Signals[f"SIG{name}"]
+    with started(tree.path("tools/gate"), env=tree.environment()) as process:
+        wait_for(lambda: has_begun(tree))
+        process.send_signal(number)
+        wait_for(lambda: noted(tree) != "")
+        assert process.poll() is None, "rt hasn't ended yet"
+        tree.path("rt.may-end").touch()
+        process.wait(60)
+    assert noted(tree) == f"{name}\n"
+    assert status_of(process) == 128 + number
+
+
+@pytest.mark.needs("python3-pexpect")
+def test_the_interruption_of_a_terminal_reaches_rt_once(tree: ToolTree) -> None:
+    import pexpect
+
+    tree.rt_is(NOTES_SIGNALS)
+    child = pexpect.spawn(str(tree.path("tools/gate")), env=tree.whole_environment(), timeout=60)
+    wait_for(lambda: has_begun(tree))
+    child.sendintr()
+    wait_for(lambda: noted(tree) != "")
+    tree.path("rt.may-end").touch()
+    child.expect(pexpect.EOF)
+    child.close()
+    assert (noted(tree), child.exitstatus) == ("INT\n", 128 + signal.SIGINT)
+
+
+def is_stopped(process: int) -> bool:
+    """Whether a process is stopped, as by ^Z."""
+    status = Path(f"/proc/{process}/status").read_text(encoding="utf-8")
+    return "State:\tT (stopped)" in status
+
+
+def test_rt_pauses_and_goes_on_with_the_gate(tree: ToolTree) -> None:
+    tree.rt_is(NOTES_SIGNALS)
+    # A process can only be stopped where another one of its session could let it go on.
+    with subprocess.Popen(
+        [tree.path("tools/gate")], env=tree.whole_environment(), process_group=0
+    ) as gate:
+        try:
+            wait_for(lambda: has_begun(tree))
+            gate.send_signal(signal.SIGTSTP)
+            wait_for(lambda: noted(tree) == "TSTP\n" and is_stopped(gate.pid))
+            gate.send_signal(signal.SIGCONT)
+            wait_for(lambda: noted(tree) == "TSTP\nCONT\n")
+            tree.path("rt.may-end").touch()
+            gate.wait(60)
+        finally:
+            kill_group(gate)
+    assert status_of(gate) == 3
+
+
+def test_a_signal_that_is_ignored_ends_nothing(tree: ToolTree) -> None:
+    tree.rt_is(NOTES_SIGNALS)
+    command = ("nohup", tree.path("tools/gate"))
+    with started(*command, env=tree.environment()) as process:
+        wait_for(lambda: has_begun(tree))
+        process.send_signal(signal.SIGHUP)
+        tree.path("rt.may-end").touch()
+        process.wait(60)
+    assert (noted(tree), status_of(process)) == ("", 3)
+
+
+# ---- What rt gets
+
+
+def arguments(tree: ToolTree, *words: str, help_text: str = "", env: str | None = None) -> str:
+    """The arguments of rt, and its RT_JOBS."""
+    tree.rt_is(f"[ $1 != --help ] || {{ echo '{help_text}'; exit 2; }}\necho $RT_JOBS: $* > $0.got")
+    tree.run("gate", *words, env={"RT_JOBS": env}).required()
+    return tree.path("rt.got").read_text(encoding="ascii").strip()
+
+
+@pytest.mark.parametrize(
+    ("words", "help_text", "expected"),
+    [
+        pytest.param((), "rt ci [--anew]", "2: ci", id="without the option"),
+        pytest.param(("--anew",), "rt ci [--anew]", "2: ci --anew", id="with it"),
+        pytest.param(("--anew",), "rt ci", "2: ci", id="an rt that keeps nothing"),
+    ],
+)
+def test_rt_proves_anew_where_it_can_and_shall(
+    tree: ToolTree, words: tuple[str, ...], help_text: str, expected: str
+) -> None:
+    assert arguments(tree, *words, help_text=help_text, env="2") == expected
+
+
+@pytest.mark.parametrize("value", ["0", "-1", "two", "1.5"])
+def test_a_number_of_checks_that_is_none_is_refused(tree: ToolTree, value: str) -> None:
+    tree.rt_is('> "$0.ran"')
+    result = tree.run("gate", env={"RT_JOBS": value})
+    assert result.status == 1 and b"RT_JOBS" in result.stderr, result
+    assert not tree.path("rt.ran").exists()
+
+
+@pytest.mark.parametrize(
+    ("script", "expected"),
+    [
+        pytest.param("", 2, id="two processors by taskset"),
+        pytest.param(available(7000), 2, id="memory for two checks"),
+        pytest.param(available(2000), 1, id="memory for none"),
+        pytest.param(f"{GROUP_VERSION_2} echo 100000 100000 > own/cpu.max", 1, id="a quota of one"),
+        pytest.param(
+            f"{GROUP_VERSION_1} echo 100000 > cpu/own/cpu.cfs_quota_us", 1, id="one by version 1"
+        ),
+        pytest.param(
+            f"{GROUP_VERSION_2} echo 4000000000 > own/memory.max", 1, id="a group's memory for one"
+        ),
+    ],
+)
+def test_as_many_checks_run_at_once_as_the_machine_has_room_for(
+    tree: ToolTree, tmp_path: Path, script: str, expected: int
+) -> None:
+    need("unshare", "namespaces")
+    processors = sorted(os.sched_getaffinity(0))
+    if len(processors) < 3:
+        not_applicable("fewer than three processors")
+    count = 3 if script else 2
+    limit = f"taskset -cp {','.join(map(str, processors[:count]))} $$ > mask"
+    tree.rt_is("echo $RT_JOBS > $0.got")
+    script = f'set -e\n{limit}\n{script}\nexec "$0"'
+    command = ("unshare", "--mount", "/bin/sh", "-c", script, tree.path("tools/gate"))
+    run(*command, env=tree.environment(), cwd=tmp_path).required()
+    assert tree.path("rt.got").read_text(encoding="ascii") == f"{expected}\n"
+
+
+def test_a_wrong_option_is_a_usage_error(tree: ToolTree) -> None:
+    tree.rt_is('> "$0.ran"')
+    result = tree.run("gate", "--new")
+    assert result.status == 2 and b"usage: " in result.stderr, result
+    assert not tree.path("rt.ran").exists()
