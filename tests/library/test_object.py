@@ -85,6 +85,8 @@ def test_only_names_were_changed_in_the_proved_object(folder: Path, tmp_path: Pa
 @pytest.mark.parametrize("name", CALLED)
 def test_a_function_calls_its_proved_one_and_wipes(functions: dict[str, str], name: str) -> None:
     calls = [first or second for first, second in CALL.findall(functions[name])]
+    # The stack protector's call ends the process.
+    calls = [called for called in calls if called != "__stack_chk_fail"]
     assert sorted(calls) == CALLED[name], f"the instructions of {name}:\n{functions[name]}"
 
 
