@@ -75,12 +75,12 @@ def output_of(*command: str | Path) -> str:
     return done.stdout.decode(errors="replace")
 
 
-def read_bytes(file: Path) -> bytes:
-    """The content of a file that make has built, or that the repository has."""
+def read_bytes(file: Path, made_by: str = "make") -> bytes:
+    """The content of a file that is built, or that the repository has."""
     try:
         return file.read_bytes()
     except FileNotFoundError:
-        raise Stop(f"there is no {file}: run make first.") from None
+        raise Stop(f"there is no {file}: run {made_by} first.") from None
     except OSError as error:
         raise Stop(f"{file}: {error.strerror}.") from None
 
@@ -190,9 +190,9 @@ def write_tar(archive: Path, folder: Path, time: int) -> None:
 
 def check_python_modules(source: Path) -> None:
     """Stops where a module that make writes for the Python package is missing or outdated."""
-    read_bytes(source / "src/mkpasswd/_reasons.py")
+    read_bytes(source / "src/mkpasswd/_reasons.py", "make lib")
     module = source / "src/mkpasswd_version.py"
-    if f'"{version()}"' not in read_bytes(module).decode():
+    if f'"{version()}"' not in read_bytes(module, "make lib").decode():
         raise Stop(f"{module} has another version: run make lib.")
 
 
