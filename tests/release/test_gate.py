@@ -1,4 +1,4 @@
-"""tools/gate: what its user sees of rt, and what fails it."""
+"""tools/gate: what its user sees of rt, what fails it, and what it measures."""
 from __future__ import annotations
 
 import os
@@ -236,6 +236,7 @@ def test_a_signal_goes_on_to_rt_and_the_gate_ends_after_it(tree: ToolTree, name:
         process.wait(60)
     assert noted(tree) == f"{name}\n"
     assert status_of(process) == 128 + number
+    assert not tree.path("build/log/gate.times").exists()
 
 
 @pytest.mark.needs("python3-pexpect")
@@ -356,4 +357,94 @@ def test_a_wrong_option_is_a_usage_error(tree: ToolTree) -> None:
     tree.rt_is('> "$0.ran"')
     result = tree.run("gate", "--new")
     assert result.status == 2 and b"usage: " in result.stderr, result
+    assert not tree.path("rt.ran").exists()
+
+
+# ---- What is measured
+
+TIMES = "build/log/gate.times"
+HEADINGS = ["Proved", "Its tests proved", "First mutant", "Mutants", "Run"]
+
+
+def shown_times(tree: ToolTree) -> dict[str, dict[str, str]]:
+    """What the gate shows of its last run: a crate's cells by their headings."""
+    rows = []
+    for line in lines_of(tree.run("gate", "--times").required()):
+        if line.startswith("|"):
+            rows.append([cell.strip(" `") for cell in line.split("|")[1:-1]])
+    assert rows[0] == ["Crate", *HEADINGS]
+    return {row[0]: dict(zip(HEADINGS, row[1:])) for row in rows[2:]}
+
+
+def test_the_times_of_a_run_are_shown_by_crates(tree: ToolTree) -> None:
+    first, second = PROVED.split(b"== kdf_core\n")
+    tree.path("first").write_bytes(first)
+    tree.path("second").write_bytes(second + b"rt: kdf_core: its tests are proved\n" + TRIED)
+    tree.rt_is('cd "$(dirname "$0")"; cat first; sleep 1.2; cat second')
+    tree.run("gate").required()
+    times = shown_times(tree)
+    assert list(times) == ["prims_core", "kdf_core", "program"]
+    early = int(times["prims_core"]["Proved"])
+    assert int(times["kdf_core"]["Proved"]) > early, times
+    assert int(times["kdf_core"]["Its tests proved"]) > early, times
+    assert int(times["program"]["Run"]) > early, times
+    assert times["prims_core"]["Mutants"] == "2", times
+    assert times["kdf_core"]["Mutants"] == times["program"]["Proved"] == "", times
+
+
+def test_a_crate_that_an_earlier_run_proved_has_no_time(tree: ToolTree) -> None:
+    tree.rt_prints(b"rt: kdf_core is kept: an earlier run on this machine proved the same files\n")
+    tree.run("gate").required()
+    assert shown_times(tree)["kdf_core"]["Proved"] == "kept"
+
+
+def test_the_times_of_a_run_that_fails_are_shown_too(tree: ToolTree) -> None:
+    tree.rt_prints(b"rt: kdf_core NOT PROVED\n3 passed, 1 failed\n", status=1)
+    tree.run("gate")
+    assert shown_times(tree)["kdf_core"]["Proved"] != ""
+    assert b"3 passed, 1 failed" in tree.run("gate", "--times").stdout
+
+
+def test_the_processor_time_of_all_processes_is_counted(tree: ToolTree) -> None:
+    burns = "import time\nwhile time.process_time() < 1.2:\n    pass"
+    tree.rt_is(f"/usr/bin/python3 -c '{burns}' & /usr/bin/python3 -c '{burns}' & wait")
+    tree.run("gate").required()
+    shown = tree.run("gate", "--times").required()
+    found = re.search(rb"(\d+) s of processor time", shown.stdout)
+    assert found and int(found[1]) >= 2, shown
+
+
+@pytest.mark.parametrize(
+    "content",
+    [
+        pytest.param(None, id="none yet"),
+        pytest.param(b"", id="empty"),
+        pytest.param(b"{}", id="without numbers"),
+        pytest.param(b"[1]", id="a list"),
+        pytest.param(b"\xff", id="not UTF-8"),
+    ],
+)
+def test_times_that_cannot_be_read_are_named(tree: ToolTree, content: bytes | None) -> None:
+    if content is not None:
+        tree.path(TIMES).parent.mkdir(parents=True)
+        tree.path(TIMES).write_bytes(content)
+    result = tree.run("gate", "--times")
+    assert (result.status, result.stdout) == (1, b""), result
+    assert result.stderr.startswith(f"gate: {TIMES} ".encode()), result
+    assert result.stderr.count(b"\n") == 1, result
+
+
+def test_times_that_cannot_be_kept_fail_no_gate(tree: ToolTree) -> None:
+    tree.path(TIMES).mkdir(parents=True)
+    tree.rt_prints(PROVED + TRIED)
+    result = tree.run("gate")
+    assert result.status == 0, result
+    assert result.stderr.startswith(f"gate: {TIMES}: ".encode()), result
+
+
+def test_showing_times_runs_no_rt(tree: ToolTree) -> None:
+    tree.rt_prints(PROVED)
+    tree.run("gate").required()
+    tree.rt_is('> "$0.ran"')
+    tree.run("gate", "--times").required()
     assert not tree.path("rt.ran").exists()

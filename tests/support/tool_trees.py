@@ -11,7 +11,7 @@ from . import ROOT
 from .process import Changes, Result, Word, changed_environment, run
 
 COPIED = (
-    *("tools/for-cpu", "tools/gate", "tools/rt_output.py"),
+    *("tools/for-cpu", "tools/gate", "tools/gate_times.py", "tools/rt_output.py"),
     # tools/gate asks pwhash about the machine.
     *("python/src/pwhash/__init__.py", "python/src/pwhash/machine.py"),
 )
