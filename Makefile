@@ -24,7 +24,7 @@ export DESTDIR PREFIX LIBDIR ARCHIVE RT
 
 .DEFAULT_GOAL := all
 .PHONY: help all run static lib web npm pictures install uninstall test lint layers gate check \
-	bench soak fuzz evidence specification site dist wheel image deb clean FORCE
+	bench soak fuzz evidence specification site dist wheel image deb sums clean FORCE
 .DELETE_ON_ERROR .SECONDARY:
 # rt takes all cores for itself.
 .NOTPARALLEL:
@@ -324,7 +324,12 @@ deb:
 	$(MAKE) $(INSTALLED)
 	tools/deb .
 
+## writes SHA256SUMS, and an SBOM of each file that dist, wheel, image, deb and npm have packed
+sums:
+	tools/sums .
+
 ## removes all that was made here
 clean:
 	rm -rf mkpasswd libmkpasswd.a libmkpasswd.so.3 pam_mkpasswd.so build crates/*/out $(MODULES) \
-		mkpasswd-*-linux.tar.gz mkpasswd-*-image.tar mkpasswd-*.whl *.deb
+		mkpasswd-*-linux.tar.gz mkpasswd-*-image.tar mkpasswd-*.whl mkpasswd-*.tgz *.deb \
+		SHA256SUMS *.spdx.json

@@ -1,0 +1,122 @@
+"""What is linked into the files of an artifact and isn't ours: crates of the toolchain, and glibc.
+
+Which crates these are stands in crates.txt. The toolchain's own standard library is one component,
+which stands for all that they use in turn. Only a program without a dynamic linker has glibc.
+"""
+
+from __future__ import annotations
+
+import os
+import re
+import subprocess
+import tempfile
+from collections.abc import Iterator
+from dataclasses import dataclass
+from pathlib import Path, PurePath
+
+from sbom.contents import File
+from sbom.stop import Stop
+
+# The crate that a file was built of, by its name.
+CRATES = {
+    "mkpasswd": "program",
+    "mkpasswd.proved": "program",
+    "libmkpasswd.a": "crypt_c",
+    "libmkpasswd.so.3": "crypt_c",
+    "pam_mkpasswd.so": "crypt_c",
+    "mkpasswd.html": "crypt_web",
+    "mkpasswd.mjs": "crypt_web",
+}
+LINKED_ELF = (2, 3)  # e_type: a program or a shared library
+AARCH64 = 183  # e_machine
+LIBC_PACKAGES = {AARCH64: "libc6-dev-arm64-cross"}
+LIBC_PACKAGE = "libc6-dev"
+
+
+@dataclass(frozen=True, order=True)
+class Component:
+    """A part of somebody else's."""
+
+    name: str
+    version: str  # empty where the machine doesn't know it
+    supplier: str
+
+
+def output_of(*command: str) -> str:
+    """What a command prints, which has to succeed."""
+    try:
+        done = subprocess.run(command, capture_output=True, check=False)
+    except OSError as error:
+        raise Stop(f"{command[0]}: {error.strerror}") from None
+    if done.returncode != 0:
+        raise Stop(f"{' '.join(command)}: {done.stderr.decode(errors='replace').strip()}")
+    return done.stdout.decode(errors="replace").strip()
+
+
+def read_crates(path: Path) -> dict[str, list[str]]:
+    """The crates that each of ours uses, by crates.txt: lines `name words: crate crate`."""
+    crates = {}
+    for line in path.read_text(encoding="utf-8").splitlines():
+        name, colon, uses = line.partition("#")[0].partition(":")
+        if colon:
+            crates[name.split()[0]] = uses.split()
+    return crates
+
+
+def is_dynamic(content: bytes) -> bool:
+    """Whether a program or a shared library needs others when it runs."""
+    with tempfile.NamedTemporaryFile() as file:
+        file.write(content)
+        file.flush()
+        return "(NEEDED)" in output_of("readelf", "--dynamic", "--wide", file.name)
+
+
+def has_libc(content: bytes) -> bool:
+    """Whether a file has the C library in it."""
+    is_elf = content.startswith(b"\x7fELF")
+    is_linked = is_elf and int.from_bytes(content[16:18], "little") in LINKED_ELF
+    return is_linked and not is_dynamic(content)
+
+
+def libc_of(content: bytes) -> Component:
+    """The C library that this machine links into programs such as this one."""
+    machine = int.from_bytes(content[18:20], "little")
+    package = LIBC_PACKAGES.get(machine, LIBC_PACKAGE)
+    try:
+        version = output_of("dpkg-query", "--show", "--showformat=${source:Version}", package)
+    except Stop:  # another system, whose glibc has a version that nothing tells
+        version = ""
+    return Component("glibc", version, "Organization: Debian")
+
+
+class Components:
+    """The components in files that were built of a repository."""
+
+    def __init__(self, root: Path) -> None:
+        self.crates = read_crates(root / "crates.txt")
+        self.toolchain = output_of(os.environ.get("RT", "rt"), "version")
+
+    def of_file(self, file: File) -> set[Component]:
+        """The components in a file; those of no crate of ours have none."""
+        crate = CRATES.get(PurePath(file.name).name)
+        if crate is None or not is_code(file):
+            return set()
+        names = {"rattle", *self.used_by(crate)}
+        found = {Component(name, self.toolchain, "NOASSERTION") for name in names}
+        if has_libc(file.content):
+            found.add(libc_of(file.content))
+        return found
+
+    def used_by(self, crate: str) -> Iterator[str]:
+        """The crates of the toolchain that one of ours uses, also by way of others of ours."""
+        for name in self.crates[crate]:
+            if name in self.crates:
+                yield from self.used_by(name)
+            else:
+                yield name
+
+
+def is_code(file: File) -> bool:
+    """Whether a file is code, and not a completion or a folder's note of the same name."""
+    is_page = re.search(r"\.(html|mjs)$", file.name) is not None
+    return is_page or file.content.startswith((b"\x7fELF", b"!<arch>\n"))
