@@ -73,6 +73,13 @@ def test_the_pages_are_well_formed(site: Site) -> None:
     assert not problems, "expected: pages that are well-formed\n" + "\n".join(problems)
 
 
+def test_no_page_has_the_sums_of_archives_that_hold_the_pages(site: Site) -> None:
+    evidence = (ROOT / "docs/EVIDENCE.md").read_text(encoding="utf-8")
+    sums = re.findall(r"`([0-9a-f]{16,64})`", evidence)
+    pages = {page.name: page.read_text(encoding="utf-8") for page in site.pages()}
+    assert [(name, value) for value in sums for name, page in pages.items() if value in page] == []
+
+
 def heading_of(page: Path) -> str:
     """The first heading of a page, without its tags."""
     return next("".join(each.itertext()) for each in elements_of(page) if each.tag == "h1")
