@@ -286,9 +286,11 @@ pictures: web
 	tools/bench-page
 	tools/terminal
 
-## measures a commit for docs/EVIDENCE.md, for some hours
+## measures the commit and writes docs/EVIDENCE.md, for hours, as root; interrupted, it goes on later
 evidence:
-	tools/evidence
+	tools/evidence $(if $(LINES),--lines $(LINES)) \
+		$(if $(FUZZ_SECONDS),--fuzz-seconds $(FUZZ_SECONDS)) $(if $(JOBS),--jobs $(JOBS)) \
+		$(if $(MIRROR),--mirror '$(MIRROR)')
 
 
 # ---- Packages
@@ -328,8 +330,9 @@ deb:
 sums:
 	tools/sums .
 
-## removes all that was made here
+## removes all that was made here, but not what make evidence has measured
 clean:
-	rm -rf mkpasswd libmkpasswd.a libmkpasswd.so.3 pam_mkpasswd.so build crates/*/out $(MODULES) \
+	rm -rf mkpasswd libmkpasswd.a libmkpasswd.so.3 pam_mkpasswd.so crates/*/out $(MODULES) \
 		mkpasswd-*-linux.tar.gz mkpasswd-*-image.tar mkpasswd-*.whl mkpasswd-*.tgz *.deb \
 		SHA256SUMS *.spdx.json
+	[ ! -d build ] || find build -mindepth 1 -maxdepth 1 ! -name evidence -exec rm -rf {} +

@@ -1,0 +1,221 @@
+"""A tiny repository that tools/evidence measures, where rt, make and others only seem to work.
+
+Each fake command prints and writes what a test has put beside it. What they print is in the form
+of the real commands, and each call of make and rt is noted.
+"""
+from __future__ import annotations
+
+import shutil
+import time
+from collections.abc import Callable
+from dataclasses import dataclass
+from pathlib import Path
+
+from . import ROOT
+from .process import Changes, Result, Word, run
+
+FROM_NOTHING = "every proof and must-fail edit was done in this run"
+GATE = """\
+logic=proved functions=3 sum=1
+logic=proved functions=2 axioms=4 sum=1
+logic=proved tests=6 functions=100 sum=1
+rt: ok; handles allowed: none; must-fail edits: 7 refused; {share}
+9 passed, 0 failed
+"""
+SOAK = "soak: seed 11, 10000000 lines of each kind\nsoak: 0 differences\n"
+FUZZ = "INFO: Seed: 12\nDone 345 runs in 3 second(s)\nstat::number_of_executed_units: 345\n"
+PLANT = """\
+refused     src/lib.rt:3 one: { None }  (is_one)
+plants crate=low planted-in=1 untested=0 no-ensures=0 proves=0 same=0 refused=1 elsewhere=0 \
+not-judged=0 not-source=0 not-run=0
+"""
+CHECK = """\
+not applicable: black: this system is not Debian 12
+0 findings, 0 tools skipped; 3 files on tools/lint-exceptions.txt
+9 passed, 0 failed
+skipped: no samples present
+    python/test_others.py::test_one
+    python/test_others.py::test_other
+skipped: not applicable: no loop device can be made
+    pwhash/test_out.py::test_full
+600 passed, 0 failed, 3 skipped
+make: Leaving directory '/root/mkpasswd'
+"""
+SPEED = """\
+{"rows": [
+{"table": "hash", "row": "md5crypt", "side": "mkpasswd", "median": 0.002,
+ "quartiles": [0.0019, 0.0021], "measurements": 9},
+{"table": "hash", "row": "md5crypt", "side": "libxcrypt", "median": 0.003,
+ "quartiles": [0.0029, 0.0031], "measurements": 9}
+]}
+"""
+# What the fake commands have beside themselves.
+OUTPUTS = {
+    "gate.log": GATE.format(share=FROM_NOTHING),
+    "soak": SOAK,
+    "fuzz": FUZZ,
+    "plant": PLANT,
+    "check": CHECK,
+    "speed.json": SPEED,
+    "version": "a toolchain\n",
+}
+MAKE = r"""#!/bin/sh
+cd "$(dirname "$0")" && fakes=$PWD && cd "$OLDPWD" || exit
+echo "make $*" >> "$fakes/calls"
+[ ! -e "$fakes/$1.script" ] || . "$fakes/$1.script"
+case $1 in
+gate) mkdir -p build/log && cp "$fakes/gate.log" build/log ;;
+bench) cp "$fakes/speed.json" docs ;;
+soak | fuzz) cat "$fakes/$1" ;;
+dist)
+    echo 'an archive' > mkpasswd-1.tar.gz
+    sha256sum mkpasswd-1.tar.gz > SHA256SUMS
+    ;;
+esac
+"""
+TOOLCHAIN = r"""#!/bin/sh
+fakes=$(dirname "$0")
+case $1 in
+doc) echo "$fakes/kit/START.md" ;;
+version) cat "$fakes/version" ;;
+plant) echo "rt $* in ${PWD##*/}" >> "$fakes/calls" && cat "$fakes/plant" ;;
+esac
+"""
+# A folder in place of a root: the words after the options are the release and the folder.
+MMDEBSTRAP = r"""#!/bin/sh
+while [ "${1#-}" != "$1" ]; do shift; done
+mkdir -p "$2/root" "$2/usr/local/bin"
+"""
+# What runs in the root: of the words after the options, the fourth is the root.
+UNSHARE = r"""#!/bin/sh
+while [ "${1#-}" != "$1" ]; do shift; done
+[ "$1" != mmdebstrap ] || exec "$@"
+fakes=$(dirname "$0")
+log=$4/root/mkpasswd/build/log
+mkdir -p "$log" && cp "$fakes/gate.log" "$log" && cat "$fakes/check"
+"""
+# Which runs the command without another user, since tests can't count on one that sees their files.
+RUNUSER = r"""#!/bin/sh
+while [ "$1" != -- ]; do shift; done
+shift
+exec "$@"
+"""
+COMMANDS = {
+    "make": MAKE,
+    "rt": TOOLCHAIN,
+    "mmdebstrap": MMDEBSTRAP,
+    "unshare": UNSHARE,
+    "runuser": RUNUSER,
+    "chown": "#!/bin/sh\n",
+    "node": "#!/bin/sh\necho v20.1.0\n",
+}
+FILES = {
+    ".gitignore": "build/\n",
+    "HANDLES": "Handles allowed: none.\n",
+    "Makefile": "",
+    "README.md": "",
+    "bin/pwhash": "",
+    "c/heap.c": "",
+    "crates.txt": "# lowest first\nlow: itoa\n",
+    "crates/low/src/lib.rt": "",
+    "docs/EVIDENCE.md": "",
+    "python/setup.py": "",
+    "tests/c/fuzz_hash.c": "",
+    "tests/packages.txt": "gcc cc\n",
+    "tests/pwhash/test_out.py": '"""Files that pwhash writes. And more."""\n',
+    "tests/python/test_others.py": '"""The tests of\nsomebody else."""\n',
+    "tests/support/process.py": "",
+    "tools/soak": "",
+    "web/page.js": "",
+}
+
+
+@dataclass(frozen=True)
+class MeasuredTree:
+    """The repository, and the folder of the fake commands."""
+
+    folder: Path
+    fakes: Path
+
+    @property
+    def environment(self) -> Changes:
+        """Where the fake commands are found first."""
+        return {"PATH": f"{self.fakes}:/usr/sbin:/usr/bin:/sbin:/bin", "RT": None}
+
+    @property
+    def command(self) -> Path:
+        """The command that measures it."""
+        return self.folder / "tools/evidence"
+
+    def evidence(self, *words: Word) -> Result:
+        """Measures it."""
+        return run(self.command, *words, env=self.environment)
+
+    def states(self) -> dict[str, str]:
+        """What --list says of each part."""
+        lines = self.evidence("--list").required().stdout.decode().splitlines()
+        return {line.split()[0]: line.split(maxsplit=1)[1] for line in lines}
+
+    def not_measured(self) -> set[str]:
+        """The parts that are not measured for the commit."""
+        return {name for name, state in self.states().items() if state == "not measured"}
+
+    def page(self) -> str:
+        """The page that was written."""
+        return (self.folder / "docs/EVIDENCE.md").read_text(encoding="utf-8")
+
+    def calls(self) -> list[str]:
+        """The calls of make and rt that measured something."""
+        path = self.fakes / "calls"
+        return path.read_text(encoding="utf-8").splitlines() if path.exists() else []
+
+    def kept(self, pattern: str) -> list[str]:
+        """The files that are kept of measurements, by a pattern for their names."""
+        return sorted(path.name for path in self.folder.glob(f"build/evidence/*/{pattern}"))
+
+    def write(self, path: str, text: str) -> None:
+        """Writes a file of the repository."""
+        file = self.folder / path
+        file.parent.mkdir(parents=True, exist_ok=True)
+        file.write_text(text, encoding="utf-8")
+
+    def commit(self) -> None:
+        """Commits every file as it is."""
+        self.git("add", "--all")
+        who = ("-c", "user.name=somebody", "-c", "user.email=somebody@mkpasswd.invalid")
+        self.git(*who, "commit", "--quiet", "--message", "files")
+
+    def git(self, *words: str) -> None:
+        """Runs git in the repository."""
+        run("git", "-C", self.folder, *words).required()
+
+    def prepare(self, name: str, output: str) -> None:
+        """Puts what a fake command prints beside it, or a script that it runs first."""
+        (self.fakes / name).write_text(output, encoding="utf-8")
+
+
+def wait_for(condition: Callable[[], bool]) -> None:
+    """Waits until something is so, for at most a minute."""
+    end = time.monotonic() + 60
+    while not condition():
+        assert time.monotonic() < end, "waited for a minute"
+        time.sleep(0.01)
+
+
+def measured_tree(folder: Path) -> MeasuredTree:
+    """Makes the repository, with this tree's tools that measure, and the fake commands."""
+    tree = MeasuredTree(folder / "tree", folder / "fakes")
+    tree.fakes.mkdir()
+    for name, script in COMMANDS.items():
+        tree.prepare(name, script)
+        (tree.fakes / name).chmod(0o755)
+    for name, output in OUTPUTS.items():
+        tree.prepare(name, output)
+    for path, text in FILES.items():
+        tree.write(path, text)
+    shutil.copy(ROOT / "tools/evidence", tree.folder / "tools")
+    ignored = shutil.ignore_patterns("__pycache__")
+    shutil.copytree(ROOT / "tools/measure", tree.folder / "tools/measure", ignore=ignored)
+    tree.git("init", "--quiet")
+    tree.commit()
+    return tree

@@ -1,0 +1,112 @@
+"""What a part can find. Results keep it as JSON (results.py), and the page shows it (page.py)."""
+
+from __future__ import annotations
+
+from dataclasses import dataclass
+
+
+@dataclass(frozen=True)
+class Gate:
+    """A run of the gate that took nothing from earlier ones."""
+
+    passed: int
+    failed: int
+    functions: int  # that were proved, those of tests aside
+    mutants: int  # that were refused, among those that passed
+
+
+@dataclass(frozen=True)
+class Skip:
+    """Tests of a file that were skipped for the same reason."""
+
+    reason: str
+    file: str
+    purpose: str  # the first sentence of the file
+    count: int
+
+
+@dataclass(frozen=True)
+class Check:
+    """A run of everything that is checked."""
+
+    gate: Gate
+    passed: int
+    failed: int
+    skips: tuple[Skip, ...]
+    unused_linters: tuple[str, ...]  # which tell nothing on this system
+
+
+@dataclass(frozen=True)
+class Soak:
+    """Random lines that were answered by the rules."""
+
+    seed: int
+    lines: int  # of each kind
+    differences: int
+
+
+@dataclass(frozen=True)
+class Fuzz:
+    """Random calls without a fault."""
+
+    seed: int
+    calls: int
+
+
+@dataclass(frozen=True)
+class Plant:
+    """A wrong body, as rt plant lists it."""
+
+    function: str  # its file, line and path
+    body: str
+    reason: str
+
+
+@dataclass(frozen=True)
+class Plants:
+    """What became of wrong bodies in the public functions of a crate."""
+
+    functions: int  # that got wrong bodies
+    counts: dict[str, int]  # of bodies, by rt plant's word for what became of them
+    proved: tuple[Plant, ...]
+    not_judged: tuple[Plant, ...]
+    no_clause: tuple[str, ...]  # functions without one, so that any body passes
+    untested: tuple[str, ...]  # functions of which no wrong body could be judged
+
+
+@dataclass(frozen=True)
+class Timed:
+    """The times of one side of a row of tools/bench, in seconds."""
+
+    table: str
+    row: str
+    side: str
+    median: float
+    quartiles: tuple[float, ...]
+    measurements: int
+
+
+@dataclass(frozen=True)
+class Bench:
+    """The times of all sides of all rows."""
+
+    timed: tuple[Timed, ...]
+
+
+@dataclass(frozen=True)
+class Artifact:
+    """A file that two clones built alike."""
+
+    name: str
+    size: int
+    sha256: str
+
+
+@dataclass(frozen=True)
+class Artifacts:
+    """What two clones built."""
+
+    files: tuple[Artifact, ...]
+
+
+Found = Gate | Check | Soak | Fuzz | Plants | Bench | Artifacts

@@ -1,0 +1,189 @@
+"""Reads what commands print, and fails where they don't say what they should."""
+
+from __future__ import annotations
+
+import ast
+import json
+import re
+from collections import Counter
+from collections.abc import Callable, Iterator
+
+from measure.errors import Failed
+from measure.facts import Bench, Fuzz, Gate, Plant, Plants, Skip, Soak, Timed
+
+# rt's words for that the run took nothing from earlier ones.
+FROM_NOTHING = "every proof and must-fail edit was done in this run"
+UNSEEN = ("no-ensures", "untested")  # rows of rt plant that are functions, and no wrong bodies
+
+
+def last_match(pattern: str, log: str, what: str) -> re.Match[str]:
+    """The last match of a pattern in a log, which has to say this."""
+    found = None
+    for found in re.finditer(pattern, log, re.MULTILINE):
+        pass
+    if found is None:
+        raise Failed(f"the log doesn't say {what}")
+    return found
+
+
+# The gate, as rt ci prints it
+
+
+def read_gate(log: str) -> Gate:
+    """Reads the last line, `189 passed, 0 failed`, what rt says before, and a line of each crate.
+
+    These are `rt: ok; .. 179 refused; ..` and `logic=proved functions=91 ..`, or for a crate's
+    tests `logic=proved tests=65 functions=111 ..`.
+    """
+    pattern = r"^(\d+) passed, (\d+) failed$"
+    passed, failed = last_match(pattern, log, "what the gate passed").groups()
+    verdict = last_match(r"^rt: ok; .*", log, "that the gate is ok")[0]
+    if FROM_NOTHING not in verdict:
+        raise Failed("the gate took what earlier runs had proved")
+    mutants = re.search(r"must-fail edits: (\d+) refused", verdict)
+    of_crates = re.findall(r"^logic=proved functions=(\d+)", log, re.MULTILINE)
+    return Gate(
+        passed=int(passed),
+        failed=int(failed),
+        functions=sum(map(int, of_crates)),
+        mutants=int(mutants[1]) if mutants else 0,
+    )
+
+
+# The tests, as tests/conftest.py prints them
+
+
+def read_tests(log: str) -> tuple[int, int, int]:
+    """Reads the last line, `600 passed, 0 failed, 36 skipped`."""
+    pattern = r"^(\d+) passed, (\d+) failed, (\d+) skipped$"
+    passed, failed, skipped = last_match(pattern, log, "what the tests passed").groups()
+    return int(passed), int(failed), int(skipped)
+
+
+def skipped_tests(log: str) -> Iterator[tuple[str, str]]:
+    """Reads the reason and the file of each test that was skipped, from the end of a log.
+
+    Before the last line, each `skipped: REASON` is followed by its tests, as `    FILE::TEST`.
+    """
+    lines = log.splitlines()
+    tests: list[str] = []
+    for line in reversed(lines[: -1 - last_line_of_tests(lines)]):
+        if line.startswith("    "):
+            tests.append(line.strip())
+        elif line.startswith("skipped: "):
+            yield from ((line.removeprefix("skipped: "), test.partition("::")[0]) for test in tests)
+            tests = []
+        else:
+            return
+
+
+def last_line_of_tests(lines: list[str]) -> int:
+    """How many lines follow the tests' last one, which read_tests found."""
+    pattern = re.compile(r"\d+ passed, \d+ failed, \d+ skipped")
+    return next(after for after, line in enumerate(reversed(lines)) if pattern.fullmatch(line))
+
+
+def read_skips(log: str, purpose_of: Callable[[str], str]) -> tuple[Skip, ...]:
+    """Counts the tests that were skipped, by reason and file. Each has to have a reason."""
+    skipped = read_tests(log)[2]
+    counts = Counter(skipped_tests(log))
+    if sum(counts.values()) != skipped:
+        raise Failed(f"{skipped} tests were skipped, and {sum(counts.values())} with a reason")
+    return tuple(
+        Skip(reason, file, purpose_of(file), count)
+        for (reason, file), count in sorted(counts.items())
+    )
+
+
+def first_sentence(source: str) -> str:
+    """The first sentence of a module of Python: what it is for."""
+    text = " ".join((ast.get_docstring(ast.parse(source)) or "").split())
+    return re.split(r"(?<=\.) ", text)[0]
+
+
+def read_unused_linters(log: str) -> tuple[str, ...]:
+    """Reads which tools make lint left out: lines `not applicable: black: REASON`."""
+    found = re.findall(r"^not applicable: ([\w-]+): .+$", log, re.MULTILINE)
+    return tuple(sorted(set(found)))
+
+
+# Soak, fuzzers and wrong bodies
+
+
+def read_soak(log: str) -> Soak:
+    """Reads `soak: seed 7, 1000 lines of each kind` and `soak: 0 differences`."""
+    begun = last_match(r"^soak: seed (\d+), (\d+) lines", log, "how many lines were answered")
+    ended = last_match(r"^soak: (\d+) differences$", log, "how many answers differ")
+    return Soak(int(begun[1]), int(begun[2]), int(ended[1]))
+
+
+def read_fuzz(log: str) -> Fuzz:
+    """Reads `INFO: Seed: 7` and `stat::number_of_executed_units: 1291750`."""
+    seed = last_match(r"^INFO: Seed: (\d+)$", log, "the fuzzer's seed")
+    calls = last_match(r"^stat::number_of_executed_units: +(\d+)$", log, "how many calls were made")
+    return Fuzz(int(seed[1]), int(calls[1]))
+
+
+def read_plants(log: str) -> Plants:
+    """Reads the rows of rt plant --all, and its last line.
+
+    A row is `refused     src/hash.rt:12 hash: { None }  (the goals)`, or for a function without a
+    judged body `untested    src/hash.rt:12 hash()`. The last line is `plants crate=.. proves=0 ..`.
+    """
+    if re.search(r"^note: the crate is not proved", log, re.MULTILINE):
+        raise Failed("the crate is not proved")
+    last = last_match(r"^plants crate=\w+ (.+)$", log, "what became of the wrong bodies")[1]
+    counts = {name: int(number) for name, number in re.findall(r"([\w-]+)=(\d+)", last)}
+    functions = counts.pop("planted-in")
+    if counts["not-run"]:
+        raise Failed(f"{counts['not-run']} wrong bodies weren't tried in time")
+    unseen = {kind: functions_of(kind, log, counts.pop(kind)) for kind in UNSEEN}
+    return Plants(
+        functions=functions,
+        counts=counts,
+        proved=rows_of("proves", log, counts["proves"]),
+        not_judged=rows_of("not-judged", log, counts["not-judged"]),
+        no_clause=unseen["no-ensures"],
+        untested=unseen["untested"],
+    )
+
+
+def rows_of(kind: str, log: str, count: int) -> tuple[Plant, ...]:
+    """The wrong bodies of a kind, of which the last line counts so many."""
+    row = re.compile(rf"^{kind} +(\S+:\d+ .+?): \{{(.*?)\}}(?:  \((.*)\))?$", re.MULTILINE)
+    rows = tuple(Plant(where, body.strip(), why) for where, body, why in row.findall(log))
+    if len(rows) != count:
+        raise Failed(f"rt plant counts {count} bodies as {kind}, and lists {len(rows)}")
+    return rows
+
+
+def functions_of(kind: str, log: str, count: int) -> tuple[str, ...]:
+    """The functions of a kind, of which the last line counts so many."""
+    functions = tuple(re.findall(rf"^{kind} +(\S+:\d+ .+)\(\)$", log, re.MULTILINE))
+    if len(functions) != count:
+        raise Failed(f"rt plant counts {count} functions as {kind}, and lists {len(functions)}")
+    return functions
+
+
+# Times
+
+
+def read_bench(results: str) -> Bench:
+    """Reads docs/speed.json, which tools/bench writes."""
+    try:
+        rows = json.loads(results)["rows"]
+        return Bench(
+            tuple(
+                Timed(
+                    row["table"],
+                    row["row"],
+                    str(row["side"]),
+                    row["median"],
+                    tuple(row["quartiles"]),
+                    row["measurements"],
+                )
+                for row in rows
+            )
+        )
+    except (ValueError, KeyError, TypeError):
+        raise Failed("docs/speed.json isn't as tools/bench writes it") from None
