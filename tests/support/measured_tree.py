@@ -31,7 +31,7 @@ not-judged=0 not-source=0 not-run=0
 """
 CHECK = """\
 not applicable: black: this system is not Debian 12
-0 findings, 0 tools skipped; 3 files on tools/lint-exceptions.txt
+0 findings, 0 tools skipped
 9 passed, 0 failed
 skipped: no samples present
     python/test_others.py::test_one
