@@ -218,6 +218,18 @@ def install_below(folder: Path, **places: str) -> None:
         raise Stop("tools/install failed.")
 
 
+def put_in_place(file: Path, target: Path) -> None:
+    """Copies what was made to its place, where it appears whole or not at all."""
+    part = target.with_name(f"{target.name}.part")
+    with changing(target):
+        target.parent.mkdir(parents=True, exist_ok=True)
+        try:
+            shutil.copyfile(file, part)
+            part.replace(target)
+        finally:
+            part.unlink(missing_ok=True)
+
+
 @contextlib.contextmanager
 def scratch_folder() -> Iterator[Path]:
     """A folder that is removed at the end of the block."""
@@ -232,10 +244,14 @@ def end_by_signal(number: int, _frame: FrameType | None) -> None:
 
 def run_tool(main: Callable[[], None]) -> None:
     """Runs a tool, and says why it stops. A signal leaves no scratch folder behind."""
+    tool = Path(sys.argv[0]).name
     for number in (signal.SIGINT, signal.SIGTERM, signal.SIGHUP):
         if signal.getsignal(number) is not signal.SIG_IGN:
             signal.signal(number, end_by_signal)
     try:
         main()
     except Stop as stop:
-        sys.exit(f"{Path(sys.argv[0]).name}: {stop}")
+        sys.exit(f"{tool}: {stop}")
+    except OSError as error:  # which no step expects, such as a full disk below /tmp
+        place = error.filename or tempfile.gettempdir()
+        sys.exit(f"{tool}: {place}: {error.strerror}.")

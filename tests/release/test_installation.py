@@ -3,6 +3,7 @@ from __future__ import annotations
 
 import shlex
 import stat
+import subprocess
 from dataclasses import dataclass
 from pathlib import Path
 
@@ -126,6 +127,16 @@ def test_a_second_uninstallation_does_nothing(tmp_path: Path) -> None:
     destination.install().required()
     destination.install("--remove").required()
     assert_result(destination.install("--remove"))
+
+
+def test_a_program_is_replaced_while_it_runs(tmp_path: Path) -> None:
+    destination = Destination(tmp_path)
+    destination.install().required()
+    command = (tmp_path / "usr/bin/mkpasswd", *HASHED[:-2], "-s", *HASHED[-2:])
+    with subprocess.Popen(command, stdin=subprocess.PIPE, stdout=subprocess.PIPE) as running:
+        assert_result(destination.install())
+        hashed, _ = running.communicate(b"password\n")
+    assert hashed == HASH
 
 
 # ---- A prefix that shells, pkg-config and sed take for something else
