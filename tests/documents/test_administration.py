@@ -21,6 +21,8 @@ from support.process import Changes, Result, run
 pytestmark = pytest.mark.needs("root", "chpasswd")
 
 AGED = ":19000:0:99999:7:::"  # the fields of a shadow file that follow the hash
+# By which useradd gives a new account the same.
+AGES = "PASS_MIN_DAYS 0\nPASS_MAX_DAYS 99999\nPASS_WARN_AGE 7\n"
 SECONDS_OF_DAY = 86_400
 SCHEDULE = re.compile(r"^(?:\S+ ){5}root ", re.MULTILINE)  # of a line for cron
 RECOMMENDED = "$6$rounds=656000$"
@@ -122,15 +124,26 @@ class Followed:
         return f"{self.block.place}\nexpected: {expected}\n{self.result}"
 
 
+def save_command(path: Path, text: str) -> None:
+    """Writes a script that anybody can run."""
+    path.write_text(text, encoding="ascii")
+    path.chmod(0o755)
+
+
 @pytest.fixture(name="machine")
 def fixture_machine(environment: Changes, tmp_path: Path) -> Machine:
     (tmp_path / "system/etc").mkdir(parents=True)
+    (tmp_path / "system/home").mkdir()
+    (tmp_path / "system/etc/group").touch()
+    (tmp_path / "system/etc/login.defs").write_text(AGES, encoding="ascii")
     (tmp_path / "bin").mkdir()
     (tmp_path / "folder").mkdir()
-    chpasswd = tmp_path / "bin/chpasswd"
-    of_system = shutil.which("chpasswd")
-    chpasswd.write_text(f"#!/bin/sh\nexec {of_system} -R '{tmp_path}/system' \"$@\"\n", "ascii")
-    chpasswd.chmod(0o755)
+    for command in "chpasswd", "useradd":
+        of_system = shutil.which(command)
+        wrapper = f"#!/bin/sh\nexec {of_system} -R '{tmp_path}/system' \"$@\"\n"
+        save_command(tmp_path / "bin" / command, wrapper)
+    accounts = f"{tmp_path}/system/etc/passwd"
+    save_command(tmp_path / "bin/id", f"#!/bin/sh\ngrep \"^$2:\" '{accounts}'\n")
     path = f"{tmp_path}/bin:{environment['PATH']}"
     return Machine(tmp_path / "system", tmp_path / "folder", {**environment, "PATH": path}, today())
 
@@ -165,20 +178,33 @@ def test_a_new_password_unlocks_no_account(machine: Machine, mark: str) -> None:
 
 
 # As Excel saves it in Germany, when asked for UTF-8. The last row's class has a blank behind it.
-SCHOOL = "\ufeffname;login;class\r\nMüller;ann;5a\r\nXu;bob;5b\r\nSchön;eve;5a \r\n".encode()
+SCHOOL = (
+    "\ufefflast;first;login;class\r\n" "Müller;Ann;ann;5a\r\nXu;Bob;bob;5b\r\nSchön;Eve;eve;5a \r\n"
+).encode()
 
 
 def passwords_in(path: Path) -> dict[str, str]:
     """The passwords in a list, without its heading."""
-    _, *rows = path.read_text(encoding="utf-8-sig").splitlines()
-    pairs = [row.partition(";") for row in rows]
-    return {name: password for name, _, password in pairs}
+    heading, *rows = path.read_text(encoding="utf-8-sig").splitlines()
+    assert heading == "last;first;name;password", heading
+    return {name: password for _, _, name, password in [row.split(";") for row in rows]}
 
 
-def test_made_passwords_are_loaded_and_listed_by_class(machine: Machine) -> None:
-    machine.set_accounts(THREE_LOCKED)
+def follow_made_passwords(machine: Machine) -> Followed:
+    """Follows both commands. Returns the second, or the first if that fails."""
     machine.write("users.csv", SCHOOL)
     followed = machine.follow("made passwords")
+    if followed.result.status != 0:
+        return followed
+    return machine.follow("made passwords loaded")
+
+
+@pytest.mark.parametrize("accounts", [THREE_LOCKED, {"bob": LOCKED}], ids=["all", "one of them"])
+def test_made_passwords_are_loaded_and_listed_by_class(
+    machine: Machine, accounts: Mapping[str, str]
+) -> None:
+    machine.set_accounts(accounts)
+    followed = follow_made_passwords(machine)
     assert followed.result.status == 0, followed.lacks("status 0")
     lists = sorted(path.name for path in (machine.folder / "lists").iterdir())
     assert lists == ["5a.csv", "5b.csv"], followed.lacks("a list for each class")
@@ -192,8 +218,7 @@ def test_made_passwords_are_loaded_and_listed_by_class(machine: Machine) -> None
 def test_made_passwords_unlock_nobody_a_year_later(machine: Machine) -> None:
     machine.set_accounts({"ann": OUTDATED, "bob": LOCKED + OUTDATED, "eve": LOCKED + CURRENT})
     before = machine.entries()
-    machine.write("users.csv", SCHOOL)
-    followed = machine.follow("made passwords")
+    followed = follow_made_passwords(machine)
     assert followed.result.status == 0, followed.lacks("status 0")
     lists = [path.name for path in (machine.folder / "lists").iterdir()]
     assert lists == ["5a.csv"], followed.lacks("no list for the class of bob, who is locked")

@@ -154,6 +154,8 @@ RESTS_OF_OPTIONS = {
     "pwhash file --gen": ["--generate"],
     "pwhash audit --o": ["--only-problems"],
     "pwhash set --del": ["--delete"],
+    "pwhash file --list": ["--list-columns"],
+    "pwhash install --acc": ["--accept-other-schemes"],
 }
 
 
@@ -188,6 +190,7 @@ WORDS_OF_PWHASH = {
     "pwhash ca": ["calibrate"],
     "pwhash se": ["set"],
     "pwhash install --for ": ["apache", "dovecot", "ldap", "nginx"],
+    "pwhash set --for ": ["apache", "dovecot", "ldap", "nginx"],
     "pwhash ve": ["verify"],
     "pwhash file --for ": ["apache", "dovecot", "ldap", "nginx"],
     "pwhash --for pre": ["preseed-root", "preseed-user"],
@@ -211,6 +214,7 @@ FILES_OFFERED = {
     "pwhash check --shadow sha": ["sha256sums"],
     "pwhash verify lo": ["logins"],
     "pwhash file --skip-locked sha": ["sha256sums"],
+    "pwhash file --skip-unknown sha": ["sha256sums"],
     "pwhash file --passwords lo": ["logins"],
 }
 

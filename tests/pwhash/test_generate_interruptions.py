@@ -12,6 +12,7 @@ import signal
 import time
 
 import pytest
+from support.package import LIBRARY, PACKAGE
 from support.pwhash_runs import (
     Ended,
     ended,
@@ -22,6 +23,7 @@ from support.pwhash_runs import (
     read,
     save,
     started,
+    started_program,
     wait_for,
 )
 
@@ -32,6 +34,7 @@ ONE = ("file", "--generate", *ROUNDS, "--csv", "table", "-o", "hashes", "--passw
 WORDS = (*ONE, "--by", "class")
 TABLE = b"name;class\n" + b"".join(b"user%d;c%d\n" % (n, n % CLASSES) for n in range(COUNT))
 PART = "hashes.part"
+STARTED = ("/usr/bin/python3", "-I", "-S", str(PACKAGE / "pwhash/start.py"), str(LIBRARY), "pwhash")
 
 
 @pytest.fixture(autouse=True, name="table")
@@ -200,6 +203,37 @@ class TestResuming:
     def test_a_table_that_was_changed_does_not_go_on(self) -> None:
         save("table", TABLE + b"eve;c0\n")
         refused_to_go_on(*WORDS, reason=b"changed or touched")
+
+
+@pytest.mark.needs("strace")
+@pytest.mark.parametrize(
+    "file",
+    [
+        pytest.param("lists/c0.csv", id="before the first list"),
+        pytest.param("lists/c3.csv", id="before the last list"),
+        pytest.param("hashes.part.options", id="behind the last list"),
+    ],
+)
+def test_a_run_that_was_killed_while_it_wrote_the_lists_says_what_to_do(file: str) -> None:
+    command = ["strace", "-qq", "-o", "/dev/null", "-P", file, "-e", "inject=openat:signal=KILL"]
+    ended(started_program(*command, *STARTED, *WORDS))
+    assert set(os.listdir()) == {"table", "lists", PART} and not hashes_in(PART)
+    before = {path.name: path.read_bytes() for path in pathlib.Path("lists").iterdir()}
+    done = pwhash(*WORDS)
+    assert done.status == 2 and b"--resume" in done.err, done
+    done = pwhash(*WORDS, "--resume")
+    assert done.status == 2 and b"remove it, and type the command again" in done.err, done
+    assert {path.name: path.read_bytes() for path in pathlib.Path("lists").iterdir()} == before
+    shutil.rmtree("lists")
+    assert_whole(pwhash(*WORDS, "--resume"))
+
+
+def test_whoever_forgets_to_resume_is_not_told_to_remove_the_passwords_alone() -> None:
+    with started(*WORDS) as process:
+        wait_for(lambda: has_begun(PART))
+        process.kill()
+    done = pwhash(*WORDS)
+    assert done.status == 2 and b"add --resume, or remove both" in done.err, done
 
 
 def test_one_list_goes_on_too() -> None:

@@ -30,6 +30,8 @@ HOSTILE = b"$6$rounds=999999999$abcdefgh$" + b"x" * 86
 BCRYPT = crypt(b"password", b"$2b$04$abcdefghijklmnopqrstuu")
 HASHES = b"ann:" + ONE + b"\nbob:" + SIX + b":1000:1000::/home/bob\neve:!" + ONE + b"\n"
 OLD = b"ann:" + SIX + b"\n"
+OTHERS = "--accept-other-schemes"
+BASE64 = b"7ynoyL9XN1Ol2E6qOpoGbBvdFsGTFwmO"
 OWNER, GROUP, MODE = 65534, 4242, 0o640
 LEFT = ["hashes", "target", "target.mkpasswd.lock"]
 STARTED = ("/usr/bin/python3", "-I", "-S", str(PACKAGE / "pwhash/start.py"), str(LIBRARY), "pwhash")
@@ -159,8 +161,20 @@ def test_an_owner_group_or_mode_that_does_not_fit_is_refused(words: tuple[str, .
         pytest.param(b"eva:" + SIX[:-1], b"dead", "", id="a hash that was cut"),
         pytest.param(b"eva:secret", b"no scheme", "", id="a password as it is"),
         pytest.param(b"eva:", b"empty field", "", id="an empty field"),
-        pytest.param(b"eva:" + BCRYPT, b"another scheme", "", id="another scheme"),
+        pytest.param(b"eva:" + BCRYPT, b"--accept-other-schemes", "", id="another scheme"),
+        pytest.param(b"eva:{SSHA}" + BASE64, b"--accept-other-schemes", "", id="one of LDAP"),
         pytest.param(b"eva:{PLAIN}secret", b"prefix", "", id="a prefix of passwords"),
+        pytest.param(b"eva:{PLAIN}secret", b"prefix", OTHERS, id="a password, with others"),
+        pytest.param(b"eva:{CLEARTEXT}secret", b"prefix", OTHERS, id="one of LDAP, with others"),
+        pytest.param(b"eva:secret", b"no scheme", OTHERS, id="a bare one, with others"),
+        pytest.param(b"eva:{SSHA}", b"empty", OTHERS, id="a prefix alone, with others"),
+        pytest.param(b"eva:" + HOSTILE, b"over budget", OTHERS, id="a costly one, with others"),
+        pytest.param(b"eva:" + SIX[:-1], b"dead", OTHERS, id="a cut one, with others"),
+        pytest.param(
+            b"eva:{SSHA}" + BASE64, b"prefix", f"{OTHERS} --for apache", id="{SSHA} for Apache"
+        ),
+        pytest.param(b"eva:{CRYPT}" + BCRYPT, b"prefix", f"{OTHERS} --for nginx", id="for nginx"),
+        pytest.param(b"eva:{MD5-CRYPT}" + BCRYPT, b"another method", OTHERS, id="unfit, bcrypt"),
         pytest.param(b"eva:{CRYPT}" + ONE, b"prefix", "--for nginx", id="a prefix for nginx"),
         pytest.param(b"eva:{MD5-CRYPT}" + SIX, b"another method", "", id="an unfit prefix"),
         pytest.param(b"eva:{CRYPT}" + HOSTILE, b"over budget", "", id="behind a prefix"),
@@ -195,6 +209,39 @@ def test_a_hash_behind_a_prefix_is_installed(words: str) -> None:
     save("hashes", content)
     done = pwhash(*INSTALL, *words.split())
     assert (done.status, read("target")) == (0, content), done
+
+
+@pytest.mark.parametrize(
+    ("stored", "words"),
+    [
+        pytest.param(BCRYPT, "--for apache", id="bcrypt for Apache"),
+        pytest.param(BCRYPT.replace(b"$2b$", b"$2y$"), "--for nginx", id="bcrypt of htpasswd"),
+        pytest.param(b"$apr1$saltsalt$" + b"x" * 22, "--for apache", id="Apache's"),
+        pytest.param(b"$y$j9T$abcdefghijklmnopqrstu.$abc", "", id="yescrypt"),
+        pytest.param(b"{CRYPT}" + BCRYPT, "--for dovecot", id="bcrypt behind a prefix"),
+        pytest.param(b"{SHA}fEqNCco3Yq9h5ZUglD3CZJT4lBs=", "--for apache", id="{SHA} for Apache"),
+        pytest.param(b"{SSHA}" + BASE64, "--for nginx", id="{SSHA} for nginx"),
+        pytest.param(b"{ssha512}" + BASE64, "--for dovecot", id="{ssha512} for Dovecot"),
+        pytest.param(b"{BLF-CRYPT}" + BCRYPT, "--for dovecot", id="Dovecot's prefix of bcrypt"),
+        pytest.param(b"{ARGON2ID}$argon2id$v=19$x", "--for dovecot", id="argon2 for Dovecot"),
+    ],
+)
+def test_a_hash_of_another_scheme_is_installed_if_others_are_accepted(
+    stored: bytes, words: str
+) -> None:
+    content = HASHES + b"eva:" + stored + b"\n"
+    save("hashes", content)
+    done = pwhash(*INSTALL, *words.split())
+    assert done.status == 1 and b"--accept-other-schemes" in done.err, done
+    assert beside() == ["hashes"], done
+    done = pwhash(*INSTALL, OTHERS, *words.split())
+    assert (done.status, read("target")) == (0, content), done
+
+
+def test_other_faults_do_not_advise_to_accept_other_schemes() -> None:
+    save("hashes", HASHES + b"eva:secret\n")
+    done = pwhash(*INSTALL)
+    assert done.status == 1 and b"--accept-other-schemes" not in done.err, done
 
 
 def test_of_many_wrong_lines_some_are_shown() -> None:
@@ -265,7 +312,7 @@ def test_a_copy_of_shadow_is_refused_by_its_nine_fields() -> None:
     assert (done.status, read("target")) == (2, shadow) and b"chpasswd(8)" in done.err, done
 
 
-@pytest.mark.parametrize("name", ["passwd", "shadow", "gshadow-", "group"])
+@pytest.mark.parametrize("name", ["passwd", "shadow", "gshadow-", "group", "subuid", "subgid-"])
 def test_a_file_of_the_system_is_not_made_in_any_root(name: str) -> None:
     os.makedirs("root/etc")
     save("hashes", HASHES)

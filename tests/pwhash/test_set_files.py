@@ -260,7 +260,10 @@ def test_a_file_of_the_system_is_refused_by_another_name() -> None:
 
 @pytest.mark.parametrize(
     "path",
-    ["etc/passwd", "root/etc/shadow", "etc/gshadow-", "etc/group", "var/backups/shadow.bak"],
+    [
+        *("etc/passwd", "root/etc/shadow", "etc/gshadow-", "etc/group", "var/backups/shadow.bak"),
+        *("etc/subuid", "etc/subgid", "root/etc/subuid-", "etc/subgid-"),
+    ],
 )
 def test_such_a_file_of_another_root_is_refused(path: str) -> None:
     os.makedirs(os.path.dirname(path))

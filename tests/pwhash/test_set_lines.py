@@ -64,8 +64,8 @@ def test_a_new_password_unlocks_nobody(before: bytes, after: bytes) -> None:
     ("before", "method", "way_out"),
     [
         pytest.param(b"{SHA256-CRYPT}$5$x", b"md5crypt", b"-m sha256crypt", id="another method"),
-        pytest.param(b"{SSHA}x", b"md5crypt", b"{CRYPT}", id="another scheme"),
-        pytest.param(b"{PLAIN}x", b"md5crypt", b"{CRYPT}", id="a password as it is"),
+        pytest.param(b"{SSHA}x", b"md5crypt", b"--for", id="another scheme"),
+        pytest.param(b"{PLAIN}x", b"md5crypt", b"--for", id="a password as it is"),
     ],
 )
 def test_a_prefix_that_does_not_fit_the_new_hash_is_refused(
@@ -75,6 +75,44 @@ def test_a_prefix_that_does_not_fit_the_new_hash_is_refused(
     done = pwhash("set", *MD5CRYPT, "passwords", "ann", stdin=b"password\n")
     assert done.status == 2 and method in done.err and way_out in done.err, done
     assert read("passwords") == in_file(b"ann:" + before), done
+
+
+@pytest.mark.parametrize("prefix", [b"{SHA}", b"{SSHA}", b"{PLAIN}", b"{SHA256-CRYPT}"])
+@pytest.mark.parametrize(
+    ("service", "new_prefix"),
+    [("apache", b""), ("nginx", b""), ("dovecot", b"{CRYPT}"), ("ldap", b"{CRYPT}")],
+)
+def test_for_a_service_such_a_prefix_is_replaced(
+    prefix: bytes, service: str, new_prefix: bytes
+) -> None:
+    save("passwords", in_file(b"ann:" + prefix + b"x:7"))
+    words = ("--for", service, "passwords", "ann")
+    done = pwhash("set", *MD5CRYPT, *words, stdin=b"password\n")
+    expected = in_file(b"ann:" + new_prefix + MD5.encode() + b":7")
+    assert (done.status, read("passwords")) == (0, expected), done
+
+
+@pytest.mark.parametrize("prefix", [b"{CRYPT}", b"{crypt}", b"{MD5-CRYPT}", b""])
+def test_for_a_service_a_prefix_that_fits_stays(prefix: bytes) -> None:
+    save("passwords", in_file(b"ann:" + prefix + OLD))
+    done = pwhash("set", *MD5CRYPT, "--for", "dovecot", "passwords", "ann", stdin=b"password\n")
+    assert (done.status, read("passwords")) == (0, in_file(b"ann:" + prefix + MD5.encode())), done
+
+
+def test_for_a_service_a_locked_name_stays_locked() -> None:
+    save("passwords", in_file(b"ann:!{SHA}x"))
+    done = pwhash("set", *MD5CRYPT, "--for", "nginx", "passwords", "ann", stdin=b"password\n")
+    assert (done.status, read("passwords")) == (0, in_file(b"ann:!" + MD5.encode())), done
+
+
+@pytest.mark.parametrize(
+    ("service", "name"), [("dovecot", "Ann"), ("ldap", "a nn"), ("dovecot", "ann+x")]
+)
+def test_a_new_name_that_the_service_takes_for_another_is_refused(service: str, name: str) -> None:
+    save("passwords", OTHERS_AFTER)
+    done = pwhash("set", *MD5CRYPT, "--for", service, "passwords", name, stdin=b"password\n")
+    assert (done.status, read("passwords")) == (2, OTHERS_AFTER), done
+    assert service.encode() in done.err, done
 
 
 @pytest.mark.parametrize(

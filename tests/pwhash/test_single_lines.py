@@ -30,13 +30,6 @@ def test_nobody_waits_for_further_lines() -> None:
     assert (done.status, done.out, done.err) == (0, hashed(b"secret") + b"\n", b""), done
 
 
-@pytest.mark.parametrize("password", [b"secret ", b" secret"], ids=["behind", "before"])
-def test_a_blank_at_an_end_is_named_and_hashed(password: bytes) -> None:
-    done = pwhash(*MD5CRYPT, stdin=password + b"\n")
-    assert (done.status, done.out) == (0, hashed(password) + b"\n"), done
-    assert b"blank" in done.err and b"secret" not in done.err, done
-
-
 def test_a_blank_inside_is_hashed_without_a_message() -> None:
     done = pwhash(*MD5CRYPT, stdin=b"sec ret\n")
     assert (done.status, done.out, done.err) == (0, hashed(b"sec ret") + b"\n", b""), done

@@ -112,9 +112,40 @@ def test_a_scheme_may_stand_before_the_hash(scheme: bytes) -> None:
     assert done.status == 2 and b"another scheme" in done.err, done
 
 
-@pytest.mark.parametrize("around", [b" %b", b"%b ", b"\t%b\r"])
-def test_blanks_around_a_pasted_hash_do_not_count(around: bytes) -> None:
-    assert pwhash("verify", stdin=b"password\n" + around % MD5.encode()).status == 0
+# What people have pasted, of which FIRST and REST are the parts of a hash.
+PASTED = [
+    pytest.param(b" FIRSTREST", id="a blank in front"),
+    pytest.param(b"FIRSTREST \t\r", id="blanks behind"),
+    pytest.param("\u00a0FIRSTREST\u200b".encode(), id="what a mail shows as nothing"),
+    pytest.param(b"\n  \nFIRSTREST\n", id="line breaks in front"),
+    pytest.param(b"FIRST\nREST", id="a line break inside"),
+    pytest.param(b"FIRST\r\n    REST\r\n\r\n", id="lines of Windows, and blanks"),
+    pytest.param(b'"FIRSTREST"', id="quotes"),
+    pytest.param(b"ann:FIRSTREST", id="a line of htpasswd"),
+    pytest.param(b"ann:FIRSTREST:19000:0:99999:7:::\n", id="a line of shadow"),
+    pytest.param(b"ann:FIRST\nREST:19000:\n0:99999:7:::", id="one with line breaks"),
+    pytest.param(b'password: "FIRSTREST"', id="a line of Ansible"),
+    pytest.param(b"ann:{CRYPT}FIRST\n REST", id="a prefix"),
+]
+
+
+@pytest.mark.parametrize("setting", SETTINGS)
+@pytest.mark.parametrize("pasted", PASTED)
+def test_a_pasted_hash_may_have_blanks_and_its_line_around_it(pasted: bytes, setting: str) -> None:
+    stored = hashed(SECRET, setting)
+    pasted = pasted.replace(b"FIRST", stored[:-9]).replace(b"REST", stored[-9:])
+    done = pwhash("verify", stdin=SECRET + b"\n" + pasted)
+    assert (done.status, done.out) == (0, YES) and done.err.count(b"\n") <= 1, done
+    done = pwhash("verify", stdin=b"other\n" + pasted)
+    assert (done.status, done.out) == (1, NO), done
+
+
+def test_nobody_waits_for_the_rest_of_a_whole_hash() -> None:
+    """The reader of the answer ends the writer of the hash."""
+    save("input", b"password\n" + MD5.encode() + b"\n")
+    script = '{ cat input; read -r end < pipe; } | { "$@" verify; echo end > pipe; }'
+    done = shell(f"mkfifo pipe; {script}")
+    assert (done.status, done.out, done.err) == (0, YES, b""), done
 
 
 @pytest.mark.parametrize(
@@ -136,10 +167,10 @@ def test_a_no_says_what_is_odd_about_the_password(password: bytes, reason: bytes
 
 def test_lines_that_do_not_count_are_named() -> None:
     done = pwhash("verify", stdin=b"password\n" + MD5.encode() + b"\nmore\n")
-    assert (done.status, done.out) == (0, YES) and b"first two lines" in done.err, done
+    assert (done.status, done.out) == (0, YES) and b"behind the hash" in done.err, done
     ann_in_file(MD5.encode())
     done = pwhash("verify", "file", "ann", stdin=b"password\nmore\n")
-    assert (done.status, done.out) == (0, YES) and b"first line" in done.err, done
+    assert (done.status, done.out) == (0, YES) and b"behind the password" in done.err, done
 
 
 # ---- Neither
@@ -187,8 +218,8 @@ def test_a_password_that_no_hash_can_have_is_refused(password: bytes, reason: by
         pytest.param(b"", b"empty", id="nothing"),
         pytest.param(SECRET, b"second", id="a password"),
         pytest.param(SECRET + b"\n", b"second", id="a password and a line feed"),
-        pytest.param(SECRET + b"\nann:" + MD5.encode(), b"colon", id="a line of a file"),
-        pytest.param(SECRET + b"\n'" + MD5.encode() + b"'", b"stored as it is", id="quotes"),
+        pytest.param(SECRET + b"\nann::" + MD5.encode(), b"empty", id="a line without a hash"),
+        pytest.param(SECRET + b"\n(" + MD5.encode() + b")", b"stored as it is", id="brackets"),
     ],
 )
 def test_input_without_a_hash_is_refused(data: bytes, reason: bytes) -> None:
@@ -319,6 +350,22 @@ def test_a_pasted_hash_is_compared_and_not_shown(typed: bytes, status: int) -> N
 
 
 @pytest.mark.needs("python3-pexpect")
+@pytest.mark.parametrize(
+    "keys",
+    [
+        pytest.param([b"\r" + MD5.encode() + b"\r"], id="a line break in front"),
+        pytest.param([MD5[:12].encode() + b"\r" + MD5[12:].encode() + b"\r"], id="one inside"),
+        pytest.param([MD5[:12].encode() + b"\r" + MD5[12:].encode(), b"\r"], id="Return later"),
+        pytest.param([b"ann:" + MD5.encode() + b":1:0:9:7:::\r"], id="a line of shadow"),
+    ],
+)
+def test_line_breaks_in_what_is_pasted_end_nothing(keys: list[bytes]) -> None:
+    terminal = at_terminal(["verify"], [b"password\r", *keys])
+    assert terminal.status == 0 and not terminal.shows_keys_at_prompt, terminal
+    assert MD5[12:].encode() not in terminal.shown and terminal.shows_keys_afterwards, terminal
+
+
+@pytest.mark.needs("python3-pexpect")
 @pytest.mark.parametrize(("typed", "status"), [(b"password", 0), (b"", 1), (b"p\xe4ssword", 1)])
 def test_a_name_of_a_file_is_asked_for_a_password_alone(typed: bytes, status: int) -> None:
     ann_in_file(MD5.encode())
@@ -341,7 +388,8 @@ def test_a_locked_name_is_not_asked_for_a_password() -> None:
     [
         pytest.param([b"password\r", b"\x04"], 2, id="Ctrl-D"),
         pytest.param([b"password\r", b"\x03"], -signal.SIGINT, id="Ctrl-C"),
-        pytest.param([b"password\r", b"\r"], 2, id="Return"),
+        pytest.param([b"password\r", b"\r", b"\x04"], 2, id="Return and Ctrl-D"),
+        pytest.param([b"password\r", MD5[:-9].encode() + b"\r", b"\r"], 2, id="a part of one"),
     ],
 )
 def test_without_a_hash_nothing_is_compared(keys: list[bytes], status: int) -> None:

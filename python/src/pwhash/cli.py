@@ -41,7 +41,7 @@ USAGE = """
   pwhash audit /etc/shadow           what is wrong with stored hashes
   pwhash set passwords ann           a new password in a password file
   pwhash install hashes passwords    make hashes a service's password file
-  pwhash verify /etc/shadow ann      whether a password is ann's
+  pwhash verify [/etc/shadow ann]    whether a password fits a hash, or ann's
   pwhash calibrate 300ms             rounds with which no login takes longer
 
 Hashes are {method} with {rounds} rounds. Each command has its own --help."""
@@ -60,9 +60,9 @@ INSTALL_TEXT = (
 AUDIT_TEXT = "Shows what is wrong with stored hashes; with --only-problems the worst first."
 VERIFY_TEXT = (
     "Asks for a password, and says whether it matches NAME's hash in FILE, or without them a hash "
-    "that is asked for too. Standard input that isn't a terminal has the password in its first "
-    "line, and the hash in its second. Ends with status 0 for yes, 1 for no, and more if it can't "
-    "tell."
+    "that is asked for too, and can be pasted with its whole line. Standard input that isn't a "
+    "terminal has the password in its first line, and the hash behind it. Ends with status 0 for "
+    "yes, 1 for no, and more if it can't tell."
 )
 CALIBRATE_TEXT = (
     "Measures how long hashes take on this machine, and prints for each method the rounds and the "
@@ -232,6 +232,7 @@ def one_parser() -> Parser:
     parser.value("--for", dest="form", choices=forms, default="bare", help="print its line")
     parser.value("--name", help="the user, for --for")
     parser.flag("--generate", "make a password, and show it once on the terminal")
+    parser.flag("--accept-doubtful", "take a doubtful password as it is")
     add_salt(parser)
     add_common(parser)
     return parser
@@ -247,7 +248,7 @@ def one_options(parser: Parser, given: argparse.Namespace) -> Options:
         raise UsageError(
             "a --name begins with a letter or _; then up to 63 letters, digits and _.@- follow."
         )
-    return OneOptions(policy, form, given.name, given.generate)
+    return OneOptions(policy, form, given.name, given.generate, given.accept_doubtful)
 
 
 def file_parser() -> Parser:
@@ -261,6 +262,8 @@ def file_parser() -> Parser:
     parser.flag("--skip-doubtful", "leave out doubtful lines")
     locked_text = "leave out names that are locked there, as in /etc/shadow"
     parser.value("--skip-locked", metavar="SHADOW", help=locked_text)
+    unknown_text = "leave out names that have no line there, as in /etc/passwd"
+    parser.value("--skip-unknown", metavar="PASSWD", help=unknown_text)
     parser.flag("--accept-doubtful", "take doubtful lines as they are")
     add_table(parser)
     add_service(parser, "doubt names that it takes for others")
@@ -273,7 +276,7 @@ def file_parser() -> Parser:
 def file_options(parser: Parser, given: argparse.Namespace) -> Options:
     """The options of `pwhash file`."""
     refuse_lonely(parser, given, {"resume": "out", "columns": "csv"})
-    refuse_empty(parser, given, "out", "columns", "skip_locked")
+    refuse_empty(parser, given, "out", "columns", "skip_locked", "skip_unknown")
     refuse_out(parser, given.out)
     policy = policy_of(parser, given)
     generate = generate_of(parser, given, policy)
@@ -285,6 +288,7 @@ def file_options(parser: Parser, given: argparse.Namespace) -> Options:
         only_look=given.look,
         skip_refused=given.skip_refused,
         skip_locked=given.skip_locked,
+        skip_unknown=given.skip_unknown,
         generate=generate,
         doubtful=doubtful_of(given),
         service=Service(given.service) if given.service else None,
@@ -356,9 +360,11 @@ def set_parser() -> Parser:
     parser.add_argument("file", nargs="?", metavar="FILE", help="the password file of a service")
     parser.add_argument("name", nargs="?", metavar="NAME", help="whose line is changed")
     parser.flag("--generate", "make a password, and show it once on the terminal")
+    parser.flag("--accept-doubtful", "take a doubtful password as it is")
     parser.flag("--delete", "remove the line")
     parser.flag("--lock", "let no password in; the hash stays behind a !")
     parser.flag("--unlock", "let the password in again")
+    add_service(parser, "whose prefixes and names the line may have")
     add_salt(parser)
     add_common(parser)
     return parser
@@ -374,7 +380,9 @@ def set_options(parser: Parser, given: argparse.Namespace) -> Options:
         path=given.file,
         name=os.fsencode(given.name),
         action=action_of(parser, given),
+        service=Service(given.service) if given.service else None,
         generate=given.generate,
+        accepts_doubtful=given.accept_doubtful,
         quiet=given.quiet,
     )
 
@@ -408,6 +416,7 @@ def install_parser() -> Parser:
         "--group", metavar="GROUP", help="of a new TARGET, by default that of who runs this"
     )
     parser.value("--mode", metavar="MODE", help="of a new TARGET, by default 600")
+    parser.flag("--accept-other-schemes", "take hashes of bcrypt and others as they are")
     add_common(parser)
     return parser
 
@@ -424,6 +433,7 @@ def install_options(parser: Parser, given: argparse.Namespace) -> Options:
         owner=given.owner,
         group=given.group,
         mode=mode_of(parser, given),
+        accepts_other_schemes=given.accept_other_schemes,
         quiet=given.quiet,
     )
 
@@ -549,6 +559,8 @@ def add_generate(parser: Parser) -> None:
     parser.value("--length", type=number, metavar="NUMBER", help=length_text)
     by_text = "LIST is a new folder, with a file for each value of this column"
     parser.value("--by", metavar="COLUMN", help=by_text)
+    others_text = "columns of FILE that LIST has too, as those of people's names"
+    parser.value("--list-columns", metavar="A,B", help=others_text)
 
 
 def add_salt(parser: Parser) -> None:
@@ -617,14 +629,19 @@ def refuse_lonely(parser: Parser, given: argparse.Namespace, needs: Dict[str, st
     """Refuses an option without the one that it needs."""
     for option, needed in needs.items():
         if getattr(given, option) and not getattr(given, needed):
-            raise parser.refusal(f"--{option} needs --{needed}")
+            raise parser.refusal(f"{typed(option)} needs {typed(needed)}")
 
 
 def refuse_empty(parser: Parser, given: argparse.Namespace, *options: str) -> None:
     """Refuses an empty value, as of a variable of a script that isn't set."""
     for option in options:
         if getattr(given, option) == "":
-            raise parser.refusal(f"--{option.replace('_', '-')} is empty")
+            raise parser.refusal(f"{typed(option)} is empty")
+
+
+def typed(option: str) -> str:
+    """An option as it is typed."""
+    return f"--{option.replace('_', '-')}"
 
 
 def refuse_out(parser: Parser, out: Optional[str]) -> None:
@@ -647,9 +664,9 @@ def input_of(parser: Parser, given: argparse.Namespace) -> Input:
 
 def generate_of(parser: Parser, given: argparse.Namespace, policy: Policy) -> Optional[Generate]:
     """The passwords to make, if they are to be made."""
-    needs = {"passwords": "generate", "length": "generate", "by": "generate"}
-    refuse_lonely(parser, given, needs)
-    refuse_empty(parser, given, "passwords", "by")
+    needing = ("passwords", "length", "by", "list_columns")
+    refuse_lonely(parser, given, {option: "generate" for option in needing})
+    refuse_empty(parser, given, "passwords", "by", "list_columns")
     if not given.generate:
         return None
     length = GENERATED_LENGTH if given.length is None else given.length
@@ -657,8 +674,7 @@ def generate_of(parser: Parser, given: argparse.Namespace, policy: Policy) -> Op
         raise parser.refusal(f"--length isn't from {SHORTEST_GENERATED} to {LONGEST_GENERATED}")
     if library.is_over_budget(policy, length):
         raise parser.refusal(f"--length {length}: over budget, {library.how_long(policy)}")
-    if given.by and not given.csv:
-        raise parser.refusal("--by needs --csv")
+    refuse_lonely(parser, given, {"by": "csv", "list_columns": "csv"})
     if not given.look:
         refuse_lists(parser, given)
     return Generate(given.passwords or "", length, given.by is not None)
@@ -674,8 +690,15 @@ def refuse_lists(parser: Parser, given: argparse.Namespace) -> None:
     if os.path.realpath(given.passwords) in [os.path.realpath(each) for each in of_out]:
         raise parser.refusal("-o and --passwords need two different files")
     if os.path.lexists(given.passwords) and not given.resume:
-        name = named(given.passwords)
-        raise parser.refusal(f"{name} already exists: name another after --passwords, or remove it")
+        raise parser.refusal(about_list_that_exists(given))
+
+
+def about_list_that_exists(given: argparse.Namespace) -> str:
+    """The message about a LIST that is there. With OUT.part, it is perhaps of an earlier run."""
+    name, part = named(given.passwords), part_of(given.out)
+    if os.path.lexists(part):
+        return f"{name} already exists, and so does {named(part)}: add --resume, or remove both"
+    return f"{name} already exists: name another after --passwords, or remove it"
 
 
 def names_of(parser: Parser, given: argparse.Namespace) -> Input:
@@ -690,6 +713,7 @@ def names_of(parser: Parser, given: argparse.Namespace) -> Input:
         columns if given.csv else None,
         counts_lines=not given.quiet,
         names_only=True,
+        list_columns=given.list_columns,
     )
 
 

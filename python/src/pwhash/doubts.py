@@ -17,6 +17,11 @@ SEPARATOR = re.compile(rb"[,;\t| ]")
 # A line of which only the words and signs of its fields may be doubtful.
 PLAIN_LINE = re.compile(rb"[!-9;-~]+:[!-~]+")
 
+LONGEST_OF_CRYPT = 511
+TOO_LONG_FOR_CRYPT = (
+    "more than 511 bytes, and no login by PAM or crypt(3) takes as many, as those of sshd and nginx"
+)
+
 # The names that each service reads as they are. It takes others for somebody else's, as Apache does
 # with a blank in front, or skips them, as behind a #.
 WEB_SERVER_NAME = rb"[^#\s\0-\x1f\x7f][^\0-\x1f\x7f]*"
@@ -48,6 +53,8 @@ class Doubts:
         if not PLAIN_LINE.fullmatch(line.data):
             found += about_marks(line.data, password, self._windows)
             found += about_text(line.data)
+        if NOT_UTF8 not in found and not all(is_utf8(each) for each in line.others):
+            found.append(NOT_UTF8)
         found += about_fields(name, password, self._is_table)
         if not self._is_table:
             found += about_list(line.data, name, password)
@@ -105,6 +112,8 @@ def about_fields(name: bytes, password: bytes, is_table: bool) -> Iterator[str]:
         yield "an error or a changed value of a spreadsheet or another export"
     if exports.is_stored(password):
         yield "a stored hash or field, and no password"
+    if len(password) > LONGEST_OF_CRYPT:
+        yield TOO_LONG_FOR_CRYPT
 
 
 def about_list(data: bytes, name: bytes, password: bytes) -> Iterator[str]:

@@ -26,6 +26,11 @@ FOR_CRYPT = re.compile(
 )
 # Prefixes of hashes in Base64. Behind any other, as {PLAIN}, a mark could be part of a password.
 IN_BASE64 = (b"{SHA}", b"{SSHA}")
+# Prefixes of hashes that aren't crypt's. Behind any other may be a password as it is.
+OF_OTHER_SCHEMES = re.compile(
+    rb"(?i)\{(?:S?MD5|S?SHA(?:256|384|512)?|BLF-CRYPT|ARGON2(?:I|ID)?|PBKDF2(?:-SHA(?:256|512))?"
+    rb"|SCRAM-SHA-(?:1|256))\}"
+)
 # What is no password as it is, and no damaged hash.
 HASHES = (
     mkpasswd.State.CURRENT,
@@ -53,6 +58,11 @@ class Field(NamedTuple):
         """Whether crypt(3) checks what is stored, as far as the prefix says."""
         prefix = self.prefix.upper()
         return prefix in (b"", ANY_METHOD) or prefix.endswith(b"-CRYPT}")
+
+    @property
+    def is_of_other_scheme(self) -> bool:
+        """Whether the prefix is of a hash that isn't crypt's."""
+        return OF_OTHER_SCHEMES.fullmatch(self.prefix) is not None
 
     def data(self) -> bytes:
         """The field as it stands in the file."""

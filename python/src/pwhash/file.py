@@ -2,7 +2,7 @@
 
 from __future__ import annotations
 
-from typing import Optional, Set
+from typing import List, Optional, Set
 
 from pwhash import library
 from pwhash.answers import Answer, Writer, refused, refused_row
@@ -19,8 +19,10 @@ from pwhash.part import Part, opened, refuse_changed
 from pwhash.progress import Progress
 from pwhash.resume import skip_made
 from pwhash.session import Session
+from pwhash.skipping import Skipping
 from pwhash.source import Source
 from pwhash.table import lines_of
+from pwhash.unknown import Unknown
 from pwhash.workers import Memory, Workers
 
 
@@ -64,16 +66,20 @@ class Wanted:
         self.locked: Optional[Locked] = None
         self._source = source
         self._generate = options.generate
+        self._skipping: List[Skipping] = []
+        if options.skip_unknown is not None:
+            self._skipping.append(Unknown(options.skip_unknown, source.name, console))
         if options.skip_locked is not None:
             self.locked = Locked(options.skip_locked, source.name, console)
+            self._skipping.append(self.locked)
 
     def lines(self) -> Arrivals:
         """The lines, but for those that are left out. Names have a placeholder as password."""
         arrivals = lines_of(self._source)
         if self._generate is not None:
             arrivals = with_placeholders(arrivals, self._generate)
-        if self.locked is not None:
-            arrivals = self.locked.without(arrivals)
+        for skipping in self._skipping:
+            arrivals = skipping.without(arrivals)
         return without(self.left_out, arrivals)
 
 

@@ -8,13 +8,13 @@ from __future__ import annotations
 
 import os
 import re
-from typing import Dict, List, NamedTuple, Optional
+from typing import Dict, List, NamedTuple, Optional, Tuple
 
 from pwhash import kept, lists
 from pwhash.doubts import NOT_UTF8
 from pwhash.errors import UsageError
 from pwhash.lines import Arrivals, Line, name_of
-from pwhash.lists import Written
+from pwhash.lists import Row, Written
 from pwhash.one import random_letter
 from pwhash.options import FileOptions, Generate
 from pwhash.part import Part, refuse_changed
@@ -25,6 +25,7 @@ from pwhash.text import is_utf8, is_visible, named
 PLACEHOLDER = b"x"
 # In a spreadsheet these begin a formula, and in some their wide forms of East Asia too.
 FORMULA = re.compile("[\\s\ufeff\u200b]*[-=+@\uff1d\uff0b\uff0d\uff20]")
+BEFORE_FORMULA = re.compile('[,;|"]')
 IN_NO_LIST = re.compile(rb"[,;|\"\0-\x1f\x7f]")
 LONGEST_FILE_NAME = 255
 
@@ -33,7 +34,7 @@ class Names(NamedTuple):
     """The names that get passwords, and in which list they stand."""
 
     passwords: Dict[bytes, bytes]
-    groups: Dict[bytes, List[bytes]]  # the names of each list; one of no name without --by
+    groups: Dict[bytes, List[Row]]  # each list but for passwords; one of no name without --by
 
 
 def with_placeholders(arrivals: Arrivals, generate: Generate) -> Arrivals:
@@ -48,6 +49,7 @@ def with_placeholder(line: Line, placeholder: bytes, has_groups: bool) -> Line:
     if line.refused_row is not None:
         return line
     reason = about_name(line.data) or (about_group(line.group) if has_groups else None)
+    reason = reason or about_others(line.others)
     if reason is not None:
         return line._replace(data=name_of(line), refused_row=reason)
     return line._replace(data=line.data + b":" + placeholder)
@@ -78,6 +80,17 @@ def about_group(group: bytes) -> Optional[str]:
         return "an invisible character in the column of --by, which names the list"
     if len(group) + len(lists.SUFFIX) > LONGEST_FILE_NAME:
         return "too long a value in the column of --by, which names the list"
+    return None
+
+
+def about_others(fields: Tuple[bytes, ...]) -> Optional[str]:
+    """Why a list can't have what stands in the columns of --list-columns, if it can't."""
+    for field in fields:
+        text = field.decode(errors="replace")
+        if not is_visible(text):
+            return "an invisible character in a column of --list-columns"
+        if any(FORMULA.match(piece) for piece in BEFORE_FORMULA.split(text)):
+            return "a field of --list-columns that a spreadsheet would take for a formula"
     return None
 
 
@@ -113,11 +126,22 @@ def passwords_on_disk(
             f"{part.name} has hashes of passwords that were in {named(generate.passwords)}, which "
             f"is gone. Remove {part.name}, and start again."
         )
+    if options.resume and os.path.lexists(generate.passwords):
+        raise list_in_the_way(generate.passwords, part)
     names = new_passwords(arrivals, generate)
     refuse_changed(source, part)
     with session.signals.postponed():
         write_lists(names, generate, source.separator, part, options)
     return names.passwords
+
+
+def list_in_the_way(path: str, part: Part) -> UsageError:
+    """The error for a list that may be cut, since the run ended before it kept its options."""
+    name = named(path)
+    return UsageError(
+        f"{name} already exists, and {part.name} has no hash yet. If a run that ended early left "
+        f"{name}, remove it, and type the command again; else name another after --passwords."
+    )
 
 
 def new_passwords(arrivals: Arrivals, generate: Generate) -> Names:
@@ -128,7 +152,7 @@ def new_passwords(arrivals: Arrivals, generate: Generate) -> Names:
             name = name_of(line)
             if name not in names.passwords:
                 names.passwords[name] = new_password(generate.length)
-            names.groups.setdefault(line.group, []).append(name)
+            names.groups.setdefault(line.group, []).append((*line.others, name))
     return names
 
 
@@ -145,6 +169,7 @@ def write_lists(
 ) -> None:
     """Writes all lists and what --resume needs, or nothing of that remains."""
     written = Written()
+    heading = heading_of(options)
     try:
         if generate.has_groups:
             written.make_folder(generate.passwords)
@@ -152,8 +177,16 @@ def write_lists(
             path = generate.passwords
             if generate.has_groups:
                 path = os.path.join(path, os.fsdecode(group) + lists.SUFFIX)
-            written.write(path, separator, [(name, names.passwords[name]) for name in members])
+            rows = [(*member, names.passwords[member[-1]]) for member in members]
+            written.write(path, separator, [heading, *rows])
         part.keep(options)
     except BaseException:
         written.remove()
         raise
+
+
+def heading_of(options: FileOptions) -> Row:
+    """The first row of a list."""
+    columns = options.input.list_columns
+    others = [] if columns is None else os.fsencode(columns).split(b",")
+    return (*(each.strip() for each in others), b"name", b"password")

@@ -28,10 +28,9 @@ REASONS = {
     mkpasswd.State.MALFORMED: "malformed: others may fail badly with the hash",
     mkpasswd.State.DEAD: "dead: no password matches, since the hash was cut or changed",
     mkpasswd.State.NO_SCHEME: "no scheme: a password as it is, or a damaged hash",
-    mkpasswd.State.UNKNOWN: "another scheme, which pwhash can't judge",
 }
-# These services know no prefix in front of a hash of crypt(5).
-WITHOUT_PREFIXES = (Service.APACHE, Service.NGINX)
+# The only prefixes that these services know, which they compare as they are.
+PREFIXES_OF_SERVICES = {Service.APACHE: (b"{SHA}",), Service.NGINX: (b"{SHA}", b"{SSHA}")}
 
 
 class Hash(NamedTuple):
@@ -54,6 +53,8 @@ class HashesFile:
         self.status, content = read(options.hashes)
         self._shown = named(options.hashes)
         self._service = options.service
+        self._accepts_others = options.accepts_other_schemes
+        self._has_others = False
         self._policy = library.auditor(options.policy)
         self._console = console
         self._first: Dict[bytes, int] = {}
@@ -75,9 +76,12 @@ class HashesFile:
                 wrong += 1
                 self._show(number, line, reason)
         if wrong:
+            way_out = ""
+            if self._has_others:
+                way_out = ", or take hashes of other schemes as they are (--accept-other-schemes)"
             raise ProblemsFound(
                 f"nothing was installed: {wrong:,} of {len(lines):,} lines of {self._shown} are "
-                "wrong. Correct or remove them."
+                f"wrong. Correct or remove them{way_out}."
             )
 
     def _judged(self, number: int, line: bytes) -> Optional[str]:
@@ -106,18 +110,42 @@ class HashesFile:
         """What is wrong with a field."""
         if b"\r" in line:
             return "a carriage return, with which lines of Windows end (tr -d '\\r')"
-        if field.prefix.upper() not in (b"", ANY_METHOD, *PREFIXES.values()):
-            return "a prefix of a scheme that pwhash can't judge"
-        if field.prefix and self._service in WITHOUT_PREFIXES:
+        reason = self._about_prefix(field) if field.prefix else None
+        if reason is not None or field.is_locked:
+            return reason
+        return self._about_hash(field)
+
+    def _about_prefix(self, field: Field) -> Optional[str]:
+        """What is wrong with a prefix."""
+        known = PREFIXES_OF_SERVICES.get(self._service) if self._service else None
+        if known is not None and field.prefix not in known:
             return "a prefix that the service doesn't know"
-        return None if field.is_locked else self._about_hash(field)
+        is_of_crypt = field.prefix.upper() in (ANY_METHOD, *PREFIXES.values())
+        if is_of_crypt or field.is_of_other_scheme:
+            return None
+        return "a prefix that pwhash doesn't know, perhaps of a password as it is"
 
     def _about_hash(self, field: Field) -> Optional[str]:
         """What is wrong with a hash that lets somebody in."""
+        if field.is_of_other_scheme:
+            return self._about_other_scheme(field)
         description = self._policy.describe(field.stored)
+        if description.state is mkpasswd.State.UNKNOWN:
+            return self._about_other_scheme(field)
         if description.state not in FINE:
             return REASONS[description.state]
         if method_of_prefix(field.prefix) not in (None, description.scheme):
+            return "a prefix of another method"
+        return None
+
+    def _about_other_scheme(self, field: Field) -> Optional[str]:
+        """What is wrong with a hash that pwhash can't judge."""
+        if not field.stored:
+            return REASONS[mkpasswd.State.NONE]
+        if not self._accepts_others:
+            self._has_others = True
+            return "another scheme, which pwhash can't judge"
+        if method_of_prefix(field.prefix) is not None:
             return "a prefix of another method"
         return None
 

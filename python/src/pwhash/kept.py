@@ -55,7 +55,9 @@ def options_of_lines(options: FileOptions) -> bytes:
     """The options that change a line before it is hashed. The columns have that of --by, too."""
     begin = b"--generate " if options.generate else b""
     if options.input.columns is not None:
-        return begin + os.fsencode(f"--csv --columns={options.input.columns}")
+        others = options.input.list_columns
+        of_lists = "" if others is None else f" --list-columns={others}"
+        return begin + os.fsencode(f"--csv --columns={options.input.columns}{of_lists}")
     return begin + (b"--windows" if options.input.windows else b"")
 
 
@@ -66,6 +68,8 @@ def options_of_choice(options: FileOptions) -> bytes:
         words.append("--skip-refused")
     if options.skip_locked:
         words.append("--skip-locked")
+    if options.skip_unknown:
+        words.append("--skip-unknown")
     words += FLAGS.get(options.doubtful, [])
     if options.service:
         words.append(f"--for={options.service.value}")

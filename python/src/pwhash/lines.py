@@ -5,7 +5,7 @@ The rules, their order and their words are those of mkpasswd, which reads the sa
 
 from __future__ import annotations
 
-from typing import Iterator, List, NamedTuple, Optional
+from typing import Iterator, List, NamedTuple, Optional, Tuple
 
 from pwhash import library
 from pwhash.library import Refusal
@@ -26,6 +26,7 @@ class Line(NamedTuple):
     data: bytes  # of a refused row only the name
     refused_row: Optional[str] = None  # why pwhash refuses a row
     group: bytes = b""  # what the row has in the column of --by
+    others: Tuple[bytes, ...] = ()  # and in those of --list-columns
 
 
 class FieldsToCheck(NamedTuple):

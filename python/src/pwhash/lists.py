@@ -1,12 +1,14 @@
 """The lists of new passwords: CSV for people, on disk before any of their passwords is hashed.
 
-A list is a new file, which only its owner can read. No field in it needs quotes, and no spreadsheet
-takes one for a formula, since generate.py refuses other names.
+A list is a new file, which only its owner can read. No spreadsheet takes a field in it for a
+formula, since generate.py refuses those.
 """
 
 from __future__ import annotations
 
 import contextlib
+import csv
+import io
 import os
 import re
 import stat
@@ -19,10 +21,12 @@ from pwhash.lines import BYTE_ORDER_MARK
 from pwhash.text import is_utf8, named
 
 SUFFIX = ".csv"
-HEADING = re.compile(rb"name([,;\t])password")
+HEADING = re.compile(rb"(?:.*[,;\t])?name([,;\t])password\n")
 FOLDER_MODE = 0o700
+# Each byte becomes the character with its number and back, so that no encoding matters.
+BYTES = "latin-1"
 
-Row = Tuple[bytes, bytes]  # a name and its password
+Row = Tuple[bytes, ...]  # columns that were asked for, then a name and its password
 
 
 class Written:
@@ -48,10 +52,10 @@ class Written:
         sync_folder_of(path)
 
     def write(self, path: str, separator: str, rows: Iterable[Row]) -> None:
-        """Writes a list."""
+        """Writes a list, whose first row is the heading."""
         if not self._folders:
             refuse_open_folder(path)
-        content = content_of(separator.encode(), rows)
+        content = content_of(separator, rows)
         with errors_named(named(path)):
             try:
                 fd = own_file.create(path)
@@ -74,10 +78,12 @@ class Written:
                 os.rmdir(path)
 
 
-def content_of(separator: bytes, rows: Iterable[Row]) -> bytes:
+def content_of(separator: str, rows: Iterable[Row]) -> bytes:
     """A list as a spreadsheet opens it. Excel knows UTF-8 by its byte order mark."""
-    lines = [separator.join(row) for row in [(b"name", b"password"), *rows]]
-    content = b"".join(line + b"\n" for line in lines)
+    text = io.StringIO()
+    writer = csv.writer(text, delimiter=separator, lineterminator="\n")
+    writer.writerows([field.decode(BYTES) for field in row] for row in rows)
+    content = text.getvalue().encode(BYTES)
     needs_mark = is_utf8(content) and not content.isascii()
     return BYTE_ORDER_MARK + content if needs_mark else content
 
@@ -109,15 +115,23 @@ def read_list(path: str) -> Dict[bytes, bytes]:
             content = b"" if fault else file.read()
     if content.startswith(BYTE_ORDER_MARK):
         content = content[len(BYTE_ORDER_MARK) :]
-    heading, *lines = content.split(b"\n")
-    found = HEADING.fullmatch(heading)
+    found = HEADING.match(content)
     if fault or not found or not content.endswith(b"\n"):
         raise changed(path, fault or "it was changed")
-    separator = found[1]
-    rows = [line.partition(separator) for line in lines[:-1]]  # behind the last end is nothing
-    if any(not name or not password or separator in password for name, _, password in rows):
+    try:
+        heading, *rows = rows_of(content, found[1].decode(BYTES))
+    except csv.Error:
+        raise changed(path, "it was changed") from None
+    if any(len(row) != len(heading) or not all(row[-2:]) for row in rows):
         raise changed(path, "it was changed")
-    return {name: password for name, _, password in rows}
+    return {row[-2]: row[-1] for row in rows}
+
+
+def rows_of(content: bytes, separator: str) -> List[Row]:
+    """The rows of a list. Raises a csv.Error if it is no table."""
+    lines = content.decode(BYTES).split("\n")[:-1]  # behind the last end is nothing
+    rows = csv.reader(lines, delimiter=separator, strict=True)
+    return [tuple(field.encode(BYTES) for field in row) for row in rows]
 
 
 def changed(path: str, fault: str) -> UsageError:

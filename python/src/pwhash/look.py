@@ -30,6 +30,7 @@ class Look:
         self._is_table = options.input.columns is not None
         self._doubts = Doubts(options.service, self._is_table, options.input.windows)
         self._shown: Counter[str] = Counter()
+        self._has_lines = False  # that aren't left out since their names are locked, say
         self._refused: Set[int] = set()
         self._doubtful: Set[int] = set()
 
@@ -40,9 +41,12 @@ class Look:
             for line in group:
                 self._look_at(line)
             if group:
+                self._has_lines = True
                 progress.reached(group[-1].number)
         progress.end()
         self._source.refuse_nothing()
+        if not self._has_lines:
+            raise ProblemsFound("nothing was hashed: no line is left.")
         self._stop_unless_decided()
         if self._options.doubtful is Doubtful.SKIP:
             self._refused |= self._doubtful
@@ -75,6 +79,8 @@ class Look:
         for reason in reasons:
             kind = re.sub("[0-9]+", "", reason)
             self._shown[kind] += 1
+            if self._shown[kind] > 1:  # what to do about it was said
+                reason = reason.partition(";")[0]
             if self._shown[kind] <= MOST_SHOWN:
                 self._console.say(f"{self._source.name}, line {line.number}{whose}: {reason}")
 

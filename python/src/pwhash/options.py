@@ -64,6 +64,7 @@ class Input(NamedTuple):
     unlock: bool = False  # what is in front of a locked hash is left out
     counts_lines: bool = True  # for the progress
     names_only: bool = False  # lines and rows have no password
+    list_columns: Optional[str] = None  # of a table of names, which lists of passwords have too
 
 
 class OneOptions(NamedTuple):
@@ -73,6 +74,7 @@ class OneOptions(NamedTuple):
     form: Form
     name: Optional[str]
     generate: bool
+    accepts_doubtful: bool
 
 
 class Generate(NamedTuple):
@@ -93,6 +95,7 @@ class FileOptions(NamedTuple):
     only_look: bool
     skip_refused: bool
     skip_locked: Optional[str]  # the file that says which names are locked
+    skip_unknown: Optional[str]  # the file that has a line for each known name
     generate: Optional[Generate]
     doubtful: Doubtful
     service: Optional[Service]
@@ -136,7 +139,9 @@ class SetOptions(NamedTuple):
     path: str
     name: bytes
     action: Action
+    service: Optional[Service]
     generate: bool
+    accepts_doubtful: bool
     quiet: bool
 
 
@@ -150,6 +155,7 @@ class InstallOptions(NamedTuple):
     owner: Optional[str]
     group: Optional[str]
     mode: Optional[int]
+    accepts_other_schemes: bool
     quiet: bool
 
 

@@ -271,8 +271,8 @@ def refuse_other_options(before: Kept, now: Kept, name: str, both: str) -> None:
     """Refuses options by which other lines, or other passwords, would be hashed."""
     if before.options != now.options:
         raise UsageError(
-            f"{name} was begun with other --windows, --csv, --columns, --generate or --by. "
-            f"Give those, or remove {both}, and start again."
+            f"{name} was begun with other --windows, --csv, --columns, --generate, --by or "
+            f"--list-columns. Give those, or remove {both}, and start again."
         )
     if before.choice != now.choice:
         raise UsageError(

@@ -8,8 +8,7 @@ import select
 import signal
 import termios
 import time
-from collections.abc import Sequence
-from typing import Any, List, NamedTuple, Set
+from typing import Any, Callable, List, NamedTuple, Set, TypeVar
 
 from pwhash.console import STDERR, STDIN, open_terminal
 from pwhash.errors import Stop, UsageError
@@ -38,6 +37,9 @@ CHANGES_KEYS = termios.ISTRIP | IUCLC | termios.PARMRK | termios.IGNCR | termios
 POLL_SECONDS = 0.05
 PIECE = 4096
 
+Ask = Callable[[bytes], bytes]  # shows a prompt, and returns what is typed there
+Answers = TypeVar("Answers")
+
 
 class Terminal(NamedTuple):
     """A terminal as it was before it asked, and the signals that wait."""
@@ -56,21 +58,26 @@ def ask_password() -> bytes:
 
 
 def ask_each(*prompts: bytes) -> List[bytes]:
-    """What is typed at each prompt, while the terminal shows nothing of it.
+    """What is typed at each prompt, while the terminal shows nothing of it."""
+    return hidden(lambda ask: [ask(prompt) for prompt in prompts])
+
+
+def hidden(conversation: Callable[[Ask], Answers]) -> Answers:
+    """What comes of prompts, while the terminal shows nothing of what is typed.
 
     Standard input is a terminal, and serves where there is no /dev/tty.
     """
     signal.signal(signal.SIGTSTP, signal.SIG_IGN)  # the shell would show what is typed after Ctrl-Z
     fd = open_terminal()
     if fd is None:
-        return ask_hidden(STDIN, prompts)
+        return ask_hidden(STDIN, conversation)
     try:
-        return ask_hidden(fd, prompts)
+        return ask_hidden(fd, conversation)
     finally:
         os.close(fd)
 
 
-def ask_hidden(fd: int, prompts: Sequence[bytes]) -> List[bytes]:
+def ask_hidden(fd: int, conversation: Callable[[Ask], Answers]) -> Answers:
     """Asks while signals wait until the terminal is as it was."""
     wait_for_foreground(fd)
     try:
@@ -84,7 +91,7 @@ def ask_hidden(fd: int, prompts: Sequence[bytes]) -> List[bytes]:
         hide(terminal)
         # A shell shows keys while the program is stopped.
         signal.signal(signal.SIGCONT, lambda *_: hide_again(terminal))
-        return [ask(terminal, prompt) for prompt in prompts]
+        return conversation(lambda prompt: ask(terminal, prompt))
     finally:
         signal.signal(signal.SIGCONT, signal.SIG_DFL)
         restore(terminal)

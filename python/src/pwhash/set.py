@@ -2,13 +2,17 @@
 
 from __future__ import annotations
 
+from typing import Optional
+
 from pwhash import field, library, password_file, system_files
+from pwhash.doubts import SERVICE_NAMES
 from pwhash.errors import ProblemsFound, UsageError
 from pwhash.field import Field
+from pwhash.given import given_password
 from pwhash.library import Refusal
 from pwhash.lines import refused_name
-from pwhash.one import about_refusal, generated, given
-from pwhash.options import Action, SetOptions
+from pwhash.one import about_refusal, generated
+from pwhash.options import Action, Service, SetOptions
 from pwhash.password_file import Entry
 from pwhash.place import (
     Place,
@@ -21,6 +25,15 @@ from pwhash.replacing import replace
 from pwhash.session import Session
 from pwhash.text import is_visible, readable
 from pwhash.workers import in_thread
+
+
+# What stands in front of a new hash where the old one had a prefix that doesn't fit it.
+NEW_PREFIXES = {
+    Service.APACHE: b"",
+    Service.NGINX: b"",
+    Service.DOVECOT: field.ANY_METHOD,
+    Service.LDAP: field.ANY_METHOD,
+}
 
 
 def run(options: SetOptions, session: Session) -> bool:
@@ -48,7 +61,10 @@ def refuse_unfit(place: Place) -> None:
 def hash_of_password(options: SetOptions, session: Session) -> bytes:
     """The hash of a new password, which is made here or asked for."""
     policy = options.policy
-    password = generated(policy, session.console) if options.generate else given(session.console)
+    if options.generate:
+        password = generated(policy, session.console)
+    else:
+        password = given_password(policy, options.accepts_doubtful, session.console)
     new_hash = in_thread(lambda: library.new_hash(policy, password))
     if isinstance(new_hash, Refusal):
         raise about_refusal(new_hash, policy)
@@ -100,7 +116,7 @@ class Line:
         """The content with a new line."""
         if self._options.action is not Action.PASSWORD:
             raise ProblemsFound(f"{self._file} has no {self._who}.")
-        refuse_new_name(self._name)
+        refuse_new_name(self._name, self._options.service)
         number = password_file.first_odd_line(content)
         if number is not None:
             raise UsageError(
@@ -124,7 +140,9 @@ class Line:
     def _with_hash(self, old: Field) -> Field:
         """The field with the new hash. A locked name stays locked."""
         if not field.fits(old.prefix, self._options.policy.method):
-            raise self._unfit_prefix(old.prefix)
+            if self._options.service is None:
+                raise self._unfit_prefix(old.prefix)
+            old = old._replace(prefix=NEW_PREFIXES[self._options.service])
         self._sentence = f"{self._who} has a new password in {self._file}"
         self._sentence += ", and stays locked. --unlock unlocks." if old.is_locked else "."
         return old._replace(stored=self.new_hash)
@@ -132,11 +150,11 @@ class Line:
     def _unfit_prefix(self, prefix: bytes) -> UsageError:
         """The error for a prefix that doesn't fit a hash of the method."""
         shown, fitting = readable(prefix), field.method_of_prefix(prefix)
-        way_out = f"give -m {fitting}, or " if fitting else ""
+        way_out = f"give -m {fitting}, or" if fitting else "give"
         return UsageError(
             f"{self._who} has {shown} in front of the hash in {self._file}, and the new one is of "
-            f"{self._options.policy.method}: {way_out}change {shown} to {{CRYPT}} if the service "
-            "knows that, or remove it."
+            f"{self._options.policy.method}: {way_out} --for apache or nginx to leave {shown} out, "
+            f"or --for dovecot or ldap to put {{CRYPT}} in its place."
         )
 
     def _locked(self, old: Field) -> Field:
@@ -168,7 +186,7 @@ class Line:
         return old.unlocked()
 
 
-def refuse_new_name(name: bytes) -> None:
+def refuse_new_name(name: bytes, service: Optional[Service]) -> None:
     """Refuses a name that services take for another."""
     refusal = refused_name(name)
     if refusal is not None:
@@ -179,3 +197,5 @@ def refuse_new_name(name: bytes) -> None:
             "NAME has an invisible character, or a blank at an end, by which services take it for "
             "another. Give it without."
         )
+    if service is not None and not SERVICE_NAMES[service].fullmatch(name):
+        raise UsageError(f"NAME is one that {service.value} takes for another, or skips.")

@@ -12,7 +12,7 @@ import re
 from pwhash.errors import UsageError
 from pwhash.place import Place
 
-NAMES = ("passwd", "shadow", "group", "gshadow")
+NAMES = ("passwd", "shadow", "group", "gshadow", "subuid", "subgid")
 PATHS = (
     *(f"/etc/{name}{ending}" for name in NAMES for ending in ("", "-")),
     *(f"/var/backups/{name}.bak" for name in NAMES),

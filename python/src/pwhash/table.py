@@ -7,7 +7,7 @@ import itertools
 import os
 import re
 from collections.abc import Sequence
-from typing import Iterator, List, NamedTuple, Optional, Protocol
+from typing import Iterator, List, NamedTuple, Optional, Protocol, Tuple
 
 from pwhash import headings
 from pwhash.errors import Stop, UsageError
@@ -44,6 +44,7 @@ class Columns(NamedTuple):
     headings: Row  # empty where the columns are numbered
     name: int
     second: Optional[int]  # of the password, or of the group if there is one
+    others: Tuple[int, ...]  # those of --list-columns
     width: int  # the fields of the first row
 
     def wanted_in(self, row: Row) -> Row:
@@ -67,14 +68,16 @@ class Table:
         self._name = source.name
         self._source = source
         self._names_only = source.input.names_only
-        self._wanted = folded_all(os.fsencode(source.input.columns or "").split(b","))
+        self._wanted = wanted_columns(source.input.columns or "")
+        self._others = wanted_columns(source.input.list_columns)
         self._texts = Texts(source)
         self._row_begin, self._row_size = 1, 0
 
     def lines(self) -> Arrivals:
         """The rows as lines."""
         counts = (1, 2) if self._names_only else (2,)
-        if len(self._wanted) not in counts or len(set(self._wanted)) != len(self._wanted):
+        is_any_twice = any(has_twice(columns) for columns in (self._wanted, self._others))
+        if len(self._wanted) not in counts or is_any_twice:
             raise self._no_columns()
         begin = self._first_row_with_blank_ones()
         separator = self._source.separator = self._separator(begin)
@@ -142,39 +145,41 @@ class Table:
             row: Row = next((each for each in reader if each), [])
         except csv.Error as error:
             raise Stop(f"{self._name}, line {self._row_begin}: {about(error)}.") from None
-        return set(self._wanted) <= set(folded_row(row))
+        return {*self._wanted, *self._others} <= set(folded_row(row))
 
     def _columns(self, first: Row) -> Columns:
         names = folded_row(first)
         known = names if self._has_names() else NUMBERS
-        if any(known.count(each) != 1 for each in self._wanted):
+        if any(known.count(each) != 1 for each in [*self._wanted, *self._others]):
             raise self._no_columns()
         name, second = [*(known.index(each) for each in self._wanted), None][:2]
         assert name is not None
         # Where columns are numbered, the second field may be a password such as "name".
         above = self._wanted if self._has_names() else [cell(names, name), ""]
         if self._names_only:
-            self._refuse_passwords(above)
+            self._refuse_passwords([*above, *self._others])
         elif above[0] in headings.PASSWORDS or above[-1] in headings.NAMES:
             raise UsageError(
                 "--columns names the column of names, then that of passwords. Here the first is "
                 "headed as passwords are, or the second as names are. Correct the order."
             )
-        return Columns(names if self._has_names() else [], name, second, len(first))
+        others = tuple(known.index(each) for each in self._others)
+        return Columns(names if self._has_names() else [], name, second, others, len(first))
 
     def _refuse_passwords(self, above: Row) -> None:
         """Refuses passwords in place of names, or as names of lists."""
         if any(each in headings.PASSWORDS for each in above):
             raise UsageError(
-                "--columns or --by names a column that is headed as passwords are. Correct that."
+                "--columns, --by or --list-columns names a column that is headed as passwords are. "
+                "Correct that."
             )
 
     def _no_columns(self) -> UsageError:
         if self._names_only:
             return UsageError(
-                "--columns, by default name, and --by need one name each, once in the first row of "
-                f"{self._name}, or if that has no names, numbers, as 1. Save UTF-16 and "
-                "Windows-1252 as UTF-8."
+                "--columns, by default name, --by and --list-columns need names that are once in "
+                f"the first row of {self._name}, or if that has no names, numbers, as 1. Save "
+                "UTF-16 and Windows-1252 as UTF-8."
             )
         return UsageError(
             "--columns, by default name,password, needs two names, each once in the first row of "
@@ -211,7 +216,12 @@ class Table:
             return Line(number, name.encode(BYTES), reason)
         second = "" if columns.second is None else row[columns.second]
         if self._names_only:
-            return Line(number, name.encode(BYTES), group=second.encode(BYTES).strip())
+            return Line(
+                number,
+                name.encode(BYTES),
+                group=second.encode(BYTES).strip(),
+                others=tuple(cell(row, place).encode(BYTES).strip() for place in columns.others),
+            )
         return Line(number, f"{name}:{second}".encode(BYTES))
 
     def _refused(self, row: Row, columns: Columns) -> Optional[str]:
@@ -319,6 +329,16 @@ def about(error: csv.Error) -> str:
     if "new-line" in str(error):
         return "this is not CSV: a carriage return ends no row. Save the file with line feeds"
     return f"this is not CSV: {error}"
+
+
+def wanted_columns(names: Optional[str]) -> Row:
+    """The names of columns in the value of an option, as they are compared."""
+    return [] if names is None else folded_all(os.fsencode(names).split(b","))
+
+
+def has_twice(columns: Row) -> bool:
+    """Whether a column is named twice."""
+    return len(set(columns)) != len(columns)
 
 
 def folded_all(fields: Sequence[bytes]) -> Row:

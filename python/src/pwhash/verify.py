@@ -8,7 +8,7 @@ from __future__ import annotations
 
 import os
 import unicodedata
-from typing import List, NamedTuple, Optional
+from typing import NamedTuple, Optional
 
 from mkpasswd import State
 
@@ -18,16 +18,15 @@ from pwhash.errors import UsageError
 from pwhash.field import without_prefix
 from pwhash.library import OVER_BUDGET, Refusal, Verdict
 from pwhash.lines import BYTE_ORDER_MARK
-from pwhash.options import Input, VerifyOptions
-from pwhash.prompt import ask_each
+from pwhash.options import VerifyOptions
+from pwhash.pasted import PASSWORD_PROMPT, ask_for_both, field_of_pasted, piped_both
+from pwhash.piped import PipedLines
+from pwhash.prompt import ask_each, hidden
 from pwhash.session import Session
-from pwhash.source import Source
 from pwhash.stored import Stored, stored_in
 from pwhash.text import APART, is_utf8, is_visible, named, readable
 from pwhash.workers import in_thread
 
-PASSWORD_PROMPT, HASH_PROMPT = b"Password: ", b"Hash (not shown either): "
-AROUND_HASH = b" \t\r"  # of a line that was pasted
 MATCHES = b"yes, the password matches"
 DIFFERS = b"no, the password doesn't match"
 ABOUT_STATES = {
@@ -71,30 +70,23 @@ def given_by_file(options: VerifyOptions, console: Console) -> Given:
     if os.isatty(STDIN):
         [password] = ask_each(PASSWORD_PROMPT)
     else:
-        [password] = first_lines(1, console)
+        lines = PipedLines(console)
+        password = lines.password()
+        lines.tell_of_further("the password")
     return Given(password, stored, whose)
 
 
 def given_by_user(console: Console) -> Given:
     """A password and a hash that are asked for."""
-    if os.isatty(STDIN):
-        password, pasted = ask_each(PASSWORD_PROMPT, HASH_PROMPT)
-    else:
-        password, pasted = first_lines(2, console)
-    pasted = pasted.strip(AROUND_HASH)
-    has_hash = begins_as_hash(without_prefix(pasted))
-    if begins_as_hash(password.strip(AROUND_HASH)) and not has_hash:
+    both = hidden(ask_for_both) if os.isatty(STDIN) else piped_both(console)
+    has_hash = begins_as_hash(without_prefix(both.field))
+    if begins_as_hash(field_of_pasted(both.password)) and not has_hash:
         raise UsageError(
             "there is a hash in the place of the password, and none in its own. Give the password "
             "first, then the hash."
         )
-    if b":" in pasted:
-        raise UsageError(
-            "there is a colon in the hash, as in a whole line of a file. Give only what stands "
-            "between the first colon and the next, or type pwhash verify FILE NAME."
-        )
     whose = "the hash"
-    return Given(password, whole_hash(pasted, whose), whose)
+    return Given(both.password, whole_hash(both.field, whose), whose)
 
 
 def begins_as_hash(field: bytes) -> bool:
@@ -116,29 +108,6 @@ def only_line_of(options: VerifyOptions, console: Console) -> Stored:
             "which they take. Remove the wrong ones."
         )
     return found[0]
-
-
-def first_lines(count: int, console: Console) -> List[bytes]:
-    """The first lines of standard input. Further ones are named if they are there by now."""
-    source = Source(Input(None, counts_lines=False), console)
-    groups = source.lines()
-    lines: List[bytes] = []
-    for group in groups:
-        lines += [line.data for line in group]
-        if len(lines) >= count:
-            break
-    if not lines:
-        raise UsageError("standard input is empty: its first line has to be the password.")
-    if len(lines) < count:
-        raise UsageError(
-            "standard input has one line, the password. The hash has to be the second, or type "
-            "pwhash verify FILE NAME."
-        )
-    further = lines[count:] or [line.data for line in next(groups, [])]
-    if further and further[0]:
-        ignored = "the first line" if count == 1 else "the first two lines"
-        console.say(f"only {ignored} of standard input counted.")
-    return lines[:count]
 
 
 def whole_hash(field: bytes, whose: str) -> bytes:

@@ -1,0 +1,83 @@
+"""A hash that was pasted, as from an e-mail: perhaps with blanks, line breaks or its whole line.
+
+No hash has any of these in it, so they can be left out.
+"""
+
+from __future__ import annotations
+
+from typing import NamedTuple
+
+from mkpasswd import State
+
+from pwhash import library
+from pwhash.console import Console
+from pwhash.errors import UsageError
+from pwhash.field import without_prefix
+from pwhash.piped import PipedLines
+from pwhash.prompt import Ask
+
+PASSWORD_PROMPT, HASH_PROMPT = b"Password: ", b"Hash (not shown either): "
+REST_PROMPT = b"It isn't whole. The rest, or just Return: "
+SHOWS_NOTHING = {ord(each): None for each in "\u00ad\u200b\u200c\u200d\u2060\ufeff"}
+QUOTES = b"'\"`"
+
+
+class Pasted(NamedTuple):
+    """A password, and the field of the hash that it is compared with."""
+
+    password: bytes
+    field: bytes
+
+
+def ask_for_both(ask: Ask) -> Pasted:
+    """A password and a hash that are asked for at a terminal.
+
+    A line break in what is pasted ends an answer. The rest of it is there when it is asked for.
+    """
+    password = ask(PASSWORD_PROMPT)
+    pasted = b""
+    while not pasted:
+        pasted = without_blanks(ask(HASH_PROMPT))
+    rest = pasted
+    while rest and is_cut(pasted):
+        rest = without_blanks(ask(REST_PROMPT))
+        pasted += rest
+    return Pasted(password, field_of_pasted(pasted))
+
+
+def piped_both(console: Console) -> Pasted:
+    """A password and a hash on standard input, the hash perhaps in several lines."""
+    lines = PipedLines(console)
+    password = lines.password()
+    first = lines.next()
+    if first is None:
+        raise UsageError(
+            "standard input has one line, the password. The hash has to be the second, or type "
+            "pwhash verify FILE NAME."
+        )
+    pasted = without_blanks(first)
+    while not pasted or is_cut(pasted):
+        more = lines.next_at_once()
+        if more is None:
+            break
+        pasted += without_blanks(more)
+    lines.tell_of_further("the hash")
+    return Pasted(password, field_of_pasted(pasted))
+
+
+def without_blanks(pasted: bytes) -> bytes:
+    """What was pasted, without blanks and characters that show nothing."""
+    text = "".join(pasted.decode("utf-8", "surrogateescape").split())
+    return text.translate(SHOWS_NOTHING).encode("utf-8", "surrogateescape")
+
+
+def field_of_pasted(pasted: bytes) -> bytes:
+    """The field of a hash, of which the whole line may have been pasted, or quotes around it."""
+    line = without_blanks(pasted).strip(QUOTES)
+    name, colon, rest = line.partition(b":")
+    return rest.partition(b":")[0].strip(QUOTES) if colon else name
+
+
+def is_cut(pasted: bytes) -> bool:
+    """Whether the beginning of a hash was pasted, whose rest may follow."""
+    return library.describe(without_prefix(field_of_pasted(pasted))).state is State.DEAD

@@ -1,0 +1,46 @@
+"""The lines of standard input that isn't a terminal, the first of which is a password."""
+
+from __future__ import annotations
+
+from typing import List, Optional
+
+from pwhash.console import Console
+from pwhash.errors import UsageError
+from pwhash.options import Input
+from pwhash.source import Source
+
+
+class PipedLines:
+    """Lines as they come."""
+
+    def __init__(self, console: Console) -> None:
+        self._console = console
+        self._groups = Source(Input(None, counts_lines=False), console).lines()
+        self._waiting: List[bytes] = []
+
+    def password(self) -> bytes:
+        """The first line."""
+        line = self.next()
+        if line is None:
+            raise UsageError("standard input is empty: its first line has to be the password.")
+        return line
+
+    def next(self) -> Optional[bytes]:
+        """The next line, for which it waits, or None at the end."""
+        while not self._waiting:
+            group = next(self._groups, None)
+            if group is None:
+                return None
+            self._waiting += [line.data for line in group]
+        return self._waiting.pop(0)
+
+    def next_at_once(self) -> Optional[bytes]:
+        """The next line if it is there by now, or None."""
+        if not self._waiting:
+            self._waiting += [line.data for line in next(self._groups, [])]
+        return self._waiting.pop(0) if self._waiting else None
+
+    def tell_of_further(self, last: str) -> None:
+        """Names lines that don't count, if they are there by now."""
+        if self.next_at_once():
+            self._console.say(f"lines of standard input behind {last} don't count.")

@@ -1,0 +1,66 @@
+"""Leaves out lines by what another file says of their names, and tells which lines those are."""
+
+from __future__ import annotations
+
+import abc
+
+from pwhash.console import Console
+from pwhash.lines import Arrivals, Line, name_of
+from pwhash.text import named, readable
+
+MOST_SHOWN = 20  # lines that are named
+
+
+class Skipping(abc.ABC):
+    """Leaves out lines. Which ones, it tells while they are read for the first time."""
+
+    def __init__(self, path: str, source_name: str, console: Console) -> None:
+        self.path = path
+        self.console = console
+        self._source_name = source_name
+        self._is_told = False
+        self._left_out = 0
+
+    @property
+    @abc.abstractmethod
+    def reason(self) -> str:
+        """Why a line is left out, behind its name."""
+
+    @property
+    @abc.abstractmethod
+    def reason_of_all(self) -> str:
+        """Why all of these lines are left out."""
+
+    @abc.abstractmethod
+    def skips(self, line: Line) -> bool:
+        """Whether a line that may have a name is left out."""
+
+    @property
+    def file(self) -> str:
+        """The name of the other file for a message."""
+        return named(self.path)
+
+    def without(self, arrivals: Arrivals) -> Arrivals:
+        """The other lines. What is left out is told once."""
+        for group in arrivals:
+            kept = [line for line in group if not self._is_left_out(line)]
+            if kept or not group:
+                yield kept
+        if not self._is_told:
+            self._is_told = True
+            if self._left_out:
+                self.console.say(f"lines left out since {self.reason_of_all}: {self._left_out:,}.")
+
+    def _is_left_out(self, line: Line) -> bool:
+        if b":" not in line.data and line.refused_row is None:
+            return False  # the line may be a password
+        is_left_out = self.skips(line)
+        if is_left_out and not self._is_told:
+            self._show(line)
+        return is_left_out
+
+    def _show(self, line: Line) -> None:
+        self._left_out += 1
+        if self._left_out <= MOST_SHOWN:
+            where = f"{self._source_name}, line {line.number} ({readable(name_of(line))})"
+            self.console.say(f"{where}: {self.reason}")

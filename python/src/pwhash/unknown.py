@@ -1,0 +1,32 @@
+"""Leaves out lines whose names stand in no line of a file such as /etc/passwd.
+
+If chpasswd gets one name without an account, it changes none.
+"""
+
+from __future__ import annotations
+
+from pwhash.console import Console
+from pwhash.lines import Line, name_of
+from pwhash.skipping import Skipping
+from pwhash.stored import stored_in
+
+
+class Unknown(Skipping):
+    """The names that a file doesn't have, of which lines are left out."""
+
+    def __init__(self, path: str, source_name: str, console: Console) -> None:
+        super().__init__(path, source_name, console)
+        self._names = {stored.name for stored in stored_in(path, console)}
+
+    @property
+    def reason(self) -> str:
+        return f"not in {self.file}"
+
+    @property
+    def reason_of_all(self) -> str:
+        return f"their names aren't in {self.file}"
+
+    def skips(self, line: Line) -> bool:
+        """A row that is refused is a problem of its own, and so is a line without a name."""
+        name = name_of(line)
+        return line.refused_row is None and bool(name) and name not in self._names

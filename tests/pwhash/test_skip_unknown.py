@@ -1,0 +1,160 @@
+"""pwhash file --skip-unknown PASSWD leaves out the names that have no line there.
+
+Each test sees only what a user sees: the command, its outputs, files and status.
+"""
+from __future__ import annotations
+
+import os
+
+import pytest
+from support.process import run
+from support.pwhash_runs import (
+    ANN,
+    BOB,
+    MD5CRYPT,
+    SLOW,
+    has_begun,
+    pwhash,
+    read,
+    save,
+    shell,
+    started,
+    users,
+    wait_for,
+)
+
+WORDS = ("file", *MD5CRYPT, "--skip-unknown", "passwd")
+LIST = b"ann:pw1\neve:pw3\nbob:pw2\n"
+PASSWD = b"root:x:0:0::/root:/bin/sh\nann:x:1:1::/:/bin/sh\nbob:x:2:2::/:/bin/sh\n"
+
+
+@pytest.fixture(autouse=True, name="files")
+def fixture_files(folder: os.PathLike[str]) -> None:
+    """Two accounts, and passwords for them and for Eve."""
+    del folder  # the current one
+    save("passwd", PASSWD)
+    save("list", LIST)
+
+
+def test_a_name_without_an_account_is_left_out_of_a_file() -> None:
+    done = pwhash(*WORDS, "list", "-o", "hashes")
+    assert (done.status, read("hashes")) == (0, ANN + BOB), done
+    assert b"list, line 2 (eve): not in passwd\n" in done.err and b"pw3" not in done.err, done
+
+
+def test_a_name_without_an_account_is_left_out_of_a_pipe() -> None:
+    done = pwhash(*WORDS, stdin=LIST)
+    assert (done.status, done.out) == (0, ANN + BOB), done
+    assert b"line 2 (eve): not in passwd\n" in done.err and b"pw3" not in done.err, done
+
+
+@pytest.mark.needs("root", "chpasswd")
+def test_chpasswd_takes_what_is_left() -> None:
+    os.makedirs("root/etc")
+    os.rename("passwd", "root/etc/passwd")
+    save("root/etc/shadow", b"ann:!:1:0:9:7:::\nbob:!:1:0:9:7:::\n")
+    words = ("file", *MD5CRYPT, "--skip-unknown", "root/etc/passwd", "list", "-o", "hashes")
+    done = pwhash(*words)
+    loaded = run("chpasswd", "-R", os.path.realpath("root"), "-e", stdin=read("hashes"))
+    assert loaded.status == 0, (done, loaded)
+    fields = [line.split(b":")[:2] for line in read("root/etc/shadow").splitlines()]
+    assert fields == [line.split(b":") for line in (ANN + BOB).splitlines()], done
+
+
+@pytest.mark.parametrize(
+    "line", [b"ev:x:3\n", b"evee:x:3\n", b"Eve:x:3\n", b"eve :x:3\n", b"eve\n"]
+)
+def test_a_name_that_is_only_like_another_is_left_out(line: bytes) -> None:
+    save("passwd", PASSWD + line)
+    done = pwhash(*WORDS, stdin=LIST)
+    assert (done.status, done.out) == (0, ANN + BOB) and b"(eve)" in done.err, done
+
+
+def test_names_of_a_table_are_left_out_and_wrong_rows_are_still_refused() -> None:
+    save("table", b"name;password\nann;pw1\neve;pw3\n;x\ndan;x;y\nbob;pw2\n")
+    done = pwhash(*WORDS, "--csv", "table", "-o", "hashes")
+    assert done.status == 1 and not os.path.exists("hashes"), done
+    for message in b"line 3 (eve): not in", b"line 4: no name", b"line 5: 3 fields":
+        assert message in done.err, done
+    done = pwhash(*WORDS, "--csv", "table", "-o", "hashes", "--skip-refused")
+    assert (done.status, read("hashes")) == (1, ANN + BOB), done
+
+
+def test_a_line_that_may_be_a_password_is_refused_as_ever() -> None:
+    done = pwhash(*WORDS, stdin=b"secret\nann:pw1\n:x\n")
+    assert (done.status, done.out) == (1, ANN) and b"secret" not in done.err, done
+    assert b"line 1: no password field" in done.err and b"line 3: no name" in done.err, done
+
+
+def test_a_name_gets_no_password_in_a_list() -> None:
+    save("names", b"ann\neve\n")
+    words = ("file", "--generate", "-R", "1000", "--skip-unknown", "passwd", "names")
+    done = pwhash(*words, "-o", "hashes", "--passwords", "made")
+    names = [line.partition(b",")[0] for line in read("made").splitlines()]
+    assert (done.status, names) == (0, [b"name", b"ann"]), done
+
+
+def test_a_look_shows_who_has_no_account() -> None:
+    done = pwhash("file", "--look", "--skip-unknown", "passwd", "list")
+    assert done.status == 0 and b"(eve): not in passwd" in done.err, done
+
+
+def test_locked_names_are_left_out_too() -> None:
+    save("shadow", b"ann:!$1$x$y:1\nbob:!:1\n")
+    done = pwhash(*WORDS, "--skip-locked", "shadow", "list", "-o", "hashes")
+    assert (done.status, read("hashes")) == (0, BOB), done
+    assert b"(eve): not in passwd" in done.err and b"(ann): locked in shadow" in done.err, done
+
+
+@pytest.mark.parametrize(
+    ("option", "other"),
+    [
+        pytest.param("--skip-unknown", b"root:x:0:0::/root:/bin/sh\n", id="unknown"),
+        pytest.param("--skip-locked", b"ann:!x\nbob:!x\neve:*\n", id="locked"),
+    ],
+)
+def test_if_nobody_is_left_nothing_is_made(option: str, other: bytes) -> None:
+    save("passwd", other)
+    done = pwhash("file", *MD5CRYPT, option, "passwd", "list", "-o", "hashes")
+    assert done.status == 1 and b"no line is left" in done.err, done
+    assert sorted(os.listdir()) == ["list", "passwd"], done
+
+
+@pytest.mark.parametrize(
+    ("data", "reason"),
+    [
+        pytest.param(b"", b"no line name:field", id="an empty file"),
+        pytest.param(None, b"No such file", id="no file"),
+    ],
+)
+@pytest.mark.parametrize("words", [(), ("list", "-o", "hashes")], ids=["a pipe", "a file"])
+def test_nothing_is_hashed_if_nobody_knows_the_names(
+    data: bytes | None, reason: bytes, words: tuple[str, ...]
+) -> None:
+    os.remove("passwd")
+    if data is not None:
+        save("passwd", data)
+    done = pwhash(*WORDS, *words, stdin=LIST)
+    assert done.status in (2, 3) and done.out == b"" and reason in done.err, done
+    assert not os.path.exists("hashes") and not os.path.exists("hashes.part"), done
+
+
+def test_the_names_can_come_from_a_pipe() -> None:
+    words = ("file", *MD5CRYPT, "--skip-unknown", "/dev/fd/3", "list", "-o", "hashes")
+    done = shell('cat passwd | "$@" 3<&0', *words)
+    assert (done.status, read("hashes")) == (0, ANN + BOB), done
+
+
+def test_a_run_does_not_go_on_without_the_option() -> None:
+    save("passwd", b"".join(b"user%d:x\n" % number for number in range(1, 600)))
+    save("list", users(600))
+    words = ("file", *SLOW, "list", "-o", "hashes")
+    with started(*words, "--skip-unknown", "passwd") as process:
+        wait_for(has_begun)
+        process.kill()
+    part = read("hashes.part")
+    done = pwhash(*words, "--resume")
+    assert done.status == 2 and b"--skip-unknown" in done.err, done
+    assert read("hashes.part") == part and not os.path.exists("hashes"), done
+    done = pwhash(*words, "--resume", "--skip-unknown", "passwd")
+    assert done.status == 0 and read("hashes").count(b"\n") == 599, done
