@@ -304,8 +304,9 @@ def times(pairs: Sequence[Pair]) -> str:
             timed = result.found.timed
             count = max(row.measurements for row in timed)
             return (
-                f"Medians of up to {count} measurements with their quartiles, and how often the "
-                "other sides take the first one's time, as far apart as the quartiles allow. "
+                f"Medians of up to {count} measurements, with quartiles. Other sides are multiples "
+                "of the first side's median, with the least and the largest that the quartiles "
+                "allow. "
                 "[SPEED](SPEED.md) says what is timed, and has the times of a run of its own.\n\n"
             ) + table(("Table", "Row", "Milliseconds", "Other sides"), rows_of_times(timed))
     return ""
