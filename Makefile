@@ -286,7 +286,8 @@ pictures: web
 	tools/bench-page
 	tools/terminal
 
-## measures the commit and writes docs/EVIDENCE.md, for hours, as root; interrupted, it goes on later
+## measures the commit and writes docs/EVIDENCE.md, as root, for hours; what is interrupted goes on
+## the next time
 evidence:
 	tools/evidence $(if $(LINES),--lines $(LINES)) \
 		$(if $(FUZZ_SECONDS),--fuzz-seconds $(FUZZ_SECONDS)) $(if $(JOBS),--jobs $(JOBS)) \
