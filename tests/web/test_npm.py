@@ -251,6 +251,45 @@ def test_program_of_readme_answers_by_statuses_of_http(user: Site, web_build: Pa
     assert (report["right"], report["wrong"], report["both"]) == (200, 403, [200, 503]), report
 
 
+OF_AN_OLD_SERVICE = """
+async function bcryptMatches(password, field) { return field === OLD && password === 'password'; }
+const OLD = '$2b$05$abcdefghijklmnopqrstuuqDsKnOFqPaNCEhHd5ZzD0Y1nJ1xN0cG';
+users.set('bob', OLD);
+"""
+OLD_STATUSES = """
+const wrong = await statusOfOldLogin('bob', 'passwort');
+const kept = users.get('bob') === OLD;
+const long = await statusOfOldLogin('bob', 'x'.repeat(1025));
+const right = await statusOfOldLogin('bob', 'password');
+const again = await statusOfLogin('bob', 'password');
+users.set('bob', OLD);
+const busy = await Promise.all([statusOfLogin('ann', 'x'), statusOfOldLogin('bob', 'password')]);
+console.log(JSON.stringify({ wrong, kept, long, right, again, busy, stored: users.get('bob') }));
+"""
+
+
+def test_program_of_readme_moves_users_of_bcrypt(user: Site, web_build: Path) -> None:
+    statuses = program_of_readme(web_build, "Too many logins")
+    moving = program_of_readme(web_build, "Users with hashes of bcrypt")
+    moving = moving.replace("import { Busy, passwordProblem }", "import { passwordProblem }")
+    text = OF_A_BUSY_SERVICE + OF_AN_OLD_SERVICE + statuses + moving + OLD_STATUSES
+    (user.folder / "old.mjs").write_text(text, encoding="utf-8")
+    report = user.report_of("old.mjs")
+    assert (report["wrong"], report["kept"], report["long"]) == (403, True, 403), report
+    assert (report["right"], report["again"]) == (200, 200), report
+    assert report["busy"] == [403, 503] and report["stored"].startswith("$2b$"), report
+
+
+def test_program_of_readme_refuses_who_is_locked_meanwhile(user: Site, web_build: Path) -> None:
+    program = program_of_readme(web_build, "Too many logins")
+    after = "const result = await queue.login(password, field);\n"
+    changed = program.replace(after, f"{after}users.set(name, '!');\n")
+    assert changed != program
+    printed = "console.log(JSON.stringify({ status: await statusOfLogin('ann', 'password') }));\n"
+    (user.folder / "locked.mjs").write_text(OF_A_BUSY_SERVICE + changed + printed, "utf-8")
+    assert user.report_of("locked.mjs")["status"] == 403
+
+
 def test_program_of_readme_measures_the_costliest_login(user: Site, web_build: Path) -> None:
     """With a policy that costs less."""
     program = program_of_readme(web_build, "When a failure is answered")
