@@ -1,7 +1,7 @@
 """The recipes of a document for administrators, followed on a machine with files of its own.
 
-The commands are the document's, but for the paths of files and for cron's schedule; chpasswd is
-the system's, on a password file in a scratch folder.
+The commands are the document's, but for the paths of files and for cron's schedule; chpasswd and
+useradd are the system's, on files in a scratch folder, in which id looks, too.
 """
 from __future__ import annotations
 

@@ -7,17 +7,16 @@ from __future__ import annotations
 
 import os
 import unicodedata
-from typing import List, Optional
+from typing import Optional
 
 from pwhash import exports, library
 from pwhash.console import STDIN, Console
 from pwhash.doubts import LONGEST_OF_CRYPT, TOO_LONG_FOR_CRYPT
 from pwhash.errors import UsageError
 from pwhash.library import Policy
-from pwhash.lines import BYTE_ORDER_MARK, Line
-from pwhash.options import Input
+from pwhash.lines import BYTE_ORDER_MARK
+from pwhash.piped import PipedLines
 from pwhash.prompt import ask_password
-from pwhash.source import Source
 from pwhash.text import APART, is_utf8, is_visible
 
 AS_IT_IS = "To hash it as it is, add --accept-doubtful."
@@ -38,16 +37,11 @@ def given_password(policy: Policy, accepts_doubtful: bool, console: Console) -> 
 
 def first_line(console: Console) -> bytes:
     """The first line of standard input. Further ones are named if they are there by now."""
-    source = Source(Input(None, counts_lines=False), console)
-    groups = source.lines()
-    lines: List[Line] = []
-    for lines in groups:
-        if lines:
-            break
-    further = lines[1:] or next(groups, [])
-    if further and further[0].data:
+    lines = PipedLines(console)
+    first = lines.next()
+    if lines.next_at_once():
         console.say("only the first line was hashed; pwhash file hashes lines name:password.")
-    return lines[0].data if lines else b""
+    return first or b""
 
 
 def refuse_doubtful(policy: Policy, password: bytes, is_typed: bool) -> None:

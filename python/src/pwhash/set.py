@@ -26,7 +26,6 @@ from pwhash.session import Session
 from pwhash.text import is_visible, readable
 from pwhash.workers import in_thread
 
-
 # What stands in front of a new hash where the old one had a prefix that doesn't fit it.
 NEW_PREFIXES = {
     Service.APACHE: b"",
