@@ -5,6 +5,7 @@ import ctypes
 import os
 import signal
 from collections import defaultdict
+from collections.abc import Iterator
 from pathlib import Path
 
 import pytest
@@ -41,6 +42,18 @@ def fixture_commands(program: Path, tmp_path_factory: pytest.TempPathFactory) ->
 def fixture_environment(commands: Path) -> Changes:
     """Where a shell finds the tree's commands first."""
     return {"PATH": f"{commands}:{os.environ['PATH']}", "BASH_ENV": None}
+
+
+@pytest.fixture(autouse=True, name="heeded_signals")
+def fixture_heeded_signals() -> Iterator[None]:
+    """What a test starts heeds keys, also where a shell runs the tests in its background."""
+    at_interrupt = signal.signal(signal.SIGINT, signal.default_int_handler)
+    at_quit = signal.signal(signal.SIGQUIT, signal.SIG_DFL)
+    mask = signal.pthread_sigmask(signal.SIG_SETMASK, [])
+    yield
+    signal.pthread_sigmask(signal.SIG_SETMASK, mask)
+    signal.signal(signal.SIGQUIT, signal.SIG_DFL if at_quit is None else at_quit)
+    signal.signal(signal.SIGINT, signal.SIG_DFL if at_interrupt is None else at_interrupt)
 
 
 def is_worker(config: pytest.Config) -> bool:
