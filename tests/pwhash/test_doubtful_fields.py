@@ -106,3 +106,17 @@ def test_a_row_of_a_table_is_no_line_of_a_list(row: str) -> None:
     hash_first_of_two(row)
     done = pwhash("file", *MD5CRYPT, save("rows", row.encode()))
     assert done.status == 1 and b"--csv" in done.err, done
+
+
+def test_a_name_with_a_blank_is_perhaps_of_another_column() -> None:
+    table = save("people", b"person,password\nAnn Lee,secret\nbob,pw2\n")
+    words = ("file", *MD5CRYPT, "--csv", "--columns", "person,password", table, "-o", "hashes")
+    done = pwhash(*words)
+    assert done.status == 1 and b"(Ann Lee): a blank in the name" in done.err, done
+    assert b"--columns" in done.err, done
+
+
+def test_a_service_that_reads_names_with_blanks_gets_them() -> None:
+    table = save("people", b"name,password\nAnn Lee,secret\n")
+    done = pwhash("file", *MD5CRYPT, "--csv", table, "-o", "hashes", "--for", "apache")
+    assert (done.status, read("hashes")) == (0, b"Ann Lee:" + hashed(b"secret") + b"\n"), done

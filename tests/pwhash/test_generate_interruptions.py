@@ -246,6 +246,23 @@ def test_one_list_goes_on_too() -> None:
     assert read("lists") == before, done
 
 
+def test_who_was_locked_meanwhile_is_named_and_stands_in_a_list_without_a_hash() -> None:
+    last = b"user%d" % (COUNT - 1)
+    fields = {b"user%d" % n: b"$1$ab$x" for n in range(COUNT)}
+    save("shadow", b"".join(b"%s:%s:::::::\n" % line for line in fields.items()))
+    words = (*WORDS, "--skip-locked", "shadow")
+    with started(*words) as process:
+        wait_for(lambda: has_begun(PART))
+        process.kill()
+    assert last not in hashes_in(PART)
+    fields[last] = b"!" + fields[last]
+    save("shadow", b"".join(b"%s:%s:::::::\n" % line for line in fields.items()))
+    done = pwhash(*words, "--resume")
+    named = b"lists has passwords that get no hash, since their lines are left out now: " + last
+    assert done.status == 0 and named + b".\n" in done.err, done
+    assert set(passwords_in()) - set(hashes_in("hashes")) == {last}
+
+
 def test_of_two_runs_at_once_one_makes_all() -> None:
     processes = [started(*WORDS) for _ in range(3)]
     results = [ended(process) for process in processes]

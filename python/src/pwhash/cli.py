@@ -103,7 +103,7 @@ def read_options(words: Sequence[str]) -> Options:
     name = words[0] if words and words[0] in COMMANDS else ""
     command = COMMANDS[name]
     parser = command.parser()
-    given, unknown = parser.parse_known_args(words[1:] if name else words)
+    given, unknown = parser.parse_known_intermixed_args(words[1:] if name else words)
     if unknown:
         raise parser.refusal(about_unknown(unknown))
     return command.options(parser, given)

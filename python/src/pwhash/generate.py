@@ -11,6 +11,7 @@ import re
 from typing import Dict, List, NamedTuple, Optional, Tuple
 
 from pwhash import kept, lists
+from pwhash.console import Console
 from pwhash.doubts import NOT_UTF8
 from pwhash.errors import UsageError
 from pwhash.lines import Arrivals, Line, name_of
@@ -20,7 +21,7 @@ from pwhash.options import FileOptions, Generate
 from pwhash.part import Part, refuse_changed
 from pwhash.session import Session
 from pwhash.source import Source
-from pwhash.text import is_utf8, is_visible, named
+from pwhash.text import is_utf8, is_visible, named, readable
 
 PLACEHOLDER = b"x"
 # In a spreadsheet these begin a formula, and in some their wide forms of East Asia too.
@@ -28,6 +29,7 @@ FORMULA = re.compile("[\\s\ufeff\u200b]*[-=+@\uff1d\uff0b\uff0d\uff20]")
 BEFORE_FORMULA = re.compile('[,;|"]')
 IN_NO_LIST = re.compile(rb"[,;|\"\0-\x1f\x7f]")
 LONGEST_FILE_NAME = 255
+MOST_SHOWN = 20  # names in a message
 
 
 class Names(NamedTuple):
@@ -120,7 +122,9 @@ def passwords_on_disk(
     has_hashes = os.fstat(part.fd).st_size > 0
     is_begun = kept.read(part.path) is not None and os.path.lexists(generate.passwords)
     if options.resume and is_begun:
-        return lists.read(generate.passwords, generate.has_groups)
+        passwords = lists.read(generate.passwords, generate.has_groups)
+        name_useless_passwords(passwords, arrivals, generate, session.console)
+        return passwords
     if has_hashes:
         raise UsageError(
             f"{part.name} has hashes of passwords that were in {named(generate.passwords)}, which "
@@ -133,6 +137,21 @@ def passwords_on_disk(
     with session.signals.postponed():
         write_lists(names, generate, source.separator, part, options)
     return names.passwords
+
+
+def name_useless_passwords(
+    passwords: Dict[bytes, bytes], arrivals: Arrivals, generate: Generate, console: Console
+) -> None:
+    """Names the passwords of a list that get no hash, as those of accounts locked since."""
+    hashed_names = {name_of(line) for group in arrivals for line in group}
+    useless = [readable(name) for name in passwords if name not in hashed_names]
+    if useless:
+        shown = ", ".join(useless[:MOST_SHOWN])
+        others = f" and {len(useless) - MOST_SHOWN:,} more" if len(useless) > MOST_SHOWN else ""
+        console.say(
+            f"{named(generate.passwords)} has passwords that get no hash, since their lines are "
+            f"left out now: {shown}{others}."
+        )
 
 
 def list_in_the_way(path: str, part: Part) -> UsageError:
