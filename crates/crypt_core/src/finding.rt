@@ -1,4 +1,4 @@
-//! What an audit finds in a stored field, without any password.
+//! What an audit finds in a stored field without knowing any password.
 ghost use Rattle.std.specs.Prelude.{◌≡◌, ℕ};
 ghost use Rattle.crypt_core.specs.Findings.{Finds, JudgesHash, needs_care};
 ghost use Rattle.crypt_core.specs.Refusals.{IsRefused};
@@ -15,8 +15,8 @@ use crate::stored::{StoredField, StoredHash};
 /// What an audit finds in a field.
 #[derive(Clone, Copy, Debug, PartialEq, Eq)]
 pub enum Finding {
-    /// A hash with this scheme, the greatest cost of hashing a password with its setting, in bytes digested and mixed, and
-    /// its standing.
+    /// A stored hash: its scheme, the greatest cost of hashing a password with its setting, in bytes digested and
+    /// mixed, and its standing.
     Hash {
         scheme: Scheme,
         most: u64,
@@ -26,19 +26,20 @@ pub enum Finding {
     NoHash,
     /// The field begins with `!` or `*`.
     Locked,
-    /// The field begins with `$`, and the first rule that it breaks as a setting is this one, and not `UnknownScheme`.
+    /// The field begins with `$` but is no valid setting: this is the first rule that it breaks, and not
+    /// `UnknownScheme`.
     Malformed(SettingFault),
-    /// The field is none of these, and has the form of another scheme of crypt(5).
+    /// None of the above, but the form of a scheme of crypt(5) that mkpasswd doesn't hash.
     Other(OtherScheme),
-    /// The field is none of these, and begins with `$`.
+    /// None of the above, but the field begins with `$`.
     Unknown,
-    /// The field is none of these: a password, say, or a damaged hash.
+    /// None of the above: a plain password, say, or a damaged hash.
     NoScheme,
 }
 
 impl Finding {
-    /// Returns what an audit finds in a field, if new hashes have the scheme `new`. A budget of 0 is that of an audit by this scheme,
-    /// as [`StoredHash::standing`] takes it. It hashes and allocates nothing.
+    /// Returns what an audit finds in a field when new hashes have the scheme `new`. A budget of 0 means the audit
+    /// budget of that scheme, as in [`StoredHash::standing`]. The call hashes nothing and allocates nothing.
     pub fn of(field: &[u8], new: &Scheme, budget: u64) -> Finding
         ensures finds { Finds new.now budget field.now result }
         ensures judges { (kept : SettingValue) → Spells field.now kept → JudgesHash new.now budget field.now kept result }
@@ -62,7 +63,7 @@ impl Finding {
         }
     }
 
-    // Returns what an audit finds in a field that gets this refusal as a setting.
+    // Returns what an audit finds in a field that is no valid setting for this reason.
     fn of_refused(field: &[u8], fault: SettingFault) -> Finding
         requires stored { IsStored field.now }
         requires refused { IsRefused field.now fault }
@@ -79,7 +80,8 @@ impl Finding {
         }
     }
 
-    /// Returns whether the account needs care.
+    /// Returns whether somebody should look at the account. That's so unless the hash is current, the field is locked,
+    /// or its scheme is another or an unknown one.
     pub fn needs_care(&self) -> bool
         ensures { result ≡ needs_care self.now }
     {

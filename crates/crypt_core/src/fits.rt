@@ -1,4 +1,4 @@
-//! Checking a password against a stored hash, as crypt(3) is used for it: the password matches if hashing it with the
+//! Checks a password against a stored hash the way crypt(3) is used for it: the password matches if hashing it with the
 //! setting in the stored hash reproduces the stored hash.
 ghost use Rattle.std.specs.Prelude.{◌≡◌, ◌↔◌, Err, IsTrue, IfOk};
 ghost use Rattle.prims_core.specs.Meter.{HasRoom};
@@ -20,7 +20,7 @@ use thiserror::Error;
 #[derive(Clone, Copy, Debug, PartialEq, Eq, Drop, Error)]
 #[error("{}", self.text())]
 pub enum FitFault {
-    /// The stored hash has no valid setting, and this is the first rule that it breaks.
+    /// The stored hash has no valid setting; this is the first rule that it breaks.
     Setting(SettingFault),
     /// scrypt could not allocate. No other method allocates.
     OutOfMemory,
@@ -64,9 +64,9 @@ impl From<HashFault> for FitFault {
 
 /// Returns true exactly if hashing the password with the setting in the stored hash reproduces the stored hash.
 ///
-/// All bytes count, so a stored hash that is not in canonical form matches no password. For example, none matches
-/// `$6$rounds=10$..`, whose rounds are clamped to 1000. The call raises the meter by exactly the work of that one hash,
-/// less than 2^41 in each count; [`bound`](crate::work::bound) returns a bound on it before hashing.
+/// All bytes count, so a stored hash that is not in canonical form matches no password: for example `$6$rounds=10$..`,
+/// whose rounds are clamped to 1000. The meter rises by exactly the work of that one hash, less than 2^41 in each
+/// count; [`bound`](crate::work::bound) bounds that work before hashing.
 ///
 /// Precondition: each count of the meter is at most 2^120.
 ///
@@ -74,7 +74,7 @@ impl From<HashFault> for FitFault {
 ///
 /// - `Setting`: the stored hash has no valid setting. The error is the first rule that it breaks, and the meter is
 ///   unchanged.
-/// - `OutOfMemory`: scrypt could not allocate. The meter adds only the allocations that succeeded. No other method
+/// - `OutOfMemory`: scrypt could not allocate. The meter counts only the allocations that succeeded. No other method
 ///   allocates.
 pub fn fits(
     alloc: Global,

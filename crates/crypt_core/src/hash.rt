@@ -26,10 +26,10 @@ use std::alloc::{AllocError, Global};
 use std::marker::Model;
 use thiserror::Error;
 
-/// The most bytes of a hash: scrypt's longest setting in canonical form, a `$`, and its packed digest.
+/// The greatest length of a hash in bytes: scrypt's longest setting in canonical form, a `$`, and the packed digest.
 pub const HASH_LIMIT: usize = CANONICAL_LIMIT + 1 + SCRYPT_PACKED_LEN;
 
-/// The hash of a password, as crypt(3) returns it, of at most [`HASH_LIMIT`] bytes. Contracts see it as the list of its
+/// The hash of a password, as crypt(3) returns it, of at most [`HASH_LIMIT`] bytes. In contracts it is the list of its
 /// bytes.
 #[derive(Debug, Drop)]
 pub struct Hashed {
@@ -58,11 +58,11 @@ impl Hashed {
     }
 }
 
-/// Why a password has no hash.
+/// Why a password could not be hashed.
 #[derive(Clone, Copy, Debug, PartialEq, Eq, Drop, Error)]
 #[error("{}", self.text())]
 pub enum HashFault {
-    /// scrypt lacked memory: it could not allocate, or too little is lent. No other method needs any.
+    /// scrypt lacked memory: an allocation failed, or the caller lent too little. No other method needs any.
     OutOfMemory,
 }
 
@@ -95,7 +95,7 @@ impl From<AllocError> for HashFault {
 ///
 /// # Errors
 ///
-/// - `OutOfMemory`: scrypt could not allocate. The meter adds only those of its three allocations that succeeded. No
+/// - `OutOfMemory`: scrypt could not allocate. The meter counts only those of its three allocations that succeeded. No
 ///   other method allocates.
 pub fn hash(
     alloc: Global,
@@ -112,14 +112,14 @@ pub fn hash(
     hash_by(&mut heap, password, setting, meter)
 }
 
-/// Returns the hash of a password with a setting, as [`hash`] does, with this memory for scrypt.
+/// Returns the hash of a password with a setting, as [`hash`] does, and lets scrypt work in `memory`.
 ///
 /// Precondition: each count of the meter is at most 2^120.
 ///
 /// # Errors
 ///
-/// - `OutOfMemory`: scrypt could not allocate, or too little is lent: less than the [`need`](Scheme::need) of the setting's
-///   scheme. The meter adds only the allocations that succeeded. No other method needs memory.
+/// - `OutOfMemory`: scrypt could not allocate, or the caller lent less than the [`need`](Scheme::need) of the setting's
+///   scheme. The meter counts only the allocations that succeeded. No other method needs memory.
 pub fn hash_by<M: Memory>(
     memory: &mut M,
     password: &Password,
@@ -140,7 +140,8 @@ pub fn hash_by<M: Memory>(
     Ok(Hashed { text })
 }
 
-/// Returns the number of bytes of every hash with this setting, known before hashing. It is at most [`HASH_LIMIT`].
+/// Returns the length in bytes that every hash with this setting has, known before hashing. It is at most
+/// [`HASH_LIMIT`].
 pub fn hash_len(setting: &Setting) -> usize
     ensures each { (password : List ℕ) → length (crypt password setting.now) ≡ result }
     ensures short { result ≤ hash_limit }
@@ -174,7 +175,7 @@ fn digest_of<M: Memory>(
             Sha::Sha512 => shacrypt::<CountedSha512>(password, salt, rounds.count(), meter),
         }),
         Scheme::Scrypt(params) => {
-            // It makes the facts of accepted parameters known to the checker, for the call below.
+            // The prover learns here that accepted parameters are in range, as the call below requires.
             prove!(params.row_count() > 1);
             memory.scrypt(password.bytes(), salt, &params, meter)
         }

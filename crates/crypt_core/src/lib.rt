@@ -1,5 +1,5 @@
-//! The schemes of crypt(5): passwords, methods, settings with given and made salts, the hashes of each method, their
-//! work as it is known before hashing, and the version.
+//! The schemes of crypt(5): passwords, methods, settings with given or generated salts, the hash of each method, its
+//! work as computed before hashing, and the version.
 #![tactic(auto)]
 
 pub mod finding;

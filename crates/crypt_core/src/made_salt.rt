@@ -1,4 +1,4 @@
-//! Salts made of three random numbers of 64 bits, whose bits become characters of crypt's alphabet.
+//! Salts generated from three random 64-bit numbers, whose bits become characters of crypt's alphabet.
 
 ghost use Rattle.std.specs.Prelude.{◌≡◌, ◌≤◌, length, All, Contains};
 ghost use Rattle.prims_core.specs.Alphabet.{alphabet};
@@ -11,11 +11,11 @@ use arrayvec::ArrayVec;
 use prims_core::alphabet::char_of;
 use rand_core::Rng;
 
-/// Returns the salt of `len` characters that three random numbers make.
+/// Returns the salt of `len` characters that three random numbers give.
 ///
-/// Each number gives up to ten characters of six bits, the lowest bits first. Its highest four bits are not used.
-/// [`Setting::make`](crate::setting::Setting::make) takes such a salt, unless it is empty, for each method that keeps
-/// as many characters.
+/// Each number gives up to ten characters of six bits, lowest bits first. Its highest four bits are not used.
+/// [`Setting::make`](crate::setting::Setting::make) accepts such a salt, unless it is empty, for each method that keeps
+/// that many characters.
 ///
 /// Precondition: `len` is at most [`MADE_SALT_LIMIT`].
 pub fn salt_of(words: [u64; 3], len: usize) -> ArrayVec<u8, MADE_SALT_LIMIT>
@@ -32,7 +32,8 @@ pub fn salt_of(words: [u64; 3], len: usize) -> ArrayVec<u8, MADE_SALT_LIMIT>
     salt
 }
 
-/// Returns the number of characters of a made salt: as many as the method keeps, or 22 for scrypt, which have 132 bits.
+/// Returns the number of characters of a generated salt: as many as the method keeps, but 22 for scrypt, which is 132
+/// bits.
 pub fn made_salt_length(method: Method) -> usize
     ensures length { result ≡ made_salt_length method }
     ensures enough { result ≤ made_salt_limit }
@@ -40,7 +41,7 @@ pub fn made_salt_length(method: Method) -> usize
     method.row().made_salt_length
 }
 
-/// Returns the next three numbers of the generator, in the order in which it gives them.
+/// Returns the next three numbers of the generator, in order.
 pub fn draw<R: Rng>(rng: &mut R) -> [u64; 3]
     ensures { (result, R.stream rng.new) ≡ three_words (R.stream rng.old) }
 {

@@ -1,6 +1,6 @@
-//! The scheme md5crypt of FreeBSD. Its definition is about whole messages, an opening and 1,000 rounds. The code feeds
-//! them to running digests piece by piece, so that no message is built whole and nothing is allocated. The
-//! strings of the rounds are joined once, in a buffer of fixed capacity.
+//! FreeBSD's md5crypt. It is defined by whole messages: two for the opening, then one for each of 1,000 rounds. The
+//! code feeds each message to a running digest piece by piece, so it never builds one whole and allocates nothing. It
+//! joins the strings of the rounds once, in a buffer of fixed capacity.
 ghost use Rattle.std.specs.Prelude.{◌≡◌, ℕ, ◌+◌, ◌<◌, ◌≤◌, length};
 ghost use Rattle.prims_core.specs.Digests.{md5};
 ghost use Rattle.prims_core.specs.Meter.{with_work, HaveCountAndSum, HasDigestRoom};
@@ -23,15 +23,15 @@ use prims_core::meter::Meter;
 /// The number of rounds.
 pub const ROUNDS: u32 = 1000;
 
-// The rounds run in parts of this many, which divides their number. LLVM inlines the calls of MD5's padding in a loop
-// within a loop, and not in a single one.
+// The rounds run in a nested loop, in parts of this many, which divides their number: LLVM inlines the calls of MD5's
+// padding in a loop within a loop, but not in a single one.
 const PART: u32 = 50;
 
 /// Returns the digest of a password and a salt. The meter counts each of the 1,002 messages, and each of its counts
 /// rises by less than 2^41.
 ///
 /// Preconditions: the salt has at most [`MD5CRYPT_SALT_LIMIT`] bytes, and the meter has counted at most 2^120 digests
-/// and at most 2^120 bytes before.
+/// and at most 2^120 bytes so far.
 ///
 /// [`MD5CRYPT_SALT_LIMIT`]: crate::method::MD5CRYPT_SALT_LIMIT
 pub fn md5crypt(password: &Password, salt: &[u8], meter: &mut Meter) -> [u8; 16]
@@ -58,7 +58,7 @@ pub fn md5crypt(password: &Password, salt: &[u8], meter: &mut Meter) -> [u8; 16]
     digest
 }
 
-// Returns the digest of the second message.
+// Returns the digest of the second message, with which the rounds begin.
 fn opening(password: &[u8], salt: &[u8], meter: &mut Meter) -> ArrayVec<u8, 64>
     requires password { length password.now ≤ password_limit }
     requires salt { length salt.now ≤ md5crypt_salt_limit }

@@ -1,4 +1,4 @@
-//! The memory that scrypt works in: the heap, or what a caller lends. No other method needs any.
+//! The memory that scrypt works in: the heap, or memory that the caller lends. No other method needs any.
 ghost use Rattle.std.specs.Prelude.{◌≡◌, ◌≤◌, length, IfOk, IsOk, OnOk, OnErr};
 ghost use Rattle.prims_core.specs.Meter.{HasRoom};
 ghost use Rattle.kdf_core.specs.Lent.{needed_bytes, needed_words};
@@ -20,7 +20,7 @@ use std::alloc::{AllocError, Global};
 
 /// Memory that scrypt works in.
 pub trait Memory {
-    // It is known to be enough for scrypt with these parameters.
+    // The memory is known to be enough for scrypt with these parameters.
     ghost IsEnough: { Self → ScryptParams → Type 0 };
 
     /// Returns scrypt's digest, which has 32 bytes (RFC 7914).
@@ -29,7 +29,8 @@ pub trait Memory {
     ///
     /// # Errors
     ///
-    /// [`AllocError`] if an allocation fails, or too little is lent. The meter adds only the allocations that succeeded.
+    /// [`AllocError`] if an allocation fails, or the caller lent too little. The meter counts only the allocations that
+    /// succeeded.
     fn scrypt(
         &mut self,
         password: &[u8],
@@ -48,7 +49,7 @@ pub trait Memory {
 }
 
 impl Memory for Global {
-    // Any allocation can fail.
+    // Any allocation can fail, so the heap is never known to be enough.
     ghost IsEnough = { λ _ _. ⊥ };
 
     fn scrypt(
@@ -64,8 +65,8 @@ impl Memory for Global {
     }
 }
 
-/// Memory that a caller lends, for any number of hashes, one after another. What it holds before does not matter, and what it
-/// holds after is not said.
+/// Memory that a caller lends, for any number of hashes, one after another. Its contents before a hash don't matter,
+/// and after one they are unspecified.
 #[derive(Drop)]
 pub struct Lent<'a> {
     words: &'a mut [u32],
@@ -73,7 +74,8 @@ pub struct Lent<'a> {
 }
 
 impl<'a> Lent<'a> {
-    /// Takes lent memory. It is enough for a scheme if it has the words and the bytes of [`Scheme::need`](crate::scheme::Scheme::need).
+    /// Returns the lent memory. It is enough for a scheme if it has the words and the bytes of
+    /// [`Scheme::need`](crate::scheme::Scheme::need).
     pub fn new(words: &'a mut [u32], bytes: &'a mut [u8]) -> Lent<'a>
         ensures enough { (scheme : Scheme) → words_by scheme ≤ length words.old → bytes_by scheme ≤ length bytes.old
             → AreEnough (⟦<Lent<'a> as Memory>⟧.IsEnough result) scheme }

@@ -1,9 +1,9 @@
 //! What the messages of md5crypt and SHA-crypt have in common. Both feed them to a running digest piece by piece.
 //!
 //! - The first message is the same in both.
-//! - The second has a repeated digest, and one piece for each binary digit of the password's length.
-//! - The rounds' messages are the same in both but for the two strings that stand for the password and the salt. A
-//!   round feeds two pieces: the digest of the round before, and a part of one list that is joined once for all rounds.
+//! - The second has a digest repeated to the password's length, and one piece for each binary digit of that length.
+//! - The rounds' messages differ only in the two strings that stand for the password and the salt. A round feeds two
+//!   pieces: the digest of the round before, and a slice of one string that is joined once for all rounds.
 ghost use Rattle.std.specs.Prelude.{◌≡◌, ℕ, ◌+◌, ◌*◌, ◌^◌, ◌<◌, ◌≤◌, List, ◌++◌, length};
 ghost use Rattle.std.specs.List.{repeat};
 ghost use Rattle.prims_core.specs.Meter.{HasDigestRoom};
@@ -20,10 +20,10 @@ use prims_core::counted::Counted;
 use prims_core::meter::Meter;
 use std::marker::Model;
 
-/// The bytes of three passwords and a salt. SHA-crypt's salts are the longer ones.
+/// The capacity for three passwords and a salt. SHA-crypt's salts are the longer ones.
 const JOINED_LIMIT: usize = 3 * PASSWORD_LIMIT + SHACRYPT_SALT_LIMIT;
 
-/// Returns the digest of the first message, which is the salt between two passwords.
+/// Returns the digest of the first message: the password, the salt and the password again.
 pub(crate) fn alternate_digest<C: Counted>(
     password: &[u8],
     salt: &[u8],
@@ -43,7 +43,7 @@ pub(crate) fn alternate_digest<C: Counted>(
     running.finish(meter)
 }
 
-/// Feeds `times` copies of a piece.
+/// Feeds `times` copies of a piece to the running digest.
 pub(crate) fn feed_repeated<C: Counted>(
     running: &mut C,
     meter: &mut Meter,
@@ -59,7 +59,7 @@ pub(crate) fn feed_repeated<C: Counted>(
     }
 }
 
-/// Feeds the first `len` bytes of a digest that is repeated without end.
+/// Feeds the first `len` bytes of the digest repeated without end.
 ///
 /// Precondition: the digest is not empty.
 pub(crate) fn feed_cycle<C: Counted>(running: &mut C, meter: &mut Meter, digest: &[u8], len: usize)
@@ -72,7 +72,7 @@ pub(crate) fn feed_cycle<C: Counted>(running: &mut C, meter: &mut Meter, digest:
     running.feed(meter, &digest[..len % digest.len()]);
 }
 
-/// Returns the first `len` bytes of a digest that is repeated without end.
+/// Returns the first `len` bytes of the digest repeated without end.
 ///
 /// Preconditions: the digest is not empty, and `len` is at most [`PASSWORD_LIMIT`].
 pub(crate) fn cycle_of(digest: &[u8], len: usize) -> ArrayVec<u8, PASSWORD_LIMIT>
@@ -87,7 +87,7 @@ pub(crate) fn cycle_of(digest: &[u8], len: usize) -> ArrayVec<u8, PASSWORD_LIMIT
     bytes
 }
 
-/// Feeds a piece for each binary digit of `number`, lowest first: `one` for a 1, `other` for a 0.
+/// Feeds one piece for each binary digit of `number`, lowest first: `one` for a 1, `other` for a 0.
 pub(crate) fn feed_digits<C: Counted>(
     running: &mut C,
     meter: &mut Meter,
@@ -109,7 +109,7 @@ pub(crate) fn feed_digits<C: Counted>(
     }
 }
 
-/// The two strings that stand for the password and the salt in the rounds. Contracts see these two alone.
+/// The two strings that stand for the password and the salt in the rounds. Contracts see only these two.
 #[derive(Drop)]
 pub(crate) struct RoundStrings<'a> {
     password: &'a [u8],
@@ -127,7 +127,7 @@ impl<'a> Model for RoundStrings<'a> {
 }
 
 impl<'a> RoundStrings<'a> {
-    /// Joins the strings.
+    /// Returns the strings of the rounds, joined once.
     ///
     /// Precondition: they are no longer than the longest password and the longest salt.
     pub(crate) fn new(password: &'a [u8], salt: &'a [u8]) -> Self
@@ -145,15 +145,15 @@ impl<'a> RoundStrings<'a> {
         }
     }
 
-    // Returns the message of round `i` in two pieces, of which one is `before`, the digest of the round before.
+    // Returns the message of round `i` in two pieces. One of them is `before`, the digest of the round before.
     fn pieces<'b>(&'b self, i: u32, before: &'b [u8]) -> (&'b [u8], &'b [u8])
         ensures { result.0.now ++ result.1.now ≡ round_message i before.now self.now.password self.now.salt }
     {
         let password_len = self.password.len();
         let salted_len = password_len + self.salt.len();
         let is_odd = i % 2 == 1;
-        // Without the salt, the passwords are the two that stand side by side. With it, one comes before
-        // it in an odd round, and none in an even one.
+        // Without the salt, the message has the two adjacent passwords at the end. With it, an odd round starts at the
+        // password before the salt, and an even round at the salt.
         let (start, once_len) = if i % 3 == 0 {
             (salted_len, password_len)
         } else if is_odd {
@@ -171,7 +171,7 @@ impl<'a> RoundStrings<'a> {
     }
 }
 
-/// Replaces the digest of the round before by that of round `i`.
+/// Replaces the digest of the round before with that of round `i`.
 pub(crate) fn round<C: Counted>(
     i: u32,
     digest: &mut [u8],

@@ -1,4 +1,4 @@
-//! The hashing methods of crypt(5), their names, and what is fixed for each.
+//! The hashing methods of crypt(5): their names, and the sizes and tables that crypt(5) fixes for each.
 
 ghost use Rattle.std.specs.Prelude.{◌≡◌};
 ghost use Rattle.crypt_core.specs.Methods.{method_named, method_numbered, method_row};
@@ -17,7 +17,7 @@ pub const SHACRYPT_SALT_LIMIT: usize = 16;
 /// The most bytes of salt that scrypt keeps. No method keeps more.
 pub const SCRYPT_SALT_LIMIT: usize = 86;
 
-/// The most characters of a made salt: those of scrypt.
+/// The most characters of a generated salt: scrypt's.
 pub const MADE_SALT_LIMIT: usize = 22;
 
 // The number of characters of md5crypt's packed digest.
@@ -53,26 +53,26 @@ const METHODS: [Method; 4] = [
     Method::Scrypt,
 ];
 
-/// The row of a method in the table of what crypt(5) fixes.
+/// A method's row in the table of what crypt(5) fixes.
 #[derive(Clone, Copy)]
 pub(crate) struct MethodRow {
     /// The method's name.
     pub(crate) name: &'static [u8],
-    /// The second name, or the first one again if there is none.
+    /// The alias, or the name again if there is none.
     pub(crate) alias: &'static [u8],
     /// The number in the prefix, which identifies the method in the calls for C.
     pub(crate) number: u32,
-    /// The characters with which each setting of the method begins.
+    /// The characters with which every setting of the method begins.
     pub(crate) prefix: &'static [u8],
     /// The most bytes of salt that the method keeps.
     pub(crate) salt_limit: usize,
-    /// The number of characters of a made salt.
+    /// The number of characters of a generated salt.
     pub(crate) made_salt_length: usize,
     /// The number of characters of the packed digest.
     pub(crate) packed_len: usize,
-    /// The value of the packed digest's last character is below this.
+    /// The packed digest's last character has a value below this, since it holds fewer than six bits.
     pub(crate) last_value_limit: u8,
-    /// The groups of the packed digest, as places in the digest.
+    /// The groups of the packed digest, as indices into the digest.
     pub(crate) groups: &'static [&'static [usize]],
 }
 
@@ -100,14 +100,14 @@ impl Method {
             .find(|method| number == method.row().number)
     }
 
-    /// Returns the number in the method's prefix, by which [`numbered`](Method::numbered) finds it.
+    /// Returns the number in the method's prefix. [`numbered`](Method::numbered) finds the method by it.
     pub fn number(self) -> u32
         ensures { result ≡ (method_row self).number }
     {
         self.row().number
     }
 
-    /// Returns the name of the method, by which [`named`](Method::named) finds it.
+    /// Returns the name of the method. [`named`](Method::named) finds the method by it.
     pub fn name(self) -> &'static [u8]
         ensures { result.now ≡ (method_row self).name }
     {

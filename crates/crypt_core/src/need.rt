@@ -1,4 +1,4 @@
-//! The memory that a hash needs. Scrypt's alone needs any.
+//! The memory that a hash needs. Only scrypt needs any.
 ghost use Rattle.std.specs.Prelude.{◌≡◌, ◌≤◌, ◌^◌};
 ghost use Rattle.crypt_core.specs.Needs.{bytes_by, words_by};
 
@@ -16,12 +16,13 @@ pub struct Need {
     pub bytes: usize,
 }
 
-// The page reads the fields at fixed places.
+// The web page reads the fields at fixed offsets.
 const _: () = prove!(size_of::<Need>() == 16);
 
 impl Scheme {
-    /// Returns the memory that a hash with this scheme needs, whatever the password and the salt: none but for scrypt, and
-    /// at most 2^29 words and 2^29 bytes. With so much lent the hash is made ([`Lent::new`](crate::memory::Lent::new)).
+    /// Returns the memory that a hash with this scheme needs, whatever the password and the salt: at most 2^29 words
+    /// and 2^29 bytes for scrypt, none otherwise. Hashing can't fail when the caller lends this much
+    /// ([`Lent::new`](crate::memory::Lent::new)).
     pub fn need(&self) -> Need
         ensures words { result.words ≡ words_by self.now }
         ensures bytes { result.bytes ≡ bytes_by self.now }

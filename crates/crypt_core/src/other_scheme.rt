@@ -1,4 +1,5 @@
-//! The schemes of crypt(5) that mkpasswd doesn't hash. An audit names them by their form alone and doesn't judge them.
+//! The schemes of crypt(5) that mkpasswd doesn't hash. An audit recognizes them by their form alone and says nothing of
+//! their strength.
 ghost use Rattle.std.specs.Prelude.{◌≡◌, ◌↔◌, IsTrue, IfNone, IfSome};
 ghost use Rattle.crypt_core.specs.OtherSchemes.{IsOf, other_scheme_numbered, other_scheme_row};
 ghost use Rattle.crypt_core.specs.declared.other_scheme.OtherScheme.{OtherScheme as Other};
@@ -22,7 +23,7 @@ pub enum OtherScheme {
     SunMd5,
     /// `_`.
     Bsdicrypt,
-    /// The thirteen characters of the traditional hash with DES.
+    /// The thirteen characters of the traditional DES hash.
     Descrypt,
 }
 
@@ -39,7 +40,7 @@ const OTHER_SCHEMES: [OtherScheme; 8] = [
 ];
 
 impl OtherScheme {
-    /// Returns the scheme of a field by its form, or `None` if it has that of no other scheme.
+    /// Returns the scheme whose form the field has, or `None` if it has the form of none of these.
     pub fn of(field: &[u8]) -> Option<OtherScheme>
         ensures found { IfSome result (λ other. IsOf other field.now) }
         ensures none { IfNone result ((other : Other) → ¬ IsOf other field.now) }
@@ -80,7 +81,7 @@ impl OtherScheme {
             .find(|scheme| number == scheme.number())
     }
 
-    /// Returns the number of the scheme in the calls for C. No [`Method`](crate::method::Method) has it.
+    /// Returns the scheme's number in the C interface. It differs from that of every [`Method`](crate::method::Method).
     pub fn number(self) -> u32
         ensures { result ≡ (other_scheme_row self).0 }
     {

@@ -1,4 +1,5 @@
-//! The packed form of a digest: its bytes in the method's own groups, each as base-64 numerals (crypt(5)).
+//! The packed form of a digest (crypt(5)): its bytes in the groups that the method fixes, each group a number in base
+//! 64.
 ghost use Rattle.std.specs.Prelude.{◌≡◌, ◌+◌, ◌^◌, ◌<◌, ◌≤◌, ◌++◌, ◌↔◌, length, IsTrue};
 ghost use Rattle.crypt_core.specs.MethodLimits.{digest_len, packed_len};
 ghost use Rattle.crypt_core.specs.Packing.{packed, IsPacked, group_number};
@@ -9,7 +10,7 @@ use crate::setting::{TEXT_CAPACITY, in_alphabet};
 use arrayvec::ArrayVec;
 use prims_core::alphabet::{put_group, value_of};
 
-/// The groups of md5crypt's digest, as places in it. The first place is the highest byte of the group's number.
+/// The groups of md5crypt's digest, as indices into it. The first index is the highest byte of the group's number.
 pub(crate) const MD5CRYPT_GROUPS: [&[usize]; 6] = [
     &[0, 6, 12],
     &[1, 7, 13],
@@ -60,7 +61,7 @@ pub(crate) const SHA512CRYPT_GROUPS: [&[usize]; 22] = [
     &[63],
 ];
 
-/// The groups of scrypt's digest: the bytes in their order, three to a group, the first one lowest.
+/// The groups of scrypt's digest: the bytes in order, three to a group, the first one lowest.
 pub(crate) const SCRYPT_GROUPS: [&[usize]; 11] = [
     &[2, 1, 0],
     &[5, 4, 3],
@@ -77,7 +78,7 @@ pub(crate) const SCRYPT_GROUPS: [&[usize]; 11] = [
 
 /// Returns the packed form of a method's digest (crypt(5)): 22, 43, 86 or 43 characters, in the order of [`Method`].
 ///
-/// Precondition: `digest` has the length of the method's digest, 16, 32, 64 or 32 bytes.
+/// Precondition: `digest` has the length of the method's digest: 16, 32, 64 or 32 bytes.
 pub fn pack(method: Method, digest: &[u8]) -> ArrayVec<u8, SHA512CRYPT_PACKED_LEN>
     requires { length digest.now ≡ digest_len method }
     ensures text { result.items ≡ packed method digest.now }
@@ -101,7 +102,7 @@ pub(crate) fn append_packed(text: &mut ArrayVec<u8, TEXT_CAPACITY>, method: Meth
     }
 }
 
-// Returns the number of the bytes at these places, the first place highest.
+// Returns the number that the bytes at these indices spell, the first one highest.
 fn number_of(digest: &[u8], places: &[usize]) -> u32
     requires { IsGroup (length digest.now) places.now }
     ensures value { result ≡ group_number digest.now places.now }
@@ -114,7 +115,7 @@ fn number_of(digest: &[u8], places: &[usize]) -> u32
     number
 }
 
-/// Returns whether the text is the packed form of some digest of the method.
+/// Returns whether `text` is the packed form of some digest of the method.
 pub(crate) fn is_packed(method: Method, text: &[u8]) -> bool
     ensures { IsTrue result ↔ IsPacked method text.now }
 {

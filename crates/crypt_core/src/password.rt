@@ -1,4 +1,4 @@
-//! Passwords: which bytes are accepted, before any scheme sees them.
+//! Passwords: which bytes are accepted, whatever the scheme.
 ghost use Rattle.std.specs.Prelude.{◌≡◌, ℕ, ◌<◌, ◌≤◌, ◌↔◌, List, length, Contains, IfOk, IfErr, IsErrOf};
 ghost use Rattle.crypt_core.specs.Passwords.{password_limit, IsPassword, IsPasswordRefused};
 
@@ -9,13 +9,13 @@ use thiserror::Error;
 /// The most bytes of a password.
 pub const PASSWORD_LIMIT: usize = 1024;
 
-/// Why bytes are no password: the first of these errors.
+/// Why bytes are not a password: the first of these errors.
 #[derive(Clone, Copy, Debug, PartialEq, Eq, Drop, Error)]
 #[error("{}", self.text())]
 pub enum PasswordFault {
     /// More than [`PASSWORD_LIMIT`] bytes.
     TooLong,
-    /// A byte 0, which would end the password in C.
+    /// A zero byte, which would end the password in C.
     HasNul,
 }
 
@@ -33,7 +33,7 @@ impl PasswordFault {
     }
 }
 
-/// A password of at most [`PASSWORD_LIMIT`] bytes, none of them 0. Contracts see it as the list of its bytes.
+/// A password of at most [`PASSWORD_LIMIT`] bytes, none of them 0. In contracts it is the list of its bytes.
 #[derive(Drop)]
 pub struct Password {
     bytes: ArrayVec<u8, PASSWORD_LIMIT>,
@@ -53,7 +53,7 @@ impl Password {
     /// # Errors
     ///
     /// - `TooLong`: there are more than [`PASSWORD_LIMIT`] bytes.
-    /// - `HasNul`: there are no more, and one of them is 0.
+    /// - `HasNul`: the length is fine, but one of the bytes is 0.
     pub fn new(bytes: &[u8]) -> Result<Password, PasswordFault>
         ensures ok { IfOk result (λ password. (password ≡ bytes.now) × IsPassword bytes.now) }
         ensures refused { IfErr result (IsPasswordRefused bytes.now) }

@@ -1,6 +1,5 @@
-//! The policy that this project recommends: the rounds of each method, the limit on the cost of a login, and for audits the
-//! budget that goes with them. The calls for C and audits take them where the caller names none; the command has other
-//! defaults for hashing.
+//! The policy that this project recommends: the rounds for each method, the cost limit of a login, and the budget of an
+//! audit. The C interface and audits use them where the caller names none; the command has other defaults for hashing.
 
 ghost use Rattle.std.specs.Prelude.{◌≡◌, ◌^◌, ◌<◌, ◌≤◌, length, false, true, IfNone, IfSome, IsSome};
 ghost use Rattle.crypt_core.specs.MadeSettings.{TakesRounds};
@@ -27,15 +26,15 @@ pub const RECOMMENDED_ROUNDS: u32 = 656_000;
 /// The recommended rounds of scrypt, as `-R` takes them: N = 2^14, r = 32, p = 1.
 const RECOMMENDED_SCRYPT_ROUNDS: u32 = 7;
 
-/// No limit of a policy is lower.
+/// The least limit of a policy, in bytes digested and mixed.
 const LIMIT_FLOOR: u64 = 150_000_000;
 
-/// The length of a password whose new hash costs half the limit, in bytes.
+/// The length in bytes of a password whose new hash costs half the limit.
 const HALF_LIMIT_LEN: usize = 64;
 
 impl Method {
-    /// Returns the rounds that new hashes should have, as [`Scheme::made`] takes them: 656000 for SHA-crypt, 7 for scrypt,
-    /// and 0 for md5crypt, whose rounds are fixed.
+    /// Returns the rounds that new hashes should have, as [`Scheme::made`] takes them: 656000 for SHA-crypt, 7 for
+    /// scrypt, and 0 for md5crypt, whose rounds are fixed.
     pub fn recommended_rounds(self) -> u32
         ensures rounds { result ≡ recommended_rounds self }
         ensures taken { TakesRounds self result }
@@ -47,7 +46,7 @@ impl Method {
         }
     }
 
-    /// Returns these rounds, or the recommended ones for 0.
+    /// Returns `rounds`, or the recommended rounds for 0.
     pub fn chosen_rounds(self, rounds: u32) -> u32
         ensures { result ≡ chosen_rounds self rounds }
     {
@@ -60,7 +59,7 @@ impl Method {
 }
 
 impl Scheme {
-    /// Returns the cost of a new hash with this scheme, of a password of `password_len` bytes.
+    /// Returns the cost of a new hash with this scheme for a password of `password_len` bytes.
     ///
     /// Precondition: `password_len` is at most [`PASSWORD_LIMIT`].
     pub fn new_cost(&self, password_len: usize) -> u64
@@ -72,8 +71,8 @@ impl Scheme {
         self.cost(password_len, made_salt_length(self.method()))
     }
 
-    /// Returns the limit of the policy by which new hashes have this scheme: what a login or a new hash may cost, twice what a
-    /// new hash of a password of 64 bytes costs, and at least 150000000.
+    /// Returns what a login or a new hash may cost under the policy that new hashes have this scheme: twice the cost of
+    /// a new hash of a password of 64 bytes, and at least 150000000 bytes.
     pub fn policy_limit(&self) -> u64
         ensures limit { result ≡ policy_limit self.now }
         ensures admits { (kept : SettingValue) → kept.scheme ≡ self.now → length kept.salt ≤ salt_limit (method_of kept.scheme)
@@ -82,8 +81,8 @@ impl Scheme {
         LIMIT_FLOOR.max(2 * self.new_cost(HALF_LIMIT_LEN))
     }
 
-    /// Returns the length of the longest password whose new hash with this scheme costs at most `limit`, in bytes. It is `None`
-    /// if even that of the empty password costs more.
+    /// Returns the length in bytes of the longest password whose new hash with this scheme costs at most `limit`, or
+    /// `None` if even the empty password costs more.
     pub fn longest_within(&self, limit: u64) -> Option<usize>
         ensures { IsLongestWithin self.now limit result }
     {
@@ -103,12 +102,12 @@ impl Scheme {
         Some(within)
     }
 
-    /// Returns the scheme of a new hash that costs at most `limit`, of a password of `password_len` bytes, by a policy with this
-    /// scheme, or `None` if there is none.
+    /// Returns the scheme for a new hash of a password of `password_len` bytes that costs at most `limit`, under a
+    /// policy with this scheme, or `None` if there is none.
     ///
-    /// It is the policy's own, if that is within the limit. Otherwise SHA-crypt has `(limit - opening) / longest` rounds, but at
-    /// least 1000, where `opening` bytes are digested before the rounds, and `longest` at most in each round. So it never has
-    /// more rounds than the policy, and with the policy's own limit there always is one.
+    /// It is the policy's own scheme if that is within the limit. Otherwise SHA-crypt gets the limit, less the bytes of
+    /// the opening, divided by the bytes of the longest round, as its number of rounds, but at least 1000. So it never
+    /// gets more rounds than the policy has, and the policy's own limit always leaves a scheme.
     ///
     /// Precondition: `password_len` is at most [`PASSWORD_LIMIT`].
     pub fn fitted(&self, limit: u64, password_len: usize) -> Option<Scheme>
@@ -127,16 +126,16 @@ impl Scheme {
         fewer_rounds(self, limit, password_len)
     }
 
-    /// Returns the greatest cost of a hash with this scheme, in bytes digested and mixed: that of the longest password and
-    /// the longest salt that the method keeps, where `StoredHash::greatest_cost` takes the salt of the hash.
+    /// Returns the greatest cost of a hash with this scheme, in bytes digested and mixed: that of the longest password
+    /// and the longest salt that the method keeps. `StoredHash::greatest_cost` takes the salt of the hash instead.
     pub fn greatest_cost(&self) -> u64
         ensures { result ≡ greatest_cost_by self.now }
     {
         self.cost(PASSWORD_LIMIT, self.method().row().salt_limit)
     }
 
-    /// Returns the budget of an audit by which new hashes have this scheme: the greatest cost of a hash with the scheme,
-    /// and never less than that of sha512crypt with the recommended rounds, 1297572512 bytes.
+    /// Returns the budget of an audit when new hashes have this scheme: the greatest cost of a hash with the scheme,
+    /// and at least that of sha512crypt with the recommended rounds, 1297572512 bytes.
     pub fn audit_budget(&self) -> u64
         ensures budget { result ≡ audit_budget self.now }
         ensures admits { (kept : SettingValue) → kept.scheme ≡ self.now → length kept.salt ≤ salt_limit (method_of kept.scheme)
@@ -149,7 +148,7 @@ impl Scheme {
         self.greatest_cost().max(recommended.greatest_cost())
     }
 
-    /// Returns this budget of an audit, or [`audit_budget`](Scheme::audit_budget) for 0.
+    /// Returns `budget`, or [`audit_budget`](Scheme::audit_budget) for 0.
     pub fn chosen_budget(&self, budget: u64) -> u64
         ensures { result ≡ chosen_budget self.now budget }
     {
@@ -161,7 +160,8 @@ impl Scheme {
     }
 }
 
-// Returns the scheme with as many rounds as fit the limit, if it is SHA-crypt and a new hash with them is within the limit.
+// Returns SHA-crypt with as many rounds as fit the limit, or `None` if the scheme isn't SHA-crypt or even those rounds
+// cost more.
 fn fewer_rounds(scheme: &Scheme, limit: u64, password_len: usize) -> Option<Scheme>
     requires { password_len ≤ password_limit }
     ensures { result ≡ fewer_rounds scheme.now limit password_len }
@@ -176,7 +176,7 @@ fn fewer_rounds(scheme: &Scheme, limit: u64, password_len: usize) -> Option<Sche
     Some(fewer)
 }
 
-// Returns as many rounds as the limit has room for after the opening, if each is one of the longest, but at least 1000.
+// Returns the rounds that fit the limit after the opening if each is as long as the longest, but at least 1000.
 fn fitting_rounds(sha: Sha, limit: u64, password_len: usize) -> Rounds
     requires { password_len ≤ password_limit }
     ensures { result ≡ record { count = fitting_rounds sha limit password_len; is_written = true } }
@@ -186,7 +186,7 @@ fn fitting_rounds(sha: Sha, limit: u64, password_len: usize) -> Rounds
     Rounds::written(left / longest_round(sha, password))
 }
 
-// Returns the most bytes of the messages before the rounds, in a new hash of a password of this length.
+// Returns a bound on the bytes of the messages before the rounds, in a new hash of a password of this length.
 fn opening_bytes(sha: Sha, password: u64) -> u64
     requires { password ≤ password_limit }
     ensures { result ≡ opening_bytes sha password }
@@ -199,7 +199,7 @@ fn opening_bytes(sha: Sha, password: u64) -> u64
     work.bytes
 }
 
-// Returns the most bytes of the message of a round, of a new hash of a password of this length.
+// Returns a bound on the bytes of one round's message, in a new hash of a password of this length.
 fn longest_round(sha: Sha, password: u64) -> u64
     requires { password ≤ password_limit }
     ensures { result ≡ longest_round sha password }

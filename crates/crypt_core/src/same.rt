@@ -1,8 +1,8 @@
-//! The comparison of a hash with a stored one. If they have the same length, it looks at each byte, and nothing that it
-//! does depends on where they differ. No clause says so; tests/library looks at what the compiler makes of it.
+//! Compares a hash with a stored one. If the lengths are equal, the comparison looks at every byte, and its time
+//! doesn't depend on where they differ. No clause says so; tests/library checks what the compiler makes of it.
 ghost use Rattle.std.specs.Prelude.{◌≡◌, bytes_eq};
 
-/// Returns whether the bytes are the same, as `==` does.
+/// Returns whether `a` and `b` have the same bytes, as `==` does.
 pub fn same_bytes(a: &[u8], b: &[u8]) -> bool
     ensures { result ≡ bytes_eq a.now b.now }
 {

@@ -1,5 +1,5 @@
-//! Schemes: a method with its cost, without a salt. A scheme decides the work of a hash for given lengths of password
-//! and salt ([`Scheme::bound`], [`Scheme::cost`]), and whether a newer scheme replaces it.
+//! Schemes: a method with its cost, but without a salt. A scheme decides the work of a hash for given lengths of
+//! password and salt ([`Scheme::bound`], [`Scheme::cost`]), and whether a newer scheme replaces it.
 
 ghost use Rattle.std.specs.Prelude.{◌≡◌, ◌+◌, ◌≤◌, ◌↔◌, IsOk, IfOk, IfErr, true, false};
 ghost use Rattle.kdf_core.specs.Params.{IsAccepted};
@@ -13,34 +13,34 @@ use crate::setting::MakeFault;
 use kdf_core::params::Params;
 use std::marker::Model;
 
-/// The most rounds of SHA-crypt (Drepper's specification). A greater number in a setting is clamped to it.
+/// The most rounds of SHA-crypt (Drepper's specification). A setting with more rounds counts as one with this many.
 pub const MAX_ROUNDS: u64 = 999_999_999;
 
-/// The fewest rounds of SHA-crypt (Drepper's specification). A smaller number in a setting is clamped to it.
+/// The fewest rounds of SHA-crypt (Drepper's specification). A setting with fewer rounds counts as one with this many.
 pub const MIN_ROUNDS: u64 = 1000;
 
 /// The rounds of SHA-crypt if the setting has no `rounds=` field (Drepper's specification).
 pub const DEFAULT_ROUNDS: u32 = 5000;
 
-/// The least rounds of a made scheme of scrypt, apart from 0.
+/// The least rounds from which [`Scheme::made`] makes a scheme of scrypt, apart from 0.
 const MIN_SCRYPT_ROUNDS: u32 = 6;
 
-/// The greatest rounds of a made scheme of scrypt.
+/// The most rounds from which [`Scheme::made`] makes a scheme of scrypt.
 const MAX_SCRYPT_ROUNDS: u32 = 11;
 
-/// The rounds of scrypt that 0 stands for.
+/// The rounds that 0 stands for with scrypt.
 const DEFAULT_SCRYPT_ROUNDS: u32 = 7;
 
-/// log2 N minus the rounds.
+/// The difference between log2 N and the rounds.
 const LOG_ABOVE_ROUNDS: u32 = 7;
 
-/// The block size r of every made scheme of scrypt.
+/// The block size r of every scheme of scrypt that [`Scheme::made`] makes.
 const BLOCK_SIZE: u32 = 32;
 
-/// The parallelization p of every made scheme of scrypt.
+/// The parallelization p of every scheme of scrypt that [`Scheme::made`] makes.
 const PARTS: u32 = 1;
 
-/// The rounds of SHA-crypt, from 1000 to 999999999: those of a `rounds=` field, or 5000 without one.
+/// The rounds of SHA-crypt, from 1000 to 999999999: those of the setting's `rounds=` field, or 5000 without one.
 #[derive(Clone, Copy, Debug, PartialEq, Eq)]
 pub struct Rounds {
     count: u32,
@@ -71,7 +71,7 @@ impl Rounds {
         }
     }
 
-    /// Returns the rounds of a field with this number, clamped to 1000 to 999999999.
+    /// Returns the rounds of a `rounds=` field with this number, clamped to 1000..999999999.
     pub fn written(number: u64) -> Rounds
         ensures value { result ≡ record { count = clamped number; is_written = true } }
         ensures in_range { IsRounds result }
@@ -99,7 +99,7 @@ impl Rounds {
     }
 }
 
-/// The digest of SHA-crypt.
+/// The digest function of SHA-crypt.
 #[derive(Clone, Copy, Debug, PartialEq, Eq)]
 pub enum Sha {
     /// SHA-256, in sha256crypt.
@@ -120,10 +120,10 @@ pub enum Scheme {
 }
 
 impl Scheme {
-    /// Returns the scheme of a method with rounds.
+    /// Returns the scheme of a method with these rounds.
     ///
-    /// 0 is the method's default. SHA-crypt takes any other number, clamped to 1000 to 999999999, with a `rounds=` field.
-    /// scrypt takes 6 to 11 (`N = 2^(rounds + 7)`, r = 32, p = 1). md5crypt ignores them.
+    /// 0 stands for the method's default. SHA-crypt takes any other number, clamped to 1000..999999999, with a
+    /// `rounds=` field. scrypt takes 6 to 11 (`N = 2^(rounds + 7)`, r = 32, p = 1). md5crypt ignores the rounds.
     ///
     /// # Errors
     ///
@@ -151,7 +151,8 @@ impl Scheme {
         }
     }
 
-    /// Returns the method of the scheme. The rounds, or scrypt's numbers, are in range.
+    /// Returns the method of the scheme. Its clause also gives callers that the rounds, or scrypt's parameters, are in
+    /// range.
     pub fn method(&self) -> Method
         ensures method { result ≡ method_of self.now }
         ensures in_range { IsScheme self.now }
@@ -172,7 +173,7 @@ impl Scheme {
         }
     }
 
-    /// Returns the rounds of which [`Scheme::made`] makes such a scheme: SHA-crypt's own, for scrypt the logarithm of N less 7,
+    /// Returns the rounds from which [`Scheme::made`] makes such a scheme: SHA-crypt's own, log2 N less 7 for scrypt,
     /// and 0 for md5crypt, which ignores them.
     pub fn rounds(&self) -> u32
         ensures { result ≡ rounds_of self.now }
@@ -184,10 +185,10 @@ impl Scheme {
         }
     }
 
-    /// Returns whether a hash of this scheme is out of date once new hashes are made with the scheme `new`.
+    /// Returns whether a hash of this scheme is out of date once new hashes have the scheme `new`.
     ///
-    /// It is if `new` has another method, or the same one with more rounds or, for scrypt, a greater `N * r * p`.
-    /// Whether the rounds have a field makes no difference.
+    /// It is if `new` has another method, or the same method with more rounds or, for scrypt, a greater `N * r * p`.
+    /// Whether the rounds stand in a `rounds=` field makes no difference.
     pub fn is_outdated_by(&self, new: &Scheme) -> bool
         ensures { result ≡ is_outdated_by self.now new.now }
     {

@@ -1,7 +1,7 @@
 //! Settings: the method, cost and salt that a string of crypt(5) spells.
 //!
-//! Each `Setting` is one that some string spells. [`Setting::read`] parses it, and `Setting::text` returns its one
-//! canonical form.
+//! Every `Setting` is spelled by some string. [`Setting::read`] parses such a string, and `Setting::text` returns the
+//! setting's one canonical form.
 
 ghost use Rattle.std.specs.Prelude.{◌≡◌, ◌≤◌, ◌↔◌, length, All, Contains, IsTrue};
 ghost use Rattle.prims_core.specs.Alphabet.{alphabet};
@@ -24,16 +24,16 @@ use std::marker::Model;
 /// The most bytes of a setting or a stored hash.
 pub const SETTING_LIMIT: usize = 384;
 
-/// The characters with which SHA-crypt's rounds field begins.
+/// The characters with which SHA-crypt's `rounds=` field begins.
 const ROUNDS_WORD: &[u8] = b"rounds=";
 
 /// The number of characters of scrypt's cost part: one of log2 N, five of r and five of p.
 pub(crate) const COST_CHARACTERS: usize = 1 + 5 + 5;
 
-/// The most bytes of a setting in canonical form: the three of scrypt's prefix, its cost part and its salt.
+/// The most bytes of a setting in canonical form: scrypt's prefix of 3 bytes, its cost part and its salt.
 pub const CANONICAL_LIMIT: usize = 3 + COST_CHARACTERS + SCRYPT_SALT_LIMIT;
 
-/// The capacity of a buffer for a setting or a hash, in bytes.
+/// The capacity in bytes of a buffer for a setting or a hash.
 pub const TEXT_CAPACITY: usize = 160;
 
 /// A setting: a method with its cost, and the salt that the method keeps.
@@ -69,7 +69,8 @@ impl Setting {
         self.scheme
     }
 
-    /// Returns the kept salt as it is spelled, without decoding it. It has no more bytes than the method keeps.
+    /// Returns the salt that the method keeps, as the setting spells it, without decoding it. It has no more bytes than
+    /// the method keeps.
     pub fn salt(&self) -> &[u8]
         ensures kept { result.now ≡ self.now.salt }
         ensures short { length result.now ≤ salt_limit (method_of self.now.scheme) }
@@ -77,7 +78,7 @@ impl Setting {
         self.salt.as_slice()
     }
 
-    /// Returns the same setting once more. It allocates nothing.
+    /// Returns a copy of the setting. The call allocates nothing.
     pub fn duplicate(&self) -> Setting
         ensures { result ≡ self.now }
     {
@@ -87,9 +88,9 @@ impl Setting {
         }
     }
 
-    /// Returns whether a hash with this setting is out of date once new hashes are made with the setting `new`.
+    /// Returns whether a hash with this setting is out of date once new hashes have the setting `new`.
     ///
-    /// [`Scheme::is_outdated_by`] decides that by their schemes. Salts make no difference.
+    /// Only the schemes decide that, as [`Scheme::is_outdated_by`] says. Salts make no difference.
     pub fn replaced_by(&self, new: &Setting) -> bool
         ensures { result ≡ is_outdated_by self.now.scheme new.now.scheme }
     {
@@ -97,7 +98,7 @@ impl Setting {
     }
 }
 
-/// Returns whether each byte is a character of crypt's alphabet.
+/// Returns whether every byte is a character of crypt's alphabet.
 pub fn in_alphabet(bytes: &[u8]) -> bool
     ensures { IsTrue result ↔ All (Contains alphabet) bytes.now }
 {

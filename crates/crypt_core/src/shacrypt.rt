@@ -1,6 +1,6 @@
-//! SHA-crypt (Drepper, "Unix crypt using SHA-256 and SHA-512"), once for both digests. Its definition
-//! is about whole messages. The code feeds them to running digests piece by piece. The strings P and S,
-//! which stand for the password and the salt in the rounds, are made once, in buffers of fixed capacity.
+//! SHA-crypt (Drepper, "Unix crypt using SHA-256 and SHA-512"), once for both digest functions. The specification
+//! defines it by whole messages; the code feeds each message to a running digest piece by piece. It computes the
+//! strings P and S, which stand for the password and the salt in the rounds, once, in buffers of fixed capacity.
 ghost use Rattle.std.specs.Prelude.{◌≡◌, ℕ, ◌+◌, ◌*◌, ◌^◌, ◌<◌, ◌≤◌, length};
 ghost use Rattle.std.specs.List.{repeat};
 ghost use Rattle.prims_core.specs.Meter.{with_work, HaveCountAndSum, HasDigestRoom};
@@ -22,11 +22,11 @@ use arrayvec::ArrayVec;
 use prims_core::counted::Counted;
 use prims_core::meter::Meter;
 
-/// Returns the digest of a password by SHA-crypt over the digest function `H`, of `H::LEN` bytes. The meter counts each
-/// of the `rounds + 4` messages, and each of its counts rises by less than 2^41.
+/// Returns the SHA-crypt digest of a password over the digest function `H`, of `H::LEN` bytes. The meter counts each of
+/// the `rounds + 4` messages, and each of its counts rises by less than 2^41.
 ///
 /// Preconditions: the salt has at most [`SHACRYPT_SALT_LIMIT`] bytes, there are 1000 to 999999999 rounds, and the meter
-/// has counted at most 2^120 digests and at most 2^120 bytes before.
+/// has counted at most 2^120 digests and at most 2^120 bytes so far.
 ///
 /// [`SHACRYPT_SALT_LIMIT`]: crate::method::SHACRYPT_SALT_LIMIT
 pub fn shacrypt<H: Counted>(
@@ -85,8 +85,8 @@ fn opening<H: Counted>(password: &[u8], salt: &[u8], meter: &mut Meter) -> Array
     running.finish(meter)
 }
 
-// Returns the string P of the password (steps 13 to 16) or the string S of the salt (steps 17 to 20): the
-// digest of the repeated piece, itself repeated to the length of the piece.
+// Returns the string P of the password (steps 13 to 16) or S of the salt (steps 17 to 20): the digest of the piece
+// repeated `times` times, itself repeated to the length of the piece.
 fn string_of<H: Counted>(
     piece: &[u8],
     times: usize,

@@ -1,4 +1,4 @@
-//! The standing of a stored hash, by the scheme of new hashes and a budget. It takes no password, and nothing is hashed.
+//! The standing of a stored hash, given the scheme of new hashes and a budget. It takes no password and hashes nothing.
 
 ghost use Rattle.std.specs.Prelude.{◌≡◌, ◌≢◌, ◌↔◌, ◌≤◌, ℕ, List, IsTrue};
 ghost use Rattle.crypt_core.specs.Fits.{Fits};
@@ -14,28 +14,30 @@ use crate::work::cost;
 /// The standing of a stored hash: the first of these that applies.
 #[derive(Clone, Copy, Debug, PartialEq, Eq)]
 pub enum Standing {
-    /// Hashing a password with its setting can cost more than the budget. By a budget of 0, which is that of an audit
-    /// ([`Scheme::audit_budget`]), also: even the empty password costs more than the limit of the policy.
+    /// Hashing a password with its setting can cost more than the budget. With a budget of 0, which means the audit
+    /// budget ([`Scheme::audit_budget`]), this also holds if even the empty password costs more than the policy's
+    /// limit.
     OverBudget,
     /// No password matches it, because it is not [whole](StoredHash::is_whole).
     Dead,
-    /// The scheme of new hashes replaces that of its setting.
+    /// The scheme of new hashes replaces the scheme of its setting.
     Outdated,
-    /// None of the others applies.
+    /// None of the above applies.
     Current,
 }
 
 impl StoredHash<'_> {
-    /// Returns the greatest cost of hashing a password with its setting, in bytes digested and mixed ([`cost`]): that of the
-    /// longest password. [`Scheme::greatest_cost`] takes the longest salt too.
+    /// Returns the greatest cost of hashing a password with its setting, in bytes digested and mixed ([`cost`]): that
+    /// of the longest password. [`Scheme::greatest_cost`] takes the longest salt too.
     pub fn greatest_cost(&self) -> u64
         ensures { result ≡ greatest_cost self.now.setting }
     {
         cost(self.setting(), PASSWORD_LIMIT)
     }
 
-    /// Returns the standing, if new hashes have the scheme `new`. A budget of 0 is that of an audit by this scheme, and a hash
-    /// within it is one that a login by the policy's [limit](Scheme::policy_limit) checks, at least with the empty password.
+    /// Returns the standing when new hashes have the scheme `new`. A budget of 0 means the audit budget of that scheme.
+    /// A hash within it can be checked within the policy's [limit](Scheme::policy_limit), at least with the empty
+    /// password.
     pub fn standing(&self, new: &Scheme, budget: u64) -> Standing
         ensures standing { HasStanding new.now budget self.now.text self.now.setting result }
         ensures checked { result ≢ Standing.OverBudget → budget ≡ 0 → cost self.now.setting 0 ≤ policy_limit new.now }
@@ -52,7 +54,7 @@ impl StoredHash<'_> {
         }
     }
 
-    // Returns whether it is over the budget.
+    // Returns whether the hash is over the budget.
     fn is_over_budget(&self, new: &Scheme, budget: u64) -> bool
         ensures { IsTrue result ↔ IsOverBudget new.now budget self.now.setting }
     {
@@ -63,7 +65,7 @@ impl StoredHash<'_> {
     }
 }
 
-/// Returns whether the cost exceeds the budget, if there is one.
+/// Returns whether the cost exceeds the budget. Without a budget none does.
 pub fn is_above(budget: Option<u64>, cost: u64) -> bool
     ensures { IsTrue result ↔ IsAbove budget cost }
 {

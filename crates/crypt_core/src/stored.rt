@@ -1,5 +1,5 @@
-//! Stored fields, as a password file has them (shadow(5)): empty, locked, or a stored hash. A stored hash is read once
-//! and keeps its setting.
+//! Stored fields, as a password file has them (shadow(5)): an empty field, a locked one, or a stored hash. A stored
+//! hash is parsed once and keeps its setting.
 
 ghost use Rattle.std.specs.Prelude.{◌≡◌, ◌↔◌, ℕ, List, Err, IsTrue, IfOk, IfErr, IsOk};
 ghost use Rattle.prims_core.specs.Meter.{HasRoom};
@@ -23,7 +23,7 @@ use crate::setting::{Setting, SettingFault};
 use prims_core::meter::Meter;
 use std::marker::Model;
 
-/// A stored hash, and the setting that it spells. Contracts see both.
+/// A stored hash and the setting that it spells. Contracts see both.
 #[derive(Drop)]
 pub struct StoredHash<'a> {
     text: &'a [u8],
@@ -71,11 +71,11 @@ impl<'a> StoredHash<'a> {
         &self.setting
     }
 
-    /// Returns whether the stored hash is its setting in canonical form, a `$`, and the packed form of some digest. If it
-    /// isn't, no password matches it.
+    /// Returns whether the stored hash consists of its setting in canonical form, a `$`, and the packed form of some
+    /// digest. If it doesn't, no password matches it.
     ///
-    /// For example, `$6$rounds=10$..` is not whole, since its rounds are clamped to 1000, and nor is `$6$salt`. The call
-    /// hashes nothing.
+    /// For example, `$6$rounds=10$..` is not whole, because its rounds are clamped to 1000, and neither is `$6$salt`.
+    /// The call hashes nothing.
     pub fn is_whole(&self) -> bool
         ensures whole { IsTrue result ↔ IsWhole self.now.text self.now.setting }
         ensures dead { ¬ IsTrue result → (password : List ℕ) → ¬ Fits password self.now.text }
@@ -88,19 +88,19 @@ impl<'a> StoredHash<'a> {
         }
     }
 
-    /// Returns whether hashing the password with the setting reproduces the stored hash, to the last byte, with this memory
-    /// for scrypt.
+    /// Returns whether hashing the password with the setting reproduces the stored hash, to the last byte. scrypt works
+    /// in `memory`.
     ///
-    /// The call raises the meter by exactly the work of that one hash, less than 2^41 in each count;
-    /// [`bound`](crate::work::bound) returns a bound on it before hashing.
+    /// The meter rises by exactly the work of that one hash, less than 2^41 in each count;
+    /// [`bound`](crate::work::bound) bounds that work before hashing.
     ///
     /// Precondition: each count of the meter is at most 2^120.
     ///
     /// # Errors
     ///
-    /// - `OutOfMemory`: scrypt could not allocate, or too little is lent: less than the
-    ///   [`need`](crate::scheme::Scheme::need) of the setting's scheme. The meter adds only the allocations that succeeded.
-    ///   No other method needs memory.
+    /// - `OutOfMemory`: scrypt could not allocate, or the caller lent less than the
+    ///   [`need`](crate::scheme::Scheme::need) of the setting's scheme. The meter counts only the allocations that
+    ///   succeeded. No other method needs memory.
     pub fn matches<M: Memory>(
         &self,
         memory: &mut M,
@@ -132,7 +132,7 @@ pub enum StoredField<'a> {
 }
 
 impl<'a> StoredField<'a> {
-    /// Reads a field: an empty one, one that begins with `!` or `*`, or else a stored hash.
+    /// Returns the field by its kind: empty, locked if it begins with `!` or `*`, and otherwise a stored hash.
     ///
     /// # Errors
     ///

@@ -1,8 +1,8 @@
-//! The version of the program, the libraries and the archive. `tools/version` reads it here; `c/mkpasswd.h` and the packages
-//! repeat it.
+//! The version of the program, the libraries and the archive. `tools/version` reads it here; `c/mkpasswd.h` and the
+//! packages repeat it.
 
 /// The version, as text.
 pub const VERSION: &str = "2.0.1";
 
-/// The same as a number: 10000 times its first number, 100 times its second, and its third.
+/// The version as a number: 10000 times its first part, 100 times its second, and its third.
 pub const VERSION_NUMBER: u32 = 20001;

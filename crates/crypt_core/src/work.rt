@@ -1,5 +1,5 @@
-//! The work of a hash, known before hashing, so that a service can refuse a setting that would cost it too much. It is
-//! a closed form of what the meter counts.
+//! The work of a hash, computed before hashing so that a service can refuse a setting that would cost it too much. It
+//! is a closed form of what the meter counts.
 ghost use Rattle.std.specs.Prelude.{◌≡◌, ℕ, ◌+◌, ◌*◌, ◌^◌, ◌<◌, ◌≤◌, List, length};
 ghost use Rattle.crypt_core.specs.Cycle.{by_digit, digit_bytes};
 ghost use Rattle.crypt_core.specs.MethodLimits.{md5crypt_salt_limit, salt_limit, scrypt_salt_limit, shacrypt_salt_limit};
@@ -21,11 +21,11 @@ pub use prims_core::meter::Work;
 const GREATEST_BYTE: u64 = 255;
 
 impl Scheme {
-    /// Returns the bound on the work of one hash with this scheme, for any password and any salt of these lengths in
+    /// Returns a bound on the work of one hash with this scheme, for any password and any salt of these lengths in
     /// bytes.
     ///
-    /// A hash with md5crypt or scrypt counts exactly this. One with SHA-crypt counts up to `255 * salt_len` bytes less.
-    /// Each count is below 2^41. The call neither hashes nor allocates.
+    /// With md5crypt and scrypt, the work is exactly this. With SHA-crypt, it digests up to `255 * salt_len` bytes
+    /// less. Each count is below 2^41. The call neither hashes nor allocates.
     ///
     /// Preconditions: `password_len` is at most [`PASSWORD_LIMIT`](crate::password::PASSWORD_LIMIT), and `salt_len` at
     /// most what the method keeps (8, 16, 16 or 86).
@@ -54,8 +54,8 @@ impl Scheme {
     /// Returns the greatest cost of one hash with this scheme, in bytes, for any password and any salt of these
     /// lengths.
     ///
-    /// The cost is the one number that is compared with a budget: the bytes of the [`bound`](Scheme::bound), and for
-    /// scrypt the 128r bytes of each of its mixings. It is below 2^42.
+    /// The cost is the one number that a budget limits: the bytes of the [`bound`](Scheme::bound), and for scrypt the
+    /// 128r bytes of each of its mixings. It is below 2^42.
     ///
     /// Preconditions: those of [`bound`](Scheme::bound).
     pub fn cost(&self, password_len: usize, salt_len: usize) -> u64
@@ -72,10 +72,10 @@ impl Scheme {
     }
 }
 
-/// Returns the bound on the work of one hash with this setting, for any password of `password_len` bytes.
+/// Returns a bound on the work of one hash with this setting, for any password of `password_len` bytes.
 ///
-/// A hash with md5crypt or scrypt counts exactly this. One with SHA-crypt counts up to 255 bytes less for each byte of
-/// its salt. Each count is below 2^41. The call neither hashes nor allocates.
+/// With md5crypt and scrypt, the work is exactly this. With SHA-crypt, it digests up to 255 bytes less for each byte of
+/// the salt. Each count is below 2^41. The call neither hashes nor allocates.
 ///
 /// Precondition: `password_len` is at most [`PASSWORD_LIMIT`](crate::password::PASSWORD_LIMIT).
 pub fn bound(setting: &Setting, password_len: usize) -> Work
@@ -90,8 +90,8 @@ pub fn bound(setting: &Setting, password_len: usize) -> Work
 
 /// Returns the greatest cost of one hash with this setting, in bytes, for any password of `password_len` bytes.
 ///
-/// The cost is the one number that is compared with a budget: the bytes of the [`bound`], and for scrypt the 128r bytes
-/// of each of its mixings. It is below 2^42 for every setting. The call neither hashes nor allocates.
+/// The cost is the one number that a budget limits: the bytes of the [`bound`], and for scrypt the 128r bytes of each
+/// of its mixings. It is below 2^42 for every setting. The call neither hashes nor allocates.
 ///
 /// Precondition: `password_len` is at most [`PASSWORD_LIMIT`](crate::password::PASSWORD_LIMIT).
 pub fn cost(setting: &Setting, password_len: usize) -> u64
@@ -120,8 +120,8 @@ fn md5crypt_bound(password: u64, salt: u64) -> Work
     )
 }
 
-/// Returns the bound for SHA-crypt, which repeats the salt 16 + a times. Only hashing finds the byte a, so the bound has
-/// 255.
+/// Returns the bound for SHA-crypt, which repeats the salt 16 + a times, where a is the first byte of the digest A.
+/// Only hashing gives that byte, so the bound takes 255.
 pub(crate) fn shacrypt_bound<H: Counted>(rounds: u32, password: u64, salt: u64) -> Work
     requires rounds { rounds ≤ max_rounds }
     requires password { password ≤ password_limit }
@@ -142,7 +142,7 @@ pub(crate) fn shacrypt_bound<H: Counted>(rounds: u32, password: u64, salt: u64) 
     )
 }
 
-// Returns the work of scrypt, whose result has 32 bytes.
+// Returns the work of scrypt, whose digest has 32 bytes.
 fn scrypt_bound(params: &Params, password: u64, salt: u64) -> Work
     requires password { password ≤ password_limit }
     requires salt { salt ≤ scrypt_salt_limit }
@@ -152,7 +152,7 @@ fn scrypt_bound(params: &Params, password: u64, salt: u64) -> Work
     scrypt_work(params, password, salt, 32)
 }
 
-// Returns the work of a scheme that neither mixes nor allocates.
+// Returns the work of a scheme that only digests: it neither mixes nor allocates.
 fn digests_alone(digests: u64, bytes: u64) -> Work
     ensures { result ≡ digests_alone digests bytes }
 {
@@ -165,7 +165,7 @@ fn digests_alone(digests: u64, bytes: u64) -> Work
     }
 }
 
-// Returns the bytes of a piece for each binary digit of `number`: `one` for a 1, and `other` for a 0.
+// Returns the bytes of one piece for each binary digit of `number`: `one` for a 1, and `other` for a 0.
 fn digit_bytes(number: u64, one: u64, other: u64) -> u64
     requires number { number ≤ password_limit }
     requires one { one ≤ password_limit }
@@ -189,8 +189,8 @@ fn piece_bytes(digit: u64, one: u64, other: u64) -> u64
     if digit == 1 { one } else { other }
 }
 
-// Returns the bytes of the messages of these rounds. Rounds 0, 3, 6, .. omit the salt, and rounds 0, 7, 14, .. omit the
-// second password.
+// Returns the bytes of all messages of `rounds` rounds. Rounds 0, 3, 6, .. omit the salt, and rounds 0, 7, 14, .. omit
+// the second password.
 fn rounds_bytes(rounds: u64, digest: u64, password: u64, salt: u64) -> u64
     requires rounds { rounds ≤ max_rounds }
     requires digest { digest ≤ 64 }

@@ -1,4 +1,4 @@
-//! Why a string is no setting, and why a setting can't be made, with the messages that are promised.
+//! Why a string is not a setting, and why a setting can't be made. The messages are a promise to callers.
 
 ghost use Rattle.std.specs.Prelude.{◌≡◌};
 ghost use Rattle.crypt_core.specs.Faults.{setting_fault_text, make_fault_text};
@@ -6,7 +6,7 @@ ghost use Rattle.crypt_core.specs.Faults.{setting_fault_text, make_fault_text};
 use kdf_core::params::ParamFault;
 use thiserror::Error;
 
-/// Why a string is no setting: the first of these errors.
+/// Why a string is not a setting: the first of these errors.
 #[derive(Clone, Copy, Debug, PartialEq, Eq, Drop, Error)]
 #[error("{}", self.text())]
 pub enum SettingFault {
@@ -16,9 +16,9 @@ pub enum SettingFault {
     BadCharacter,
     /// It begins with none of `$1$`, `$5$`, `$6$` and `$7$`.
     UnknownScheme,
-    /// `rounds=` follows SHA-crypt's prefix, but no number and `$` follow that. A number begins with one of 1 to 9.
+    /// `rounds=` follows SHA-crypt's prefix, but no number and `$` come after it. A number begins with one of 1 to 9.
     BadRounds,
-    /// Fewer than 11 characters of crypt's alphabet, which scrypt's cost part has, follow its prefix.
+    /// Fewer than 11 characters of crypt's alphabet follow scrypt's prefix; its cost part has 11.
     BadCost,
     /// N, r or p is outside scrypt's range (RFC 7914, section 2): log2 N, r or p is 0, or log2 N is 16r or more.
     ScryptRange,

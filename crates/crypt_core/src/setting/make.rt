@@ -1,4 +1,4 @@
-//! Making settings of a method, a cost and a salt.
+//! Makes settings from a method, a cost and a salt.
 
 ghost use Rattle.std.specs.Prelude.{◌≡◌, ℕ, ◌↔◌, Some, IsOk, IfOk, IfErr, OnOk};
 ghost use Rattle.crypt_core.specs.declared.setting.fault.MakeFault.{MakeFault as Fault};
@@ -16,10 +16,9 @@ use arrayvec::ArrayVec;
 impl Setting {
     /// Returns the setting of a method with a cost and a given salt.
     ///
-    /// Cost 0 is the method's default. For SHA-crypt any other cost is a number of rounds, clamped to 1000 to
-    /// 999999999, with a `rounds=` field. For scrypt it is 6 to 11 (`N = 2^(cost + 7)`, r = 32, p = 1). md5crypt
-    /// ignores it. The salt has characters of crypt's alphabet, at least one and at most as many as the method keeps
-    /// (8, 16, 16 or 86).
+    /// Cost 0 is the method's default. For SHA-crypt any other cost is a number of rounds, clamped to 1000..999999999,
+    /// with a `rounds=` field. For scrypt it is 6 to 11 (`N = 2^(cost + 7)`, r = 32, p = 1). md5crypt ignores it. The
+    /// salt has characters of crypt's alphabet, at least one and at most as many as the method keeps (8, 16, 16 or 86).
     ///
     /// For example, the setting of sha512crypt with cost 1 and the salt `ab` is `$6$rounds=1000$ab`.
     ///
@@ -46,7 +45,7 @@ impl Setting {
         }
     }
 
-    /// Returns the setting of a scheme with a new salt, which three random numbers make.
+    /// Returns the setting of a scheme with a new salt, generated from three random numbers.
     ///
     /// The salt has [`made_salt_length`] characters.
     pub fn salted(scheme: Scheme, numbers: [u64; 3]) -> Setting

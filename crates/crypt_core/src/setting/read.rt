@@ -1,7 +1,7 @@
-//! Parsing a setting, or finding the first rule that it breaks.
+//! Parses a setting, or finds the first rule that it breaks.
 //!
-//! The parser takes the prefix, the cost part and the salt off the front, one after another. It neither allocates nor
-//! counts, and it caps a number of any length while it reads it.
+//! The parser takes the prefix, the cost part and the salt off the front, in this order. It allocates nothing and
+//! digests nothing, and it caps a number of any length while it reads it.
 
 ghost use Rattle.std.specs.Prelude.{◌≡◌, ◌≤◌, ◌↔◌, ℕ, List, length, ◌++◌, min, take, IsTrue, IfOk, IfErr, OnOk, OnSome, IfSome, IfNone};
 ghost use Rattle.std.specs.Str.Parse.{digits_value};
@@ -25,10 +25,11 @@ use kdf_core::params::{ParamFault, Params};
 use prims_core::alphabet::{read_30, value_of};
 
 impl Setting {
-    /// Parses a setting (crypt(5)), or a stored hash, which begins with its setting.
+    /// Returns the setting (crypt(5)) that a string spells. A stored hash begins with its setting, so it is parsed as
+    /// well.
     ///
-    /// Everything after the salt's `$` must keep the rules on length and bytes, and is otherwise ignored. For example,
-    /// `$5$rounds=10$salt$x` is sha256crypt with 1000 rounds and the salt `salt`.
+    /// Whatever comes after the salt's `$` must obey the rules on length and bytes, and is otherwise ignored. For
+    /// example, `$5$rounds=10$salt$x` is sha256crypt with 1000 rounds and the salt `salt`.
     ///
     /// # Errors
     ///
@@ -96,7 +97,7 @@ fn scheme_at(text: &[u8]) -> Result<(Scheme, &[u8]), SettingFault>
     Err(SettingFault::UnknownScheme)
 }
 
-// Returns what follows the method's prefix, if the text begins with it.
+// Returns what follows the method's prefix, or `None` if the text doesn't begin with it.
 fn after_prefix(text: &[u8], method: Method) -> Option<&[u8]>
     ensures found { IfSome result (λ after. text.now ≡ prefix method ++ after.now) }
     ensures lacks { IfNone result (¬ BeginsWith text.now (prefix method)) }
@@ -104,7 +105,8 @@ fn after_prefix(text: &[u8], method: Method) -> Option<&[u8]>
     text.strip_prefix(method.row().prefix)
 }
 
-// Returns SHA-crypt with the rounds that follow its prefix, or those without a field, and what follows the field.
+// Returns SHA-crypt with the rounds of the `rounds=` field after the prefix, or the default rounds without such a
+// field, and what follows the field.
 fn shacrypt_at(sha: Sha, after: &[u8]) -> Result<(Scheme, &[u8]), SettingFault>
     ensures ok { IfOk result (λ x. (text : List ℕ) → text ≡ prefix (sha_method sha) ++ after.now
         → SpellsScheme text x.0 x.1.now) }
@@ -119,7 +121,7 @@ fn shacrypt_at(sha: Sha, after: &[u8]) -> Result<(Scheme, &[u8]), SettingFault>
     Ok((Scheme::Shacrypt(sha, Rounds::written(number)), rest))
 }
 
-// Returns the number before a `$`, capped at the most rounds, and what follows the `$`.
+// Returns the number before the `$`, capped at the most rounds, and what follows the `$`.
 fn number_at(field: &[u8]) -> Option<(u64, &[u8])>
     ensures none { IfNone result (LacksNumber field.now) }
     ensures some { IfSome result (λ x. HasNumber field.now x.0 x.1.now) }
@@ -144,8 +146,8 @@ fn is_rounds_number(digits: &[u8]) -> bool
     }
 }
 
-// Returns the number of the digits, or the most rounds if it is greater. It is capped after each digit, so that no
-// number of digits overflows.
+// Returns the number that the digits spell, or the most rounds if it is greater. Capping after each digit keeps a
+// number of any length from overflowing.
 fn capped_number(digits: &[u8]) -> u64
     requires { IsRoundsNumber digits.now }
     ensures { result ≡ min (digits_value 10 digits.now) max_rounds }
@@ -157,7 +159,7 @@ fn capped_number(digits: &[u8]) -> u64
     number
 }
 
-// Returns the parameters that the characters after scrypt's prefix express.
+// Returns the parameters that the characters after scrypt's prefix encode.
 fn params_at(after: &[u8]) -> Result<Params, SettingFault>
     ensures ok { IfOk result (λ cost. HasNumbers after.now cost × IsAccepted cost) }
     ensures long { OnOk result (scrypt_part_len ≤ length after.now) }
@@ -173,7 +175,7 @@ fn params_at(after: &[u8]) -> Result<Params, SettingFault>
     }
 }
 
-// Returns log2 N, r and p, which the first 11 characters express.
+// Returns log2 N, r and p, which the first 11 characters encode.
 fn numbers_at(after: &[u8]) -> Option<(u8, u32, u32)>
     ensures none { IfNone result (LacksCharacters after.now) }
     ensures long { OnSome result (scrypt_part_len ≤ length after.now) }
@@ -188,7 +190,8 @@ fn numbers_at(after: &[u8]) -> Option<(u8, u32, u32)>
     Some((log_n, r, p))
 }
 
-// Returns what the method keeps of the salt's field, or `None` if it is no salt of scrypt.
+// Returns what the method keeps of the salt's field, or `None` if the method is scrypt and the field isn't a salt of
+// scrypt.
 fn salt_at(method: Method, after: &[u8]) -> Option<ArrayVec<u8, SCRYPT_SALT_LIMIT>>
     ensures none { IfNone result (LacksSalt method after.now) }
     ensures some { IfSome result (λ salt. SpellsSalt method after.now salt.items) }

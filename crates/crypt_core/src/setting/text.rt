@@ -15,8 +15,8 @@ use prims_core::alphabet::put_group;
 impl Setting {
     /// Returns the setting in canonical form (crypt(5)), of at most [`CANONICAL_LIMIT`] bytes.
     ///
-    /// [`Setting::read`] parses it as this setting again. It has a `rounds=` field exactly if the setting had one, with
-    /// the clamped number. With a `$` and the packed digest it has at most [`HASH_LIMIT`](crate::hash::HASH_LIMIT)
+    /// [`Setting::read`] parses it as this same setting. It has a `rounds=` field, with the clamped number, exactly if
+    /// the setting had one. With a `$` and the packed digest it has at most [`HASH_LIMIT`](crate::hash::HASH_LIMIT)
     /// bytes.
     pub fn text(&self) -> ArrayVec<u8, TEXT_CAPACITY>
         ensures canonical { result.items ≡ canonical_text self.now }
