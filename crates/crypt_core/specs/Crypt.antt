@@ -19,18 +19,19 @@ digest_by Md5crypt password salt = md5crypt_digest password salt
 digest_by (Shacrypt sha rounds) password salt = shacrypt_digest (digest_function sha) password salt rounds.count
 digest_by (Scrypt params) password salt = scrypt password salt params (method_row methods.Scrypt).digest_len
 
--- crypt password kept: the hash, which is the setting in canonical form, a `$`, and the packed digest.
+-- crypt password kept: the hash of a password with a setting: the setting in canonical form, a `$`, and the packed
+-- digest.
 unfoldable pub crypt : List ℕ → SettingValue → List ℕ
 crypt password kept =
     canonical_text kept ++ dollar ∷ packed (method_of kept.scheme) (digest_by kept.scheme password kept.salt)
 
--- allocates scheme: whether a hash with the scheme allocates, as scrypt's alone does.
+-- allocates scheme: whether a hash with the scheme allocates memory. Only scrypt does.
 abbrev pub allocates : Scheme → Bool
 allocates (Scrypt params) = true
 allocates scheme = false
 
--- IsAfterRefusedGrowth before scheme after: these are the counts after a failed allocation of scrypt. No other scheme
--- allocates.
+-- IsAfterRefusedGrowth before scheme after: these are the counts after one of scrypt's allocations has failed. No other
+-- scheme allocates.
 abbrev pub IsAfterRefusedGrowth : Work → Scheme → Work → Type 0
 IsAfterRefusedGrowth before (Scrypt params) after = IsAfterRefusal before params after
 IsAfterRefusedGrowth before scheme after = ⊥

@@ -1,4 +1,4 @@
--- The messages of the errors of this crate.
+-- The messages of this crate's errors.
 use Rattle.std.specs.Prelude.{ℕ, List, codes}
 use Rattle.crypt_core.specs.declared.fits.FitFault.{FitFault}
 use Rattle.crypt_core.specs.declared.fits.FitFault.TheVariants as fit
@@ -11,12 +11,12 @@ use Rattle.crypt_core.specs.declared.setting.fault.MakeFault.TheVariants.{SaltLe
 use Rattle.crypt_core.specs.declared.setting.fault.SettingFault.{SettingFault}
 use Rattle.crypt_core.specs.declared.setting.fault.SettingFault.TheVariants.{TooLong, BadCharacter, UnknownScheme, BadRounds, BadCost, ScryptRange, AboveCeiling, BadSalt}
 
--- Why bytes are no password.
+-- Why bytes are not a password.
 abbrev pub password_fault_text : PasswordFault → List ℕ
 password_fault_text password.TooLong = codes "password too long"
 password_fault_text password.HasNul = codes "password has a zero byte"
 
--- Why a string is no setting.
+-- Why a string is not a setting.
 abbrev pub setting_fault_text : SettingFault → List ℕ
 setting_fault_text TooLong = codes "setting too long"
 setting_fault_text BadCharacter = codes "bad character"
@@ -33,7 +33,7 @@ make_fault_text SaltLength = codes "salt length"
 make_fault_text SaltCharacter = codes "salt character"
 make_fault_text Cost = codes "cost"
 
--- Why a password has no hash.
+-- Why a password could not be hashed.
 abbrev pub hash_fault_text : HashFault → List ℕ
 hash_fault_text OutOfMemory = codes "out of memory"
 

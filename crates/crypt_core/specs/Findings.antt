@@ -1,4 +1,4 @@
--- What an audit finds in a stored field, without any password.
+-- What an audit finds in a stored field without knowing any password.
 use Rattle.std.specs.Prelude.{◌≡◌, ◌≢◌, Bool, ℕ, List, [], codes, true, false}
 use Rattle.crypt_core.specs.OtherSchemes.{HasFront, IsOf}
 use Rattle.crypt_core.specs.Refusals.{IsRefused}
@@ -14,23 +14,23 @@ use Rattle.crypt_core.specs.declared.setting.fault.SettingFault.TheVariants.{Unk
 use Rattle.crypt_core.specs.declared.standing.Standing.{Standing}
 use Rattle.crypt_core.specs.declared.standing.Standing.TheVariants.{Current}
 
--- IsOfNone field: it has the form of no other scheme.
+-- IsOfNone field: the field has the form of none of the other schemes.
 abbrev pub IsOfNone : List ℕ → Type 0
 IsOfNone field = (other : OtherScheme) → ¬ IsOf other field
 
--- IsUnhashed field: it is neither empty nor locked, it is no setting, and if it begins with `$` the first rule of a setting
--- that it breaks is `UnknownScheme`.
+-- IsUnhashed field: the field is neither empty nor locked and spells no setting, and if it begins with `$`, the first
+-- rule of a setting that it breaks is `UnknownScheme`.
 abbrev pub IsUnhashed : List ℕ → Type 0
 IsUnhashed field = IsStored field × (fault : SettingFault) × IsRefused field fault × (HasFront field (codes "$") → fault ≡ UnknownScheme)
 
--- Finds new budget field finding: an audit of the field has this finding, if new hashes have the scheme `new`. A budget of 0 stands
--- for the audit's own.
---   Hash       the field spells a setting, with this scheme, this cost and this standing
---   NoHash     it is empty
+-- Finds new budget field finding: an audit of the field has this finding when new hashes have the scheme `new`. A
+-- budget of 0 stands for the audit's own budget.
+--   Hash       the field spells a setting, with this scheme, this greatest cost and this standing
+--   NoHash     the field is empty
 --   Locked     it begins with `!` or `*`
---   Malformed  it begins with `$`, and the first rule that it breaks as a setting is this one, and not `UnknownScheme`
---   Other      none of the above, and it has the form of this other scheme
---   Unknown    none of the above, and it begins with `$`
+--   Malformed  it begins with `$`, and the first rule of a setting that it breaks is this one, and not `UnknownScheme`
+--   Other      none of the above, but it has the form of this other scheme
+--   Unknown    none of the above, but it begins with `$`
 --   NoScheme   none of the above
 abbrev pub Finds : Scheme → ℕ → List ℕ → Finding → Type 0
 Finds new budget field (Hash scheme most standing) =
@@ -42,13 +42,13 @@ Finds new budget field (Other other) = IsUnhashed field × IsOf other field
 Finds new budget field Unknown = IsUnhashed field × HasFront field (codes "$") × IsOfNone field
 Finds new budget field NoScheme = IsUnhashed field × (¬ HasFront field (codes "$")) × IsOfNone field
 
--- JudgesHash new budget field kept finding: the finding of a field that spells this setting, which is the only one.
+-- JudgesHash new budget field kept finding: this is the finding for a field that spells the setting `kept`.
 abbrev pub JudgesHash : Scheme → ℕ → List ℕ → SettingValue → Finding → Type 0
 JudgesHash new budget field kept finding =
     (standing : Standing) × HasStanding new budget field kept standing × (finding ≡ Hash kept.scheme (greatest_cost kept) standing)
 
--- needs_care finding is true if the account needs care: its hash is out of date, matches no password, is over the
--- budget, malformed or of no scheme, or it has none.
+-- needs_care finding: whether somebody should look at the account: its hash is out of date, matches no password, is
+-- over budget, is malformed or has no scheme, or the field is empty.
 abbrev pub needs_care : Finding → Bool
 needs_care (Hash scheme most Current) = false
 needs_care Locked = false

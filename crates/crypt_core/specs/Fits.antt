@@ -8,15 +8,16 @@ use Rattle.crypt_core.specs.Work.{raised_by, work}
 use Rattle.crypt_core.specs.declared.fits.FitFault.{FitFault}
 use Rattle.crypt_core.specs.declared.fits.FitFault.TheVariants.{Setting, OutOfMemory}
 
--- Fits password stored: the stored hash spells a setting, and hashing the password with it reproduces the stored hash,
+-- Fits password stored: the stored hash spells a setting, and hashing the password with it reproduces the stored hash
 -- to the last byte.
 abbrev pub Fits : List ℕ → List ℕ → Type 0
 Fits password stored = (kept : SettingValue) × Spells stored kept × (crypt password kept ≡ stored)
 
--- Compares password stored before after result: this is the result of a comparison, with the counts before and after.
---   a verdict     whether the hash with the setting of the stored hash is the stored hash; counts the work of that hash
---   Setting       the first rule that the stored hash breaks as a setting; counts nothing
---   OutOfMemory   scrypt, with the setting of the stored hash, failed to allocate; counts the allocations before
+-- Compares password stored before after result: this is the result of a comparison, with the counts before and after
+-- it.
+--   a verdict     whether the hash with the stored hash's setting equals the stored hash; counts the work of that hash
+--   Setting       the first rule of a setting that the stored hash breaks; counts nothing
+--   OutOfMemory   scrypt, with the stored hash's setting, failed to allocate; counts the allocations before the failure
 abbrev pub Compares : List ℕ → List ℕ → Work → Work → Result Bool FitFault → Type 0
 Compares password stored before after (Ok verdict) =
     (kept : SettingValue) × Spells stored kept × (IsTrue verdict ↔ (crypt password kept ≡ stored))

@@ -1,5 +1,5 @@
--- Settings made of a method, rounds and a salt, and the refusal if one can't be made. The rounds are the number that the
--- command takes as `-R`: for SHA-crypt its rounds, and for scrypt the logarithm of N, less 7.
+-- Settings made from a method, rounds and a salt, and the error if they make none. The rounds are the number that the
+-- command takes as `-R`: SHA-crypt's own rounds, and for scrypt log2 N less 7.
 use Rattle.std.specs.Prelude.{◌≡◌, ℕ, ◌+◌, ◌-◌, ◌<◌, ◌≤◌, ◌⊎◌, ◌==◌, if◌then◌else◌, true, false, List, [], ◌∷◌, length, All, Contains, Option, Some, None}
 use Rattle.prims_core.specs.Alphabet.{alphabet}
 use Rattle.kdf_core.specs.Params.{ScryptParams}
@@ -17,7 +17,8 @@ use Rattle.crypt_core.specs.MadeSalts.{made_salt}
 use Rattle.crypt_core.specs.Methods.{method_row}
 use Rattle.crypt_core.specs.Settings.{SettingValue}
 
--- made_rounds rounds: the default without a field for 0, and otherwise a field with the rounds, clamped.
+-- made_rounds rounds: for 0 the default rounds without a `rounds=` field, and otherwise a field with the rounds,
+-- clamped.
 abbrev pub made_rounds : ℕ → Rounds
 made_rounds rounds = if rounds == 0 then record { count = default_rounds; is_written = false } else record { count = clamped rounds; is_written = true }
 
@@ -25,43 +26,46 @@ made_rounds rounds = if rounds == 0 then record { count = default_rounds; is_wri
 abbrev pub made_params : ℕ → ScryptParams
 made_params rounds = record { log_n = (if rounds == 0 then 7 else rounds) + 7; r = 32; p = 1 }
 
--- made_scheme method rounds: the scheme of a method with these rounds. md5crypt has a fixed number, and scrypt N, r and p.
+-- made_scheme method rounds: the scheme of a method with these rounds. md5crypt ignores them, since its number of
+-- rounds is fixed.
 abbrev pub made_scheme : Method → ℕ → Scheme
 made_scheme methods.Md5crypt rounds = Md5crypt
 made_scheme methods.Sha256crypt rounds = Shacrypt Sha256 (made_rounds rounds)
 made_scheme methods.Sha512crypt rounds = Shacrypt Sha512 (made_rounds rounds)
 made_scheme methods.Scrypt rounds = Scrypt (made_params rounds)
 
--- rounds_of scheme: the rounds of which `made_scheme` makes it: SHA-crypt's own, and of scrypt the logarithm of N, less 7. md5crypt
--- ignores them, and they are 0.
+-- rounds_of scheme: the rounds from which `made_scheme` makes the scheme: SHA-crypt's own, log2 N less 7 for scrypt,
+-- and 0 for md5crypt, which ignores them.
 abbrev pub rounds_of : Scheme → ℕ
 rounds_of Md5crypt = 0
 rounds_of (Shacrypt sha rounds) = rounds.count
 rounds_of (Scrypt params) = params.log_n - 7
 
--- salted scheme numbers: a scheme with a new salt, which three random numbers make.
+-- salted scheme numbers: the setting of a scheme with a new salt, generated from three random numbers.
 abbrev pub salted : Scheme → List ℕ → SettingValue
 salted scheme numbers = record { scheme = scheme; salt = made_salt numbers (method_row (method_of scheme)).made_salt_length }
 
--- TakesRounds method rounds: scrypt takes 0 and 6 to 11, and the other methods take any.
+-- TakesRounds method rounds: the method accepts these rounds. scrypt accepts 0 and 6 to 11, and the other methods
+-- accept any.
 abbrev pub TakesRounds : Method → ℕ → Type 0
 TakesRounds methods.Scrypt rounds = (rounds ≡ 0) ⊎ ((6 ≤ rounds) × (rounds ≤ 11))
 TakesRounds method rounds = Unit {0}
 
--- The refusals in the order of their rules.
+-- The errors in the order of their rules.
 abbrev pub make_faults : List MakeFault
 make_faults = SaltLength ∷ SaltCharacter ∷ Cost ∷ []
 
--- BreaksMake method rounds given fault: a method, rounds, and the salt if one is given, break the rule of this refusal.
---   Cost            the method takes the rounds
+-- BreaksMake method rounds given fault: the method, the rounds, and the salt if one is given, break the rule of this
+-- error.
+--   Cost            the method accepts the rounds
 --   SaltLength      the salt has at least one character, and no more than the method keeps
---   SaltCharacter   all characters of the salt are of crypt's alphabet
+--   SaltCharacter   every character of the salt is in crypt's alphabet
 abbrev pub BreaksMake : Method → ℕ → Option (List ℕ) → MakeFault → Type 0
 BreaksMake method rounds given Cost = ¬ TakesRounds method rounds
 BreaksMake method rounds None fault = ⊥
 BreaksMake method rounds (Some salt) SaltLength = (length salt ≡ 0) ⊎ ((method_row method).salt_limit < length salt)
 BreaksMake method rounds (Some salt) SaltCharacter = ¬ All (Contains alphabet) salt
 
--- IsMakeRefused method rounds given fault: this is the refusal of the first rule that they break.
+-- IsMakeRefused method rounds given fault: this is the error of the first rule that they break.
 unfoldable pub IsMakeRefused : Method → ℕ → Option (List ℕ) → MakeFault → Type 0
 IsMakeRefused method rounds given = IsFirstBroken make_faults (BreaksMake method rounds given)

@@ -6,8 +6,8 @@ use Rattle.crypt_core.specs.Methods.{method_row}
 use Rattle.crypt_core.specs.RoundMessage.{alternate_message, digest_after}
 use Rattle.crypt_core.specs.declared.method.Method.TheVariants as methods
 
--- opening_message password salt: the message of the digest before the rounds. In the binary digits of the password's
--- length, a 1 stands for a zero byte, and a 0 for the password's first byte.
+-- opening_message password salt: the message of the digest before the rounds. For each binary digit of the password's
+-- length it has a piece: a zero byte for a 1, and the password's first byte for a 0.
 abbrev pub opening_message : List ℕ → List ℕ → List ℕ
 opening_message password salt =
     password ++ (method_row methods.Md5crypt).prefix ++ salt

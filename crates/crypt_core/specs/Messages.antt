@@ -9,14 +9,14 @@ use Rattle.crypt_core.specs.ShaCrypt.{password_repeated, password_string, salt_r
 
 -- ---- md5crypt
 
--- md5crypt_message password salt k: message k. The message of round i has the number i + 2.
+-- md5crypt_message password salt k: message number k. The message of round i has number i + 2.
 unfoldable pub md5crypt_message : List ℕ → List ℕ → ℕ → List ℕ
 md5crypt_message password salt zero = alternate_message password salt
 md5crypt_message password salt (suc zero) = opening_message password salt
 md5crypt_message password salt (suc (suc i)) =
     round_message i (digest_after md5 (md5crypt_opening password salt) password salt i) password salt
 
--- The number of rounds, which follow the first two messages.
+-- The number of rounds. Their messages come after the first two.
 abbrev pub md5crypt_rounds : ℕ
 md5crypt_rounds = 1000
 
@@ -24,8 +24,8 @@ md5crypt_rounds = 1000
 unfoldable pub md5crypt_messages : List ℕ → List ℕ → List (List ℕ)
 md5crypt_messages password salt = map (md5crypt_message password salt) (range_with_len 0 (md5crypt_rounds + 2))
 
--- AreMd5cryptMessages password salt: these are the messages of the definition of the digest. The opening is the digest
--- of the second message, and the result is that of the last.
+-- AreMd5cryptMessages password salt: these messages are the ones in the definition of the digest. The opening is the
+-- digest of the second message, and the result is the digest of the last.
 abbrev pub AreMd5cryptMessages : List ℕ → List ℕ → Type 0
 AreMd5cryptMessages password salt =
     (md5crypt_opening password salt ≡ md5 (md5crypt_message password salt 1))
@@ -38,11 +38,11 @@ abbrev pub sha_digest_before : (List ℕ → List ℕ) → List ℕ → List ℕ
 sha_digest_before h password salt i =
     digest_after h (sha_opening h password salt) (password_string h password) (salt_string h password salt) i
 
--- sha_round_message h password salt i x: the message of round i. x is the digest before the round.
+-- sha_round_message h password salt i x: the message of round i, where x is the digest before the round.
 abbrev pub sha_round_message : (List ℕ → List ℕ) → List ℕ → List ℕ → ℕ → List ℕ → List ℕ
 sha_round_message h password salt i x = round_message i x (password_string h password) (salt_string h password salt)
 
--- shacrypt_message h password salt k: message k. The message of round i has the number i + 4.
+-- shacrypt_message h password salt k: message number k. The message of round i has number i + 4.
 unfoldable pub shacrypt_message : (List ℕ → List ℕ) → List ℕ → List ℕ → ℕ → List ℕ
 shacrypt_message h password salt zero = alternate_message password salt
 shacrypt_message h password salt (suc zero) = sha_opening_message h password salt
@@ -55,9 +55,9 @@ shacrypt_message h password salt (suc (suc (suc (suc i)))) =
 unfoldable pub shacrypt_messages : (List ℕ → List ℕ) → List ℕ → List ℕ → ℕ → List (List ℕ)
 shacrypt_messages h password salt rounds = map (shacrypt_message h password salt) (range_with_len 0 (rounds + 4))
 
--- AreShacryptMessages h password salt rounds: these are the messages of the definition of the digest. The opening is
--- the digest of the second message, the strings P and S repeat those of the third and the fourth, and the result is
--- that of the last.
+-- AreShacryptMessages h password salt rounds: these messages are the ones in the definition of the digest. The opening
+-- is the digest of the second message, the strings P and S repeat the digests of the third and the fourth, and the
+-- result is the digest of the last.
 abbrev pub AreShacryptMessages : (List ℕ → List ℕ) → List ℕ → List ℕ → ℕ → Type 0
 AreShacryptMessages h password salt rounds =
     (sha_opening h password salt ≡ h (shacrypt_message h password salt 1))

@@ -1,16 +1,16 @@
--- What a meter counts of a hash, and of one that is refused for want of memory.
+-- What a meter counts for a hash, and for a hash that fails for lack of memory.
 use Rattle.std.specs.Prelude.{◌≡◌, ◌≤◌, ◌+◌, ℕ, List, length, Result, OnOk, OnErr}
 use Rattle.prims_core.specs.declared.meter.Work.{Work}
 use Rattle.crypt_core.specs.Crypt.{IsAfterRefusedGrowth}
 use Rattle.crypt_core.specs.Settings.{SettingValue}
 use Rattle.crypt_core.specs.Work.{cost, raised_by, work, work_limit, IsBelow}
 
--- IsMetered before password kept after result: a call that hashes the password with this setting has this result, and
--- these are the counts before and after it.
---   count    a hash counts exactly its work
+-- IsMetered before password kept after result: hashing the password with this setting has this result, with these
+-- counts before and after it.
+--   count    a successful hash counts exactly its work
 --   below    each count of that work is below the limit
---   within   whatever the result, the digested bytes are at most the cost
---   refused  only a hash with scrypt can be refused, and then only its allocations count
+--   within   whatever the result, the bytes digested are at most the cost
+--   refused  only scrypt can fail, and then only its allocations count
 pub record IsMetered {A E : Type 0} (before : Work) (password : List ℕ) (kept : SettingValue) (after : Work) (result : Result A E) : Type 0 where
   pub count : OnOk result (after ≡ raised_by before (work password kept))
   pub below : IsBelow (work password kept) work_limit

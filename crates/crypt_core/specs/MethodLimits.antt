@@ -1,4 +1,4 @@
--- Names for single columns of the table of methods, and for numbers in it.
+-- Names for single columns of the table of methods, and for single numbers in it.
 use Rattle.std.specs.Prelude.{ℕ, List}
 use Rattle.crypt_core.specs.declared.method.Method.{Method}
 use Rattle.crypt_core.specs.declared.method.Method.TheVariants.{Md5crypt, Sha256crypt, Sha512crypt, Scrypt}
@@ -16,27 +16,27 @@ shacrypt_salt_limit = (method_row Sha512crypt).salt_limit
 abbrev pub scrypt_salt_limit : ℕ
 scrypt_salt_limit = (method_row Scrypt).salt_limit
 
--- The most characters of a made salt: those of scrypt.
+-- The most characters of a generated salt: scrypt's.
 abbrev pub made_salt_limit : ℕ
 made_salt_limit = (method_row Scrypt).made_salt_length
 
--- prefix method: the characters with which each setting of the method begins.
+-- prefix method: the characters with which every setting of the method begins.
 abbrev pub prefix : Method → List ℕ
 prefix method = (method_row method).prefix
 
--- salt_limit method: the most bytes of salt that it keeps.
+-- salt_limit method: the most bytes of salt that the method keeps.
 abbrev pub salt_limit : Method → ℕ
 salt_limit method = (method_row method).salt_limit
 
--- made_salt_length method: the number of characters of a made salt.
+-- made_salt_length method: the number of characters of a generated salt.
 abbrev pub made_salt_length : Method → ℕ
 made_salt_length method = (method_row method).made_salt_length
 
--- digest_len method: the number of bytes of its digest.
+-- digest_len method: the number of bytes of the method's digest.
 abbrev pub digest_len : Method → ℕ
 digest_len method = (method_row method).digest_len
 
--- packed_len method: the number of characters of its packed digest.
+-- packed_len method: the number of characters of the packed digest.
 abbrev pub packed_len : Method → ℕ
 packed_len Md5crypt = 22
 packed_len Sha256crypt = 43

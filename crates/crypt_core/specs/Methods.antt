@@ -1,4 +1,4 @@
--- The methods of crypt(5): one table of what is fixed for each.
+-- The methods of crypt(5), and one table of what crypt(5) fixes for each.
 use Rattle.std.specs.Prelude.{ℕ, ◌==◌, ◌||◌, List, [], ◌∷◌, Option, codes, find}
 use Rattle.std.specs.Str.{bytes_eq}
 use Rattle.crypt_core.specs.declared.method.Method.{Method}
@@ -6,9 +6,9 @@ use Rattle.crypt_core.specs.declared.method.Method.TheVariants.{Md5crypt, Sha256
 
 -- What crypt(5) fixes for a method:
 --   name, alias        the names of the method; a method without an alias has its name twice
---   number, prefix     the number in the prefix, and the prefix with which each setting of the method begins
+--   number, prefix     the number in the prefix, and the prefix with which every setting of the method begins
 --   salt_limit         the most bytes of salt that the method keeps
---   made_salt_length   the number of characters of a made salt
+--   made_salt_length   the number of characters of a generated salt
 --   digest_len         the number of bytes of the method's digest
 pub record MethodRow : Type 0 where
   pub name : List ℕ
@@ -19,8 +19,8 @@ pub record MethodRow : Type 0 where
   pub made_salt_length : ℕ
   pub digest_len : ℕ
 
--- method_row method: its row of the table. A made salt has as many characters as the method keeps, except for scrypt,
--- which has 22 characters with 132 bits.
+-- method_row method: the method's row of the table. A generated salt has as many characters as the method keeps, except
+-- that scrypt's has 22, which is 132 bits.
 abbrev pub method_row : Method → MethodRow
 method_row Md5crypt = record { name = codes "md5crypt"; alias = codes "md5"; number = 1; prefix = codes "$1$"; salt_limit = 8; made_salt_length = 8; digest_len = 16 }
 method_row Sha256crypt = record { name = codes "sha256crypt"; alias = codes "sha-256"; number = 5; prefix = codes "$5$"; salt_limit = 16; made_salt_length = 16; digest_len = 32 }
@@ -31,10 +31,10 @@ method_row Scrypt = record { name = codes "scrypt"; alias = codes "scrypt"; numb
 abbrev pub methods : List Method
 methods = Md5crypt ∷ Sha256crypt ∷ Sha512crypt ∷ Scrypt ∷ []
 
--- method_named word: the method whose name or alias is `word`, if there is one.
+-- method_named word: the method whose name or alias is `word`, or none.
 abbrev pub method_named : List ℕ → Option Method
 method_named word = find (λ m. bytes_eq word (method_row m).name || bytes_eq word (method_row m).alias) methods
 
--- method_numbered number: the method with this number, if there is one.
+-- method_numbered number: the method with this number, or none.
 abbrev pub method_numbered : ℕ → Option Method
 method_numbered number = find (λ m. number == (method_row m).number) methods

@@ -1,16 +1,18 @@
--- The schemes of crypt(5) that mkpasswd doesn't hash. A field is of one if it has its form; it needn't be a valid hash.
+-- The schemes of crypt(5) that mkpasswd doesn't hash. The form of a field decides which one it is of; the field needn't
+-- be a valid hash.
 use Rattle.std.specs.Prelude.{◌≡◌, ◌⊎◌, ◌==◌, ℕ, List, [], ◌∷◌, Option, IsTrue, length, All, Contains, codes, find, nat_eq}
 use Rattle.std.specs.List.{starts_with}
 use Rattle.prims_core.specs.Alphabet.{alphabet}
 use Rattle.crypt_core.specs.declared.other_scheme.OtherScheme.{OtherScheme}
 use Rattle.crypt_core.specs.declared.other_scheme.OtherScheme.TheVariants.{Yescrypt, GostYescrypt, Bcrypt, Nt, Sha1crypt, SunMd5, Bsdicrypt, Descrypt}
 
--- HasFront field front: the field begins with these bytes, as a test. `BeginsWith` says it as a relation.
+-- HasFront field front: the field begins with these bytes. This is a boolean test; `BeginsWith` states the same as a
+-- relation.
 abbrev pub HasFront : List ℕ → List ℕ → Type 0
 HasFront field front = IsTrue (starts_with nat_eq field front)
 
--- IsOf other field: the field has the form of this scheme: its prefix, and for descrypt, which has none, its length and
--- its characters (crypt(5)).
+-- IsOf other field: the field has the form of this scheme (crypt(5)): its prefix, or for descrypt, which has no prefix,
+-- its length and characters.
 abbrev pub IsOf : OtherScheme → List ℕ → Type 0
 IsOf Yescrypt field = HasFront field (codes "$y$")
 IsOf GostYescrypt field = HasFront field (codes "$gy$")
@@ -21,7 +23,8 @@ IsOf SunMd5 field = HasFront field (codes "$md5")
 IsOf Bsdicrypt field = HasFront field (codes "_")
 IsOf Descrypt field = (length field ≡ 13) × All (Contains alphabet) field
 
--- other_scheme_row other: its number, by which the calls for C name it, and its name in crypt(5). No method has such a number.
+-- other_scheme_row other: the scheme's number in the C interface, and its name in crypt(5). No method has such a
+-- number.
 abbrev pub other_scheme_row : OtherScheme → ℕ × List ℕ
 other_scheme_row Yescrypt = (101, codes "yescrypt")
 other_scheme_row GostYescrypt = (102, codes "gost-yescrypt")
@@ -36,6 +39,6 @@ other_scheme_row Descrypt = (108, codes "descrypt")
 abbrev pub other_schemes : List OtherScheme
 other_schemes = Yescrypt ∷ GostYescrypt ∷ Bcrypt ∷ Nt ∷ Sha1crypt ∷ SunMd5 ∷ Bsdicrypt ∷ Descrypt ∷ []
 
--- other_scheme_numbered number: the other scheme with this number, if there is one.
+-- other_scheme_numbered number: the other scheme with this number, or none.
 abbrev pub other_scheme_numbered : ℕ → Option OtherScheme
 other_scheme_numbered number = find (λ other. number == (other_scheme_row other).0) other_schemes

@@ -1,12 +1,12 @@
--- Which hashes are out of date when new ones are made with another scheme.
+-- Which hashes are out of date once new hashes have another scheme.
 use Rattle.std.specs.Prelude.{Bool, true, false, nat_lt}
 use Rattle.kdf_core.specs.Params.{product}
 use Rattle.crypt_core.specs.declared.scheme.Scheme.{Scheme}
 use Rattle.crypt_core.specs.declared.scheme.Scheme.TheVariants.{Md5crypt, Shacrypt, Scrypt}
 use Rattle.crypt_core.specs.declared.scheme.Sha.TheVariants.{Sha256, Sha512}
 
--- is_outdated_by old new: a scheme is outdated by any other method, SHA-crypt also by the same SHA-crypt with more rounds, and
--- scrypt by scrypt with a greater N * r * p. md5crypt has no cost that could grow.
+-- is_outdated_by old new: whether `new` replaces `old`. A scheme is replaced by any other method, SHA-crypt also by the
+-- same method with more rounds, and scrypt by scrypt with a greater N * r * p. md5crypt has no cost that could grow.
 abbrev pub is_outdated_by : Scheme → Scheme → Bool
 is_outdated_by Md5crypt Md5crypt = false
 is_outdated_by (Shacrypt Sha256 old) (Shacrypt Sha256 new) = nat_lt old.count new.count

@@ -7,15 +7,15 @@ use Rattle.crypt_core.specs.declared.password.PasswordFault.TheVariants.{TooLong
 abbrev pub password_limit : ℕ
 password_limit = 1024
 
--- IsPassword bytes: they are no more than the limit, and none of them is 0.
+-- IsPassword bytes: there are no more bytes than the limit, and none of them is 0.
 abbrev pub IsPassword : List ℕ → Type 0
 IsPassword bytes = (length bytes ≤ password_limit) × ¬ Contains bytes 0
 
--- The refusals in the order of their rules.
+-- The errors in the order of their rules.
 abbrev pub password_faults : List PasswordFault
 password_faults = TooLong ∷ HasNul ∷ []
 
--- IsPasswordRefused bytes fault: they are no password, and this is the first rule that they break.
+-- IsPasswordRefused bytes fault: the bytes are not a password, and this is the error of the first rule that they break.
 abbrev pub IsPasswordRefused : List ℕ → PasswordFault → Type 0
 IsPasswordRefused bytes TooLong = password_limit < length bytes
 IsPasswordRefused bytes HasNul = (length bytes ≤ password_limit) × Contains bytes 0

@@ -1,4 +1,5 @@
--- The policy that this project recommends: rounds for new hashes, a limit on the cost of a login, and a budget for audits.
+-- The policy that this project recommends: rounds for new hashes, a limit on the cost of a login, and a budget for
+-- audits.
 use Rattle.std.specs.Prelude.{ℕ, ◌+◌, ◌-◌, ◌*◌, ◌/◌, ◌<◌, ◌≤◌, ◌==◌, ◌↔◌, if◌then◌else◌, max, nat_le, true, Option, Some, None}
 use Rattle.crypt_core.specs.MadeSettings.{made_scheme}
 use Rattle.crypt_core.specs.Methods.{method_row}
@@ -12,32 +13,33 @@ use Rattle.crypt_core.specs.declared.scheme.Scheme.{Scheme}
 use Rattle.crypt_core.specs.declared.scheme.Scheme.TheVariants.{Shacrypt}
 use Rattle.crypt_core.specs.declared.scheme.Sha.{Sha}
 
--- recommended_rounds method: the rounds that new hashes should have, as `made_scheme` takes them. Those of md5crypt are fixed.
+-- recommended_rounds method: the rounds that new hashes should have, as `made_scheme` takes them. md5crypt's are fixed.
 abbrev pub recommended_rounds : Method → ℕ
 recommended_rounds Md5crypt = 0
 recommended_rounds Sha256crypt = 656000
 recommended_rounds Sha512crypt = 656000
 recommended_rounds Scrypt = 7
 
--- chosen_rounds method rounds: 0 stands for the recommended ones.
+-- chosen_rounds method rounds: the rounds, or the recommended ones for 0.
 abbrev pub chosen_rounds : Method → ℕ → ℕ
 chosen_rounds method rounds = if rounds == 0 then recommended_rounds method else rounds
 
--- new_cost scheme len: the cost of a new hash with this scheme, of a password of this length in bytes.
+-- new_cost scheme len: the cost of a new hash with this scheme for a password of this length in bytes.
 abbrev pub new_cost : Scheme → ℕ → ℕ
 new_cost scheme len = cost_by scheme len (method_row (method_of scheme)).made_salt_length
 
--- No limit of a policy is lower.
+-- The least limit of a policy.
 abbrev pub limit_floor : ℕ
 limit_floor = 150000000
 
--- policy_limit scheme: what a login or a new hash may cost by a policy whose new hashes have this scheme: twice what one of a
--- password of 64 bytes costs. It doesn't depend on the password of a login, so nobody who logs in can raise it.
+-- policy_limit scheme: what a login or a new hash may cost under the policy that new hashes have this scheme: twice the
+-- cost of a new hash of a password of 64 bytes. It doesn't depend on the password of a login, so nobody who logs in can
+-- raise it.
 abbrev pub policy_limit : Scheme → ℕ
 policy_limit scheme = max limit_floor (2 * new_cost scheme 64)
 
--- IsLongestWithin scheme limit longest: of the lengths that a password can have, exactly those up to `longest` are within the
--- limit: a new hash with this scheme costs no more. Without one no length is.
+-- IsLongestWithin scheme limit longest: a new hash with this scheme costs at most the limit exactly for passwords of up
+-- to `longest` bytes. Without a longest one, even the empty password costs more.
 abbrev pub IsLongestWithin : Scheme → ℕ → Option ℕ → Type 0
 IsLongestWithin scheme limit (Some longest) =
     (longest ≤ password_limit) × ((len : ℕ) → len ≤ password_limit → (new_cost scheme len ≤ limit ↔ len ≤ longest))
@@ -45,50 +47,52 @@ IsLongestWithin scheme limit None = (len : ℕ) → len ≤ password_limit → l
 
 -- ---- rounds for a longer password
 
--- opening_bytes sha len: the most bytes of the messages before the rounds, in a new hash of a password of this length.
+-- opening_bytes sha len: a bound on the bytes of the messages before the rounds, in a new hash of a password of this
+-- length.
 abbrev pub opening_bytes : Sha → ℕ → ℕ
 opening_bytes sha len =
     shacrypt_bytes (method_row (sha_method sha)).digest_len greatest_byte 0 len (method_row (sha_method sha)).made_salt_length
 
--- longest_round sha len: the most bytes of the message of a round: a digest, the password twice, and a made salt.
+-- longest_round sha len: a bound on the bytes of one round's message: a digest, the password twice, and a generated
+-- salt.
 abbrev pub longest_round : Sha → ℕ → ℕ
 longest_round sha len = (method_row (sha_method sha)).digest_len + 2 * len + (method_row (sha_method sha)).made_salt_length
 
--- fitting_rounds sha limit len: as many longest rounds as the limit has left after the opening, but no fewer than rounds can
--- be.
+-- fitting_rounds sha limit len: how many of the longest rounds fit the limit after the opening, clamped to the range of
+-- rounds.
 abbrev pub fitting_rounds : Sha → ℕ → ℕ → ℕ
 fitting_rounds sha limit len = clamped ((limit - opening_bytes sha len) / longest_round sha len)
 
--- fewer_rounds scheme limit len: SHA-crypt with that many rounds, if a new hash with them is within the limit. The cost of the
--- other methods hardly depends on the password.
+-- fewer_rounds scheme limit len: SHA-crypt with that many rounds, if a new hash with them is within the limit. The cost
+-- of the other methods hardly depends on the password, so they have no fewer rounds to offer.
 abbrev pub fewer_rounds : Scheme → ℕ → ℕ → Option Scheme
 fewer_rounds (Shacrypt sha rounds) limit len =
     let fewer = Shacrypt sha (record { count = fitting_rounds sha limit len; is_written = true }) in
     if nat_le (new_cost fewer len) limit then Some fewer else None
 fewer_rounds scheme limit len = None
 
--- fitted scheme limit len: the scheme of a new hash of a password of this length that is within the limit, by a policy with
--- this scheme. It is the policy's own if that is within it.
+-- fitted scheme limit len: the scheme for a new hash of a password of this length that is within the limit, under a
+-- policy with this scheme. It is the policy's own scheme if that is within the limit.
 abbrev pub fitted : Scheme → ℕ → ℕ → Option Scheme
 fitted scheme limit len = if nat_le (new_cost scheme len) limit then Some scheme else fewer_rounds scheme limit len
 
--- NeverFits scheme limit len: a new hash of a password of this length costs more than the limit, with SHA-crypt by whatever
--- rounds.
+-- NeverFits scheme limit len: a new hash of a password of this length costs more than the limit, for SHA-crypt with any
+-- number of rounds.
 abbrev pub NeverFits : Scheme → ℕ → ℕ → Type 0
 NeverFits (Shacrypt sha rounds) limit len = (other : Rounds) → IsRounds other → limit < new_cost (Shacrypt sha other) len
 NeverFits scheme limit len = limit < new_cost scheme len
 
 -- ---- audits
 
--- greatest_cost_by scheme: the cost of a hash of the longest password with this scheme and the longest salt.
+-- greatest_cost_by scheme: the cost of a hash with this scheme for the longest password and the longest salt.
 abbrev pub greatest_cost_by : Scheme → ℕ
 greatest_cost_by scheme = cost_by scheme password_limit (method_row (method_of scheme)).salt_limit
 
--- audit_budget scheme: the budget of an audit that asks for new hashes with this scheme. It admits each of them, and each
--- one with the recommended rounds of sha512crypt.
+-- audit_budget scheme: the budget of an audit when new hashes have this scheme. It admits every hash with this scheme,
+-- and every sha512crypt hash with the recommended rounds.
 abbrev pub audit_budget : Scheme → ℕ
 audit_budget scheme = max (greatest_cost_by scheme) (greatest_cost_by (made_scheme Sha512crypt (recommended_rounds Sha512crypt)))
 
--- chosen_budget scheme budget: 0 stands for the budget of an audit.
+-- chosen_budget scheme budget: the budget, or the audit's own for 0.
 abbrev pub chosen_budget : Scheme → ℕ → ℕ
 chosen_budget scheme budget = if budget == 0 then audit_budget scheme else budget

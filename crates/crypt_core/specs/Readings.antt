@@ -7,18 +7,18 @@ use Rattle.crypt_core.specs.declared.setting.fault.SettingFault.{SettingFault}
 use Rattle.crypt_core.specs.declared.stored.StoredField.{StoredField}
 use Rattle.crypt_core.specs.declared.stored.StoredField.TheVariants.{Empty, Locked, Hash}
 
--- IsReading text result: the text spells this setting, or gets this refusal.
+-- IsReading text result: the text spells this setting, or is refused with this error.
 abbrev pub IsReading : List ℕ → Result SettingValue SettingFault → Type 0
 IsReading text (Ok kept) = Spells text kept
 IsReading text (Err fault) = IsRefused text fault
 
--- IsReadOneWay text: it has at most one reading. It spells at most one setting, gets at most one refusal, and never
+-- IsReadOneWay text: the text has at most one reading. It spells at most one setting, has at most one error, and never
 -- both.
 unfoldable pub IsReadOneWay : List ℕ → Type 0
 IsReadOneWay text = (one other : Result SettingValue SettingFault) → IsReading text one → IsReading text other → one ≡ other
 
--- IsFieldReading field result: the field is empty, locked, or this stored hash. The error is for a field that is
--- neither empty nor locked, and is the first rule that it breaks as a setting.
+-- IsFieldReading field result: the field is empty, or locked, or this stored hash. Otherwise the error is that of the
+-- first rule of a setting that the field breaks.
 abbrev pub IsFieldReading : List ℕ → Result StoredField SettingFault → Type 0
 IsFieldReading field (Ok Empty) = field ≡ []
 IsFieldReading field (Ok Locked) = IsLocked field

@@ -1,4 +1,4 @@
--- The refusal of a string that is no setting: that of the first stage at which reading fails.
+-- The error for a string that is not a setting: that of the first stage at which reading fails.
 use Rattle.std.specs.Prelude.{◌≡◌, ℕ, ◌<◌, List, [], ◌∷◌, ◌++◌, length, All}
 use Rattle.kdf_core.specs.Params.{ScryptParams, IsInRange, IsWithinCeiling}
 use Rattle.crypt_core.specs.Methods.{method_row}
@@ -13,17 +13,17 @@ use Rattle.crypt_core.specs.declared.scheme.Sha.{Sha}
 use Rattle.crypt_core.specs.declared.setting.fault.SettingFault.{SettingFault}
 use Rattle.crypt_core.specs.declared.setting.fault.SettingFault.TheVariants.{TooLong, BadCharacter, UnknownScheme, BadRounds, BadCost, ScryptRange, AboveCeiling, BadSalt}
 
--- The refusals in the order of the stages.
+-- The errors in the order of the stages.
 abbrev pub setting_faults : List SettingFault
 setting_faults = TooLong ∷ BadCharacter ∷ UnknownScheme ∷ BadRounds ∷ BadCost ∷ ScryptRange ∷ AboveCeiling ∷ BadSalt ∷ []
 
 -- LacksCost method text: the text has the prefix of this method, but no cost part follows. SHA-crypt also takes an
--- empty cost part, so it lacks one only after `rounds=` without a valid number and a `$`.
+-- empty cost part, so it lacks one only if `rounds=` comes without a valid number and a `$`.
 abbrev pub LacksCost : Method → List ℕ → Type 0
 LacksCost method text = BeginsWith text (method_row method).prefix
     × ((scheme : Scheme) → (after : List ℕ) → method_of scheme ≡ method → ¬ SpellsScheme text scheme after)
 
--- FailsStage text fault: reading the text fails at the stage that has this refusal.
+-- FailsStage text fault: reading the text fails at the stage that has this error.
 abbrev pub FailsStage : List ℕ → SettingFault → Type 0
 FailsStage text TooLong = setting_limit < length text
 FailsStage text BadCharacter = ¬ All IsSettingByte text
@@ -35,6 +35,6 @@ FailsStage text AboveCeiling = (params : ScryptParams) × (after : List ℕ) × 
 FailsStage text BadSalt =
     (params : ScryptParams) × (field rest : List ℕ) × SpellsScheme text (Scrypt params) (field ++ rest) × IsField field rest × (¬ IsScryptSalt field)
 
--- IsRefused text fault: the text gets the refusal of the first stage that fails.
+-- IsRefused text fault: this is the error of the first stage that fails.
 unfoldable pub IsRefused : List ℕ → SettingFault → Type 0
 IsRefused text = IsFirstBroken setting_faults (FailsStage text)

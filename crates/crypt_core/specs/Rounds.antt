@@ -22,6 +22,6 @@ max_rounds = 999999999
 abbrev pub clamped : ℕ → ℕ
 clamped n = max min_rounds (min n max_rounds)
 
--- IsRounds rounds: a setting can have these rounds. Their number is in range, and without a field it is the default.
+-- IsRounds rounds: some setting has these rounds: their number is in range, and without a field it is the default.
 abbrev pub IsRounds : Rounds → Type 0
 IsRounds rounds = (clamped rounds.count ≡ rounds.count) × (rounds.is_written ≡ false → rounds.count ≡ default_rounds)

@@ -1,7 +1,7 @@
--- Rules in an order, of which the first one that is broken counts.
+-- Rules in an order, where the first broken one decides the error.
 use Rattle.std.specs.Prelude.{◌≡◌, ◌⊎◌, List, [], ◌∷◌}
 
--- IsFirstBroken faults breaks fault: this is the first of the refusals, in their order, whose rule is broken.
+-- IsFirstBroken faults breaks fault: this is the first of these errors, in their order, whose rule is broken.
 abbrev pub IsFirstBroken : {F : Type 0} → List F → (F → Type 0) → F → Type 0
 IsFirstBroken [] breaks fault = ⊥
 IsFirstBroken (first ∷ others) breaks fault =

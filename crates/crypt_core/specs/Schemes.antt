@@ -10,18 +10,18 @@ use Rattle.crypt_core.specs.declared.scheme.Scheme.TheVariants.{Md5crypt, Shacry
 use Rattle.crypt_core.specs.declared.scheme.Sha.{Sha}
 use Rattle.crypt_core.specs.declared.scheme.Sha.TheVariants.{Sha256, Sha512}
 
--- sha_method sha: the method of SHA-crypt over this digest.
+-- sha_method sha: the method that is SHA-crypt over this digest function.
 abbrev pub sha_method : Sha → Method
 sha_method Sha256 = methods.Sha256crypt
 sha_method Sha512 = methods.Sha512crypt
 
--- method_of scheme: its method.
+-- method_of scheme: the scheme's method.
 abbrev pub method_of : Scheme → Method
 method_of Md5crypt = methods.Md5crypt
 method_of (Shacrypt sha rounds) = sha_method sha
 method_of (Scrypt params) = methods.Scrypt
 
--- IsScheme scheme: a setting can have its cost. SHA-crypt's rounds are in range, and scrypt's numbers are accepted.
+-- IsScheme scheme: some setting has this cost: SHA-crypt's rounds are in range, and scrypt's numbers are accepted.
 abbrev pub IsScheme : Scheme → Type 0
 IsScheme Md5crypt = Unit {0}
 IsScheme (Shacrypt sha rounds) = IsRounds rounds

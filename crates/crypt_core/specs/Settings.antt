@@ -10,7 +10,7 @@ use Rattle.crypt_core.specs.declared.scheme.Scheme.{Scheme}
 use Rattle.crypt_core.specs.declared.scheme.Scheme.TheVariants.{Md5crypt, Shacrypt, Scrypt}
 use Rattle.crypt_core.specs.Methods.{method_row}
 
--- What is kept of a string: the scheme with its cost, and the salt.
+-- What a setting keeps of a string: the scheme with its cost, and the salt.
 pub record SettingValue : Type 0 where
   pub scheme : Scheme
   pub salt : List ℕ
@@ -27,17 +27,17 @@ setting_limit = 384
 abbrev pub dollar : ℕ
 dollar = 36
 
--- BeginsWith text front: the text is the front and a rest.
+-- BeginsWith text front: the text is `front` followed by some rest.
 abbrev pub BeginsWith : List ℕ → List ℕ → Type 0
 BeginsWith text front = (rest : List ℕ) × (text ≡ front ++ rest)
 
--- IsField field rest: the field has no `$`, and the rest, which follows it, is empty or begins with a `$`.
+-- IsField field rest: the field has no `$`, and the rest after it is empty or begins with a `$`.
 abbrev pub IsField : List ℕ → List ℕ → Type 0
 IsField field rest = All (λ b. b ≢ dollar) field × ((rest ≡ []) ⊎ BeginsWith rest (dollar ∷ []))
 
 -- ---- the cost part
 
--- The characters with which SHA-crypt's rounds field begins (Drepper, "Unix crypt using SHA-256 and SHA-512").
+-- The characters with which SHA-crypt's `rounds=` field begins (Drepper, "Unix crypt using SHA-256 and SHA-512").
 abbrev pub rounds_word : List ℕ
 rounds_word = codes "rounds="
 
@@ -50,7 +50,7 @@ IsRoundsNumber (d ∷ ds) = (49 ≤ d) × (d ≤ 57) × All (λ c. (48 ≤ c) ×
 abbrev pub rounds_field : List ℕ → List ℕ
 rounds_field digits = rounds_word ++ (digits ++ dollar ∷ [])
 
--- SpellsRounds rounds part after: this part, if `after` follows it, spells these rounds.
+-- SpellsRounds rounds part after: this part, followed by `after`, spells these rounds.
 --   with a field      the part is the field, and the rounds are its number, clamped
 --   without a field   the part is empty, the rounds are the default, and no `rounds=` follows
 abbrev pub SpellsRounds : Rounds → List ℕ → List ℕ → Type 0
@@ -58,12 +58,12 @@ SpellsRounds rounds part after = MatchBool rounds.is_written
     ((digits : List ℕ) × IsRoundsNumber digits × (part ≡ rounds_field digits) × (rounds.count ≡ clamped (digits_value 10 digits)))
     ((part ≡ []) × (rounds.count ≡ default_rounds) × ¬ BeginsWith after rounds_word)
 
--- scrypt_part cost: one character of log2 N, five of r and five of p. Each number has its lowest six bits first.
+-- scrypt_part cost: one character for log2 N, five for r and five for p. Each number has its lowest six bits first.
 abbrev pub scrypt_part : ScryptParams → List ℕ
 scrypt_part cost = numerals 1 cost.log_n ++ (numerals 5 cost.r ++ numerals 5 cost.p)
 
--- SpellsCost scheme part after: this part, if `after` follows it, spells the cost of the scheme. The characters of
--- scrypt's cost part can express its numbers.
+-- SpellsCost scheme part after: this part, followed by `after`, spells the cost of the scheme. scrypt's numbers fit the
+-- characters of its cost part.
 abbrev pub SpellsCost : Scheme → List ℕ → List ℕ → Type 0
 SpellsCost Md5crypt part after = part ≡ []
 SpellsCost (Shacrypt sha rounds) part after = SpellsRounds rounds part after
@@ -71,24 +71,25 @@ SpellsCost (Scrypt params) part after = (part ≡ scrypt_part params) × (params
 
 -- ---- the whole string
 
--- SpellsScheme text scheme after: the text is the prefix of the scheme's method, the scheme's cost part, and then this.
+-- SpellsScheme text scheme after: the text is the prefix of the scheme's method, the scheme's cost part, and then
+-- `after`.
 abbrev pub SpellsScheme : List ℕ → Scheme → List ℕ → Type 0
 SpellsScheme text scheme after =
     (part : List ℕ) × (text ≡ (method_row (method_of scheme)).prefix ++ (part ++ after)) × SpellsCost scheme part after
 
--- IsScryptSalt salt: it has no more characters than scrypt keeps, and all are of crypt's alphabet.
+-- IsScryptSalt salt: the salt has no more characters than scrypt keeps, all of them in crypt's alphabet.
 abbrev pub IsScryptSalt : List ℕ → Type 0
 IsScryptSalt salt = (length salt ≤ (method_row methods.Scrypt).salt_limit) × All (Contains alphabet) salt
 
--- KeepsSalt scheme field salt: this is the salt that is kept of the field.
---   scrypt      its numbers are accepted, and the whole field is kept, which is a salt of scrypt
+-- KeepsSalt scheme field salt: this is the salt that the scheme keeps of the field.
+--   scrypt      its numbers are accepted, the field is a salt of scrypt, and all of it is kept
 --   otherwise   as many bytes as the method keeps, or the whole field if it has fewer
 abbrev pub KeepsSalt : Scheme → List ℕ → List ℕ → Type 0
 KeepsSalt (Scrypt params) field salt = IsAccepted params × (salt ≡ field) × IsScryptSalt field
 KeepsSalt scheme field salt = salt ≡ take (method_row (method_of scheme)).salt_limit field
 
 -- Spells text kept: the text spells this setting. It has no more bytes than the limit, all of them setting bytes. It
--- begins with the prefix and the cost of the scheme. The field of the salt follows, and then a rest that is ignored.
+-- begins with the prefix and the cost of the scheme, then comes the field of the salt, and then a rest that is ignored.
 pub record Spells (text : List ℕ) (kept : SettingValue) : Type 0 where
   pub short : length text ≤ setting_limit
   pub bytes : All IsSettingByte text
@@ -100,7 +101,8 @@ pub record Spells (text : List ℕ) (kept : SettingValue) : Type 0 where
 
 -- ---- the canonical form
 
--- cost_part scheme: its cost in canonical form. SHA-crypt's rounds appear only if the setting had a `rounds=` field.
+-- cost_part scheme: the cost of the scheme in canonical form. SHA-crypt's rounds appear only if the setting had a
+-- `rounds=` field.
 abbrev pub cost_part : Scheme → List ℕ
 cost_part Md5crypt = []
 cost_part (Shacrypt sha rounds) = if rounds.is_written then rounds_field (decimal rounds.count) else []

@@ -1,4 +1,4 @@
--- The standing of a stored hash, by the scheme of new hashes and a budget, without any password.
+-- The standing of a stored hash, given the scheme of new hashes and a budget, without any password.
 use Rattle.std.specs.Prelude.{◌≡◌, ◌⊎◌, ℕ, ◌<◌, List, Option, Some, None, true, false}
 use Rattle.crypt_core.specs.Passwords.{password_limit}
 use Rattle.crypt_core.specs.Policies.{chosen_budget, policy_limit}
@@ -15,21 +15,23 @@ abbrev pub IsAbove : Option ℕ → ℕ → Type 0
 IsAbove None number = ⊥
 IsAbove (Some budget) number = budget < number
 
--- greatest_cost kept: the cost of hashing a password of the greatest length with this setting.
+-- greatest_cost kept: the cost of hashing the longest password with this setting.
 abbrev pub greatest_cost : SettingValue → ℕ
 greatest_cost kept = cost kept password_limit
 
--- IsOverBudget new budget kept: hashing a password with this setting can cost more than the budget. A budget of 0 stands for an
--- audit's own, if new hashes have the scheme `new`. By that one a hash is also over budget if even the empty password costs more
--- than the limit of the policy, since no login by the policy checks any password against it.
+-- IsOverBudget new budget kept: hashing a password with this setting can cost more than the budget. A budget of 0
+-- stands for the audit's own when new hashes have the scheme `new`. With that one, a hash is also over budget if even
+-- the empty password costs more than the policy's limit, since no login under the policy ever checks a password against
+-- such a hash.
 abbrev pub IsOverBudget : Scheme → ℕ → SettingValue → Type 0
 IsOverBudget new budget kept = (chosen_budget new budget < greatest_cost kept) ⊎ ((budget ≡ 0) × (policy_limit new < cost kept 0))
 
--- HasStanding new budget text kept standing: a stored hash with this text, which spells this setting, has this standing.
+-- HasStanding new budget text kept standing: a stored hash with this text, which spells this setting, has this
+-- standing.
 --   OverBudget  it is over the budget
---   Dead        it is not, and the text is not whole
---   Outdated    it is not, the text is whole, and the scheme `new` of new hashes replaces that of the setting
---   Current     it is not, the text is whole, and the scheme doesn't
+--   Dead        it is within the budget, but the text is not whole
+--   Outdated    it is within the budget and whole, but the scheme `new` of new hashes replaces its scheme
+--   Current     it is within the budget and whole, and `new` doesn't replace its scheme
 abbrev pub HasStanding : Scheme → ℕ → List ℕ → SettingValue → Standing → Type 0
 HasStanding new budget text kept OverBudget = IsOverBudget new budget kept
 HasStanding new budget text kept Dead = (¬ IsOverBudget new budget kept) × (¬ IsWhole text kept)

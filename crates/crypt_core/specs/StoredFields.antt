@@ -14,15 +14,15 @@ pub record IsHashOf (text : List ℕ) (stored : StoredHash) : Type 0 where
   pub is_text : stored.text ≡ text
   pub spells : Spells text stored.setting
 
--- IsLocked field: it begins with `!` or `*`, and no password matches it.
+-- IsLocked field: the field begins with `!` or `*`, so no password matches it.
 abbrev pub IsLocked : List ℕ → Type 0
 IsLocked field = BeginsWith field (codes "!") ⊎ BeginsWith field (codes "*")
 
--- IsStored field: it must be a stored hash, since it is neither empty nor locked.
+-- IsStored field: the field is neither empty nor locked, so it should be a stored hash.
 abbrev pub IsStored : List ℕ → Type 0
 IsStored field = (field ≢ []) × ¬ IsLocked field
 
--- IsWhole text kept: the text is this setting in canonical form, a `$`, and the packed form of some digest, as the hash
--- of every password with the setting is.
+-- IsWhole text kept: the text is this setting in canonical form, a `$`, and the packed form of some digest. The hash of
+-- every password with the setting has this form.
 abbrev pub IsWhole : List ℕ → SettingValue → Type 0
 IsWhole text kept = (packed : List ℕ) × IsPacked (method_of kept.scheme) packed × (text ≡ canonical_text kept ++ dollar ∷ packed)

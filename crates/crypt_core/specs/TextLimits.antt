@@ -1,4 +1,4 @@
--- The longest settings and hashes.
+-- How long settings and hashes can be.
 use Rattle.std.specs.Prelude.{ℕ, ◌+◌, length}
 use Rattle.crypt_core.specs.MethodLimits.{packed_len, prefix, scrypt_salt_limit}
 use Rattle.crypt_core.specs.declared.method.Method.TheVariants as methods
