@@ -1,4 +1,7 @@
--- The digested bytes of a hash are at most its cost, and those of a refusal none.
+-- Serves `digest_of` in src/hash.rt, whose clause `metered` says that the bytes digested are at most the cost.
+-- `bytes_within` shows it scheme by scheme: the cost takes 255 where SHA-crypt's work takes the first byte of the
+-- digest A, which is below 256, and the other schemes have the same bytes in both. `refused_bytes` shows that a hash
+-- that fails for lack of memory has digested nothing.
 use Rattle.std.proofs.Common.{◌≡◌, ◌≤◌, ℕ, List, length, inl, inr, ap, arith}
 use Rattle.prims_core.specs.Digests.{sha256, sha512, length-sha256, length-sha512}
 use Rattle.prims_core.specs.Private.DigestFacts.{sha256_bytes, sha512_bytes}

@@ -1,4 +1,9 @@
--- The canonical text of a setting spells it.
+-- Serves `Setting::text`, whose clauses say that the canonical form of a setting spells that setting and how long it
+-- can be, and `Setting::salt`, `Setting::make` and `hash_by`, which need the same. A setting is spelled by some text,
+-- so its parts are in range; each part of the canonical form is then spelled anew from the prefix, the decimal rounds
+-- or scrypt's numerals, and the salt. The one delicate case is SHA-crypt without a `rounds=` field, where the salt must
+-- not begin with `rounds=`: it is a front of the original field, which doesn't. `canonical_spells_before` adds any tail
+-- that begins with a `$`, as a hash has one.
 use Rattle.crypt_core.specs.TextLimits.{canonical_limit, hash_limit}
 use Rattle.std.proofs.Common.{◌≡◌, ◌≢◌, ℕ, ◌+◌, ◌≤◌, ◌<◌, ◌^◌, Bool, true, false, not, eqb, ◌&&◌, ◌⊎◌, inl, inr, List, [], ◌∷◌, ◌++◌, length, take, drop, get_or, All, length-append, append-nil, refl, sym, ap, subst, ◌∙◌, append_assoc, arith}
 use Rattle.std.specs.Prelude.{Contains, decimal, codes, nat_le}
@@ -26,7 +31,7 @@ use Rattle.crypt_core.proofs.DollarFields.{IsEndOfField, ended_by}
 use Rattle.crypt_core.proofs.DistinctNumerals.{all_scrypt_part, length-scrypt_part}
 use Rattle.crypt_core.proofs.PackingLemmas.{packed_len-small}
 
--- What a setting keeps is bounded
+-- ---- what some text spells is in range
 
 pub in_range : (n : ℕ) → clamped n ≡ n → (min_rounds ≤ n) × (n ≤ max_rounds)
 in_range n e = (omega arith, omega arith)
@@ -47,7 +52,7 @@ salt_bounded : (scheme : Scheme) (field salt : List ℕ) → KeepsSalt scheme fi
 salt_bounded (Scrypt n) field salt k = omega (arith, ap length k.1, k.2.0)
 salt_bounded scheme field salt k = cut (salt_limit (method_of scheme)) field salt k
 
--- what some text spells
+-- IsSetting kept: some text spells this setting.
 abbrev pub IsSetting : SettingValue → Type 0
 IsSetting kept = (text : List ℕ) × Spells text kept
 
@@ -55,9 +60,9 @@ pub setting_bounded : (kept : SettingValue) → IsSetting kept → IsScheme kept
 setting_bounded kept (text, s) =
     (cost_bounded kept.scheme s.scheme.0 (s.field ++ s.rest) s.field kept.salt s.scheme.2 s.salt, salt_bounded kept.scheme s.field kept.salt s.salt)
 
--- Lengths
+-- ---- lengths
 
--- the most bytes of a rounds field: the word, nine digits, and a `$`
+-- The most bytes of a `rounds=` field: the word, nine digits, and a `$`.
 abbrev rounds_field_limit : ℕ
 rounds_field_limit = length rounds_word + 9 + 1
 
@@ -69,7 +74,7 @@ length_rounds : (sha : Sha) (count : ℕ) (flag : Bool) → count ≤ max_rounds
 length_rounds sha count true high = length_written count high
 length_rounds sha count false high = omega arith
 
--- the canonical text stays within its limit, and with a `$` and the packed digest within that of a hash
+-- The canonical form stays within its limit, and with a `$` and the packed digest within the limit of a hash.
 pub canonical_short : (scheme : Scheme) (salt : List ℕ) → IsScheme scheme → length salt ≤ salt_limit (method_of scheme)
     → (3 + (length (cost_part scheme) + length salt) ≤ canonical_limit) × (3 + (length (cost_part scheme) + length salt) + packed_len (method_of scheme) < hash_limit)
 canonical_short Md5crypt salt c l = (omega arith, omega arith)
@@ -82,7 +87,7 @@ pub setting_short : (kept : SettingValue) → IsSetting kept
     → (3 + (length (cost_part kept.scheme) + length kept.salt) ≤ canonical_limit) × (3 + (length (cost_part kept.scheme) + length kept.salt) + packed_len (method_of kept.scheme) < hash_limit)
 setting_short kept is = let bounded = setting_bounded kept is in canonical_short kept.scheme kept.salt bounded.0 bounded.1
 
--- Digits
+-- ---- digits
 
 number_from : (ds : List ℕ) → 0 < length ds → AllDigits 10 ds → 48 < get_or ds 0 0 → IsRoundsNumber ds
 number_from [] some all first = absurd (omega arith)
@@ -108,9 +113,9 @@ pub number_bytes : (ds : List ℕ) → IsRoundsNumber ds → All IsSettingByte d
 number_bytes [] n = absurd n
 number_bytes (d ∷ ds) n = All-cons IsSettingByte d ds (digit_is_byte d (omega (arith, n.0), n.1)) (All-weaker (λ c. (48 ≤ c) × (c ≤ 57)) IsSettingByte digit_is_byte ds n.2)
 
--- Characters
+-- ---- characters of the alphabet
 
--- a test that each character of the alphabet passes
+-- A character of the alphabet passes a test that passes for all of them, which a computation shows.
 character_passes : (p : ℕ → Bool) → list_all p alphabet ≡ true → (c : ℕ) → Contains alphabet c → p c ≡ true
 character_passes p all c h = All-contains (λ x. p x ≡ true) alphabet c (AllPass-from_list_all p alphabet all) h
 
@@ -148,7 +153,7 @@ pub character_is_byte : (c : ℕ) → Contains alphabet c → IsSettingByte c
 unfolding is_byte differs alphabet
 character_is_byte c h = byte_means c (character_passes is_byte refl c h)
 
--- neither `$` nor `=` is a character
+-- Neither `$` nor `=` is in the alphabet.
 pub not_dollar : (c : ℕ) → Contains alphabet c → c ≢ dollar
 unfolding differs alphabet
 not_dollar c h e = differs_means 36 c (character_passes (differs 36) refl c h) (sym e)
@@ -157,7 +162,7 @@ pub not_equals : (c : ℕ) → Contains alphabet c → c ≢ 61
 unfolding differs alphabet
 not_equals c h e = differs_means 61 c (character_passes (differs 61) refl c h) (sym e)
 
--- Bytes of the canonical text
+-- ---- the parts of the canonical form have only setting bytes
 
 pub prefix_bytes : (m : Method) → All IsSettingByte (prefix m)
 unfolding is_byte differs
@@ -184,14 +189,14 @@ all_left xs ys all = subst (All IsSettingByte) (take-append_seam xs ys) (All-tak
 all_right : (xs ys : List ℕ) → All IsSettingByte (xs ++ ys) → All IsSettingByte ys
 all_right xs ys all = subst (All IsSettingByte) (drop-append_seam xs ys) (All-drop IsSettingByte (length xs) (xs ++ ys) all)
 
--- The salt
+-- ---- the salt
 
--- the salt is a front of its field
+-- The salt is a front of its field.
 salt_is_front : (scheme : Scheme) (field salt : List ℕ) → KeepsSalt scheme field salt → salt ≡ take (salt_limit (method_of scheme)) field
 salt_is_front (Scrypt n) field salt k = k.1 ∙ sym (take_all scrypt_salt_limit field k.2.0)
 salt_is_front scheme field salt k = k
 
--- the salt is what is kept of it
+-- A kept salt, taken as a field, is kept whole.
 salt_again : (scheme : Scheme) (field salt : List ℕ) → KeepsSalt scheme field salt → KeepsSalt scheme salt salt
 salt_again (Scrypt n) field salt k = (k.0, refl, subst IsScryptSalt (sym k.1) k.2)
 salt_again scheme field salt k = sym (take_all (salt_limit (method_of scheme)) salt (salt_bounded scheme field salt k))
@@ -202,9 +207,9 @@ salt_is_field scheme field rest salt tail f k end = (
   ended_by tail end,
 )
 
--- The cost part
+-- ---- the cost part
 
--- what the salt begins with, its field does
+-- The field begins with whatever word the salt begins with.
 begins_longer : (n : ℕ) (field rest salt word : List ℕ) → salt ≡ take n field → BeginsWith (salt ++ []) word → BeginsWith (field ++ rest) word
 begins_longer n field rest salt word e (more, begins) = (
   more ++ (drop n field ++ rest),
@@ -212,7 +217,7 @@ begins_longer n field rest salt word e (more, begins) = (
       ∙ append_assoc (word ++ more) (drop n field) rest ∙ append_assoc word more (drop n field ++ rest),
 )
 
--- a word without a `$` stands at the front of a field where it stands at that of the text
+-- If a salt and its tail begin with a word that has no `$`, the salt alone does.
 begins_within : (salt tail word : List ℕ) → AllByRecursion (λ b. b ≢ dollar) word → IsEndOfField tail → BeginsWith (salt ++ tail) word → BeginsWith (salt ++ []) word
 begins_within salt tail [] none end b = (salt ++ [], refl)
 begins_within [] [] (w ∷ word) none end (more, e) = absurd (cc e)
@@ -226,7 +231,7 @@ begins_within (y ∷ salt) tail (w ∷ word) none end (more, e) =
 rounds_word_no_dollar : AllByRecursion (λ b. b ≢ dollar) rounds_word
 rounds_word_no_dollar = (λ e. omega arith, (λ e. omega arith, (λ e. omega arith, (λ e. omega arith, (λ e. omega arith, (λ e. omega arith, (λ e. omega arith, tt)))))))
 
--- rounds are spelled by their own part, if no `rounds=` follows where they have no field
+-- The canonical cost part spells the rounds, provided that no `rounds=` follows where they have no field.
 pub rounds_spelled : (sha : Sha) (count : ℕ) (flag : Bool) (after : List ℕ) → IsRounds (record { count = count; is_written = flag }) → (flag ≡ false → ¬ BeginsWith after rounds_word) → SpellsRounds (record { count = count; is_written = flag }) (cost_part (Shacrypt sha (record { count = count; is_written = flag }))) after
 rounds_spelled sha count true after r free =
     let range = in_range count r.0 in
@@ -246,7 +251,7 @@ cost_again Md5crypt n part field rest salt tail e end s = refl
 cost_again (Shacrypt sha r) n part field rest salt tail e end s = rounds_again sha r.count r.is_written n part field rest salt tail e end s
 cost_again (Scrypt c) n part field rest salt tail e end s = (refl, s.1, s.2, s.3)
 
--- a scheme in range and a salt in its place: the parts of a canonical text, and a tail behind them
+-- Puts the parts together: the canonical form of a scheme in range and its salt, with a tail behind it, spells them.
 pub spelled_parts : (kept : SettingValue) (tail : List ℕ) → IsScheme kept.scheme → length kept.salt ≤ salt_limit (method_of kept.scheme)
     → All IsSettingByte kept.salt → IsField kept.salt tail → SpellsCost kept.scheme (cost_part kept.scheme) (kept.salt ++ tail) → KeepsSalt kept.scheme kept.salt kept.salt
     → All IsSettingByte tail → canonical_limit + length tail ≤ setting_limit → Spells (canonical_text kept ++ tail) kept
@@ -265,7 +270,7 @@ spelled_parts kept tail c l bytes is_field cost keeps tail_bytes short =
       salt = keeps;
     }
 
--- what a text spells, its canonical text spells, whatever stands behind a `$`
+-- The canonical form of what a text spells also spells it, with any tail behind it that begins with a `$`.
 pub canonical_spells_before : (text : List ℕ) (kept : SettingValue) (tail : List ℕ) → Spells text kept → IsEndOfField tail → All IsSettingByte tail → canonical_limit + length tail ≤ setting_limit
     → Spells (canonical_text kept ++ tail) kept
 canonical_spells_before text kept tail s end tail_bytes short =

@@ -1,4 +1,7 @@
--- A hash of a longer password costs no less.
+-- Serves `Scheme::longest_within` in src/policy.rt, whose binary search needs that a hash of a longer password costs no
+-- less. `costs_no_less` goes by induction over the difference of the lengths, so one more byte is the heart. For
+-- SHA-crypt, a length that ends in several binary digits of 1 loses up to ten digests when the carry clears those
+-- digits (`digits_next`), and the rounds add at least 1857 bytes (`rounds_next`), which is more.
 use Rattle.std.proofs.Common.{◌≡◌, ℕ, zero, suc, ◌+◌, ◌-◌, ◌*◌, ◌/◌, ◌%◌, ◌^◌, ◌<◌, ◌≤◌, Bool, true, false, cond, nat_eq, inl, inr, refl, arith}
 use Rattle.std.specs.Int.{div_ceil}
 use Rattle.std.proofs.lemmas.Bool.{cases_lt}
@@ -16,7 +19,7 @@ use Rattle.crypt_core.proofs.CycleLemmas.{digit_bytes-none, digit_bytes-step}
 
 -- ---- the bytes for the binary digits
 
--- an even number and the next one have the same digits but the lowest
+-- An even number and the next one have the same binary digits but the lowest.
 even_next : (one other n half : ℕ) → n % 2 ≡ 0 → n / 2 ≡ half → 0 < n → digit_bytes one other n ≤ digit_bytes one other (n + 1) + other
 even_next one other n half low_is half_is some =
     let this : digit_bytes one other n ≡ other + digit_bytes one other half =
@@ -27,7 +30,7 @@ even_next one other n half low_is half_is some =
     rw (digit_bytes-step one other (n + 1) (omega arith), low_next, half_next) refl in
     omega (arith, this, next)
 
--- after an odd number come the lowest digit 0 and the half's next number
+-- The number after an odd one ends in the digit 0, and its half is the half's successor.
 odd_next : (one other n half more : ℕ) → n % 2 ≡ 1 → n / 2 ≡ half → digit_bytes one other half ≤ digit_bytes one other (half + 1) + more
     → digit_bytes one other n ≤ digit_bytes one other (n + 1) + (one + more)
 odd_next one other n half more low_is half_is rest =
@@ -39,7 +42,8 @@ odd_next one other n half more low_is half_is rest =
     rw (digit_bytes-step one other (n + 1) (omega arith), low_next, half_next) refl in
     omega (arith, this, next, rest)
 
--- of a length of k digits and the next one: the digits of 1 that end the first become one of 0
+-- From a number of k digits to the next one, the pieces lose at most k times `one` bytes and once `other` bytes: the
+-- carry turns the final digits 1 into 0.
 digits_next : (k one other n : ℕ) → n < 2 ^ k → digit_bytes one other n ≤ digit_bytes one other (n + 1) + (k * one + other)
 digits_next k one other zero below = omega (arith, digit_bytes-none one other)
 digits_next zero one other (suc n) below = absurd (omega (arith, below))
@@ -50,7 +54,7 @@ digits_next (suc k) one other (suc n) below =
       | inr odd ↦ omega (arith, odd_next one other (suc n) (suc n / 2) (k * one + other) (omega (arith, odd)) refl rest)
     ]
 
--- with a longer piece for 0 they are no fewer
+-- A longer piece for the digit 0 makes the pieces no shorter.
 digits_wider : (k one other most n : ℕ) → other ≤ most → n < 2 ^ k → digit_bytes one other n ≤ digit_bytes one most n
 digits_wider k one other most zero wide below = omega (arith, digit_bytes-none one other)
 digits_wider zero one other most (suc n) wide below = absurd (omega (arith, below))
@@ -68,7 +72,7 @@ digits_wider (suc k) one other most (suc n) wide below =
     piece true = omega arith
     piece false = wide
 
--- ---- those of the rounds
+-- ---- the bytes of the rounds
 
 rounds_next : (count digest n salt : ℕ) → 1000 ≤ count → rounds_bytes count digest n salt + 1857 ≤ rounds_bytes count digest (n + 1) salt
 rounds_next count digest n salt many =
@@ -109,7 +113,7 @@ after scheme (suc k) n salt is short =
     let more = next scheme (n + k) salt is (omega (arith, short)) in
     rw same (omega (arith, less, more))
 
--- for any two lengths
+-- The cost is monotone in the length of the password.
 pub costs_no_less : (scheme : Scheme) (n most salt : ℕ) → IsScheme scheme → n ≤ most → most ≤ password_limit
     → cost_by scheme n salt ≤ cost_by scheme most salt
 costs_no_less scheme n most salt is less short =

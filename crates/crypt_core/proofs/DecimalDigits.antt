@@ -1,4 +1,6 @@
--- The decimal digits of a number, one by one.
+-- Serves `append_decimal` in src/setting/text.rt, which writes the digits of a number by recursion on its tenth.
+-- `decimal` has one digit for a number below 10, and otherwise the digits of the tenth and then the last one; the
+-- lemmas say this of the length and of the text that has been appended.
 use Rattle.std.proofs.Common.{◌≡◌, ℕ, ◌+◌, ◌/◌, ◌%◌, ◌≤◌, ◌<◌, ◌^◌, List, [], ◌∷◌, ◌++◌, length, length-append, append_assoc, sym, ap, ◌∙◌}
 use Rattle.std.specs.Prelude.{decimal}
 use Rattle.std.proofs.lemmas.Fmt.{decimal_digit, decimal_step}

@@ -1,4 +1,6 @@
--- Numbers are told apart by their numerals.
+-- Shows that scrypt's cost part determines its three numbers (`scrypt_part_unique`) and has only characters of crypt's
+-- alphabet (`all_scrypt_part`). The clauses of `Setting::read` and `Setting::text` need it: a string then spells at
+-- most one setting. The part is cut at fixed places, and `numerals` is injective on numbers that fit.
 use Rattle.std.proofs.Common.{◌≡◌, ℕ, List, ◌++◌, length, length-append, All, Contains, refl, sym, ap, ◌∙◌}
 use Rattle.std.proofs.lemmas.List.Elements.{All-append}
 use Rattle.prims_core.specs.Alphabet.{alphabet, numerals}
@@ -13,7 +15,7 @@ pub length-scrypt_part : (params : ScryptParams) → length (scrypt_part params)
 length-scrypt_part params =
     rw (length-append, length-append, length-numerals, length-numerals, length-numerals) refl
 
--- a cost part says three numbers, and no others
+-- Equal cost parts have equal numbers, and equal rests behind them.
 pub scrypt_part_unique : (a b : ScryptParams) (x y : List ℕ) → HasNumerals a → HasNumerals b → scrypt_part a ++ x ≡ scrypt_part b ++ y → (a ≡ b) × (x ≡ y)
 scrypt_part_unique a b x y fits_a fits_b e =
     let whole = same_front (scrypt_part a) (scrypt_part b) x y (length-scrypt_part a ∙ sym (length-scrypt_part b)) e in

@@ -1,15 +1,17 @@
--- Fields that go up to the next `$`.
+-- Lemmas on fields that end at the next `$`, for the functions of src/setting/read.rt and src/setting/text.rt.
+-- `field_unique` shows by induction over both fields that a text splits into a field and a rest in one way only:
+-- neither field has a `$`, and each rest is empty or begins with one.
 use Rattle.std.proofs.Common.{◌≡◌, ◌≢◌, ◌⊎◌, ℕ, inl, inr, List, [], ◌∷◌, ◌++◌, length, refl, sym, ap, subst, arith}
 use Rattle.std.specs.List.{AllByRecursion}
 use Rattle.std.proofs.lemmas.List.Elements.{recursion_from_All}
 use Rattle.crypt_core.specs.Settings.{dollar, BeginsWith, IsField}
 
--- nothing, or what begins with `$`
+-- The list is empty or begins with `$`.
 abbrev pub IsEndOfField : List ℕ → Type 0
 IsEndOfField [] = Unit {0}
 IsEndOfField (b ∷ rest) = b ≡ dollar
 
--- what follows a field is that
+-- Such a list can follow a field.
 pub ended_by : (rest : List ℕ) → IsEndOfField rest → (rest ≡ []) ⊎ BeginsWith rest (dollar ∷ [])
 ended_by [] end = inl refl
 ended_by (b ∷ rest) end = inr (rest, ap (λ (c : ℕ). c ∷ rest) end)
@@ -19,7 +21,7 @@ end_of [] end = tt
 end_of (b ∷ rest) (inl none) = absurd (cc none)
 end_of (b ∷ rest) (inr begins) = cc (begins.1)
 
--- lists that are joined in two ways, with fronts of one length
+-- If two joined lists are equal and their fronts have the same length, the fronts and the rests are equal.
 pub same_front : (a b x y : List ℕ) → length a ≡ length b → a ++ x ≡ b ++ y → (a ≡ b) × (x ≡ y)
 same_front [] [] x y same e = (refl, e)
 same_front [] (d ∷ b) x y same e = absurd (omega arith)
@@ -40,7 +42,7 @@ same_field (x ∷ f) (y ∷ g) r s hf hg er es e =
     let rest = same_field f g r s hf.1 hg.1 er es tails in
     ((cc (heads, rest.0)), rest.1)
 
--- a list is a field and a rest in one way only
+-- A list splits into a field and a rest in one way only.
 pub field_unique : (f g r s : List ℕ) → IsField f r → IsField g s → f ++ r ≡ g ++ s → (f ≡ g) × (r ≡ s)
 field_unique f g r s a b e =
     same_field f g r s (recursion_from_All _ f a.0) (recursion_from_All _ g b.0) (end_of r a.1) (end_of s b.1) e

@@ -1,4 +1,5 @@
--- A test that each method passes, and what is the same for several methods.
+-- Facts that hold for every method, for `Setting::text`, `salt_of` and `append_packed`. `each_method` lifts a boolean
+-- test that computes to true on the list of methods to any single method; the others use it on the table of methods.
 use Rattle.std.proofs.Common.{◌≡◌, Bool, true, eqb, length, refl}
 use Rattle.std.specs.List.{list_all}
 use Rattle.std.proofs.lemmas.Bool.{and_parts, eqb-true}
@@ -16,11 +17,11 @@ each_method test all Sha256crypt = (and_parts (test Sha256crypt) _ (and_parts (t
 each_method test all Sha512crypt = (and_parts (test Sha512crypt) _ (and_parts (test Sha256crypt) _ (and_parts (test Md5crypt) _ all).1).1).0
 each_method test all Scrypt = (and_parts (test Scrypt) _ (and_parts (test Sha512crypt) _ (and_parts (test Sha256crypt) _ (and_parts (test Md5crypt) _ all).1).1).1).0
 
--- each prefix has three characters
+-- Every prefix has three characters.
 pub length-prefix : (m : Method) → length (prefix m) ≡ 3
 length-prefix m = eqb-true _ _ (each_method (λ n. eqb (length (prefix n)) 3) refl m)
 
--- SHA-crypt keeps as many bytes of salt with either digest
+-- SHA-crypt keeps as many bytes of salt with either digest function.
 pub sha_salt_limit : (sha : Sha) → salt_limit (sha_method sha) ≡ shacrypt_salt_limit
 sha_salt_limit Sha256 = refl
 sha_salt_limit Sha512 = refl

@@ -1,4 +1,8 @@
--- At which stage reading a text fails first.
+-- Shows which error a text gets from `Setting::read`, for its clauses and those of `check_bytes`, `scheme_at`,
+-- `shacrypt_at` and `params_at` in src/setting/read.rt. A refusal is the error of the first stage that fails, so each
+-- lemma `refused_..` combines one failure with the proof that no earlier stage fails. The lemmas `from_..` do that
+-- stage by stage, for what the text has spelled so far: a prefix excludes the other methods, and a cost part that is
+-- spelled excludes the errors on it.
 use Rattle.std.proofs.Common.{◌≡◌, ℕ, ◌≤◌, ◌<◌, Bool, true, false, inl, inr, List, ◌++◌, length, drop, All, refl, sym, ap, subst, ◌∙◌, arith}
 use Rattle.std.proofs.Math.Seq.{drop-append_seam}
 use Rattle.std.proofs.lemmas.List.{append_cancel_left}
@@ -24,30 +28,30 @@ use Rattle.crypt_core.proofs.OneSetting.{prefix_unique, scheme_unique, sha_apart
 use Rattle.crypt_core.proofs.Refusals.{lacks_none}
 use Rattle.crypt_core.proofs.RoundsTexts.{field_parts}
 
--- ---- fronts that are spelled
+-- ---- fronts that spell a scheme
 
--- a prefix and a cost part, and what comes after them
+-- A prefix, a cost part and a rest make a text that spells the scheme.
 pub spelled_front : (text : List ℕ) (scheme : Scheme) (after part rest : List ℕ) → text ≡ prefix (method_of scheme) ++ after → after ≡ part ++ rest → SpellsCost scheme part rest → SpellsScheme text scheme rest
 spelled_front text scheme after part rest begins parts cost =
     (part, begins ∙ ap (λ (x : List ℕ). prefix (method_of scheme) ++ x) parts, cost)
 
--- a prefix and scrypt's numbers
+-- The same for scrypt, from its numbers.
 pub spelled_numbers : (text : List ℕ) (n : ScryptParams) (after rest : List ℕ) → text ≡ prefix methods.Scrypt ++ after → after ≡ scrypt_part n ++ rest → HasNumerals n → SpellsScheme text (Scrypt n) rest
 spelled_numbers text n after rest begins parts numbers =
     spelled_front text (Scrypt n) after (scrypt_part n) rest begins parts (refl, numbers.0, numbers.1, numbers.2)
 
--- what follows the characters of scrypt's numbers
+-- Dropping the 11 characters of the cost part leaves what follows it.
 pub after_numbers : (after rest : List ℕ) (n : ScryptParams) → after ≡ scrypt_part n ++ rest → drop scrypt_part_len after ≡ rest
 after_numbers after rest n parts =
     ap (λ (k : ℕ). drop k after) (sym (length-scrypt_part n)) ∙ ap (λ (t : List ℕ). drop (length (scrypt_part n)) t) parts ∙ drop-append_seam (scrypt_part n) rest
 
--- what is kept of a field, with a cost in range
+-- With a cost in range, the salt that the method keeps is the one that the scheme keeps.
 kept_salt : (scheme : Scheme) (field salt : List ℕ) → IsScheme scheme → KeepsField (method_of scheme) field salt → KeepsSalt scheme field salt
 kept_salt (Scrypt n) field salt c k = (c, k.0, k.1)
 kept_salt (Shacrypt Sha256 r) field salt c k = k
 kept_salt scheme field salt c k = k
 
--- all parts of a text that spells a setting
+-- Puts the parts together: the text spells the setting.
 pub spelled : (text : List ℕ) (scheme : Scheme) (after salt : List ℕ) → IsSettingText text → SpellsScheme text scheme after → IsScheme scheme → SpellsSalt (method_of scheme) after salt → Spells text (record { scheme = scheme; salt = salt })
 spelled text scheme after salt t s c k = record {
   short = t.short;
@@ -61,7 +65,7 @@ spelled text scheme after salt t s c k = record {
 
 -- ---- fronts without a cost
 
--- where rounds are spelled, a proper field stands or no `rounds=` does
+-- If a text spells rounds, it has a well-formed `rounds=` field or doesn't begin with `rounds=`.
 spelled_rounds : (r : Rounds) (part after : List ℕ) → SpellsRounds r part after → LacksRounds (part ++ after) → ⊥
 spelled_rounds r part after s lacks = by r.is_written s
   where
@@ -70,7 +74,7 @@ spelled_rounds r part after s lacks = by r.is_written s
         lacks.2 w.0 after w.1 (append_cancel_left rounds_word _ _ (sym lacks.1 ∙ ap (λ (x : List ℕ). x ++ after) w.2 ∙ field_parts w.0 after))
     by false w = w.2 (lacks.0, sym (ap (λ (x : List ℕ). x ++ after) w.0) ∙ lacks.1)
 
--- so `rounds=` without a proper field is no cost of SHA-crypt
+-- So a text with `rounds=` but no well-formed field has no cost part of SHA-crypt.
 sha_lacks : (text : List ℕ) (sha : Sha) (after : List ℕ) → text ≡ prefix (sha_method sha) ++ after → LacksRounds after → LacksCost (sha_method sha) text
 sha_lacks text sha after e lacks = ((after, e), none)
   where
@@ -80,7 +84,7 @@ sha_lacks text sha after e lacks = ((after, e), none)
     none Md5crypt z m s = (sha_apart sha).0 (sym m)
     none (Scrypt n) z m s = (sha_apart sha).1 (sym m)
 
--- nor are too few characters one of scrypt
+-- And a text with too few characters has no cost part of scrypt.
 scrypt_lacks : (text after : List ℕ) → text ≡ prefix methods.Scrypt ++ after → LacksCharacters after → LacksCost methods.Scrypt text
 scrypt_lacks text after e lacks = ((after, e), none)
   where
@@ -91,7 +95,7 @@ scrypt_lacks text after e lacks = ((after, e), none)
     none Md5crypt z m s = absurd cc
     none (Shacrypt sha r) z m s = (sha_apart sha).1 m
 
--- a text of another method lacks no cost of this one
+-- A text with the prefix of one method can't lack the cost part of another.
 other_method : (text : List ℕ) (a b : Method) (after : List ℕ) → (a ≡ b → ⊥) → text ≡ prefix a ++ after → LacksCost b text → ⊥
 other_method text a b after differ e lacks = differ (prefix_unique a b after lacks.0.0 (sym e ∙ lacks.0.1)).0
 
@@ -105,7 +109,7 @@ pub refused_character : (text : List ℕ) → length text ≤ setting_limit → 
 unfolding IsRefused
 refused_character text short bad = inr (λ b. omega arith, inl (refl, bad))
 
--- a text with none of the four prefixes
+-- A text that begins with none of the four prefixes begins with no method's.
 pub unknown : (text : List ℕ) → ¬ BeginsWith text (prefix methods.Md5crypt) → ¬ BeginsWith text (prefix methods.Sha256crypt) → ¬ BeginsWith text (prefix methods.Sha512crypt) → ¬ BeginsWith text (prefix methods.Scrypt) → (m : Method) → ¬ BeginsWith text (prefix m)
 unknown text not_1 not_5 not_6 not_7 methods.Md5crypt = not_1
 unknown text not_1 not_5 not_6 not_7 methods.Sha256crypt = not_5
@@ -117,7 +121,7 @@ module _ (text : List ℕ) (is_text : IsSettingText text) where
   abbrev FirstFrom : ℕ → SettingFault → Type 0
   FirstFrom stage = IsFirstBroken (drop stage setting_faults) (FailsStage text)
 
-  -- the bytes of a setting text are right
+  -- A setting text passes the stages `TooLong` and `BadCharacter`.
   from_prefix : (fault : SettingFault) → FirstFrom 2 fault → IsRefused text fault
   unfolding IsRefused
   from_prefix fault first = inr (λ long. omega (arith, is_text.short, long), inr (λ bad. bad is_text.bytes, first))
@@ -125,14 +129,14 @@ module _ (text : List ℕ) (is_text : IsSettingText text) where
   pub refused_unknown : ((m : Method) → BeginsWith text (prefix m) → ⊥) → IsRefused text UnknownScheme
   refused_unknown none = from_prefix UnknownScheme (inl (refl, none))
 
-  -- and a prefix tells its method
+  -- A text with a method's prefix passes the stage `UnknownScheme`.
   from_cost : (m : Method) (after : List ℕ) (fault : SettingFault) → text ≡ prefix m ++ after → FirstFrom 3 fault → IsRefused text fault
   from_cost m after fault e first = from_prefix fault (inr (λ none. none m (after, e), first))
 
   pub refused_rounds : (sha : Sha) (after : List ℕ) → text ≡ prefix (sha_method sha) ++ after → LacksRounds after → IsRefused text BadRounds
   refused_rounds sha after e lacks = from_cost (sha_method sha) after BadRounds e (inl (refl, (sha, sha_lacks text sha after e lacks)))
 
-  -- scrypt has no rounds
+  -- A text with scrypt's prefix passes the stage `BadRounds`.
   from_scrypt_cost : (after : List ℕ) (fault : SettingFault) → text ≡ prefix methods.Scrypt ++ after → FirstFrom 4 fault → IsRefused text fault
   from_scrypt_cost after fault e first =
       from_cost methods.Scrypt after fault e (inr (λ b. other_method text methods.Scrypt (sha_method b.0) after (λ same. (sha_apart b.0).1 (sym same)) e b.1, first))
@@ -140,7 +144,7 @@ module _ (text : List ℕ) (is_text : IsSettingText text) where
   pub refused_cost : (after : List ℕ) → text ≡ prefix methods.Scrypt ++ after → LacksCharacters after → IsRefused text BadCost
   refused_cost after e lacks = from_scrypt_cost after BadCost e (inl (refl, scrypt_lacks text after e lacks))
 
-  -- but numbers
+  -- If it spells scrypt's numbers, it passes the stage `BadCost`.
   module _ (n : ScryptParams) (rest : List ℕ) (spelled : SpellsScheme text (Scrypt n) rest) where
     from_range : (fault : SettingFault) → FirstFrom 5 fault → IsRefused text fault
     from_range fault first = from_scrypt_cost (spelled.0 ++ rest) fault spelled.1 (inr (lacks_none text (Scrypt n) rest methods.Scrypt spelled, first))
@@ -148,7 +152,7 @@ module _ (text : List ℕ) (is_text : IsSettingText text) where
     pub refused_range : (IsInRange n → ⊥) → IsRefused text ScryptRange
     refused_range outside = from_range ScryptRange (inl (refl, (n, rest, spelled, outside)))
 
-    -- which are the only ones
+    -- These numbers are the only ones that it spells.
     same_numbers : (m : ScryptParams) (after : List ℕ) → SpellsScheme text (Scrypt m) after → n ≡ m
     same_numbers m after s = let same : Scrypt n ≡ Scrypt m = (scheme_unique text (Scrypt n) (Scrypt m) rest after spelled s).0 in cc
 
@@ -162,7 +166,7 @@ module _ (text : List ℕ) (is_text : IsSettingText text) where
     from_salt accepted fault first =
         from_ceiling accepted.0 fault (inr (λ b. b.3 (subst IsWithinCeiling (same_numbers b.0 b.1 b.2) accepted.1), first))
 
--- a text whose front is spelled, of scrypt, with a salt that isn't taken
+-- A text that spells a scheme of scrypt in range, but has no salt of scrypt, has a bad salt.
 pub refused_salt : (text : List ℕ) (scheme : Scheme) (field rest : List ℕ) → IsSettingText text → SpellsScheme text scheme (field ++ rest) → IsScheme scheme → method_of scheme ≡ methods.Scrypt → IsField field rest → (IsScryptSalt field → ⊥) → IsRefused text BadSalt
 refused_salt text (Scrypt n) field rest t s c m f bad = from_salt text t n (field ++ rest) s c BadSalt (inl (refl, (n, field, rest, s, f, bad)))
 refused_salt text Md5crypt field rest t s c m f bad = absurd cc

@@ -1,4 +1,9 @@
--- Rounds for a longer password: as many longest rounds as the limit has left after the opening.
+-- Serves `Scheme::fitted` in src/policy.rt: the rounds that it picks are within the limit, never more than the
+-- policy's, and if they aren't within it, no rounds are. The pick divides what the limit leaves after the opening by
+-- the longest round. No round has more bytes than that (`rounds_longest`), so that many rounds fit; rounds in range
+-- that cost more than the limit must be more than that many. The last part shows that a policy's own limit always
+-- leaves a scheme: SHA-crypt with 1000 rounds costs less than the least limit, and the other methods hardly depend on
+-- the password.
 use Rattle.std.proofs.Common.{◌≡◌, ℕ, ◌+◌, ◌-◌, ◌*◌, ◌/◌, ◌<◌, ◌≤◌, Bool, true, false, nat_le, if◌then◌else◌, Option, Some, None, inl, inr, refl, arith}
 use Rattle.std.specs.Int.{div_ceil}
 use Rattle.std.specs.Prelude.{IfNone, IfSome, IsSome}
@@ -41,7 +46,7 @@ rounds_longest n digest len salt =
 abbrev fitting : ℕ → ℕ → ℕ → ℕ
 fitting digest limit len = (limit - shacrypt_bytes digest 255 0 len 16) / (digest + 2 * len + 16)
 
--- one of them or fewer cost no more than the limit, if it has as much as the opening
+-- At most `fitting` rounds cost no more than the limit, if the limit covers the opening.
 fitting_within : (digest limit len n : ℕ) → shacrypt_bytes digest 255 0 len 16 ≤ limit → n ≤ fitting digest limit len
     → shacrypt_bytes digest 255 n len 16 ≤ limit
 fitting_within digest limit len n opened few =
@@ -52,7 +57,7 @@ fitting_within digest limit len n opened few =
     let longest = rounds_longest n digest len 16 in
     omega (arith, most, all, longest, opened)
 
--- with one round or more the limit has as much as the opening
+-- If a round fits, the limit covers the opening.
 opened_by : (digest limit len n : ℕ) → n ≤ fitting digest limit len → 0 < n → shacrypt_bytes digest 255 0 len 16 ≤ limit
 opened_by digest limit len n few some = elim (cases_lt limit (shacrypt_bytes digest 255 0 len 16)) [
   | inl less ↦
@@ -62,7 +67,7 @@ opened_by digest limit len n few some = elim (cases_lt limit (shacrypt_bytes dig
   | inr enough ↦ enough
 ]
 
--- so rounds in range cost more than the limit only if they are more than those that fit
+-- So if rounds in range cost more than the limit, the fitting ones are no more than these.
 fewer_fit : (digest limit len count : ℕ) → 1000 ≤ count → limit < shacrypt_bytes digest 255 count len 16
     → clamped (fitting digest limit len) ≤ count
 fewer_fit digest limit len count many above = elim (cases_lt (fitting digest limit len) count) [
@@ -73,7 +78,7 @@ fewer_fit digest limit len count many above = elim (cases_lt (fitting digest lim
       absurd (omega (arith, within, above))
 ]
 
--- if even these cost more, they are the fewest, and all others cost more too
+-- If even the fitting rounds cost more, they are the fewest, so all others cost more too.
 never_fits : (digest limit len count : ℕ) → 1000 ≤ count → limit < shacrypt_bytes digest 255 (clamped (fitting digest limit len)) len 16
     → limit < shacrypt_bytes digest 255 count len 16
 never_fits digest limit len count many above = elim (cases_lt (fitting digest limit len) 1000) [
@@ -90,6 +95,7 @@ never_fits digest limit len count many above = elim (cases_lt (fitting digest li
 
 -- ---- each scheme
 
+-- The fitting rounds never replace the policy's: the policy's scheme isn't outdated by theirs.
 pub fewer_kept : (scheme : Scheme) (limit len : ℕ) → IsScheme scheme → limit < new_cost scheme len
     → IfSome (fewer_rounds scheme limit len) (λ fewer. is_outdated_by scheme fewer ≡ false)
 fewer_kept Md5crypt limit len is above = tt
@@ -111,7 +117,7 @@ fewer_kept (Shacrypt Sha512 rounds) limit len is above =
     go false less = tt
 fewer_kept (Scrypt params) limit len is above = tt
 
--- they are within the limit, and of the same method
+-- The fitting rounds are within the limit, and the method is the same.
 pub fewer_within : (scheme : Scheme) (limit len : ℕ)
     → IfSome (fewer_rounds scheme limit len) (λ fewer. (new_cost fewer len ≤ limit) × (method_of fewer ≡ method_of scheme))
 fewer_within Md5crypt limit len = tt
@@ -125,7 +131,7 @@ fewer_within (Shacrypt sha rounds) limit len =
     go fewer same false test = tt
 fewer_within (Scrypt params) limit len = tt
 
--- without fewer rounds that fit there are none
+-- If the fitting rounds cost more than the limit, every other number of rounds does too.
 none_fits : (scheme : Scheme) (limit len : ℕ) → IsScheme scheme → limit < new_cost scheme len → fewer_rounds scheme limit len ≡ None
     → NeverFits scheme limit len
 none_fits Md5crypt limit len is above none = above
@@ -147,7 +153,7 @@ none_fits (Scrypt params) limit len is above none = above
 
 -- ---- a policy's own limit
 
--- SHA-crypt with the fewest rounds costs less than the floor
+-- SHA-crypt with 1000 rounds costs no more than the least limit of a policy.
 fewest_within : (digest len : ℕ) → digest ≤ 64 → len ≤ 1024 → shacrypt_bytes digest 255 1000 len 16 ≤ limit_floor
 fewest_within digest len small short =
     let digits : digit_bytes digest len len ≤ 11 * 1024 = at_most_k 11 digest len 1024 len (omega (arith, small)) short (omega (arith, short)) in
@@ -160,7 +166,7 @@ floored scheme = grind arith
 abbrev fewest : Rounds
 fewest = record { count = 1000; is_written = true }
 
--- a policy's limit is not below each new hash
+-- A policy's limit leaves some scheme for every password.
 policy_never_above : (scheme : Scheme) (limit len : ℕ) → len ≤ 1024 → policy_limit scheme ≤ limit → NeverFits scheme limit len → ⊥
 policy_never_above Md5crypt limit len short least never =
     let digits : digit_bytes 1 1 len ≤ 11 * 1 = at_most_k 11 1 1 1 len (omega arith) (omega arith) (omega (arith, short)) in
@@ -182,7 +188,7 @@ policy_never_above (Scrypt params) limit len short least never =
     let twice : 2 * new_cost (Scrypt params) 64 ≤ policy_limit (Scrypt params) = grind arith in
     absurd (omega (arith, key, never, least, twice))
 
--- so with it some rounds fit
+-- So with that limit the fitting rounds are within it.
 pub policy_fits : (scheme : Scheme) (limit len : ℕ) → IsScheme scheme → limit < new_cost scheme len → len ≤ 1024 → policy_limit scheme ≤ limit
     → IsSome (fewer_rounds scheme limit len)
 policy_fits scheme limit len is above short least = go (fewer_rounds scheme limit len) refl where
@@ -190,6 +196,7 @@ policy_fits scheme limit len is above short least = go (fewer_rounds scheme limi
   go (Some fewer) e = refl
   go None e = absurd (policy_never_above scheme limit len short least (none_fits scheme limit len is above e))
 
+-- `fewer_rounds` returns none only if no rounds fit.
 pub none_then : (scheme : Scheme) (limit len : ℕ) → IsScheme scheme → limit < new_cost scheme len
     → IfNone (fewer_rounds scheme limit len) (NeverFits scheme limit len)
 none_then scheme limit len is above = go (fewer_rounds scheme limit len) refl where

@@ -1,5 +1,7 @@
--- The number of a group: its characters, highest bits last, and its bytes, highest first. It has as many bytes as its last
--- character leaves.
+-- Serves `is_packed` in src/pack.rt, which decides by the last character whether characters spell a number of k bytes.
+-- `number_of` reads characters as a number in base 64, and `bytes_of` writes a number in base 256. `fits_bytes` joins
+-- the two: the last character holds the highest bits of the number, so k + 1 characters spell a number below 256^k
+-- exactly if that character's value is below 4^k.
 use Rattle.std.proofs.Common.{◌≡◌, ◌↔◌, ℕ, zero, suc, ◌+◌, ◌*◌, ◌/◌, ◌%◌, ◌^◌, ◌<◌, ◌≤◌, inl, inr, List, [], ◌∷◌, ◌++◌, length, get_or, arith, refl, ap, ◌∙◌}
 use Rattle.std.specs.Prelude.{All, Contains, fold, slice_index}
 use Rattle.std.proofs.Math.Nat.{mul-le-mul_left, pow-suc}
@@ -14,7 +16,7 @@ use Rattle.prims_core.proofs.NumeralFacts.{below-more, numerals-more, numerals-n
 
 -- ---- the characters of a number
 
--- characters are the numerals of a number
+-- Characters of the alphabet are the numerals of some number.
 pub number_of : (text : List ℕ) → All (Contains alphabet) text → (n : ℕ) × (n < 64 ^ length text) × (numerals (length text) n ≡ text)
 number_of [] all = (0, omega arith, numerals-none 0)
 number_of (c ∷ text) all =
@@ -26,11 +28,11 @@ number_of (c ∷ text) all =
       rw one (numerals-more (length text) rest.0 found.0 c found.1 found.2) ∙ ap (λ (cs : List ℕ). c ∷ cs) rest.2,
     )
 
--- one factor of a product, taken out of another
+-- Takes one factor out of a product.
 factor_out : (power more base v : ℕ) → more ≡ power * base → more * v ≡ base * (power * v)
 factor_out power more base v is = rw is (grind arith)
 
--- the last numeral is the character of the highest bits
+-- The last numeral is the character of the highest bits.
 highest : (k n : ℕ) → n < 64 ^ (k + 1)
     → (v : ℕ) × (v < 64) × (64 ^ k * v ≤ n) × (n < 64 ^ k * (v + 1)) × (get_or (numerals (k + 1) n) k 0 ≡ character_of v)
 highest zero n small =
@@ -49,7 +51,7 @@ highest (suc k) n small =
       ap (λ (cs : List ℕ). get_or cs (suc k) 0) (numerals-step (suc k + 1) (k + 1) n (omega arith)) ∙ rest.4,
     )
 
--- a number of k + 1 characters is one of k bytes exactly if the value of the last one is below 4 ^ k
+-- A number of k + 1 characters has k bytes exactly if the value of its last character is below 4 ^ k.
 pub fits_bytes : (k n : ℕ) → n < 64 ^ (k + 1)
     → (v : ℕ) × (v < 64) × (n < 256 ^ k ↔ v < 4 ^ k) × (get_or (numerals (k + 1) n) k 0 ≡ character_of v)
 fits_bytes k n small =
@@ -93,7 +95,7 @@ joined-bytes_of (suc k) n small =
     fold-append (λ number byte. number * 256 + byte) 0 (bytes_of k (n / 256)) ((n % 256) ∷ [])
     ∙ ap (λ m. m * 256 + n % 256) (joined-bytes_of k (n / 256) (omega arith)) ∙ omega arith
 
--- an item of bytes is a byte, also beyond their end
+-- Indexing a list of bytes gives a byte, also beyond its end.
 pub byte_in_list : (xs : List ℕ) (i : ℕ) → All (λ b. b < 256) xs → slice_index xs i < 256
 byte_in_list [] i all = omega arith
 byte_in_list (x ∷ xs) zero all = All-head (λ b. b < 256) x xs all

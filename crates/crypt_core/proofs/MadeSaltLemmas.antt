@@ -1,4 +1,5 @@
--- Lemmas on salts made of random numbers.
+-- Lemmas on generated salts, for `salt_of` in src/made_salt.rt and `Setting::salted`: a salt grows by one character at
+-- a time, all characters are in the alphabet, and the method keeps it whole.
 use Rattle.std.proofs.Common.{◌≡◌, ◌≤◌, ℕ, ◌+◌, ◌*◌, ◌/◌, ◌%◌, ◌^◌, List, [], ◌∷◌, ◌++◌, All, arith, length, refl}
 use Rattle.std.specs.List.{range_with_len}
 use Rattle.std.proofs.lemmas.Bool.{leb-true}
@@ -12,11 +13,11 @@ use Rattle.crypt_core.specs.MethodLimits.{made_salt_length, salt_limit}
 use Rattle.crypt_core.specs.declared.method.Method.{Method}
 use Rattle.crypt_core.proofs.EachMethod.{each_method}
 
--- character i of a made salt
+-- Character i of a generated salt.
 abbrev made_character : List ℕ → ℕ → ℕ
 made_character numbers i = character_of (slice_index numbers (i / 10) / 2 ^ (6 * (i % 10)) % 64)
 
--- one character more
+-- A salt of n + 1 characters is one of n and the next character.
 pub made_salt-more : (numbers : List ℕ) (n : ℕ) → made_salt numbers (n + 1) ≡ made_salt numbers n ++ made_character numbers n ∷ []
 unfolding made_salt
 made_salt-more numbers n = map-range_with_len_more (made_character numbers) 0 n n (omega arith)
@@ -29,6 +30,6 @@ pub length-made_salt : (numbers : List ℕ) (n : ℕ) → length (made_salt numb
 unfolding made_salt
 length-made_salt numbers n = length-map-range_with_len (made_character numbers) 0 n
 
--- as many characters as a made salt has, the method keeps
+-- Every method keeps as many characters as its generated salt has.
 pub made_short : (m : Method) → made_salt_length m ≤ salt_limit m
 made_short m = leb-true _ _ (each_method (λ n. nat_le (made_salt_length n) (salt_limit n)) refl m)

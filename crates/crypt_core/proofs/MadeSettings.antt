@@ -1,4 +1,8 @@
--- What a method, rounds and a salt make is a setting.
+-- Serves `Setting::make` and `Setting::salted` in src/setting/make.rt: what they return is a setting, that is, some
+-- text spells it. The text is the canonical form; a salt of alphabet characters cannot begin with `rounds=`, because
+-- `=` is not in the alphabet, and accepted scrypt parameters fit their characters, because their product is at most
+-- 2^23. The last part is about errors: each of the three rules has its error, and a setting is made exactly if no rule
+-- is broken.
 use Rattle.std.proofs.Common.{◌≡◌, ◌≢◌, ℕ, ◌+◌, ◌≤◌, ◌<◌, ◌^◌, ◌*◌, true, false, inl, inr, ◌⊎◌, List, [], ◌++◌, length, get_or, All, append-nil, refl, sym, ap, subst, ◌∙◌, arith}
 use Rattle.std.specs.Prelude.{◌↔◌, Contains, Result, Ok, Err, OnOk, IfErr, IsOk, Option, Some}
 use Rattle.std.proofs.Math.Nat.{le-mul_of_pos_right, lt_of_not-le, mul-le-mul_right, one-le-mul}
@@ -22,16 +26,16 @@ use Rattle.crypt_core.proofs.CanonicalSpells.{character_is_byte, IsSetting, not_
 use Rattle.crypt_core.proofs.DollarFields.{ended_by}
 use Rattle.crypt_core.proofs.FirstBroken.{first_breaks, first_unique}
 
--- The cost part
+-- ---- the cost part
 
--- no salt of characters begins with `rounds=`
+-- No salt of alphabet characters begins with `rounds=`.
 no_rounds : (salt : List ℕ) → All (Contains alphabet) salt → BeginsWith (salt ++ []) rounds_word → ⊥
 no_rounds salt all (more, e) =
     let begins : salt ≡ rounds_word ++ more = sym (append-nil salt) ∙ e in
     let long : 6 < length salt = omega (arith, ap length begins) in
     not_equals (get_or salt 6 0) (All-get_or (Contains alphabet) salt 6 0 long all) (ap (λ (xs : List ℕ). get_or xs 6 0) begins)
 
--- so many characters say the numbers that scrypt takes
+-- The numbers of accepted parameters fit the characters of the cost part.
 pub accepted_numerals : (params : ScryptParams) → IsAccepted params → HasNumerals params
 accepted_numerals params accepted =
     let n = row_count params in
@@ -63,12 +67,12 @@ spelled scheme salt c short all =
           (All-nil IsSettingByte) (omega arith),
     )
 
--- what is kept of a salt that the scheme's method takes
+-- The same for a salt that the method accepts, kept whole.
 pub given : (scheme : Scheme) (kept salt : List ℕ) → IsScheme scheme → TakesSalt (method_of scheme) salt → kept ≡ salt → IsSetting (record { scheme = scheme; salt = kept })
 given scheme kept salt c takes is =
     subst (λ (xs : List ℕ). IsSetting (record { scheme = scheme; salt = xs })) (sym is) (spelled scheme salt c takes.short takes.characters)
 
--- What is made
+-- ---- what is made
 
 pub accepted_at : (rounds : ℕ) → rounds ≤ 11 → IsAccepted (record { log_n = rounds + 7; r = 32; p = 1 })
 accepted_at rounds high =
@@ -80,9 +84,9 @@ pub made_method : (m : Method) (rounds : ℕ) → method_of (made_scheme m round
 made_method methods.Md5crypt rounds = refl
 made_method m rounds = refl
 
--- Refusals
+-- ---- errors
 
--- whatever the rounds, a salt of no character or of too many is refused for its length
+-- An empty or too long salt gives `SaltLength`, whatever the rounds.
 pub make_refused_length : (m : Method) (rounds : ℕ) (salt : List ℕ) → (length salt ≡ 0) ⊎ (salt_limit m < length salt) → IsMakeRefused m rounds (Some salt) SaltLength
 unfolding IsMakeRefused
 make_refused_length m rounds salt bad = inl (refl, bad)
@@ -91,37 +95,38 @@ right_length : (m : Method) (salt : List ℕ) → 0 < length salt → length sal
 right_length m salt some short (inl none) = omega arith
 right_length m salt some short (inr long) = omega (arith, short, long)
 
--- one of the right length is for its characters
+-- A salt of the right length with another character gives `SaltCharacter`.
 pub make_refused_character : (m : Method) (rounds : ℕ) (salt : List ℕ) → 0 < length salt → length salt ≤ salt_limit m → (All (Contains alphabet) salt → ⊥) → IsMakeRefused m rounds (Some salt) SaltCharacter
 unfolding IsMakeRefused
 make_refused_character m rounds salt some short bad = inr (right_length m salt some short, inl (refl, bad))
 
--- where the method takes the salt, the rounds is
+-- If the salt is fine, rounds that the method doesn't accept give `Cost`.
 pub make_refused_cost : (m : Method) (rounds : ℕ) (salt : List ℕ) → TakesSalt m salt → (TakesRounds m rounds → ⊥) → IsMakeRefused m rounds (Some salt) Cost
 unfolding IsMakeRefused
 make_refused_cost m rounds salt h bad = inr (right_length m salt h.some h.short, inr (λ b. b h.characters, inl (refl, bad)))
 
--- a salt and a rounds that the method takes break no rule
+-- A salt and rounds that the method accepts break no rule.
 pub taken : (m : Method) (rounds : ℕ) (salt : List ℕ) → TakesSalt m salt → TakesRounds m rounds → (f : MakeFault) → ¬ BreaksMake m rounds (Some salt) f
 taken m rounds salt h takes SaltLength = right_length m salt h.some h.short
 taken m rounds salt h takes SaltCharacter = λ b. b h.characters
 taken m rounds salt h takes Cost = λ b. b takes
 
--- what is refused breaks a rule
+-- An error means that some rule is broken.
 pub refused_breaks : (m : Method) (rounds : ℕ) (given : Option (List ℕ)) (fault : MakeFault) → IsMakeRefused m rounds given fault → ((f : MakeFault) → ¬ BreaksMake m rounds given f) → ⊥
 unfolding IsMakeRefused
 refused_breaks m rounds given fault refused none = none fault (first_breaks make_faults (BreaksMake m rounds given) fault refused)
 
--- and gets one refusal at most
+-- There is at most one error.
 pub make_refusal_unique : (m : Method) (rounds : ℕ) (given : Option (List ℕ)) (f g : MakeFault) → IsMakeRefused m rounds given f → IsMakeRefused m rounds given g → f ≡ g
 unfolding IsMakeRefused
 make_refusal_unique m rounds given f g rf rg = first_unique make_faults (BreaksMake m rounds given) f g rf rg
 
--- so an answer that is right is the only right one
+-- So a result that satisfies the two clauses determines the error.
 pub only_make_refusal : {T : Type 0} (m : Method) (rounds : ℕ) (given : Option (List ℕ)) (r : Result T MakeFault) → OnOk r ((f : MakeFault) → ¬ BreaksMake m rounds given f) → IfErr r (IsMakeRefused m rounds given) → (fault : MakeFault) → IsMakeRefused m rounds given fault → r ≡ Err fault
 only_make_refusal m rounds given (Ok x) ok err fault refused = absurd (refused_breaks m rounds given fault refused ok)
 only_make_refusal m rounds given (Err f) ok err fault refused = ap (λ (g : MakeFault). Err g) (make_refusal_unique m rounds given f fault err refused)
 
+-- A result is Ok exactly if no rule is broken.
 pub accepted : {T : Type 0} (m : Method) (rounds : ℕ) (given : Option (List ℕ)) (r : Result T MakeFault) → OnOk r ((f : MakeFault) → ¬ BreaksMake m rounds given f) → IfErr r (IsMakeRefused m rounds given) → IsOk r ↔ ((f : MakeFault) → ¬ BreaksMake m rounds given f)
 accepted m rounds given (Ok x) ok err = (λ e. ok, λ none. refl)
 accepted m rounds given (Err f) ok err = (λ e. absurd (cc e), λ none. absurd (refused_breaks m rounds given f err none))

@@ -1,4 +1,6 @@
--- Lemmas on the messages of md5crypt.
+-- Serves `md5crypt` and `opening` in src/md5crypt.rt: which messages the definition digests, how long each is, and the
+-- clause `specified`, that all of them together have the count and the bytes of the closed form. `messages-in_all` adds
+-- the two messages of the opening to the sum over the rounds, which WorkSums gives.
 use Rattle.crypt_core.specs.Passwords.{password_limit}
 use Rattle.std.proofs.Common.{◌≡◌, ℕ, zero, suc, ◌+◌, ◌*◌, List, [], ◌∷◌, ◌++◌, length, take, arith, refl, sym, ap, ◌∙◌}
 use Rattle.std.specs.Prelude.{sum_by}
@@ -24,24 +26,24 @@ pub messages-all : (p s : List ℕ) → messages_to (md5crypt_message p s) (md5c
 unfolding messages_to md5crypt_messages
 messages-all p s = refl
 
--- the message of round i
+-- The message of round i has number i + 2.
 pub message-round : (p s : List ℕ) (i : ℕ)
     → md5crypt_message p s (i + 2) ≡ round_message i (digest_after md5 (md5crypt_opening p s) p s i) p s
 unfolding md5crypt_message
 message-round p s i = let two : i + 2 ≡ suc (suc i) = omega arith in rw two refl
 
--- the digests that the definition speaks of are those of messages
+-- The definition digests these messages.
 pub are_messages : (p s : List ℕ) → AreMd5cryptMessages p s
 unfolding md5crypt_message md5crypt_digest
 are_messages p s = (refl, digest_after-more md5 (md5crypt_opening p s) p s 999 ∙ ap md5 (sym (message-round p s 999)))
 
--- the digest before a round
+-- The digest before a round has 16 bytes.
 length-digest_after : (p s : List ℕ) (i : ℕ) → length (digest_after md5 (md5crypt_opening p s) p s i) ≡ 16
 unfolding digest_after
 length-digest_after p s zero = length-md5 (opening_message p s)
 length-digest_after p s (suc i) = length-md5 (round_message i (digest_after md5 (md5crypt_opening p s) p s i) p s)
 
--- and how many bytes it has
+-- The message of round i has `round_length` bytes.
 pub length-message_round : (p s : List ℕ) (i : ℕ) → length (md5crypt_message p s (i + 2)) ≡ round_length i 16 (length p) (length s)
 length-message_round p s i =
     let before = digest_after md5 (md5crypt_opening p s) p s i in
@@ -49,7 +51,7 @@ length-message_round p s i =
     ∙ (length-round_message i before p s
     ∙ ap (λ x. round_length i x (length p) (length s)) (length-digest_after p s i))
 
--- a byte for each digit of the password's length; an empty password has none, and no first byte
+-- The pieces for the binary digits have one byte each. An empty password has no digits, and no first byte.
 pub length-digits : (p : List ℕ) → length (digit_pieces (0 ∷ []) (take 1 p) (length p)) ≡ digit_bytes 1 1 (length p)
 length-digits [] = refl
 length-digits (x ∷ p) = length-digit_pieces (0 ∷ []) (x ∷ []) (suc (length p))
@@ -68,11 +70,11 @@ length-opening p s =
       length-digits p,
     )
 
--- no less than the bytes of any message
+-- A bound on the bytes of any message.
 abbrev pub message_limit : ℕ
 message_limit = 4 * password_limit
 
--- all messages: how many, and how many bytes
+-- All messages: their count and their bytes.
 pub messages-in_all : (p s : List ℕ) → HaveCountAndSum (md5crypt_messages p s) (md5crypt_rounds + 2) (md5crypt_bytes (length p) (length s))
 messages-in_all p s = rw (← messages-all p s) (record {
   count = length-messages_to (md5crypt_message p s) (md5crypt_rounds + 2);

@@ -1,4 +1,6 @@
--- Lists of messages that are given by their number, the first message, and the message of a round.
+-- Lists of messages given by their number, and the length of a round's message, for `round` in src/messages.rt and the
+-- loops of `md5crypt` and `shacrypt`. A loop appends one message per round, so the lemmas `..-more` give the list and
+-- the digest after one more round; `round_length` is the length of a round's message without its bytes.
 use Rattle.crypt_core.specs.MethodLimits.{shacrypt_salt_limit}
 use Rattle.crypt_core.specs.Passwords.{password_limit}
 use Rattle.std.proofs.Common.{◌≡◌, ℕ, suc, ◌+◌, ◌*◌, ◌%◌, ◌≤◌, Bool, true, false, cond, nat_eq, List, [], ◌∷◌, ◌++◌, length, map, arith, refl}
@@ -8,7 +10,7 @@ use Rattle.std.proofs.lemmas.List.FromFn.{length-map-range_with_len, map-range_w
 use Rattle.crypt_core.proofs.CycleLemmas.{length-cond}
 use Rattle.crypt_core.specs.RoundMessage.{alternate_message, digest_after, round_message}
 
--- the first n messages
+-- The first n messages.
 unfoldable pub messages_to : (ℕ → List ℕ) → ℕ → List (List ℕ)
 messages_to message n = map message (range_with_len 0 n)
 
@@ -23,7 +25,7 @@ length-messages_to message n = length-map-range_with_len message 0 n
 pub length-alternate : (p s : List ℕ) → length (alternate_message p s) ≡ 2 * length p + length s
 length-alternate p s = omega (arith, length-append (p ++ s) p, length-append p s)
 
--- the digest before the rounds, and after one round more
+-- The digest before the rounds, and after one more round.
 pub digest_after-none : (h : List ℕ → List ℕ) (opening p q : List ℕ) → digest_after h opening p q 0 ≡ opening
 unfolding digest_after
 digest_after-none h opening p q = refl
@@ -33,7 +35,7 @@ pub digest_after-more : (h : List ℕ → List ℕ) (opening p q : List ℕ) (i 
 unfolding digest_after
 digest_after-more h opening p q i = let next : i + 1 ≡ suc i = omega arith in rw next refl
 
--- the length of round i's message, by those of what it is made of
+-- The length of round i's message, given the lengths of the digest before and of the two strings.
 abbrev pub round_length : ℕ → ℕ → ℕ → ℕ → ℕ
 round_length i x p q = x + p + cond (nat_eq (i % 3) 0) 0 q + cond (nat_eq (i % 7) 0) 0 p
 
@@ -60,11 +62,11 @@ length-round_message i x p q = go (nat_eq (i % 2) 1) (nat_eq (i % 3) 0) (nat_eq 
         length-cond seventh [] p,
       )
 
--- no less than the bytes of a round's message, with a digest of at most 64
+-- A bound on the bytes of a round's message, for a digest of at most 64 bytes.
 abbrev pub round_limit : ℕ
 round_limit = 64 + 2 * password_limit + shacrypt_salt_limit
 
--- it has the digest and the password once, and may have the salt and the password again
+-- A round's message has the digest and the password once, and may have the salt and the password again.
 pub round_length-small : (i x p q : ℕ) → round_length i x p q ≤ x + 2 * p + q
 round_length-small i x p q =
     omega (arith, skipped (nat_eq (i % 3) 0) q, skipped (nat_eq (i % 7) 0) p) where

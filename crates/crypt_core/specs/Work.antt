@@ -40,7 +40,7 @@ md5crypt_work password_length salt_length = digests_alone (1000 + 2)
 -- shacrypt_work digest_length a rounds password_length salt_length: the work of SHA-crypt, which has four messages and
 -- one for each round. a is the first byte of the digest that Drepper calls A.
 --   first    the password twice and the salt
---   second   as many bytes again, and for each binary digit of the password's length a digest for 1 and the password for 0
+--   second   as many bytes again, and for each binary digit of the password's length a digest (1) or the password (0)
 --   third    the password once for each of its bytes
 --   fourth   the salt 16 + a times
 abbrev pub shacrypt_work : ℕ → ℕ → ℕ → ℕ → ℕ → Work
