@@ -1,4 +1,6 @@
--- A text spells one setting at most.
+-- Shows that a text spells at most one setting, for the clause `one_reading` of `Setting::read` and for `fits`,
+-- `matches` and `is_whole`. The text is read from the front: the second byte of the prefix decides the method, the cost
+-- part is unique given the method, the field of the salt ends at the next `$`, and the method keeps one salt of it.
 use Rattle.std.proofs.Common.{◌≡◌, ◌≢◌, ℕ, List, ◌++◌, get_or, refl, sym, ap, ap₂, ◌∙◌, arith}
 use Rattle.kdf_core.specs.Params.{ScryptParams}
 use Rattle.crypt_core.specs.declared.method.Method.{Method}
@@ -15,7 +17,7 @@ use Rattle.crypt_core.proofs.DollarFields.{field_unique, same_front}
 use Rattle.crypt_core.proofs.DistinctNumerals.{scrypt_part_unique}
 use Rattle.crypt_core.proofs.RoundsTexts.{rounds_unique}
 
--- the second byte of a prefix tells the method
+-- The second byte of a prefix identifies the method.
 marks_differ : (a b : Method) → get_or (prefix a) 1 0 ≡ get_or (prefix b) 1 0 → a ≡ b
 marks_differ methods.Md5crypt methods.Md5crypt e = refl
 marks_differ methods.Sha256crypt methods.Sha256crypt e = refl
@@ -23,19 +25,19 @@ marks_differ methods.Sha512crypt methods.Sha512crypt e = refl
 marks_differ methods.Scrypt methods.Scrypt e = refl
 marks_differ a b e = absurd (omega arith)
 
--- a text has the prefix of one method at most
+-- A text has the prefix of at most one method.
 pub prefix_unique : (a b : Method) (x y : List ℕ) → prefix a ++ x ≡ prefix b ++ y → (a ≡ b) × (x ≡ y)
 prefix_unique a b x y e =
     let same = same_front (prefix a) (prefix b) x y (length-prefix a ∙ sym (length-prefix b)) e in
     (marks_differ a b (ap (λ (t : List ℕ). get_or t 1 0) same.0), same.1)
 
--- each digest has its own method of SHA-crypt
+-- Each digest function has its own method of SHA-crypt.
 sha_unique : (a b : Sha) → sha_method a ≡ sha_method b → a ≡ b
 sha_unique Sha256 Sha256 e = refl
 sha_unique Sha512 Sha512 e = refl
 sha_unique a b e = absurd (cc e)
 
--- which is neither md5crypt nor scrypt
+-- SHA-crypt is neither md5crypt nor scrypt.
 pub sha_apart : (sha : Sha) → (sha_method sha ≢ methods.Md5crypt) × (sha_method sha ≢ methods.Scrypt)
 sha_apart Sha256 = (λ e. absurd (cc e), λ e. absurd (cc e))
 sha_apart Sha512 = (λ e. absurd (cc e), λ e. absurd (cc e))
@@ -54,7 +56,7 @@ cost_unique (Shacrypt sha r) (Scrypt s) p q x y m ca cb e = absurd ((sha_apart s
 cost_unique (Scrypt r) Md5crypt p q x y m ca cb e = absurd (cc m)
 cost_unique (Scrypt r) (Shacrypt sha s) p q x y m ca cb e = absurd ((sha_apart sha).1 (sym m))
 
--- a text begins with one scheme at most
+-- A text begins with at most one scheme.
 pub scheme_unique : (text : List ℕ) (a b : Scheme) (x y : List ℕ) → SpellsScheme text a x → SpellsScheme text b y → (a ≡ b) × (x ≡ y)
 scheme_unique text a b x y sa sb =
     let fronts = prefix_unique (method_of a) (method_of b) (sa.0 ++ x) (sb.0 ++ y) (sym sa.1 ∙ sb.1) in
@@ -67,7 +69,7 @@ salt_unique scheme f s t a b = a ∙ sym b
 abbrev kept_of : Scheme → List ℕ → SettingValue
 kept_of scheme salt = record { scheme = scheme; salt = salt }
 
--- a text spells one setting at most
+-- A text spells at most one setting.
 pub setting_unique : (text : List ℕ) (a b : SettingValue) → Spells text a → Spells text b → a ≡ b
 setting_unique text a b sa sb =
     let fronts = scheme_unique text a.scheme b.scheme (sa.field ++ sa.rest) (sb.field ++ sb.rest) sa.scheme sb.scheme in

@@ -1,5 +1,7 @@
--- The limit of a policy admits a check of the empty password against each hash with the policy's scheme, also with a longer
--- salt than new hashes have.
+-- Serves the clause `admits` of `Scheme::policy_limit` in src/policy.rt: the limit covers a check of the empty password
+-- against every hash with the policy's scheme, also with a longer salt than new hashes have. The empty password costs
+-- no more than one of 64 bytes (`longest_of_64`), and a longer salt at most doubles that, since only scrypt keeps
+-- longer salts than it generates, and it digests the salt only once for each block.
 use Rattle.std.proofs.Common.{ℕ, ◌-◌, ◌*◌, ◌≤◌, arith}
 use Rattle.std.specs.Int.{div_ceil}
 use Rattle.std.proofs.Math.Nat.{mul-le-mul_left}
@@ -12,7 +14,7 @@ use Rattle.crypt_core.specs.declared.scheme.Scheme.TheVariants.{Md5crypt, Shacry
 use Rattle.crypt_core.specs.declared.scheme.Sha.TheVariants.{Sha256, Sha512}
 use Rattle.crypt_core.proofs.WorkBounds.{longest_of_64}
 
--- scrypt's salt counts only in the few bytes of its messages
+-- A longer salt at most doubles the cost; scrypt's counts only in the few bytes of its messages.
 salted : (scheme : Scheme) (salt : ℕ) → salt ≤ salt_limit (method_of scheme) → cost_by scheme 64 salt ≤ 2 * new_cost scheme 64
 salted Md5crypt salt short = omega (arith, short)
 salted (Shacrypt Sha256 rounds) salt short = omega (arith, short, mul-le-mul_left (rounds.count - div_ceil rounds.count 3) short)

@@ -1,5 +1,7 @@
--- Which texts are packed digests: those of the alphabet's characters, with the method's length, whose last character has a
--- value below the method's limit.
+-- Serves `is_packed` in src/pack.rt, which accepts exactly the packed digests of a method: texts of the method's
+-- length, with characters of the alphabet, whose last character has a value below the method's limit. One way,
+-- Unpacking gives bytes for such a text, and `digest_with` puts them at their indices to build a digest. The other way,
+-- the last group has one or two bytes, so the highest bits of its last character are 0.
 use Rattle.std.proofs.Common.{◌≡◌, add-one, ℕ, suc, ◌+◌, ◌-◌, ◌*◌, ◌^◌, ◌<◌, ◌≤◌, Bool, true, List, [], ◌∷◌, ◌++◌, length, get_or, map, eqb, nat_lt, arith, refl, sym, subst, ap, ◌∙◌}
 use Rattle.std.specs.Prelude.{◌&&◌, ◌==◌, All, Contains, fold, if◌then◌else◌, nat_le, slice_index}
 use Rattle.std.specs.List.{list_all, range_with_len}
@@ -23,15 +25,16 @@ use Rattle.crypt_core.proofs.Unpacking.{EndsBelow, order, unpacks, fills, text_l
 
 -- ---- digests
 
+-- index_in places place: where this index first occurs in the list.
 index_in : List ℕ → ℕ → ℕ
 index_in [] place = 0
 index_in (p ∷ ps) place = if p == place then 0 else suc (index_in ps place)
 
--- is_place n places i: place i is one of n, and comes for the first time there
+-- is_place n places i: item i of the list is below n and occurs there for the first time.
 is_place : ℕ → List ℕ → ℕ → Bool
 is_place n places i = eqb (index_in places (get_or places i 0)) i && nat_lt (get_or places i 0) n
 
--- where n places are all of n, there is a digest with these bytes at the places
+-- digest_with n places bytes: the digest that has these bytes at these indices, if they are all of the n indices.
 digest_with : ℕ → List ℕ → List ℕ → List ℕ
 digest_with n places bytes = map (λ i. slice_index bytes (index_in places i)) (range_with_len 0 n)
 
@@ -56,7 +59,7 @@ digest_with_digest n places bytes all = (
   All-map (λ b. b < 256) (λ i. slice_index bytes (index_in places i)) (range_with_len 0 n) (λ k d inside. byte_in_list bytes (index_in places (get_or (range_with_len 0 n) k d)) all),
 )
 
--- such a text is the packed form of a digest
+-- A text that passes the checks is the packed form of some digest.
 pub is_packed_from : (m : Method) (text : List ℕ) → length text ≡ packed_len m → All (Contains alphabet) text
     → (v : ℕ) → v < last_value_limit m → get_or text (length text - 1) 0 ≡ character_of v → IsPacked m text
 unfolding packed fills is_place index_in order text_length EndsBelow
@@ -75,7 +78,7 @@ is_packed_from m text long all v below last =
 
 -- ---- the other way
 
--- bytes after a number below a bound make one below the bound with so many bytes more
+-- Appending k bytes to a number below a bound gives a number below the bound times 256^k.
 joined-below : (digest places : List ℕ) (number bound : ℕ) → All (λ b. b < 256) digest → number < bound
     → fold (λ n place. n * 256 + slice_index digest place) number places < bound * 256 ^ length places
 joined-below digest [] number bound all small = omega arith
@@ -85,6 +88,7 @@ joined-below digest (p ∷ ps) number bound all small =
     let product : bound * 256 * 256 ^ length ps ≡ bound * 256 ^ suc (length ps) = rw power (grind arith) in
     rw product at rest
 
+-- The last character of a packed text has a value below the bound.
 ends_packed : (bound : ℕ) (groups : List (List ℕ)) (digest : List ℕ) → fills bound groups ≡ true → All (λ b. b < 256) digest
     → (0 < length (packed_by groups digest)) × EndsBelow bound (packed_by groups digest)
 unfolding fills EndsBelow
@@ -119,7 +123,7 @@ ends_packed bound (places ∷ next ∷ groups) digest h all =
       ),
     )
 
--- a packed digest has the method's length, the alphabet's characters, and such a last character
+-- A packed digest passes the three checks.
 pub packed-length : (m : Method) (text : List ℕ) → IsPacked m text → length text ≡ packed_len m
 packed-length m text packed = ap length packed.2 ∙ length-packed_text m packed.0
 

@@ -1,4 +1,6 @@
--- Lemmas on numerals and on groups of a digest's bytes.
+-- Serves the loops of `append_packed` and `number_of` in src/pack.rt, and gives the length and the characters of a
+-- packed digest to other proofs. The loop over a table of groups appends one group at a time, so `packed-drop` splits
+-- off the next group and `all_groups` finishes. What holds of every method's table is computed by `each_method`.
 use Rattle.std.proofs.Common.{◌≡◌, ℕ, zero, suc, ◌+◌, ◌^◌, ◌<◌, ◌≤◌, List, [], ◌∷◌, ◌++◌, length, drop, get_or, nat_lt, eqb, arith, refl, sym, ap, ◌∙◌, Bor}
 use Rattle.std.proofs.lemmas.List.Sums.{sum_by-cons}
 use Rattle.std.proofs.lemmas.Bool.{and_parts, eqb-true, leb-true, ltb-true}
@@ -17,18 +19,18 @@ use Rattle.prims_core.proofs.NumeralFacts.{length-numerals}
 use Rattle.crypt_core.proofs.DistinctNumerals.{all_numerals}
 use Rattle.crypt_core.specs.Private.Groups.{groups_in, is_group, AreGroups, IsGroup}
 
--- packed_by groups digest: the text of a digest, packed by these groups.
+-- packed_by groups digest: the packed form of a digest with these groups.
 abbrev pub packed_by : List (List ℕ) → List ℕ → List ℕ
 packed_by groups digest = flat_map (packed_group digest) groups
 
--- a group has one to three places
+-- A group has one to three indices.
 pub group_size : (n : ℕ) (places : List ℕ) → IsGroup n places → (0 < length places) × (length places < 4)
 group_size n places h =
     let some = and_parts (nat_lt 0 (length places)) _ h in
     let few = and_parts (nat_lt (length places) 4) _ some.1 in
     (ltb-true 0 (length places) some.0, ltb-true (length places) 4 few.0)
 
--- each of a table's groups is one
+-- Each group of a table of groups is a group.
 pub group_at : (n : ℕ) (table : List (Bor (List ℕ))) (i : ℕ) (d : Bor (List ℕ)) → i < length table
     → AreGroups n (groups_in table) → IsGroup n (get_or table i d).now
 group_at n [] i d below h = absurd (omega arith)
@@ -36,7 +38,7 @@ group_at n (g ∷ gs) zero d below h = (and_parts (is_group n g.now) (list_all (
 group_at n (g ∷ gs) (suc i) d below h =
     group_at n gs i d (omega arith) (and_parts (is_group n g.now) (list_all (is_group n) (groups_in gs)) h).1
 
--- the text of the groups from i on: that of group i, and of those behind it
+-- The packed form of the groups from i on begins with that of group i.
 pub packed-drop : (digest : List ℕ) (table : List (Bor (List ℕ))) (i : ℕ) (d : Bor (List ℕ)) → i < length table
     → packed_by (groups_in (drop i table)) digest
     ≡ packed_group digest (get_or table i d).now ++ packed_by (groups_in (drop (i + 1) table)) digest
@@ -44,20 +46,20 @@ packed-drop digest table i d below =
     let next : i + 1 ≡ suc i = omega arith in
     rw (next, drop-cons table i d below) refl
 
--- where no group is left, the text has all of them
+-- Once no group is left, the text is complete.
 pub all_groups : (digest : List ℕ) (table : List (Bor (List ℕ))) (i : ℕ) (text whole : List ℕ) → length table ≤ i
     → text ++ packed_by (groups_in (drop i table)) digest ≡ whole → text ≡ whole
 all_groups digest table i text whole done e =
     sym (append-nil text) ∙ ap (λ (rest : List (Bor (List ℕ))). text ++ packed_by (groups_in rest) digest) (sym (drop_all i table done)) ∙ e
 
--- the number of up to two bytes leaves room for one more
+-- A number of up to two bytes can take one more without overflow.
 pub bytes_fit : (k number : ℕ) → k < 3 → number < 256 ^ k → number < 65536
 bytes_fit zero number h below = omega arith
 bytes_fit (suc zero) number h below = omega arith
 bytes_fit (suc (suc zero)) number h below = omega arith
 bytes_fit (suc (suc (suc k))) number h below = absurd (omega arith)
 
--- the text has a character more for each group than the groups have bytes
+-- The text has one character per byte and one more per group.
 length-packed_by : (groups : List (List ℕ)) (digest : List ℕ) → length (packed_by groups digest) ≡ sum_by (λ places. length places + 1) groups
 length-packed_by [] digest = refl
 length-packed_by (places ∷ groups) digest =
@@ -70,7 +72,7 @@ length-packed m digest =
     length-packed_by (groups_of m) digest
     ∙ eqb-true _ _ (each_method (λ n. eqb (sum_by (λ places. length places + 1) (groups_of n)) (packed_len n)) refl m)
 
--- each method's groups are places of its digest
+-- Each method's groups are indices into its digest.
 pub groups_fit : (m : Method) → AreGroups (digest_len m) (groups_of m)
 groups_fit m = each_method (λ n. list_all (is_group (digest_len n)) (groups_of n)) refl m
 
@@ -83,7 +85,7 @@ all_packed_by (places ∷ groups) digest =
     All-append (Contains alphabet) (packed_group digest places) (packed_by groups digest)
     (all_numerals (length places + 1) (group_number digest places)) (all_packed_by groups digest)
 
--- the text of a digest is made of the alphabet's characters
+-- A packed digest has only characters of the alphabet.
 pub all_packed : (method : Method) (digest : List ℕ) → All (Contains alphabet) (packed method digest)
 unfolding packed
 all_packed method digest = all_packed_by (groups_of method) digest

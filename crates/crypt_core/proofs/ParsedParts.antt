@@ -1,4 +1,7 @@
--- What the steps of reading find: a field, a number of rounds, the characters of scrypt's cost part.
+-- Serves the parsing functions in src/setting/read.rt: `field_len`, `number_at`, `capped_number`, `numbers_at` and
+-- `scheme_at`. `field_to` shows that the field ends before the first `$`, and since a text has one such field, digits
+-- that are no number mean that there is none. Capping the number at each digit equals capping it at the end. The
+-- characters of scrypt's cost part are cut at fixed places into three numbers.
 use Rattle.std.proofs.Common.{◌≡◌, ◌≢◌, ℕ, zero, suc, ◌+◌, ◌-◌, ◌*◌, ◌≤◌, ◌<◌, ◌^◌, Bool, true, false, cond, not, eqb, nat_lt, List, [], ◌∷◌, ◌++◌, length, take, drop, get_or, All, Contains, Option, Some, None, refl, sym, ap, subst, ◌∙◌, append_assoc, add-one, arith}
 use Rattle.std.specs.Prelude.{IfNone, min}
 use Rattle.std.specs.List.{position, position_or_len}
@@ -20,16 +23,17 @@ use Rattle.crypt_core.specs.TextLimits.{scrypt_part_len}
 use Rattle.crypt_core.proofs.DollarFields.{IsEndOfField, end_of, ended_by, field_unique}
 use Rattle.crypt_core.proofs.RoundsTexts.{digits_are_field}
 
+-- A fact that holds anyway holds for none.
 pub on_none : {A : Type 0} (r : Option A) (P : Type 0) → P → IfNone r P
 on_none None P h = h
 on_none (Some x) P h = tt
 
--- Fields
+-- ---- fields
 
 abbrev pub is_dollar : ℕ → Bool
 is_dollar b = eqb b dollar
 
--- the first place, or the length where there is none
+-- The first index that passes, or the length if none does.
 first_or_length : (p : ℕ → Bool) (xs : List ℕ) → unwrap_or (position p xs) (length xs) ≡ position_or_len p xs
 first_or_length p xs = by_test (nat_lt (position_or_len p xs) (length xs)) refl
   where
@@ -37,7 +41,7 @@ first_or_length p xs = by_test (nat_lt (position_or_len p xs) (length xs)) refl
     by_test true e = refl
     by_test false e = omega (arith, ltb-false _ _ e, prefix_len-le-length (λ x. not (p x)) xs)
 
--- what stands before the first `$` is a field
+-- A rest that begins at the first `$` can follow a field.
 ended : (xs : List ℕ) (n : ℕ) → (n < length xs → get_or xs n 0 ≡ dollar) → IsEndOfField (drop n xs)
 ended [] n here = subst IsEndOfField (sym (drop-nil n)) tt
 ended (x ∷ xs) zero here = here (omega arith)
@@ -56,15 +60,15 @@ field_to xs n found =
       ),
     )
 
--- Numbers of rounds
+-- ---- numbers of rounds
 
--- the field is the only number there may be
+-- If the field isn't a number, the text lacks one.
 pub only_number : (xs : List ℕ) (n : ℕ) → HasField xs (take n xs) → (IsRoundsNumber (take n xs) → ⊥) → LacksNumber xs
 only_number xs n h not_number other rest number parts =
     let same = field_unique (take n xs) other h.0 (dollar ∷ rest) h.2 (digits_are_field other rest number) (sym h.1 ∙ parts) in
     not_number (subst IsRoundsNumber (sym same.0) number)
 
--- and none where nothing follows it
+-- It also lacks one if nothing follows the field.
 pub no_number : (xs : List ℕ) (n : ℕ) → HasField xs (take n xs) → n ≡ length xs → LacksNumber xs
 no_number xs n h whole other rest number parts =
     let same = field_unique (take n xs) other h.0 (dollar ∷ rest) h.2 (digits_are_field other rest number) (sym h.1 ∙ parts) in
@@ -73,7 +77,7 @@ no_number xs n h whole other rest number parts =
 pub rest_all : (xs : List ℕ) (k : ℕ) → take (length xs - k) (drop k xs) ≡ drop k xs
 rest_all xs k = ap (λ (n : ℕ). take n (drop k xs)) (sym (length-drop k xs)) ∙ take-length (drop k xs)
 
--- a field, its `$`, and what follows that
+-- The text is the field, its `$`, and what follows that.
 pub number_parts : (xs : List ℕ) (n : ℕ) → HasField xs (take n xs) → n < length xs → xs ≡ take n xs ++ (dollar ∷ take (length xs - (n + 1)) (drop (n + 1) xs))
 number_parts xs n h below =
     let rest : h.0 ≡ drop n xs = append_cancel_left (take n xs) h.0 (drop n xs) (sym h.1 ∙ sym (take-append-drop n xs)) in
@@ -88,21 +92,21 @@ digit_range [] i number lt = absurd number
 digit_range (d ∷ ds) zero number lt = (omega (arith, number.0), number.1)
 digit_range (d ∷ ds) (suc i) number lt = number.2 i 0 (omega arith)
 
--- one more digit, capped
+-- One more digit, capped.
 pub capped_more : (ds : List ℕ) (i number digit : ℕ) → i < length ds → IsRoundsNumber ds → digit ≡ get_or ds i 0 → number ≡ min (digits_value 10 (take i ds)) max_rounds → min (number * 10 + (digit - 48)) max_rounds ≡ min (digits_value 10 (take (i + 1) ds)) max_rounds
 capped_more ds i number digit lt is_number is so_far =
     let range = digit_range ds i is_number lt in
     omega (arith, digits_value_more 10 ds i lt, digit_value_digit (get_or ds i 0) range, range, is, so_far)
 
--- The characters of scrypt's cost part
+-- ---- the characters of scrypt's cost part
 
--- a byte outside the alphabet among them
+-- If the first byte is outside the alphabet, the cost part lacks characters.
 pub lacks_first : (after : List ℕ) → (Contains alphabet (get_or after 0 0) → ⊥) → LacksCharacters after
 lacks_first after outside part rest len all parts =
     outside (subst (λ (xs : List ℕ). Contains alphabet (get_or xs 0 0)) (sym parts)
     (rw (get_or_append_left part rest 0 0 (omega arith)) (All-get_or (Contains alphabet) part 0 0 (omega arith) all)))
 
--- five of the characters
+-- So it does if five of its characters aren't there or aren't in the alphabet.
 pub lacks_group : (after : List ℕ) (i : ℕ) → i + 5 ≤ scrypt_part_len → ((length (take 5 (drop i after)) ≡ 5) × All (Contains alphabet) (take 5 (drop i after)) → ⊥) → LacksCharacters after
 lacks_group after i within outside part rest len all parts =
     let group : take 5 (drop i after) ≡ take 5 (drop i part) =
@@ -118,7 +122,7 @@ one_numeral : (v : ℕ) → v < 64 → numerals 1 v ≡ character_of v ∷ []
 unfolding numerals
 one_numeral v below = ap (λ (w : ℕ). character_of w ∷ []) (omega arith)
 
--- the three numbers of the characters
+-- The characters spell three numbers.
 pub numbers_parts : (after : List ℕ) (v r p : ℕ) → scrypt_part_len ≤ length after → v < 64 → character_of v ≡ get_or after 0 0 → r < 2 ^ 30 → numerals 5 r ≡ take 5 (drop 1 after) → p < 2 ^ 30 → numerals 5 p ≡ take 5 (drop 6 after) → (rest : List ℕ) × (after ≡ scrypt_part (scrypt_params v r p) ++ rest) × HasNumerals (scrypt_params v r p)
 numbers_parts [] v r p long vs v_is rs r_is ps p_is = absurd (omega arith)
 numbers_parts (x ∷ xs) v r p long vs v_is rs r_is ps p_is =

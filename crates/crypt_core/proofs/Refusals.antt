@@ -1,4 +1,7 @@
--- What a text spells gets no refusal, and a text gets one refusal at most.
+-- Serves the clauses `each_setting`, `each_refusal` and `one_reading` of `Setting::read` and `StoredField::read`: a
+-- text has at most one reading. It spells at most one setting (OneSetting) and has at most one first error
+-- (FirstBroken). It never has both, since what it spells passes every stage: a failing stage would give a second
+-- scheme, field or parameters, and the text has only one of each.
 use Rattle.std.proofs.Common.{◌≡◌, ℕ, List, ◌++◌, sym, ap, subst, ◌∙◌, arith}
 use Rattle.std.specs.Prelude.{Result, Ok, Err, IfOk, IfErr}
 use Rattle.kdf_core.specs.Params.{ScryptParams, IsAccepted}
@@ -16,19 +19,19 @@ use Rattle.crypt_core.proofs.DollarFields.{field_unique}
 use Rattle.crypt_core.proofs.OneSetting.{prefix_unique, scheme_unique, setting_unique}
 use Rattle.crypt_core.proofs.FirstBroken.{first_breaks, first_unique}
 
--- a text whose front is spelled lacks no cost
+-- A text that spells a scheme doesn't lack a cost part.
 pub lacks_none : (text : List ℕ) (scheme : Scheme) (after : List ℕ) (m : Method) → SpellsScheme text scheme after → LacksCost m text → ⊥
 lacks_none text scheme after m s lacks =
     let same = prefix_unique (method_of scheme) m (s.0 ++ after) lacks.0.0 (sym s.1 ∙ lacks.0.1) in
     lacks.1 scheme after same.0 s
 
--- what is kept of a text of scrypt: its numbers are accepted, and its salt is one
+-- If scrypt's salt is kept, its numbers are accepted and its field is a salt of scrypt.
 scrypt_kept : (scheme : Scheme) (n : ScryptParams) (field salt : List ℕ) → scheme ≡ Scrypt n → KeepsSalt scheme field salt → IsAccepted n × IsScryptSalt field
 scrypt_kept (Scrypt m) n field salt e k = let same : m ≡ n = cc in (subst IsAccepted same k.0, k.2)
 scrypt_kept Md5crypt n field salt e k = absurd cc
 scrypt_kept (Shacrypt sha r) n field salt e k = absurd cc
 
--- reading what a text spells fails at no stage
+-- A text that spells a setting passes every stage.
 pub spelled_fails_none : (text : List ℕ) (kept : SettingValue) → Spells text kept → (fault : SettingFault) → FailsStage text fault → ⊥
 spelled_fails_none text kept s TooLong b = omega (arith, s.short)
 spelled_fails_none text kept s BadCharacter b = b s.bytes
@@ -46,12 +49,12 @@ spelled_fails_none text kept s BadSalt b =
     let fields = field_unique s.field b.1 s.rest b.2 s.is_field b.4 same.1 in
     b.5 (subst IsScryptSalt fields.0 (scrypt_kept kept.scheme b.0 s.field kept.salt same.0 s.salt).1)
 
--- so it gets no refusal
+-- So it has no error.
 pub spelled_not_refused : (text : List ℕ) (kept : SettingValue) → Spells text kept → (fault : SettingFault) → IsRefused text fault → ⊥
 unfolding IsRefused
 spelled_not_refused text kept s fault refused = spelled_fails_none text kept s fault (first_breaks setting_faults (FailsStage text) fault refused)
 
--- so it is read as one of these at most
+-- So a text has at most one reading.
 pub one_reading : (text : List ℕ) → IsReadOneWay text
 unfolding IsReadOneWay IsRefused
 one_reading text (Ok kept) (Ok other) spelled s = ap (λ (k : SettingValue). Ok k) (setting_unique text kept other spelled s)
@@ -59,12 +62,12 @@ one_reading text (Ok kept) (Err fault) spelled refused = absurd (spelled_not_ref
 one_reading text (Err fault) (Ok kept) refused spelled = absurd (spelled_not_refused text kept spelled fault refused)
 one_reading text (Err fault) (Err other) refused r = ap (λ (f : SettingFault). Err f) (first_unique setting_faults (FailsStage text) fault other refused r)
 
--- an answer that is right
+-- A result that satisfies the two clauses is a reading.
 reading_is : (text : List ℕ) (r : Result SettingValue SettingFault) → IfOk r (Spells text) → IfErr r (IsRefused text) → IsReading text r
 reading_is text (Ok kept) spelled refused = spelled
 reading_is text (Err fault) spelled refused = refused
 
--- is the only right one
+-- So it is the only one.
 pub only_setting : (text : List ℕ) (r : Result SettingValue SettingFault) → IfOk r (Spells text) → IfErr r (IsRefused text) → (kept : SettingValue) → Spells text kept → r ≡ Ok kept
 unfolding IsReadOneWay
 only_setting text r spelled refused kept s = one_reading text r (Ok kept) (reading_is text r spelled refused) s

@@ -1,4 +1,7 @@
--- The rounds of SHA-crypt's texts.
+-- Shows how a text spells the rounds of SHA-crypt, for `number_at` and `shacrypt_at` in src/setting/read.rt, and that
+-- it spells them in one way only (`rounds_unique`), for `Setting::read`. Two `rounds=` fields have the same digits,
+-- because digits end at the `$`; a field and no field exclude each other, because without a field no `rounds=` may
+-- follow.
 use Rattle.std.proofs.Common.{◌≡◌, ◌≢◌, ℕ, ◌≤◌, Bool, true, false, List, [], ◌∷◌, ◌++◌, refl, sym, ap, subst, ◌∙◌, append_assoc, arith}
 use Rattle.std.specs.Prelude.{min}
 use Rattle.std.specs.Str.Parse.{digits_value}
@@ -9,7 +12,7 @@ use Rattle.crypt_core.specs.Rounds.{max_rounds}
 use Rattle.crypt_core.specs.Settings.{dollar, IsField, rounds_word, rounds_field, IsRoundsNumber, SpellsRounds}
 use Rattle.crypt_core.proofs.DollarFields.{ended_by, field_unique}
 
--- the digits of a proper field go up to its `$`
+-- The digits of a number before a `$` are a field.
 pub digits_are_field : (digits rest : List ℕ) → IsRoundsNumber digits → IsField digits (dollar ∷ rest)
 digits_are_field [] rest number = absurd number
 digits_are_field (d ∷ ds) rest number = (
@@ -17,7 +20,7 @@ digits_are_field (d ∷ ds) rest number = (
   ended_by (dollar ∷ rest) refl,
 )
 
--- what follows the word `rounds=` in a text with a field
+-- The `rounds=` field, with what follows it, is the word followed by the digits, the `$` and the rest.
 pub field_parts : (digits rest : List ℕ) → rounds_field digits ++ rest ≡ rounds_word ++ (digits ++ (dollar ∷ rest))
 field_parts digits rest = rw (append_assoc, append_assoc) refl
 
@@ -44,7 +47,7 @@ rounds_by m n false false p q x y a b e =
 abbrev rounds_of : ℕ → Bool → Rounds
 rounds_of n f = record { count = n; is_written = f }
 
--- what follows a prefix spells rounds in one way only
+-- What follows a prefix spells rounds in one way only.
 pub rounds_unique : (a b : Rounds) (p q x y : List ℕ) → SpellsRounds a p x → SpellsRounds b q y → p ++ x ≡ q ++ y → (a ≡ b) × (x ≡ y)
 rounds_unique a b p q x y ra rb e =
     let all = rounds_by a.count b.count a.is_written b.is_written p q x y ra rb e in
@@ -55,7 +58,7 @@ rounds_unique a b p q x y ra rb e =
 clamped_min : (n : ℕ) → clamped (min n max_rounds) ≡ clamped n
 clamped_min n = omega arith
 
--- a proper field, with its number
+-- A well-formed `rounds=` field spells the rounds of its number, clamped.
 pub written_rounds : (after field digits rest : List ℕ) (number : ℕ) (r : Rounds) → after ≡ rounds_word ++ field → IsRoundsNumber digits → field ≡ digits ++ (dollar ∷ rest) → number ≡ min (digits_value 10 digits) max_rounds → r ≡ record { count = clamped number; is_written = true } → (part : List ℕ) × (after ≡ part ++ rest) × SpellsRounds r part rest
 written_rounds after field digits rest number r begins is_number parts is made = (
   rounds_field digits,

@@ -1,4 +1,7 @@
--- Lemmas on the messages of SHA-crypt.
+-- Serves `shacrypt` and `opening` in src/shacrypt.rt and `shacrypt_bound` in src/work.rt: which messages the
+-- specification digests, how long each is, and that all of them have the count and the bytes of the closed form. The
+-- digest function is any h whose digests all have the same length, so SHA-256 and SHA-512 share the proofs.
+-- `messages-in_all` adds the four messages before the rounds to the sum over the rounds, which WorkSums gives.
 use Rattle.crypt_core.specs.MethodLimits.{shacrypt_salt_limit}
 use Rattle.crypt_core.specs.Passwords.{password_limit}
 use Rattle.std.proofs.Common.{◌≡◌, ℕ, zero, suc, ◌+◌, ◌*◌, ◌≤◌, ◌<◌, List, [], ◌∷◌, ◌++◌, length, arith, refl, sym, ap, ◌∙◌, ◌-◌}
@@ -15,13 +18,13 @@ use Rattle.crypt_core.proofs.CycleLemmas.{digit_bytes-few, length-cycle, length-
 use Rattle.crypt_core.proofs.MessageLists.{digest_after-more, length-messages_to, length-round_message, length-alternate, messages_to, round_length}
 use Rattle.crypt_core.proofs.WorkSums.{rounds_sum}
 
--- the message of round i is number i + 4
+-- The message of round i has number i + 4.
 pub message-number : (h : List ℕ → List ℕ) (p s : List ℕ) (i : ℕ)
     → shacrypt_message h p s (i + 4) ≡ sha_round_message h p s i (sha_digest_before h p s i)
 unfolding shacrypt_message
 message-number h p s i = let number : i + 4 ≡ suc (suc (suc (suc i))) = omega arith in rw number refl
 
--- what the rounds give is the digest of the last round's message
+-- The digest after the last round is that of the last message.
 last_digest : (h : List ℕ → List ℕ) (p s : List ℕ) (i : ℕ) → shacrypt_digest h p s (i + 1) ≡ h (shacrypt_message h p s (i + 4))
 unfolding shacrypt_digest
 last_digest h p s i =
@@ -34,7 +37,7 @@ digest_of_last h p s rounds some =
     let number : rounds - 1 + 4 ≡ rounds + 3 = omega (arith, some) in
     ap (λ (n : ℕ). shacrypt_digest h p s n) one_more ∙ (last_digest h p s (rounds - 1) ∙ ap (λ (n : ℕ). h (shacrypt_message h p s n)) number)
 
--- the digests that the definition speaks of are those of messages
+-- The definition digests these messages.
 pub are_messages : (h : List ℕ → List ℕ) (p s : List ℕ) (rounds : ℕ) → 1 ≤ rounds → AreShacryptMessages h p s rounds
 unfolding shacrypt_message
 are_messages h p s rounds some = (refl, refl, refl, digest_of_last h p s rounds some)
@@ -49,6 +52,7 @@ pub messages-all : (h : List ℕ → List ℕ) (p s : List ℕ) (rounds : ℕ)
 unfolding messages_to shacrypt_messages
 messages-all h p s rounds = refl
 
+-- The message of a round with equal arguments is equal.
 pub round_is : (h : List ℕ → List ℕ) (p s : List ℕ) (i : ℕ) (x q r : List ℕ)
     → x ≡ sha_digest_before h p s i → q ≡ password_string h p → r ≡ salt_string h p s
     → round_message i x q r ≡ sha_round_message h p s i (sha_digest_before h p s i)
@@ -72,13 +76,13 @@ length-sha_opening h p s =
       length-digit_pieces b p (length p),
     )
 
--- no less than the bytes of the four messages before the rounds
+-- A bound on the bytes of the four messages before the rounds.
 abbrev pub start_limit : ℕ
 start_limit = 4 * (password_limit * password_limit)
 
--- where each digest has so many bytes
+-- For a digest function whose digests all have `digest` bytes.
 module _ (h : List ℕ → List ℕ) (digest : ℕ) (length-digest : (m : List ℕ) → length (h m) ≡ digest) (p s : List ℕ) where
-  -- the four messages before the rounds stay within the limit
+  -- The four messages before the rounds stay within the bound.
   pub start_bytes : (times : ℕ) → digest ≤ 64 → length p ≤ password_limit → length s ≤ shacrypt_salt_limit → times ≤ 16 + greatest_byte
       → length (alternate_message p s) + length (sha_opening_message h p s) + length p * length p + times * length s ≤ start_limit
   start_bytes times small short salt_short few =
@@ -92,7 +96,7 @@ module _ (h : List ℕ → List ℕ) (digest : ℕ) (length-digest : (m : List �
         mul-le-mul_right (length s) few,
       )
 
-  -- A has a first byte
+  -- The first byte of A is a byte.
   pub sha_opening_byte-below : 1 ≤ digest → ((m : List ℕ) → All (λ b. b < 256) (h m)) → sha_opening_byte h p s < 256
   sha_opening_byte-below some bytes =
       bytes (sha_opening_message h p s) 0 0 (omega (arith, length-digest (sha_opening_message h p s), some))
@@ -109,7 +113,7 @@ module _ (h : List ℕ → List ℕ) (digest : ℕ) (length-digest : (m : List �
       let salt = length-cycle (h (salt_repeated h p s)) (length s) in
       rw (message-number h p s i, whole, length-digest_before i, password, salt) refl
 
-  -- all messages: how many, and how many bytes
+  -- All messages: their count and their bytes.
   pub messages-in_all : (rounds : ℕ)
       → HaveCountAndSum (shacrypt_messages h p s rounds) (rounds + 4) (shacrypt_bytes digest (sha_opening_byte h p s) rounds (length p) (length s))
   messages-in_all rounds = rw (← messages-all h p s rounds) (record {

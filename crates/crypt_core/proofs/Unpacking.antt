@@ -1,4 +1,7 @@
--- The bytes of a packed text: each text of the right length and characters is packed from some, group by group.
+-- Serves `is_packed` in src/pack.rt: finds the bytes from which a text of the right length and characters was packed.
+-- It goes by induction over the groups: three bytes are four characters, any characters will do, and only the last
+-- group, of one or two bytes, needs the bound on the text's last character. `Unpacks` holds the bytes in the order of
+-- the groups; PackedTexts puts them at their indices.
 use Rattle.std.proofs.Common.{◌≡◌, ℕ, ◌+◌, ◌-◌, ◌*◌, ◌^◌, ◌<◌, ◌≤◌, Bool, true, false, List, [], ◌∷◌, ◌++◌, length, take, drop, get_or, map, eqb, arith, sym, subst, ap, ◌∙◌}
 use Rattle.std.specs.Prelude.{◌&&◌, All, Contains, flat_map, nat_le, slice_index, sum_by}
 use Rattle.std.proofs.lemmas.Bool.{and_parts, eqb-true, leb-true}
@@ -17,17 +20,18 @@ use Rattle.crypt_core.proofs.GroupNumbers.{number_of, fits_bytes, bytes_of, join
 unfoldable pub EndsBelow : ℕ → List ℕ → Type 0
 EndsBelow bound text = (v : ℕ) × (v < bound) × (get_or text (length text - 1) 0 ≡ character_of v)
 
--- order groups: the places of all groups, one after another
+-- order groups: the indices of all groups, one after another.
 unfoldable pub order : List (List ℕ) → List ℕ
 order groups = flat_map (λ (places : List ℕ). places) groups
 
--- Unpacks groups text: each digest that has these bytes at the places of the groups is packed as the text
+-- Unpacks groups text: every digest that has these bytes at the indices of the groups is packed as the text.
 pub record Unpacks (groups : List (List ℕ)) (text : List ℕ) : Type 0 where
   pub bytes : List ℕ
   pub are_bytes : All (λ b. b < 256) bytes
   pub count : length bytes ≡ length (order groups)
   pub packs : (digest : List ℕ) → map (slice_index digest) (order groups) ≡ bytes → packed_by groups digest ≡ text
 
+-- The bytes of a text that is one group.
 unpacks_one : (places text : List ℕ) → length text ≡ length places + 1 → All (Contains alphabet) text → EndsBelow (4 ^ length places) text
     → 4 ^ length places ≤ 64 → Unpacks (places ∷ []) text
 unfolding EndsBelow order joined
@@ -53,6 +57,7 @@ unpacks_one places text long all ends few =
           append-nil (packed_group digest places) ∙ ap (numerals (k + 1)) value ∙ numeral;
     }
 
+-- The bytes of a first group and of the others.
 unpacks_more : (places : List ℕ) (groups : List (List ℕ)) (front text : List ℕ) → Unpacks (places ∷ []) front → Unpacks groups text
     → Unpacks (places ∷ groups) (front ++ text)
 unfolding order
@@ -70,13 +75,14 @@ unpacks_more places groups front text one more = record {
       rw rest (ap (λ (cs : List ℕ). cs ++ text) (sym (append-nil (packed_group digest places)) ∙ here));
 }
 
--- fills bound groups: all groups have three places, except for the last one, which leaves values below this bound to its
--- last character
+-- fills bound groups: every group has three indices, except for the last one, whose last character then has a value
+-- below this bound.
 unfoldable pub fills : ℕ → List (List ℕ) → Bool
 fills bound [] = false
 fills bound (places ∷ []) = eqb (4 ^ length places) bound && nat_le bound 64
 fills bound (places ∷ next ∷ groups) = eqb (length places) 3 && fills bound (next ∷ groups)
 
+-- text_length groups: the number of characters of the packed form.
 unfoldable pub text_length : List (List ℕ) → ℕ
 text_length groups = sum_by (λ places. length places + 1) groups
 

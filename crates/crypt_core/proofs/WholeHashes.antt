@@ -1,4 +1,7 @@
--- The digests of passwords are digests of their methods, so a hash is whole.
+-- Serves `StoredHash::is_whole` in src/stored.rt, whose clause `dead` says that no password matches a hash that isn't
+-- whole. A hash that matches is the canonical form of its setting, a `$` and a packed digest; what remains is that
+-- every scheme's digest has the method's length and consists of bytes. For md5crypt and SHA-crypt it is a digest of the
+-- last message, and for scrypt one block of PBKDF2.
 use Rattle.std.proofs.Common.{◌≡◌, ◌≢◌, ◌∷◌, append_assoc, ℕ, zero, suc, List, [], ◌++◌, refl, sym, subst, ap, ◌∙◌, arith}
 use Rattle.std.specs.Prelude.{◌↔◌, Bool, IsTrue, take}
 use Rattle.std.proofs.lemmas.List.{append-nil, take_all}
@@ -24,7 +27,7 @@ use Rattle.crypt_core.specs.declared.scheme.Sha.TheVariants.{Sha256, Sha512}
 use Rattle.crypt_core.proofs.DollarFields.{same_front}
 use Rattle.crypt_core.proofs.OneSetting.{setting_unique}
 
--- what holds of each digest holds of the last one
+-- What holds of every digest holds of the digest after the rounds.
 last_digest : (P : List ℕ → Type 0) (h : List ℕ → List ℕ) → ((message : List ℕ) → P (h message))
     → (opening p q : List ℕ) (n : ℕ) → P opening → P (digest_after h opening p q n)
 unfolding digest_after
@@ -38,7 +41,7 @@ is_tag : (key text : List ℕ) → IsDigest methods.Scrypt (hmac_sha256 key text
 unfolding hmac_sha256
 is_tag key text = is_sha256 _
 
--- scrypt's digest is one block of PBKDF2, which is one tag
+-- scrypt's digest is one block of PBKDF2, which is a single HMAC tag.
 is_block : (password salt : List ℕ) → IsDigest methods.Scrypt (pbkdf2_sha256 password salt 1 32)
 unfolding pbkdf2_sha256 block chain
 is_block password salt =
@@ -58,7 +61,7 @@ is_digest (Shacrypt Sha512 rounds) password salt =
     last_digest (IsDigest methods.Sha512crypt) _ each _ _ _ rounds.count (each _)
 is_digest (Scrypt cost) password salt = is_block password _
 
--- what a password fits is whole
+-- A stored hash that some password matches is whole.
 pub fits_whole : (password text : List ℕ) (kept : SettingValue) → Spells text kept → Fits password text → IsWhole text kept
 unfolding crypt
 fits_whole password text kept spelled fits =
@@ -66,12 +69,12 @@ fits_whole password text kept spelled fits =
     let digest = digest_by kept.scheme password kept.salt in
     (packed (method_of kept.scheme) digest, (digest, is_digest kept.scheme password kept.salt, refl), sym same)
 
--- so a stored hash that is not whole fits no password
+-- So no password matches a stored hash that is not whole.
 pub unwhole_fits_none : (whole : Bool) (text : List ℕ) (kept : SettingValue) → Spells text kept → IsTrue whole ↔ IsWhole text kept
     → ¬ IsTrue whole → (password : List ℕ) → ¬ Fits password text
 unwhole_fits_none whole text kept spelled is lacks password fits = lacks (is.1 (fits_whole password text kept spelled fits))
 
--- a text is whole exactly if what follows its setting is packed
+-- A text that begins with its canonical setting and a `$` is whole exactly if the rest is packed.
 pub whole_if_packed : (text front rest : List ℕ) (kept : SettingValue) (packs : Bool) → front ≡ canonical_text kept ++ dollar ∷ []
     → text ≡ front ++ rest → IsTrue packs ↔ IsPacked (method_of kept.scheme) rest → IsTrue packs ↔ IsWhole text kept
 whole_if_packed text front rest kept packs is cut decides =
@@ -84,7 +87,7 @@ whole_if_packed text front rest kept packs is cut decides =
           decides.1 (subst (IsPacked (method_of kept.scheme)) (sym same) found.1),
     )
 
--- and none if its setting does not come first
+-- Otherwise it is not whole.
 pub unwhole : (text front : List ℕ) (kept : SettingValue) → front ≡ canonical_text kept ++ dollar ∷ []
     → ((rest : List ℕ) → text ≢ front ++ rest) → ¬ IsWhole text kept
 unwhole text front kept is lacks found =

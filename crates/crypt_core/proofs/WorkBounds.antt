@@ -1,5 +1,8 @@
--- Lemmas on the bound of the work of a hash, and on its cost: a password of the greatest length costs at least as much as
--- any other.
+-- Bounds on the work and the cost of a hash. `shacrypt-within` and `scrypt-small` serve the bounds of src/work.rt,
+-- `longest_of_64` serves `Scheme::policy_limit`, and `longest` serves the audits of run_core: the longest password, or
+-- one of 64 bytes, costs at least as much as any shorter one. Shorter passwords have shorter messages, except for the
+-- pieces for the binary digits of the length. There it matters that 1024 and 64 are powers of two: such a length has
+-- one digit more than any smaller one.
 use Rattle.std.proofs.Common.{ℕ, zero, suc, ◌+◌, ◌-◌, ◌*◌, ◌/◌, ◌%◌, ◌^◌, ◌<◌, ◌≤◌, Bool, true, false, cond, nat_eq, length, inl, inr, arith, ◌≡◌, refl}
 use Rattle.std.specs.Int.{div_ceil}
 use Rattle.std.proofs.lemmas.Bool.{cases_order}
@@ -19,14 +22,14 @@ use Rattle.crypt_core.proofs.CycleLemmas.{digit_bytes-step}
 
 -- ---- the work
 
--- any first byte repeats the salt at most as often as the greatest byte does
+-- No first byte repeats the salt more often than the greatest byte does.
 pub shacrypt-within : (digest a rounds password salt : ℕ) → a < 256
     → IsWithin (shacrypt_work digest a rounds password salt) (shacrypt_work digest greatest_byte rounds password salt)
 shacrypt-within digest a rounds password salt byte =
     let times : (16 + a) * salt ≤ (16 + greatest_byte) * salt = mul-le-mul_right salt (omega arith) in
     record { digests = omega arith; bytes = omega arith; mixes = omega arith; table = omega arith; scratch = omega arith }
 
--- each count of a hash by scrypt is below the limit
+-- Each count of a hash with scrypt is below the limit.
 pub scrypt-small : (params : ScryptParams) (a password salt : ℕ) → IsBounded params → password ≤ password_limit → salt ≤ scrypt_salt_limit
     → IsBelow (work_by (Scrypt params) a password salt) work_limit
 scrypt-small params a password salt most password_short salt_short =
@@ -35,9 +38,9 @@ scrypt-small params a password salt most password_short salt_short =
     let salted : params.r * params.p * salt ≤ 2 ^ 22 * scrypt_salt_limit = mul-le-mul most.parts salt_short in
     record { digests = omega arith; bytes = omega arith; mixes = omega arith; table = omega arith; scratch = omega arith }
 
--- ---- the digested bytes: those for the binary digits of the length
+-- ---- the bytes for the binary digits of the length
 
--- a number below 2 ^ k has at most k digits
+-- A number below 2 ^ k has at most k digits.
 pub at_most_k : (k one other most n : ℕ) → one ≤ most → other ≤ most → n < 2 ^ k → digit_bytes one other n ≤ k * most
 at_most_k k one other most zero small too below = omega arith
 at_most_k zero one other most (suc n) small too below = absurd (omega (arith, below))
@@ -49,14 +52,14 @@ at_most_k (suc k) one other most (suc n) small too below =
     piece true = small
     piece false = too
 
--- IsPower k most: the length `most` is 2 ^ k, whose first digit is its only 1.
+-- IsPower k most: the length `most` is 2 ^ k, so its highest binary digit is its only 1.
 record IsPower (k most : ℕ) : Type 0 where
   power : most ≡ 2 ^ k
   digits : (one : ℕ) → digit_bytes one most most ≡ one + k * most
   single : digit_bytes 1 1 most ≡ k + 1
   wide : 64 ≤ most
 
--- it has one digit more than any smaller length
+-- Such a length has one digit more than any smaller one.
 digits_longest : (k most one n : ℕ) → IsPower k most → one ≤ most → n ≤ most → digit_bytes one n n ≤ digit_bytes one most most
 digits_longest k most one n is small short = elim (cases_order n most) [
   | inl same ↦ rw same (omega arith)
@@ -75,7 +78,7 @@ single_longest k most n is short = elim (cases_order n most) [
   ]
 ]
 
--- ---- those of the rounds
+-- ---- the bytes of the rounds
 
 rounds_longest : (count digest n most salt : ℕ) → n ≤ most → rounds_bytes count digest n salt ≤ rounds_bytes count digest most salt
 rounds_longest count digest n most salt short =
@@ -98,7 +101,7 @@ pub longest : (kept : SettingValue) (n : ℕ) → n ≤ password_limit → cost 
 longest kept n short = by_scheme 10 password_limit kept.scheme n (length kept.salt)
     (record { power = refl; digits = λ one. omega arith; single = omega arith; wide = omega arith }) short
 
--- no shorter password than one of 64 bytes costs more
+-- A password of 64 bytes costs at least as much as any shorter one.
 pub longest_of_64 : (scheme : Scheme) (n salt : ℕ) → n ≤ 64 → cost_by scheme n salt ≤ cost_by scheme 64 salt
 longest_of_64 scheme n salt short = by_scheme 6 64 scheme n salt
     (record { power = refl; digits = λ one. omega arith; single = omega arith; wide = omega arith }) short

@@ -1,4 +1,6 @@
--- How many bytes the messages of all rounds have.
+-- Sums the bytes of the messages of all rounds, for the clause `specified` of `md5crypt` and `shacrypt`. `rounds_sum`
+-- goes by induction over the rounds. Every third round omits the salt and every seventh the second password, so the
+-- step needs that `div_ceil n d` counts the numbers below n that d divides.
 use Rattle.std.proofs.Common.{◌≡◌, ℕ, zero, suc, ◌+◌, ◌-◌, ◌*◌, ◌/◌, ◌%◌, ◌<◌, ◌≤◌, Bool, true, false, cond, nat_eq, List, length, arith, add-one, sym, ◌∙◌, inl, inr}
 use Rattle.std.specs.Int.{div_ceil}
 use Rattle.std.specs.Prelude.{sum_by, min, ◌⊎◌}
@@ -10,7 +12,7 @@ use Rattle.std.proofs.Math.Nat.{div-le_self, mod-le}
 use Rattle.crypt_core.specs.Work.{rounds_bytes}
 use Rattle.crypt_core.proofs.MessageLists.{messages-more, messages_to, round_length}
 
--- rounded up, the quotient of a number's successor is one more than the number's, rounded down
+-- Dividing n + 1 by d and rounding up gives one more than dividing n by d and rounding down.
 div_ceil-suc : (n d : ℕ) → 0 < d → div_ceil (n + 1) d ≡ n / d + 1
 div_ceil-suc n d some = go (n / d) (n % d) (sym (div-add-mod' n d)) (mod_below n d some) (cases_lt (n % d + 1) d) where
   go : (q r : ℕ) → n ≡ q * d + r → r < d → (r + 1 < d) ⊎ (d ≤ r + 1) → div_ceil (n + 1) d ≡ q + 1
@@ -21,7 +23,7 @@ div_ceil-suc n d some = go (n / d) (n % d) (sym (div-add-mod' n d)) (mod_below n
       let next : n + 1 ≡ (q + 1) * d + 0 = omega arith in
       rw (next, div-mul-add (q + 1) d 0 some, mod-mul-add (q + 1) d 0 some) (omega arith)
 
--- of the numbers below n those that d divides are as many as n / d, rounded up
+-- `div_ceil n d` counts the numbers below n that d divides: it grows exactly at those.
 div_ceil-more : (n d : ℕ) → 0 < d → div_ceil (n + 1) d ≡ div_ceil n d + cond (nat_eq (n % d) 0) 1 0
 div_ceil-more n d some = div_ceil-suc n d some ∙ sym (go (n / d) (n % d)) where
   go : (q r : ℕ) → q + min 1 r + cond (nat_eq r 0) 1 0 ≡ q + 1
@@ -32,7 +34,7 @@ div_ceil-small : (n d : ℕ) → 0 < d → div_ceil n d ≤ n
 div_ceil-small zero d some = omega (arith, div-le_self 0 d, mod-le 0 d)
 div_ceil-small (suc n) d some = rw (← add-one n, div_ceil-suc n d some) (omega (arith, div-le_self n d))
 
--- where each round has w bytes but those that d divides: what round n adds
+-- If every round except those that d divides has w bytes: what round n adds.
 kept-more : (n d w : ℕ) → 0 < d
     → (n + 1 - div_ceil (n + 1) d) * w ≡ (n - div_ceil n d) * w + cond (nat_eq (n % d) 0) 0 w
 kept-more n d w some = go (nat_eq (n % d) 0) (div_ceil-more n d some) where
@@ -45,11 +47,11 @@ kept-more n d w some = go (nat_eq (n % d) 0) (div_ceil-more n d some) where
       let one : n + 1 - (div_ceil n d + 0) ≡ n - div_ceil n d + 1 = omega (arith, div_ceil-small n d some) in
       rw (e, one) (omega arith)
 
--- all that round n adds
+-- What round n adds in all.
 rounds_bytes-more : (n x p q : ℕ) → rounds_bytes (n + 1) x p q ≡ rounds_bytes n x p q + round_length n x p q
 rounds_bytes-more n x p q = omega (arith, kept-more n 3 q (omega arith), kept-more n 7 p (omega arith))
 
--- the bytes of the messages before the rounds, and of n rounds
+-- The bytes of the messages before the rounds, and of n rounds.
 pub rounds_sum : (message : ℕ → List ℕ) (before x p q : ℕ) → ((i : ℕ) → length (message (i + before)) ≡ round_length i x p q)
     → (n : ℕ) → sum_by length (messages_to message (n + before)) ≡ sum_by length (messages_to message before) + rounds_bytes n x p q
 rounds_sum message before x p q each zero =
