@@ -1,3 +1,5 @@
+-- The clause `below` of `fits`: the work of every setting that the stored hash spells is below the limit. A stored hash
+-- with an error spells no setting, and one that was compared spells only the setting whose work `matches` has bounded.
 use Rattle.crypt_core.proofs.OneSetting.{setting_unique}
 use Rattle.crypt_core.proofs.Refusals.{spelled_not_refused}
 use Rattle.crypt_core.proofs.fits.fits.Goals as goal

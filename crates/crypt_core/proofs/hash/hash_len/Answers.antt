@@ -1,3 +1,5 @@
+-- The clause `each` of `hash_len`: the sum of the three lengths is the length of `crypt` for every password
+-- (HashedTexts).
 use Rattle.crypt_core.proofs.HashedTexts.{length-crypt}
 use Rattle.crypt_core.proofs.hash.hash_len.Goals as goal
 

@@ -1,3 +1,4 @@
+-- The two nested loops of `md5crypt` run through the same rounds, so both keep `IsAfter` for the number of rounds done.
 use Rattle.crypt_core.proofs.Md5cryptLemmas.{message_limit}
 use Rattle.std.proofs.Common.{◌≡◌, ℕ, List, ◌+◌, ◌*◌, ◌≤◌, length}
 use Rattle.prims_core.specs.Digests.{md5}
@@ -9,7 +10,8 @@ use Rattle.crypt_core.proofs.CountSums.{with_digests}
 use Rattle.crypt_core.proofs.MessageLists.{messages_to}
 use Rattle.crypt_core.proofs.md5crypt.md5crypt.Given as goal
 
--- after this many rounds: the digest of the last one, and the messages so far in the meter
+-- IsAfter password salt before digest meter rounds: after so many rounds, this is the digest of the last one, and the
+-- meter has counted the messages so far on top of `before`.
 abbrev IsAfter : List ℕ → List ℕ → Work → List ℕ → Work → ℕ → Type 0
 IsAfter password salt before digest meter rounds =
     (digest ≡ digest_after md5 (md5crypt_opening password salt) password salt rounds)

@@ -1,3 +1,5 @@
+-- The clause `count` of `opening` in src/md5crypt.rt, and that feeding the last piece overflows no count. The five
+-- pieces are added up one by one (CountSums), and their lengths sum to that of `opening_message`.
 use Rattle.std.proofs.Common.{◌≡◌, ℕ, List, [], ◌∷◌, length, take, arith, refl, ◌∙◌, ap}
 use Rattle.std.proofs.lemmas.List.{take_min}
 use Rattle.std.proofs.Math.Nat.{min_comm}
@@ -11,7 +13,7 @@ use Rattle.crypt_core.proofs.MessageLists.{length-alternate}
 use Rattle.crypt_core.proofs.CountSums.{bytes_more, digest_counted}
 use Rattle.crypt_core.proofs.md5crypt.opening.Goals as goal
 
--- the first byte of the password, as the code takes it
+-- The code's `min` takes the first byte of the password, or nothing of an empty one.
 first_taken : (p : List ℕ) (n : ℕ) → n ≡ min (length p) 1 → take n p ≡ take 1 p
 first_taken p n is = rw (is, min_comm (length p) 1) (take_min 1 p)
 

@@ -1,3 +1,5 @@
+-- The loop of `cycle_of` appends byte i mod length of the digest, as `cycle` defines it, and never exceeds the
+-- capacity.
 use Rattle.std.proofs.Common.{◌∙◌, length, arith, sym, ap, [], ◌++◌, ◌∷◌, get_or, ◌%◌}
 use Rattle.crypt_core.proofs.CycleLemmas.{cycle-more, cycle-none, length-cycle}
 use Rattle.crypt_core.proofs.messages.cycle_of.Goals as goal

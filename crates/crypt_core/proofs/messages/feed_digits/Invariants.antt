@@ -1,3 +1,4 @@
+-- The loop of `feed_digits` halves the number until it is 0.
 use Rattle.std.proofs.Common.{◌≡◌, ℕ, ◌+◌, List, ◌++◌, length}
 use Rattle.crypt_core.specs.Cycle.{digit_pieces}
 use Rattle.crypt_core.proofs.messages.feed_digits.Given as goal
@@ -5,7 +6,8 @@ use Rattle.crypt_core.proofs.messages.feed_digits.Given as goal
 abbrev pub decreases-digits : goal.decreases-digits
 decreases-digits g l = l.rest
 
--- bytes were fed which the pieces of the digits left make those of all
+-- There are bytes `fed` that have been fed and counted; with the pieces of the digits that are left, they are the
+-- pieces of the whole number.
 abbrev pub invariant-digits : goal.invariant-digits
 invariant-digits g l =
     (fed : List ℕ)

@@ -1,8 +1,8 @@
+-- The loop of `feed_repeated`: as many copies as there were turns have been fed and counted.
 use Rattle.std.proofs.Common.{◌≡◌, ℕ, ◌+◌, ◌*◌, List, ◌++◌, length}
 use Rattle.std.specs.List.{repeat}
 use Rattle.crypt_core.proofs.messages.feed_repeated.Given as goal
 
--- the turns so far
 abbrev pub invariant-turns : goal.invariant-turns
 invariant-turns g l =
     ((m : List ℕ) → g.C.Counted.holds l.fn.running m → g.C.Counted.holds l.running (m ++ repeat l.counter l.piece))

@@ -1,3 +1,5 @@
+-- The two feeds of `round` don't overflow the count of bytes: the pieces together are the round's message, whose length
+-- the precondition `bytes_room` bounds.
 use Rattle.std.proofs.Common.{◌≡◌, ◌+◌, ◌*◌, ◌≤◌, ◌++◌, List, ℕ, length, arith, ap}
 use Rattle.std.proofs.lemmas.List.{length-append}
 use Rattle.crypt_core.specs.RoundMessage.{round_message}
@@ -5,7 +7,7 @@ use Rattle.crypt_core.specs.Private.Messages.{Strings}
 use Rattle.crypt_core.proofs.MessageLists.{length-round_message, round_length-small}
 use Rattle.crypt_core.proofs.messages.round.Goals as goal
 
--- two pieces of a round's message have no more bytes than all that it may be made of
+-- The two pieces of a round's message have no more bytes than a digest, two passwords and a salt.
 pieces-small : (i : ℕ) (x : List ℕ) (strings : Strings) (first second : List ℕ)
     → first ++ second ≡ round_message i x strings.password strings.salt
     → length first + length second ≤ length x + 2 * length strings.password + length strings.salt

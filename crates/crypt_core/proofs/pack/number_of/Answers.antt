@@ -1,3 +1,5 @@
+-- No step of `number_of` overflows 32 bits: a group has at most three places, and the number so far has a byte for each
+-- place so far.
 use Rattle.std.proofs.Common.{arith, get_or}
 use Rattle.crypt_core.proofs.PackingLemmas.{bytes_fit, group_size}
 use Rattle.crypt_core.proofs.pack.number_of.Goals as goal

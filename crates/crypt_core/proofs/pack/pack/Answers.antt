@@ -1,3 +1,4 @@
+-- The buffer of `pack` has room for every method's packed digest.
 use Rattle.std.proofs.Common.{arith, ap, length}
 use Rattle.crypt_core.proofs.PackingLemmas.{packed_len-small}
 use Rattle.crypt_core.proofs.pack.pack.Goals as goal

@@ -1,3 +1,5 @@
+-- The loop of `same_bytes` keeps its invariant for one more byte, and after the last one its result is that of `==`
+-- (SameBytes).
 use Rattle.std.proofs.Common.{◌≡◌, length, arith}
 use Rattle.crypt_core.proofs.SameBytes.{finished, front_more}
 use Rattle.crypt_core.proofs.same.same_bytes.Goals as goal

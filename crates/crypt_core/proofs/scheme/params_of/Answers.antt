@@ -1,3 +1,4 @@
+-- The `unwrap` of `params_of` can't fail: the parameters for up to 11 rounds are accepted (MadeSettings).
 use Rattle.crypt_core.proofs.MadeSettings.{accepted_at}
 use Rattle.crypt_core.proofs.scheme.params_of.Goals as goal
 

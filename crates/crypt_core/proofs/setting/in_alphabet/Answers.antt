@@ -1,3 +1,4 @@
+-- The loop of `in_alphabet` stops at the first byte outside the alphabet, and otherwise has seen that all are in it.
 use Rattle.std.specs.Prelude.{Contains}
 use Rattle.prims_core.specs.Alphabet.{alphabet}
 use Rattle.std.proofs.Common.{All, refl, subst, length, ◌≤◌, arith}

@@ -1,3 +1,7 @@
+-- The clauses of `shacrypt`. The rounds keep three facts (Invariants): the digest is that of the specification, the
+-- meter has counted the messages so far, and their bytes are bounded so that no count overflows. `rounds-init` shows
+-- them after the four messages before the rounds and `rounds-preserved` after each round. At the end ShaCryptLemmas
+-- turns the counted messages into the closed form of the work.
 use Rattle.crypt_core.specs.Work.{greatest_byte}
 use Rattle.crypt_core.specs.Passwords.{password_limit}
 use Rattle.std.proofs.Common.{◌≡◌, ℕ, List, ◌+◌, ◌≤◌, length, drop, get_or, arith, refl, sym, ◌∙◌, ap}
@@ -13,6 +17,7 @@ use Rattle.crypt_core.proofs.CountSums.{digests_in_all, digests_more, four_diges
 use Rattle.crypt_core.proofs.ShaCryptLemmas.{are_messages, sha_opening_byte-below, length-message_round, message-number, messages-all, messages-four, messages-in_all, round_is, start_bytes}
 use Rattle.crypt_core.proofs.shacrypt.shacrypt.Goals as goal
 
+-- Digesting the password as often as it has bytes overflows no count.
 pub string_of-password_string-requires-clause-bytes_room : goal.string_of-password_string-requires-clause-bytes_room
 string_of-password_string-requires-clause-bytes_room g c =
     let h = g.H.Counted.digest in
@@ -21,6 +26,7 @@ string_of-password_string-requires-clause-bytes_room g c =
     let short : length p ≤ password_limit = omega (arith, ap length c.bytes-password.ensures.value, c.bytes-password.ensures.password.0) in
     omega (arith, ap (λ m. m.bytes) c.opening-digest.ensures.count, start_bytes h g.H.Counted.LEN g.met.H.Counted.length_digest p s 0 g.met.H.Counted.at_most_64 short c.requires.salt (omega arith), c.requires.room.1)
 
+-- Nor does digesting the salt 16 + A[0] times, where A[0] is a byte.
 pub string_of-salt_string-requires-clause-bytes_room : goal.string_of-salt_string-requires-clause-bytes_room
 string_of-salt_string-requires-clause-bytes_room g c =
     let h = g.H.Counted.digest in
@@ -39,6 +45,7 @@ string_of-salt_string-requires-clause-bytes_room g c =
       c.requires.room.1,
     )
 
+-- P and S have the lengths of the password and the salt, so the buffer for the joined strings has room.
 pub new-strings-requires : goal.new-strings-requires
 new-strings-requires g c =
     let h = g.H.Counted.digest in
@@ -57,6 +64,8 @@ new-strings-requires g c =
       c.requires.salt,
     )
 
+-- After the four messages before the rounds: the digest, its length, the counted messages, and the bound on their
+-- bytes.
 pub rounds-init : goal.rounds-init
 rounds-init g c =
     let h = g.H.Counted.digest in
@@ -123,10 +132,12 @@ pub returns-clause-specified : goal.returns-clause-specified
 returns-clause-specified g c =
     messages-in_all g.H.Counted.digest g.H.Counted.LEN g.met.H.Counted.length_digest c.args.password.now c.args.salt.now c.args.rounds
 
--- a digest that replaces one of the same length
+-- Writing a digest over one of the same length replaces all of it.
 replaced : (old new : List ℕ) → length new ≡ length old → refill (length old) old new ≡ new
 replaced old new same = take_at new (drop (length new) old) (length old) same
 
+-- After one more round, the same four facts. `same` says that the code's message, with its strings for P and S, is that
+-- of the specification.
 pub rounds-preserved : goal.rounds-preserved
 rounds-preserved g c =
     let h = g.H.Counted.digest in

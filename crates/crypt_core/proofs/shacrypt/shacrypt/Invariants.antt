@@ -1,3 +1,5 @@
+-- The loop of `shacrypt`: the digest is that before round i, and the meter has counted the messages so far, whose bytes
+-- are bounded.
 use Rattle.std.proofs.Common.{◌≡◌, ◌+◌, ◌*◌, ◌≤◌, length}
 use Rattle.crypt_core.specs.Messages.{sha_digest_before, shacrypt_message}
 use Rattle.crypt_core.proofs.CountSums.{with_digests}
@@ -5,7 +7,6 @@ use Rattle.crypt_core.proofs.MessageLists.{messages_to, round_limit}
 use Rattle.crypt_core.proofs.ShaCryptLemmas.{start_limit}
 use Rattle.crypt_core.proofs.shacrypt.shacrypt.Given as goal
 
--- the digest of the round before, and the messages so far in the meter
 abbrev pub invariant-rounds : goal.invariant-rounds
 invariant-rounds g l =
     (l.digest.items ≡ sha_digest_before g.H.Counted.digest l.password l.salt l.i)

@@ -1,3 +1,5 @@
+-- The clause `below` of `scrypt_bound`: each count is below the limit for accepted parameters and lengths in range
+-- (WorkBounds).
 use Rattle.crypt_core.proofs.WorkBounds.{scrypt-small}
 use Rattle.crypt_core.proofs.work.scrypt_bound.Goals as goal
 

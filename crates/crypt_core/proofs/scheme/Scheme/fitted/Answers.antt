@@ -1,3 +1,5 @@
+-- The clauses of `Scheme::fitted` for the case that the policy's own scheme costs more than the limit. All of them are
+-- statements on `fewer_rounds`, which FittedRounds shows.
 use Rattle.std.proofs.Common.{◌<◌, Option, Some, None, arith}
 use Rattle.std.specs.Prelude.{IfSome}
 use Rattle.crypt_core.specs.Policies.{new_cost}
@@ -5,7 +7,7 @@ use Rattle.crypt_core.specs.declared.scheme.Scheme.{Scheme}
 use Rattle.crypt_core.proofs.FittedRounds.{fewer_kept, fewer_within, none_then, policy_fits}
 use Rattle.crypt_core.proofs.scheme.Scheme.fitted.Goals as goal
 
--- both facts of what there is, apart
+-- If some scheme has both properties, it has each.
 firsts : (P Q : Scheme → Type 0) (fewer : Option Scheme) → IfSome fewer (λ s. P s × Q s) → IfSome fewer P
 firsts P Q (Some s) both = both.0
 firsts P Q None both = tt

@@ -1,3 +1,6 @@
+-- The clause of `Scheme::longest_within`. The cost grows with the length (CostGrowth), so when the binary search ends
+-- with `above` right after `within`, exactly the lengths up to `within` cost at most the limit; and if even the empty
+-- password costs more, every password does.
 use Rattle.std.proofs.Common.{◌≡◌, ℕ, ◌+◌, ◌<◌, ◌≤◌, inl, inr, arith}
 use Rattle.std.specs.Prelude.{◌↔◌}
 use Rattle.std.proofs.lemmas.Bool.{cases_lt}
@@ -12,7 +15,7 @@ use Rattle.crypt_core.proofs.scheme.Scheme.longest_within.Goals as goal
 longer_costs : (scheme : Scheme) (n most : ℕ) → IsScheme scheme → n ≤ most → most ≤ password_limit → new_cost scheme n ≤ new_cost scheme most
 longer_costs scheme n most is less short = costs_no_less scheme n most (method_row (method_of scheme)).made_salt_length is less short
 
--- the lengths up to one that is within, of which the next one is above, are those within
+-- If a length is within the limit and the next one isn't, exactly the lengths up to it are within.
 split_at : (scheme : Scheme) (limit within above : ℕ) → IsScheme scheme → above ≡ within + 1 → within ≤ password_limit
     → new_cost scheme within ≤ limit → (above ≤ password_limit → limit < new_cost scheme above)
     → (len : ℕ) → len ≤ password_limit → (new_cost scheme len ≤ limit ↔ len ≤ within)

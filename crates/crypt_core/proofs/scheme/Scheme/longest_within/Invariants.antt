@@ -1,9 +1,11 @@
+-- The binary search of `Scheme::longest_within`, which halves the distance of its two ends.
 use Rattle.std.proofs.Common.{◌+◌, ◌-◌, ◌<◌, ◌≤◌}
 use Rattle.crypt_core.specs.Passwords.{password_limit}
 use Rattle.crypt_core.specs.Policies.{new_cost}
 use Rattle.crypt_core.proofs.scheme.Scheme.longest_within.Given as goal
 
--- the longest password within the limit has at least `within` bytes, and fewer than `above`
+-- A password of `within` bytes costs at most the limit, and one of `above` bytes costs more, if passwords can be that
+-- long.
 abbrev pub invariant-lengths : goal.invariant-lengths
 invariant-lengths l = record {
   order : l.within < l.above;

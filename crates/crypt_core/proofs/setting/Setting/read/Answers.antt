@@ -1,3 +1,6 @@
+-- The clauses of `Setting::read` on each way out: bad bytes, a setting, a bad salt, or a bad prefix or cost. Each way
+-- gives either what the text spells or the error of the first stage that fails (FirstRefusal). Since a text has at most
+-- one reading (Refusals), `each_setting` and `each_refusal` follow.
 use Rattle.std.specs.Prelude.{Err}
 use Rattle.std.proofs.Common.{sym, subst, ◌∙◌, rules}
 use Rattle.crypt_core.specs.Private.Parts.{SpellsSalt}

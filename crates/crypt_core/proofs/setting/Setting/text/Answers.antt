@@ -1,3 +1,5 @@
+-- The clauses of `Setting::text`, and that the buffer has room for each part. The lengths of prefix, cost part and salt
+-- add up to at most the limit of a canonical form, and that form spells the setting (CanonicalSpells).
 use Rattle.crypt_core.specs.TextLimits.{hash_limit}
 use Rattle.std.proofs.Common.{◌≡◌, ◌+◌, ◌<◌, List, ℕ, ◌++◌, length, ap, subst, ◌∙◌, length-append, arith}
 use Rattle.crypt_core.specs.MethodLimits.{packed_len}
@@ -7,7 +9,7 @@ use Rattle.crypt_core.proofs.CanonicalSpells.{canonical_spells, setting_short}
 use Rattle.crypt_core.proofs.EachMethod.{length-prefix}
 use Rattle.crypt_core.proofs.setting.Setting.text.Goals as goal
 
--- how long the text is with each part
+-- The length of the text once all three parts are in it.
 lengths : (cost salt begun costed salted whole : List ℕ) → length begun ≡ 3 → costed ≡ begun ++ cost → salted ≡ salt → whole ≡ costed ++ salted → length whole ≡ 3 + (length cost + length salt)
 lengths cost salt begun costed salted whole begins with_cost is_salt with_salt =
     omega (arith, begins, ap length with_cost, ap length is_salt, ap length with_salt, length-append begun cost, length-append costed salted)

@@ -1,4 +1,4 @@
--- the number so far is that of the digits so far, or the most rounds if they say more
+-- The loop of `capped_number`: the number so far is that of the digits so far, or the most rounds if that is greater.
 use Rattle.crypt_core.specs.Rounds.{max_rounds}
 use Rattle.std.proofs.Common.{◌≡◌, take}
 use Rattle.std.specs.Prelude.{min}

@@ -1,3 +1,5 @@
+-- The clause `err` of `check_bytes`: too long a text fails at the first stage, and another byte at the second
+-- (FirstRefusal).
 use Rattle.std.proofs.Common.{All, arith, rules}
 use Rattle.crypt_core.specs.Settings.{IsSettingByte}
 use Rattle.crypt_core.proofs.FirstRefusal.{refused_character, refused_long}

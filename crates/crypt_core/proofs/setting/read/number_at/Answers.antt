@@ -1,3 +1,5 @@
+-- The clauses `none` and `some` of `number_at`: the text has one field up to its first `$`, so without a `$`, or with
+-- other digits in the field, it has no number, and otherwise this is the number (ParsedParts).
 use Rattle.std.proofs.Common.{◌≡◌, true, take, arith, rules}
 use Rattle.crypt_core.proofs.ParsedParts.{no_number, only_number, number_parts}
 use Rattle.crypt_core.proofs.setting.read.number_at.Goals.{then-end-field-via-then-end-field, then-end-field-via-else-end-field+then-not-is_rounds_number}

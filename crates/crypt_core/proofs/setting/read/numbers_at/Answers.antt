@@ -1,3 +1,5 @@
+-- The clauses `none` and `some` of `numbers_at`: if log2 N, r or p can't be decoded, a character is missing or outside
+-- the alphabet, and otherwise the three numbers spell the cost part (ParsedParts).
 use Rattle.std.proofs.Common.{arith}
 use Rattle.crypt_core.proofs.ParsedParts.{on_none, lacks_first, lacks_group, numbers_parts}
 use Rattle.crypt_core.proofs.setting.read.numbers_at.Goals as goal

@@ -1,3 +1,5 @@
+-- The clause `err` of `params_at`: the text fails at the stage for missing characters, for the range, or for the
+-- ceiling (FirstRefusal).
 use Rattle.kdf_core.specs.Params.{scrypt_params}
 use Rattle.crypt_core.proofs.FirstRefusal.{refused_cost, refused_range, refused_ceiling, spelled_numbers}
 use Rattle.crypt_core.proofs.setting.read.params_at.Goals as goal

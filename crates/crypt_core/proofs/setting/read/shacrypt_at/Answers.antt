@@ -1,3 +1,5 @@
+-- The clauses `ok` and `err` of `shacrypt_at` for a text with `rounds=`: a well-formed field spells its rounds
+-- (RoundsTexts), and without one the text fails at the stage for the rounds (FirstRefusal).
 use Rattle.crypt_core.specs.Settings.{rounds_word}
 use Rattle.crypt_core.specs.declared.scheme.Scheme.TheVariants.{Shacrypt}
 use Rattle.crypt_core.proofs.StrippedPrefix.{begins}

@@ -1,3 +1,5 @@
+-- `append_decimal` appends `decimal` of its number: one digit below 10, and otherwise the digits of the tenth, by the
+-- recursive call, and then the last one (DecimalDigits).
 use Rattle.std.proofs.Common.{◌/◌, length, ap, length-append, arith}
 use Rattle.std.specs.Prelude.{decimal}
 use Rattle.crypt_core.proofs.DecimalDigits.{length-decimal_digit, length-decimal_step, digit_written, step_written}

@@ -1,4 +1,4 @@
--- the number gets smaller
+-- The recursion of `append_decimal` ends because the number gets smaller.
 use Rattle.crypt_core.proofs.setting.text.+append_decimal.Given as goal
 
 abbrev pub decreases-append_decimal : goal.decreases-append_decimal

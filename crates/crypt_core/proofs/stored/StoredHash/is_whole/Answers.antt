@@ -1,3 +1,6 @@
+-- The clauses `whole` and `dead` of `StoredHash::is_whole`. If the text begins with its canonical setting and a `$`, it
+-- is whole exactly if the rest is packed, and otherwise it isn't; a text that isn't whole fits no password
+-- (WholeHashes).
 use Rattle.std.proofs.Common.{◌≡◌, ◌∷◌, ◌++◌, ◌∙◌, List, [], ℕ, Some, None, ap}
 use Rattle.std.specs.Cmp.{unsigned_Decides}
 use Rattle.std.proofs.lemmas.Slice.Eq.{strip_prefix_is}

@@ -1,3 +1,4 @@
+-- The clause `fits` of `StoredHash::matches`, from the comparison of the hash with the stored one.
 use Rattle.std.proofs.Common.{◌≡◌, ◌∙◌, sym, ap, IsTrue}
 use Rattle.std.specs.Bool.{Decides}
 use Rattle.std.proofs.lemmas.Slice.Eq.{bytes_eq-Decides}
@@ -7,7 +8,7 @@ use Rattle.crypt_core.specs.Settings.{SettingValue}
 use Rattle.crypt_core.proofs.OneSetting.{setting_unique}
 use Rattle.crypt_core.proofs.stored.StoredHash.matches.Goals as goal
 
--- A text spells one setting at most, so the hash that was compared is the only one that could be the text.
+-- A text spells at most one setting, so the hash that was compared is the only one that could equal the text.
 pub returns-clause-fits : goal.returns-clause-fits
 returns-clause-fits g c =
     let password = c.args.password.now in
