@@ -181,7 +181,7 @@ cost_bytes Md5crypt c = All-nil IsSettingByte
 cost_bytes (Shacrypt sha r) c = let range = in_range r.count c.0 in rounds_bytes sha r.count r.is_written range.0 range.1
 cost_bytes (Scrypt n) c = All-weaker (Contains alphabet) IsSettingByte character_is_byte (scrypt_part n) (all_scrypt_part n)
 
--- Bytes
+-- ---- the parts of a list of setting bytes
 
 all_left : (xs ys : List ℕ) → All IsSettingByte (xs ++ ys) → All IsSettingByte xs
 all_left xs ys all = subst (All IsSettingByte) (take-append_seam xs ys) (All-take IsSettingByte (length xs) (xs ++ ys) all)

@@ -1,5 +1,5 @@
 -- Serves `Scheme::longest_within` in src/policy.rt, whose binary search needs that a hash of a longer password costs no
--- less. `costs_no_less` goes by induction over the difference of the lengths, so one more byte is the heart. For
+-- less. `costs_no_less` goes by induction over the difference of the lengths, so what matters is one more byte. For
 -- SHA-crypt, a length that ends in binary digits of 1 loses up to ten digests and gains a digit 0 when the carry clears
 -- those digits (`digits_next`), but the rounds add at least 1857 bytes (`rounds_next`), which is more.
 use Rattle.std.proofs.Common.{◌≡◌, ℕ, zero, suc, ◌+◌, ◌-◌, ◌*◌, ◌/◌, ◌%◌, ◌^◌, ◌<◌, ◌≤◌, Bool, true, false, cond, nat_eq, inl, inr, refl, arith}

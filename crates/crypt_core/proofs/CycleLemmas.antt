@@ -98,7 +98,7 @@ length-digits_up_to (suc k) n = go (nat_eq n 0) (digits_up_to k (n / 2)) k (leng
   go true rest m h = omega arith
   go false rest m h = omega arith
 
--- a number has at most as many digits as its value
+-- A number n has at most n digits.
 length-binary_digits : (n : ℕ) → length (binary_digits n) ≤ n
 length-binary_digits n = length-digits_up_to n n
 

@@ -4,13 +4,13 @@
 use Rattle.std.proofs.Common.{◌≡◌, inl, inr, List, [], ◌∷◌, ◌++◌, map, ap, sym, subst, ◌∙◌}
 use Rattle.crypt_core.specs.Rules.{IsFirstBroken}
 
--- The rule of the first broken one is broken.
+-- The rule that is found is broken.
 pub first_breaks : {F : Type 0} (faults : List F) (breaks : F → Type 0) (fault : F) → IsFirstBroken faults breaks fault → breaks fault
 first_breaks [] breaks fault first = absurd first
 first_breaks (f ∷ fs) breaks fault (inl here) = subst breaks (sym here.0) here.1
 first_breaks (f ∷ fs) breaks fault (inr later) = first_breaks fs breaks fault later.1
 
--- At most one error is the first.
+-- There is at most one first error.
 pub first_unique : {F : Type 0} (faults : List F) (breaks : F → Type 0) (a b : F) → IsFirstBroken faults breaks a → IsFirstBroken faults breaks b → a ≡ b
 first_unique [] breaks a b first other = absurd first
 first_unique (f ∷ fs) breaks a b (inl here) (inl there) = here.0 ∙ sym there.0

@@ -99,7 +99,7 @@ scrypt_lacks text after e lacks = ((after, e), none)
 other_method : (text : List ℕ) (a b : Method) (after : List ℕ) → (a ≡ b → ⊥) → text ≡ prefix a ++ after → LacksCost b text → ⊥
 other_method text a b after differ e lacks = differ (prefix_unique a b after lacks.0.0 (sym e ∙ lacks.0.1)).0
 
--- ---- refusals
+-- ---- the errors
 
 pub refused_long : (text : List ℕ) → setting_limit < length text → IsRefused text TooLong
 unfolding IsRefused
@@ -117,7 +117,7 @@ unknown text not_1 not_5 not_6 not_7 methods.Sha512crypt = not_6
 unknown text not_1 not_5 not_6 not_7 methods.Scrypt = not_7
 
 module _ (text : List ℕ) (is_text : IsSettingText text) where
-  -- FirstFrom stage fault: from this stage on, the first one that fails has this refusal
+  -- FirstFrom stage fault: this is the error of the first stage that fails, from this stage on.
   abbrev FirstFrom : ℕ → SettingFault → Type 0
   FirstFrom stage = IsFirstBroken (drop stage setting_faults) (FailsStage text)
 

@@ -34,7 +34,7 @@ rounds_more n most digest len salt few =
 sha_more : (n most digest len salt : ℕ) → n ≤ most → shacrypt_bytes digest 255 n len salt ≤ shacrypt_bytes digest 255 most len salt
 sha_more n most digest len salt few = omega (arith, rounds_more n most digest len salt few)
 
--- no round has more bytes than the longest
+-- No round has more bytes than the longest.
 rounds_longest : (n digest len salt : ℕ) → rounds_bytes n digest len salt ≤ n * (digest + 2 * len + salt)
 rounds_longest n digest len salt =
     let salted : (n - div_ceil n 3) * salt ≤ n * salt = mul-le-mul_right salt (omega arith) in

@@ -1,6 +1,7 @@
 -- Lists of messages given by their number, and the length of a round's message, for `round` in src/messages.rt and the
 -- loops of `md5crypt` and `shacrypt`. A loop appends one message per round, so the lemmas `..-more` give the list and
--- the digest after one more round; `round_length` is the length of a round's message without its bytes.
+-- the digest after one more round. `round_length` computes the length of a round's message from the lengths of its
+-- parts.
 use Rattle.crypt_core.specs.MethodLimits.{shacrypt_salt_limit}
 use Rattle.crypt_core.specs.Passwords.{password_limit}
 use Rattle.std.proofs.Common.{◌≡◌, ℕ, suc, ◌+◌, ◌*◌, ◌%◌, ◌≤◌, Bool, true, false, cond, nat_eq, List, [], ◌∷◌, ◌++◌, length, map, arith, refl}

@@ -23,7 +23,7 @@ use Rattle.crypt_core.specs.TextLimits.{scrypt_part_len}
 use Rattle.crypt_core.proofs.DollarFields.{IsEndOfField, end_of, ended_by, field_unique}
 use Rattle.crypt_core.proofs.RoundsTexts.{digits_are_field}
 
--- A fact that holds anyway holds for none.
+-- `IfNone r P` follows from P.
 pub on_none : {A : Type 0} (r : Option A) (P : Type 0) → P → IfNone r P
 on_none None P h = h
 on_none (Some x) P h = tt
@@ -106,7 +106,7 @@ lacks_first after outside part rest len all parts =
     outside (subst (λ (xs : List ℕ). Contains alphabet (get_or xs 0 0)) (sym parts)
     (rw (get_or_append_left part rest 0 0 (omega arith)) (All-get_or (Contains alphabet) part 0 0 (omega arith) all)))
 
--- So it does if five of its characters aren't there or aren't in the alphabet.
+-- The same if a group of five characters is incomplete or has such a byte.
 pub lacks_group : (after : List ℕ) (i : ℕ) → i + 5 ≤ scrypt_part_len → ((length (take 5 (drop i after)) ≡ 5) × All (Contains alphabet) (take 5 (drop i after)) → ⊥) → LacksCharacters after
 lacks_group after i within outside part rest len all parts =
     let group : take 5 (drop i after) ≡ take 5 (drop i part) =

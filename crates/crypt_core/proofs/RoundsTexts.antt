@@ -1,7 +1,7 @@
 -- Shows how a text spells the rounds of SHA-crypt, for `number_at` and `shacrypt_at` in src/setting/read.rt, and that
--- it spells them in one way only (`rounds_unique`), for `Setting::read`. Two `rounds=` fields have the same digits,
--- because digits end at the `$`; a field and no field exclude each other, because without a field no `rounds=` may
--- follow.
+-- it spells them in one way only (`rounds_unique`), for `Setting::read`. Two `rounds=` fields at the front of one text
+-- have the same digits, because digits end at the `$`; a field and no field exclude each other, because without a field
+-- no `rounds=` may follow.
 use Rattle.std.proofs.Common.{◌≡◌, ◌≢◌, ℕ, ◌≤◌, Bool, true, false, List, [], ◌∷◌, ◌++◌, refl, sym, ap, subst, ◌∙◌, append_assoc, arith}
 use Rattle.std.specs.Prelude.{min}
 use Rattle.std.specs.Str.Parse.{digits_value}

@@ -26,7 +26,7 @@ pub enum Finding {
     NoHash,
     /// The field begins with `!` or `*`.
     Locked,
-    /// The field begins with `$` but is no valid setting: this is the first rule that it breaks, and not
+    /// The field begins with `$` and is not a valid setting. This is the first rule that it breaks, never
     /// `UnknownScheme`.
     Malformed(SettingFault),
     /// None of the above, but the form of a scheme of crypt(5) that mkpasswd doesn't hash.
@@ -63,7 +63,7 @@ impl Finding {
         }
     }
 
-    // Returns what an audit finds in a field that is no valid setting for this reason.
+    // Returns what an audit finds in a field that is not a valid setting for this reason.
     fn of_refused(field: &[u8], fault: SettingFault) -> Finding
         requires stored { IsStored field.now }
         requires refused { IsRefused field.now fault }
@@ -80,8 +80,8 @@ impl Finding {
         }
     }
 
-    /// Returns whether somebody should look at the account. That's so unless the hash is current, the field is locked,
-    /// or its scheme is another or an unknown one.
+    /// Returns whether somebody should look at the account. That's so unless its hash is current, its field is locked,
+    /// or its scheme is one that mkpasswd doesn't hash or doesn't know.
     pub fn needs_care(&self) -> bool
         ensures { result ≡ needs_care self.now }
     {

@@ -1,4 +1,4 @@
-//! Hashing a password with a setting, as crypt(3) does.
+//! Hashes a password with a setting, as crypt(3) does.
 ghost use Rattle.std.specs.Prelude.{◌≡◌, ℕ, ◌≤◌, List, length, IfOk, IsOk};
 ghost use Rattle.prims_core.specs.Meter.{HasRoom};
 ghost use Rattle.kdf_core.specs.Params.{ScryptParams};

@@ -74,8 +74,8 @@ pub struct Lent<'a> {
 }
 
 impl<'a> Lent<'a> {
-    /// Returns the lent memory. It is enough for a scheme if it has the words and the bytes of
-    /// [`Scheme::need`](crate::scheme::Scheme::need).
+    /// Returns the words and bytes as memory for scrypt. They are enough for a scheme if there are as many as
+    /// [`Scheme::need`](crate::scheme::Scheme::need) returns.
     pub fn new(words: &'a mut [u32], bytes: &'a mut [u8]) -> Lent<'a>
         ensures enough { (scheme : Scheme) → words_by scheme ≤ length words.old → bytes_by scheme ≤ length bytes.old
             → AreEnough (⟦<Lent<'a> as Memory>⟧.IsEnough result) scheme }

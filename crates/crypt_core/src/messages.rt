@@ -2,8 +2,8 @@
 //!
 //! - The first message is the same in both.
 //! - The second has a digest repeated to the password's length, and one piece for each binary digit of that length.
-//! - The rounds' messages differ only in the two strings that stand for the password and the salt. A round feeds two
-//!   pieces: the digest of the round before, and a slice of one string that is joined once for all rounds.
+//! - The rounds' messages differ between the two only in the strings that stand for the password and the salt. A round
+//!   feeds two pieces: the digest of the round before, and a slice of one string that is joined once for all rounds.
 ghost use Rattle.std.specs.Prelude.{◌≡◌, ℕ, ◌+◌, ◌*◌, ◌^◌, ◌<◌, ◌≤◌, List, ◌++◌, length};
 ghost use Rattle.std.specs.List.{repeat};
 ghost use Rattle.prims_core.specs.Meter.{HasDigestRoom};
@@ -59,7 +59,7 @@ pub(crate) fn feed_repeated<C: Counted>(
     }
 }
 
-/// Feeds the first `len` bytes of the digest repeated without end.
+/// Feeds the digest, repeated to a length of `len` bytes.
 ///
 /// Precondition: the digest is not empty.
 pub(crate) fn feed_cycle<C: Counted>(running: &mut C, meter: &mut Meter, digest: &[u8], len: usize)
@@ -72,7 +72,7 @@ pub(crate) fn feed_cycle<C: Counted>(running: &mut C, meter: &mut Meter, digest:
     running.feed(meter, &digest[..len % digest.len()]);
 }
 
-/// Returns the first `len` bytes of the digest repeated without end.
+/// Returns the digest, repeated to a length of `len` bytes.
 ///
 /// Preconditions: the digest is not empty, and `len` is at most [`PASSWORD_LIMIT`].
 pub(crate) fn cycle_of(digest: &[u8], len: usize) -> ArrayVec<u8, PASSWORD_LIMIT>
@@ -152,8 +152,8 @@ impl<'a> RoundStrings<'a> {
         let password_len = self.password.len();
         let salted_len = password_len + self.salt.len();
         let is_odd = i % 2 == 1;
-        // Without the salt, the message has the two adjacent passwords at the end. With it, an odd round starts at the
-        // password before the salt, and an even round at the salt.
+        // A round without the salt takes its passwords from the two adjacent ones at the end of `joined`. With the
+        // salt, an odd round starts at the first password, and an even round at the salt.
         let (start, once_len) = if i % 3 == 0 {
             (salted_len, password_len)
         } else if is_odd {

@@ -60,7 +60,7 @@ pub(crate) struct MethodRow {
     pub(crate) name: &'static [u8],
     /// The alias, or the name again if there is none.
     pub(crate) alias: &'static [u8],
-    /// The number in the prefix, which identifies the method in the calls for C.
+    /// The number in the prefix, which identifies the method in the C interface.
     pub(crate) number: u32,
     /// The characters with which every setting of the method begins.
     pub(crate) prefix: &'static [u8],

@@ -16,7 +16,7 @@ pub struct Need {
     pub bytes: usize,
 }
 
-// The web page reads the fields at fixed offsets.
+// JavaScript reads the fields at fixed offsets.
 const _: () = prove!(size_of::<Need>() == 16);
 
 impl Scheme {

@@ -105,9 +105,9 @@ impl Scheme {
     /// Returns the scheme for a new hash of a password of `password_len` bytes that costs at most `limit`, under a
     /// policy with this scheme, or `None` if there is none.
     ///
-    /// It is the policy's own scheme if that is within the limit. Otherwise SHA-crypt gets the limit, less the bytes of
-    /// the opening, divided by the bytes of the longest round, as its number of rounds, but at least 1000. So it never
-    /// gets more rounds than the policy has, and the policy's own limit always leaves a scheme.
+    /// It is the policy's own scheme if that is within the limit. Otherwise it is SHA-crypt with as many rounds as fit:
+    /// the limit less the bytes digested before the rounds, divided by the bytes of the longest round, but at least
+    /// 1000. So it never has more rounds than the policy, and the policy's own limit always leaves a scheme.
     ///
     /// Precondition: `password_len` is at most [`PASSWORD_LIMIT`].
     pub fn fitted(&self, limit: u64, password_len: usize) -> Option<Scheme>

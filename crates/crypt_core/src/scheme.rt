@@ -151,7 +151,7 @@ impl Scheme {
         }
     }
 
-    /// Returns the method of the scheme. Its clause also gives callers that the rounds, or scrypt's parameters, are in
+    /// Returns the method of the scheme. The contract also states that the rounds, or scrypt's parameters, are in
     /// range.
     pub fn method(&self) -> Method
         ensures method { result ≡ method_of self.now }
@@ -188,7 +188,7 @@ impl Scheme {
     /// Returns whether a hash of this scheme is out of date once new hashes have the scheme `new`.
     ///
     /// It is if `new` has another method, or the same method with more rounds or, for scrypt, a greater `N * r * p`.
-    /// Whether the rounds stand in a `rounds=` field makes no difference.
+    /// Whether a setting writes the rounds in a `rounds=` field makes no difference.
     pub fn is_outdated_by(&self, new: &Scheme) -> bool
         ensures { result ≡ is_outdated_by self.now new.now }
     {

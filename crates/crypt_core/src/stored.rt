@@ -42,7 +42,7 @@ impl<'a> Model for StoredHash<'a> {
 }
 
 impl<'a> StoredHash<'a> {
-    /// Reads a stored hash and the setting that it spells, as [`Setting::read`] does.
+    /// Returns the stored hash with the setting that it spells, as [`Setting::read`] parses it.
     ///
     /// # Errors
     ///

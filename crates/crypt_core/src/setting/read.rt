@@ -25,8 +25,8 @@ use kdf_core::params::{ParamFault, Params};
 use prims_core::alphabet::{read_30, value_of};
 
 impl Setting {
-    /// Returns the setting (crypt(5)) that a string spells. A stored hash begins with its setting, so it is parsed as
-    /// well.
+    /// Returns the setting (crypt(5)) that a string spells. The string may also be a stored hash, which begins with its
+    /// setting.
     ///
     /// Whatever comes after the salt's `$` must obey the rules on length and bytes, and is otherwise ignored. For
     /// example, `$5$rounds=10$salt$x` is sha256crypt with 1000 rounds and the salt `salt`.
