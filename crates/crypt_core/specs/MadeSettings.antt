@@ -56,7 +56,7 @@ abbrev pub make_faults : List MakeFault
 make_faults = SaltLength ∷ SaltCharacter ∷ Cost ∷ []
 
 -- BreaksMake method rounds given fault: the method, the rounds, and the salt if one is given, break the rule of this
--- error.
+-- error. The rules:
 --   Cost            the method accepts the rounds
 --   SaltLength      the salt has at least one character, and no more than the method keeps
 --   SaltCharacter   every character of the salt is in crypt's alphabet

@@ -1,5 +1,5 @@
--- The schemes of crypt(5) that mkpasswd doesn't hash. The form of a field decides which one it is of; the field needn't
--- be a valid hash.
+-- The schemes of crypt(5) that mkpasswd doesn't hash. A field has one of them by its form alone; it needn't be a valid
+-- hash.
 use Rattle.std.specs.Prelude.{◌≡◌, ◌⊎◌, ◌==◌, ℕ, List, [], ◌∷◌, Option, IsTrue, length, All, Contains, codes, find, nat_eq}
 use Rattle.std.specs.List.{starts_with}
 use Rattle.prims_core.specs.Alphabet.{alphabet}

@@ -35,7 +35,7 @@ groups_of Scrypt = map (λ i. (3 * i + 2) ∷ (3 * i + 1) ∷ (3 * i) ∷ []) (r
 unfoldable pub packed : Method → List ℕ → List ℕ
 packed method digest = flat_map (packed_group digest) (groups_of method)
 
--- IsDigest method digest: these are as many bytes as a digest of the method has.
+-- IsDigest method digest: there are as many bytes as a digest of the method has.
 abbrev pub IsDigest : Method → List ℕ → Type 0
 IsDigest method digest = (length digest ≡ (method_row method).digest_len) × All (λ b. b < 256) digest
 

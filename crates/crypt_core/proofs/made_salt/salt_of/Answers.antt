@@ -1,4 +1,4 @@
--- The loop of `salt_of` appends one character per round, as `made_salt` does, and all of them are in the alphabet
+-- The loop of `salt_of` appends one character in each turn, as `made_salt` does, and all of them are in the alphabet
 -- (clause `characters`).
 use Rattle.std.proofs.Common.{arith, rules, refl}
 use Rattle.std.proofs.lemmas.Nat.{and_mask}
