@@ -8,14 +8,14 @@ use Rattle.prims_core.specs.Salsa.{salsa20_8}
 abbrev pub block_at : ℕ → List ℕ → List ℕ
 block_at i words = take 16 (drop (16 * i) words)
 
--- x_after r words i: X after i of the 2r blocks are mixed. It begins as the last block, and each block B[i] makes it
--- Salsa20/8 of X xor B[i] (steps 1 and 2).
+-- x_after r words i: X after the first i of the 2r blocks are mixed. X starts as the last block (step 1), and block
+-- B[i] replaces it by Salsa20/8 of X xor B[i] (step 2).
 unfoldable pub x_after : ℕ → List ℕ → ℕ → List ℕ
 x_after r words zero = block_at (2 * r - 1) words
 x_after r words (suc i) = salsa20_8 (xor_lists (x_after r words i) (block_at i words))
 
--- block_mix words: r results at even places, Y[0], Y[2], .., and then r at odd places, Y[1], Y[3], .. (step 3). Y[i] is X
--- after block i is mixed too.
+-- block_mix words: the r results with even numbers, Y[0], Y[2], .., and then the r with odd numbers, Y[1], Y[3], ..
+-- (step 3). Y[i] is X after the blocks up to and including B[i] are mixed.
 unfoldable pub block_mix : List ℕ → List ℕ
 block_mix words =
     let r = length words / 32 in

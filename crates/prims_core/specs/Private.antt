@@ -1,5 +1,5 @@
--- What the laws of `Counted` are shown by, how code in lanes holds a block, and block mixing on its way. A reader of the
--- clauses of public items needs none of it.
+-- Definitions and lemmas that only private items need: the bytes of digests, a block in lanes, and block mixing step by
+-- step. Readers of the public contracts need none of them.
 pub mod Diagonals
 pub mod DigestFacts
 pub mod Mixing

@@ -1,12 +1,12 @@
--- Work, in five counts: that of a hash, or all that a meter has counted.
+-- Work, in five counts: the work of one hash, or all that a meter has counted.
 use Rattle.std.specs.Prelude.{ℕ, ◌+◌, ◌-◌, ◌≤◌, ◌<◌}
 use Rattle.prims_core.specs.declared.meter.Work.{Work}
 
--- No work, as of a new meter.
+-- No work at all: the counts of a new meter.
 abbrev pub no_work : Work
 no_work = record { digests = 0; bytes = 0; mixes = 0; table = 0; scratch = 0 }
 
--- raised_by counts work: some work, and then some more. Each count is the sum of both.
+-- raised_by counts work: the counts after this much more work. Each count is the sum of both.
 abbrev pub raised_by : Work → Work → Work
 raised_by counts work = record {
   digests = counts.digests + work.digests;
@@ -16,7 +16,7 @@ raised_by counts work = record {
   scratch = counts.scratch + work.scratch;
 }
 
--- work_between before after: the work from one reading of a meter to a later one, which is how much each count has
+-- work_between before after: the work done from one reading of a meter to a later one, which is how much each count has
 -- risen.
 abbrev pub work_between : Work → Work → Work
 work_between before after = record {

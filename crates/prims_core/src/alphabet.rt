@@ -1,7 +1,6 @@
 //! The alphabet of crypt(5) and its base-64 numerals.
 //!
-//! A character has a value from 0 to 63 and stands for six bits. A number has its lowest six bits first, so `/...` is
-//! the number 1.
+//! A character encodes six bits, as a value from 0 to 63. Numbers are written lowest six bits first, so `/...` is 1.
 
 ghost use Rattle.std.specs.Prelude.{◌≡◌, ℕ, ◌+◌, ◌^◌, ◌<◌, ◌≤◌, ◌++◌, ◌↔◌, length, All, Contains, IfSome, Some, IsSome};
 ghost use Rattle.arrayvec.specs.ArrayVec.{array_vec_len};
@@ -9,10 +8,10 @@ ghost use Rattle.prims_core.specs.Alphabet.{alphabet, character_of, numerals};
 
 use arrayvec::ArrayVec;
 
-// The characters in the order of their values.
+// The characters, in order of their values.
 const CHARACTERS: [u8; 64] = *b"./0123456789ABCDEFGHIJKLMNOPQRSTUVWXYZabcdefghijklmnopqrstuvwxyz";
 
-/// Returns the character of a value below 64.
+/// Returns the character for a value. Precondition: the value is below 64.
 pub fn char_of(value: u8) -> u8
     requires { value < 64 }
     ensures { result ≡ character_of value }
@@ -37,7 +36,7 @@ pub fn value_of(character: u8) -> Option<u8>
     }
 }
 
-/// Appends the lowest `6 * chars` bits of `value` as `chars` characters, the lowest six bits first.
+/// Appends `value` to `out` as `chars` characters, lowest six bits first.
 ///
 /// Preconditions:
 ///
@@ -59,9 +58,9 @@ pub fn put_group(out: &mut ArrayVec<u8, 160>, value: u32, chars: usize)
     }
 }
 
-/// Returns the number below 2^30 of exactly five characters, or `None` for any other slice.
+/// Returns the number that five characters encode, lowest six bits first. It is below 2^30.
 ///
-/// The lowest six bits come first.
+/// Returns `None` for a slice of another length, or with a byte outside the alphabet.
 pub fn read_30(digits: &[u8]) -> Option<u32>
     ensures accepts { IsSome result ↔ ((length digits.now ≡ 5) × All (Contains alphabet) digits.now) }
     ensures number { IfSome result (λ n. (n < 2 ^ 30) × (numerals 5 n ≡ digits.now)) }

@@ -1,7 +1,7 @@
-//! The digests that a meter counts, each behind one trait.
+//! Digests whose work a meter counts, behind one trait.
 //!
-//! A running digest is fed a message piece by piece and finished once. Each piece raises the meter's
-//! bytes by its length, and each digest raises its digests by one.
+//! The caller feeds a message piece by piece and finishes the digest once. Feeding a piece adds its length
+//! to the meter's bytes, and finishing adds one to its digests.
 
 ghost use Rattle.std.specs.Prelude.{◌≡◌, ℕ, ◌+◌, ◌^◌, ◌<◌, ◌≤◌, List, [], ◌++◌, length, All};
 
@@ -18,10 +18,9 @@ pub use counted_sha512::CountedSha512;
 
 /// A digest function whose work a meter counts.
 ///
-/// A running digest holds the message that its pieces make, joined in order, so the digest is the same
-/// however the message is cut.
+/// The message is all pieces joined in order, so the digest does not depend on where the message is cut.
 pub trait Counted: Drop {
-    // `holds running message`: the running digest was fed this message.
+    // `holds running message`: the pieces fed so far join to this message.
     ghost holds: { Self → List ℕ → Type 0 };
 
     // The digest of a whole message.
@@ -36,9 +35,9 @@ pub trait Counted: Drop {
     fn begin() -> Self
         ensures { holds result [] };
 
-    /// Adds `piece` to the message, and its length to the meter's bytes.
+    /// Appends `piece` to the message, and adds its length to the meter's bytes.
     ///
-    /// Precondition: the meter has room for it.
+    /// Precondition: the meter can count it without overflow.
     fn feed(&mut self, meter: &mut Meter, piece: &[u8])
         requires { meter.old.bytes + length piece.now < 2 ^ 128 }
         ensures message { (m : List ℕ) → holds self.old m → holds self.new (m ++ piece.now) }
@@ -46,7 +45,7 @@ pub trait Counted: Drop {
 
     /// Returns the digest of the message, and adds one to the meter's digests.
     ///
-    /// Precondition: the meter has room for it.
+    /// Precondition: the meter can count it without overflow.
     fn finish(self, meter: &mut Meter) -> ArrayVec<u8, 64>
         requires { meter.old.digests + 1 < 2 ^ 128 }
         ensures digest { (m : List ℕ) → holds self m → result.items ≡ digest m }
@@ -56,7 +55,7 @@ pub trait Counted: Drop {
     /// Writes the digest of the message to `out`, and adds one to the meter's digests. The default calls
     /// [`Counted::finish`] and copies the digest.
     ///
-    /// Preconditions: `out` has the length of a digest, and the meter has room for one more.
+    /// Preconditions: `out` is as long as a digest, and the meter can count one more without overflow.
     fn finish_into(self, meter: &mut Meter, out: &mut [u8])
     where
         Self: Sized,
@@ -68,12 +67,12 @@ pub trait Counted: Drop {
         out.copy_from_slice(self.finish(meter).as_slice());
     }
 
-    // A digest has some bytes, and at most 64.
+    // A digest has 1 to 64 bytes.
     ghost at_least_1: { 1 ≤ LEN };
 
     ghost at_most_64: { LEN ≤ 64 };
 
-    // Each message's digest has that length, and is made of bytes.
+    // Every digest is LEN numbers long, and each of them is a byte.
     ghost length_digest: { (m : List ℕ) → length (digest m) ≡ LEN };
 
     ghost digest_bytes: { (m : List ℕ) → All (λ b. b < 256) (digest m) };

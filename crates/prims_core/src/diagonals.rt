@@ -1,12 +1,12 @@
-//! A block of sixteen words in lanes, as the rounds of Salsa20/8 take it.
+//! A block of sixteen words in SIMD lanes, as the rounds of Salsa20/8 work on it.
 //!
-//! The words are a matrix of four rows of four. The quarter round of a column begins at its word on the main
-//! diagonal and goes down. So the four columns begin with the main diagonal, and go on with the diagonal
-//! below it, and so on. Each diagonal is one vector, and one quarter round of vectors is that of all four
-//! columns.
+//! The words form a matrix of four rows of four. The quarter round of a column starts at the column's word on
+//! the main diagonal and goes down. So the first words of all four columns are the main diagonal, the second
+//! words are the diagonal below it, and so on. With one vector for each diagonal, a single quarter round of
+//! vectors does all four columns.
 //!
-//! In memory a block's words stand row by row, as in the standard, or diagonal by diagonal, in the order of
-//! the vectors.
+//! In memory a block's words are either in row order, as in the standard, or in diagonal order, which is the
+//! order of the vectors.
 
 ghost use Rattle.std.specs.Prelude.{◌≡◌, length};
 ghost use Rattle.std.specs.Simd.Lanes.{zip2};
@@ -17,7 +17,7 @@ ghost use Rattle.prims_core.specs.Salsa.{sum_of_words};
 use std::marker::Model;
 use std::simd::prelude::*;
 
-/// The sixteen words of a block. Contracts see their list, row by row.
+/// The sixteen words of a block. Contracts see them as a list, in row order.
 #[derive(Drop)]
 pub(crate) struct Diagonals {
     /// The words 0, 5, 10 and 15.
@@ -42,7 +42,7 @@ impl Model for Diagonals {
 }
 
 impl Diagonals {
-    /// Returns the block whose sixteen words these are, row by row.
+    /// Loads a block from its sixteen words in row order.
     #[inline(always)]
     pub(crate) fn of(words: &[u32]) -> Diagonals
         requires { length words.now ≡ 16 }
@@ -57,9 +57,9 @@ impl Diagonals {
         }
     }
 
-    /// Writes the block to `words`, row by row.
+    /// Writes the block to `words`, in row order.
     ///
-    /// Precondition: there are sixteen of them.
+    /// Precondition: `words` has sixteen words.
     #[inline(always)]
     pub(crate) fn store(&self, words: &mut [u32])
         requires { length words.old ≡ 16 }
@@ -74,7 +74,7 @@ impl Diagonals {
         block.copy_to_slice(words);
     }
 
-    /// Returns the block whose sixteen words these are, diagonal by diagonal.
+    /// Loads a block from its sixteen words in diagonal order.
     #[inline(always)]
     pub(crate) fn of_diagonals(words: &[u32]) -> Diagonals
         requires { length words.now ≡ 16 }
@@ -89,9 +89,9 @@ impl Diagonals {
         }
     }
 
-    /// Writes the block to `words`, diagonal by diagonal.
+    /// Writes the block to `words`, in diagonal order.
     ///
-    /// Precondition: there are sixteen of them.
+    /// Precondition: `words` has sixteen words.
     #[inline(always)]
     pub(crate) fn store_diagonals(&self, words: &mut [u32])
         requires { length words.old ≡ 16 }
@@ -119,7 +119,7 @@ impl Diagonals {
         }
     }
 
-    /// Returns the block of the sums of two blocks, word by word.
+    /// Returns the word-by-word sum of two blocks, modulo 2^32.
     #[inline(always)]
     pub(crate) fn sum(&self, other: &Diagonals) -> Diagonals
         ensures { result ≡ zip2 sum_of_words self.now other.now }

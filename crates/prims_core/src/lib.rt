@@ -1,5 +1,5 @@
-//! The ground that every scheme of mkpasswd stands on: crypt's alphabet, the meter of work, the digests that a meter
-//! counts, numbers as bytes, the mixing of scrypt's blocks, and the memory that this takes.
+//! The primitives under mkpasswd's schemes: crypt's alphabet, the work meter, the digests that it counts, the
+//! conversion of numbers to bytes and back, scrypt's block mixing, and the memory for it.
 #![tactic(auto)]
 
 pub mod alphabet;

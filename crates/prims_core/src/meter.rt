@@ -1,7 +1,7 @@
 //! The meter: five counts of the work done.
 //!
-//! Only the call that does the work raises a count, so the counts after a run are the work done through the meter. A
-//! [`Reading`] of the meter before a call gives the [`Work`] of that call.
+//! Only the call that does the work raises a count, so the counts after a run are the work done through the meter. With
+//! a [`Reading`] from before a call, [`Meter::work_since`] returns the [`Work`] of that call.
 
 ghost use Rattle.std.specs.Prelude.{◌≡◌, ◌+◌, ◌^◌, ◌<◌};
 ghost use Rattle.prims_core.specs.Work.{no_work, raised_by, work_between, IsBelow, IsWithin};
@@ -9,8 +9,8 @@ ghost use Rattle.prims_core.specs.declared.meter.Work.{Work as Counts};
 
 use std::marker::Model;
 
-/// The work of a hash: the five counts by which it raises a meter. Its layout is that of a struct of C. Contracts see a
-/// [`Meter`] and a [`Reading`] as this record too, with counts of up to 128 bits.
+/// The work of a hash: what it adds to each of a meter's five counts. It has the layout of a C struct. Contracts also
+/// see a [`Meter`] and a [`Reading`] as this record, with counts of up to 128 bits.
 #[repr(C)]
 #[derive(Clone, Copy, Debug, PartialEq, Eq)]
 pub struct Work {
@@ -18,7 +18,7 @@ pub struct Work {
     pub digests: u64,
     /// Digested bytes.
     pub bytes: u64,
-    /// Mixings, which only scrypt makes. Each mixes 2r blocks of 64 bytes, so its price grows with r.
+    /// Block mixings, which only scrypt does. Each mixes 2r blocks of 64 bytes, so it takes longer as r grows.
     pub mixes: u64,
     /// Bytes of scrypt's table.
     pub table: u64,
@@ -26,8 +26,8 @@ pub struct Work {
     pub scratch: u64,
 }
 
-/// The counts of the work done: digests, digested bytes, scrypt's mixings of 2r blocks, and the bytes of scrypt's
-/// tables and scratch memory. Contracts see it as that work.
+/// The totals of the work done so far: digests, digested bytes, scrypt's mixings of 2r blocks each, and the bytes of
+/// scrypt's tables and scratch memory. Contracts see it as the record [`Work`].
 #[derive(Debug, Drop)]
 pub struct Meter {
     digests: u128,
@@ -45,8 +45,8 @@ impl Model for Meter {
     ghost view = { λ m. record { digests = m.digests; bytes = m.bytes; mixes = m.mixes; table = m.table; scratch = m.scratch } };
 }
 
-/// The counts of a meter at one moment, from which [`Meter::work_since`] computes the work since then. No call makes a
-/// meter of it. Contracts see it as those counts.
+/// A snapshot of a meter's counts, from which [`Meter::work_since`] computes the work done since. No call turns it back
+/// into a meter. Contracts see it as the record [`Work`].
 #[derive(Clone, Copy, Debug)]
 pub struct Reading {
     digests: u128,
@@ -94,7 +94,7 @@ impl Meter {
         self.bytes
     }
 
-    /// Returns the number of scrypt's mixings, of 2r blocks each.
+    /// Returns the number of scrypt's block mixings, of 2r blocks each.
     pub fn mixes(&self) -> u128
         ensures { result ≡ self.now.mixes }
     {
@@ -115,7 +115,7 @@ impl Meter {
         self.scratch
     }
 
-    /// Returns all the work that a meter has counted since it was new.
+    /// Returns all the work that the meter has counted since it was new.
     ///
     /// Precondition: each count is below 2^64.
     pub fn work(&self) -> Work
@@ -131,7 +131,7 @@ impl Meter {
         }
     }
 
-    /// Returns the counts at this moment.
+    /// Returns a snapshot of the counts.
     pub fn reading(&self) -> Reading
         ensures { result ≡ self.now }
     {
@@ -144,9 +144,9 @@ impl Meter {
         }
     }
 
-    /// Returns the work done since the reading: the rise of each count.
+    /// Returns the work done since the reading: how much each count has risen.
     ///
-    /// Preconditions: no count of the reading is above the meter's, and each has risen by less than 2^64.
+    /// Preconditions: no count of the reading is above the meter's, and each count has risen by less than 2^64.
     pub fn work_since(&self, reading: &Reading) -> Work
         requires earlier { IsWithin reading.now self.now }
         requires small { IsBelow (work_between reading.now self.now) (2 ^ 64) }
@@ -178,7 +178,7 @@ impl Meter {
         self.digests += 1;
     }
 
-    /// Counts one of scrypt's mixings, of 2r blocks.
+    /// Counts one of scrypt's block mixings, of 2r blocks.
     pub(crate) fn count_mix(&mut self)
         requires { self.old.mixes + 1 < 2 ^ 128 }
         ensures { self.new ≡ record self.old { mixes = self.old.mixes + 1 } }
@@ -186,7 +186,7 @@ impl Meter {
         self.mixes += 1;
     }
 
-    /// Counts the bytes of a table of scrypt.
+    /// Counts the bytes of one of scrypt's tables.
     pub(crate) fn count_table(&mut self, bytes: usize)
         requires { self.old.table + bytes < 2 ^ 128 }
         ensures { self.new ≡ record self.old { table = self.old.table + bytes } }

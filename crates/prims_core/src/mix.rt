@@ -1,14 +1,14 @@
 //! scryptBlockMix (RFC 7914, section 4), which mixes blocks of 64 bytes one after another.
 //!
-//! A block is its sixteen words. Each block is mixed with the result before it, the first with the last
-//! block. The results at even places come before those at odd places. ROMix (section 5) also mixes the XOR
-//! of blocks and a row of its table: [`mix_xor_diagonals`] does both in one pass.
+//! A block is sixteen words. Each block is mixed with the result before it, and the first block with the last
+//! block. The results with even numbers come before those with odd numbers. ROMix (section 5) also mixes the XOR
+//! of blocks and a row of its table; [`mix_xor_diagonals`] does both in one pass.
 //!
-//! During the whole of ROMix a block's words stand diagonal by diagonal, as Salsa20/8 in lanes takes them:
+//! Throughout ROMix a block's words are in diagonal order, as Salsa20/8 in lanes works on them:
 //! words 0, 5, 10, 15, then 4, 9, 14, 3, then 8, 13, 2, 7, then 12, 1, 6, 11. So no mixing has to rearrange
-//! any. [`to_diagonals`] and [`from_diagonals`] convert blocks before and after it. ROMix's first loop copies blocks to
-//! the table while it mixes them ([`fill_by_mixing`](crate::rows::fill_by_mixing)): rows that are written before that
-//! keep the processor waiting for memory.
+//! words: [`to_diagonals`] converts the blocks once before ROMix, and [`from_diagonals`] once after it. ROMix's first
+//! loop copies blocks to the table while it mixes them ([`fill_by_mixing`](crate::rows::fill_by_mixing)), since copying
+//! a whole row before mixing it makes the processor wait for memory.
 
 ghost use Rattle.std.specs.Prelude.{◌≡◌, ℕ, ◌+◌, ◌*◌, ◌%◌, ◌^◌, ◌<◌, ◌≤◌, List, ◌++◌, length};
 ghost use Rattle.prims_core.specs.BlockMix.{block_at, block_mix};
@@ -21,12 +21,13 @@ use crate::meter::Meter;
 use crate::rows::Rows;
 use crate::salsa::salsa8_of;
 
-/// The words of a block.
+/// The number of words of a block.
 pub(crate) const BLOCK_WORDS: usize = 16;
 
 /// Mixes the 2r blocks of `src` into `dst`, as scryptBlockMix does (RFC 7914, section 4), and counts one mixing.
 ///
-/// Preconditions: both have the 32r words of 2r blocks, for one r of at least 1, and the meter has room.
+/// Preconditions: `src` and `dst` have 32r words each, for the same r of at least 1, and the meter can count the mixing
+/// without overflow.
 pub fn block_mix(src: &[u32], dst: &mut [u32], meter: &mut Meter)
     requires blocks { (r : ℕ) × (1 ≤ r) × (length src.now ≡ 32 * r) × (length dst.old ≡ 32 * r) }
     requires room { meter.old.mixes + 1 < 2 ^ 128 }
@@ -38,11 +39,11 @@ pub fn block_mix(src: &[u32], dst: &mut [u32], meter: &mut Meter)
     meter.count_mix();
 }
 
-/// Mixes the 2r blocks of `src` into `dst`, where both stand diagonal by diagonal (RFC 7914, section 4), appends `src` to
-/// `rows`, and counts one mixing.
+/// Mixes the 2r blocks of `src` into `dst` (RFC 7914, section 4), appends `src` to `rows`, and counts one mixing. All
+/// blocks are in diagonal order.
 ///
-/// Preconditions: both have the 32r words of 2r blocks, for one r of at least 1, `rows` has memory for 32r words more,
-/// and the meter has room.
+/// Preconditions: `src` and `dst` have 32r words each, for the same r of at least 1, `rows` has memory for 32r more
+/// words, and the meter can count the mixing without overflow.
 // It is inlined so that the length of `rows` stays in a register.
 #[inline(always)]
 pub(crate) fn mix_and_append<R: Rows>(src: &[u32], dst: &mut [u32], rows: &mut R, meter: &mut Meter)
@@ -64,10 +65,11 @@ pub(crate) fn mix_and_append<R: Rows>(src: &[u32], dst: &mut [u32], rows: &mut R
     meter.count_mix();
 }
 
-/// Mixes the XOR of the 2r blocks of `src` and of `row` into `dst`, where all stand diagonal by diagonal, as
-/// the second loop of scryptROMix does (RFC 7914, section 5), and counts one mixing.
+/// Mixes the XOR of `src` and `row`, of 2r blocks each, into `dst`, as the second loop of scryptROMix does (RFC 7914,
+/// section 5, step 3), and counts one mixing. All blocks are in diagonal order.
 ///
-/// Preconditions: all three have the 32r words of 2r blocks, for one r of at least 1, and the meter has room.
+/// Preconditions: all three have 32r words, for the same r of at least 1, and the meter can count the mixing without
+/// overflow.
 pub fn mix_xor_diagonals(src: &[u32], row: &[u32], dst: &mut [u32], meter: &mut Meter)
     requires blocks { (r : ℕ) × (1 ≤ r) × (length src.now ≡ 32 * r) × (length row.now ≡ 32 * r)
         × (length dst.old ≡ 32 * r) }
@@ -83,9 +85,9 @@ pub fn mix_xor_diagonals(src: &[u32], row: &[u32], dst: &mut [u32], meter: &mut 
     meter.count_mix();
 }
 
-/// Rearranges blocks that stand row by row so that they stand diagonal by diagonal.
+/// Rearranges the words of each block from row order to diagonal order.
 ///
-/// Precondition: they are whole blocks, of 16 words each.
+/// Precondition: `words` has whole blocks, of 16 words each.
 pub fn to_diagonals(words: &mut [u32])
     requires whole { length words.old % 16 ≡ 0 }
     ensures { in_rows words.new ≡ words.old }
@@ -97,9 +99,9 @@ pub fn to_diagonals(words: &mut [u32])
     }
 }
 
-/// Rearranges blocks that stand diagonal by diagonal so that they stand row by row.
+/// Rearranges the words of each block from diagonal order to row order.
 ///
-/// Precondition: they are whole blocks, of 16 words each.
+/// Precondition: `words` has whole blocks, of 16 words each.
 pub fn from_diagonals(words: &mut [u32])
     requires whole { length words.old % 16 ≡ 0 }
     ensures { words.new ≡ in_rows words.old }
@@ -111,18 +113,18 @@ pub fn from_diagonals(words: &mut [u32])
     }
 }
 
-// Blocks that can be read one by one, whatever they are made of.
+// A source of blocks: stored blocks, or the XOR of two lists of them.
 trait Blocks {
-    // Their words, row by row.
+    // The words of all blocks, in row order.
     ghost words: { Self → List ℕ };
 
-    // Block `i`.
+    // Returns block `i`.
     fn block(&self, i: usize) -> Diagonals
         requires { 16 * i + 16 ≤ length (words self.now) }
         ensures { result ≡ block_at i (words self.now) };
 }
 
-// Blocks that stand row by row.
+// Blocks stored in row order.
 #[derive(Drop)]
 struct InRows<'a> {
     words: &'a [u32],
@@ -137,7 +139,7 @@ impl<'a> Blocks for InRows<'a> {
     }
 }
 
-// The XOR of two lists of blocks that stand diagonal by diagonal.
+// The XOR of two lists of blocks, both stored in diagonal order.
 #[derive(Drop)]
 struct Xored<'a> {
     words: &'a [u32],
@@ -153,7 +155,7 @@ impl<'a> Blocks for Xored<'a> {
     }
 }
 
-// Block `i` of blocks that stand diagonal by diagonal.
+// Loads block `i` of blocks that are stored in diagonal order.
 #[inline(always)]
 fn block_on_diagonals(words: &[u32], i: usize) -> Diagonals
     requires { 16 * i + 16 ≤ length words.now }
@@ -162,7 +164,7 @@ fn block_on_diagonals(words: &[u32], i: usize) -> Diagonals
     Diagonals::of_diagonals(block_words(words, i))
 }
 
-// The sixteen words of block `i`.
+// Returns the sixteen words of block `i`, in the order in which they are stored.
 #[inline(always)]
 fn block_words(words: &[u32], i: usize) -> &[u32]
     requires { 16 * i + 16 ≤ length words.now }
@@ -171,7 +173,7 @@ fn block_words(words: &[u32], i: usize) -> &[u32]
     &words[BLOCK_WORDS * i..BLOCK_WORDS * i + BLOCK_WORDS]
 }
 
-// Mixes 2r blocks, and writes the results to `dst` diagonal by diagonal.
+// Mixes 2r blocks, and writes the results to `dst` in diagonal order.
 fn mix_blocks<B: Blocks>(src: &B, dst: &mut [u32], r: usize)
     requires { (1 ≤ r) × (length (B.words src.now) ≡ 32 * r) × (length dst.old ≡ 32 * r) }
     ensures { in_rows dst.new ≡ block_mix (B.words src.now) }
@@ -183,7 +185,7 @@ fn mix_blocks<B: Blocks>(src: &B, dst: &mut [u32], r: usize)
     }
 }
 
-// Writes result `i` of 2r to its place: those at even places stand before those at odd ones.
+// Writes result `i` of 2r to its place: results with even numbers come before those with odd numbers (step 3).
 #[inline(always)]
 fn put_result(x: &Diagonals, dst: &mut [u32], i: usize, r: usize)
     requires { (i < 2 * r) × (length dst.old ≡ 32 * r) }
@@ -193,7 +195,7 @@ fn put_result(x: &Diagonals, dst: &mut [u32], i: usize, r: usize)
     x.store_diagonals(&mut dst[place..place + BLOCK_WORDS]);
 }
 
-// The next result, of the one before it and a block. The results stay in lanes from one to the next.
+// Returns the next X, from the X before it and a block (step 2). X stays in lanes from one block to the next.
 #[inline(always)]
 fn mixed_block(x: &Diagonals, block: &Diagonals) -> Diagonals
     ensures { result ≡ mixed_block x.now block.now }

@@ -1,7 +1,7 @@
-//! The memory in which the rows of scrypt's table stand (the V of RFC 7914, section 5), and the loop that fills it.
+//! The memory for the rows of scrypt's table (the V of RFC 7914, section 5), and the loop that fills it.
 //!
-//! The memory is a vector with enough capacity, or words that a caller lends. Blocks are appended to it, so none of it
-//! has to be written before: writing it first would take as long as wiping it.
+//! The memory is a vector with enough capacity, or words that a caller lends. Blocks are appended to it, so it needs no
+//! initialization, which would take as long as wiping it.
 
 ghost use Rattle.std.specs.Prelude.{◌≡◌, ℕ, ◌+◌, ◌*◌, ◌%◌, ◌^◌, ◌<◌, ◌≤◌, List, [], ◌++◌, length, take, vec_capacity};
 ghost use Rattle.std.specs.Fn.{iterate};
@@ -14,22 +14,22 @@ use crate::mix::{BLOCK_WORDS, mix_and_append};
 use std::mem::size_of;
 use std::simd::prelude::*;
 
-/// Memory to which blocks of sixteen words are appended, and from which they are read.
+/// Memory for the rows of a table. Blocks of sixteen words are appended to it and then read from it.
 pub trait Rows {
-    // The words of the blocks that are appended.
+    // The words of the blocks appended so far.
     ghost words: { Self → List ℕ };
 
-    // The number of words for which there is memory.
+    // The number of words that fit into the memory.
     ghost room: { Self → ℕ };
 
-    /// Forgets all blocks.
+    /// Removes all blocks, and keeps the memory.
     fn restart(&mut self)
         ensures words { words self.new ≡ [] }
         ensures room { room self.new ≡ room self.old };
 
     /// Appends a block.
     ///
-    /// Preconditions: it has sixteen words, and there is memory for them.
+    /// Preconditions: the block has sixteen words, and there is memory for them.
     fn push_block(&mut self, block: &[u32])
         requires whole { length block.now ≡ 16 }
         requires fits { length (words self.old) + 16 ≤ room self.old }
@@ -51,8 +51,8 @@ impl Rows for Vec<u32> {
         self.clear();
     }
 
-    // The block is read as one vector, as for the mixing: so it is read once. Since there is room, nothing is tested, and
-    // the loop of a mixing has no branch.
+    // The block is loaded as one vector, as the mixing loads it, so it is loaded only once. Since there is room, the
+    // capacity is not tested, and the mixing's loop has no branch.
     #[inline(always)]
     fn push_block(&mut self, block: &[u32]) {
         'appending: for word in u32x16::from_slice(block).to_array() {
@@ -65,7 +65,7 @@ impl Rows for Vec<u32> {
     }
 }
 
-/// Rows in words that a caller lends.
+/// Rows stored in words that a caller lends.
 #[derive(Drop)]
 pub struct LentRows<'a> {
     words: &'a mut [u32],
@@ -74,9 +74,10 @@ pub struct LentRows<'a> {
 }
 
 impl<'a> LentRows<'a> {
-    /// Takes lent words as the memory of a table, and counts their bytes, four a word, as table.
+    /// Returns empty rows that use `words` as memory, and adds the bytes of these, four for each word, to the meter's
+    /// table bytes.
     ///
-    /// Preconditions: they are at most 2^30 bytes, and the meter has room for them.
+    /// Preconditions: the words have at most 2^30 bytes, and the meter can count these without overflow.
     pub fn new(words: &'a mut [u32], meter: &mut Meter) -> LentRows<'a>
         requires fits { 4 * length words.old ≤ 2 ^ 30 }
         requires room { meter.old.table + 4 * length words.old < 2 ^ 128 }
@@ -111,12 +112,17 @@ impl<'a> Rows for LentRows<'a> {
     }
 }
 
-/// Fills `count` rows anew, as the first loop of scryptROMix does (RFC 7914, section 5): row `i` becomes `x` after `i`
-/// mixings, and `x` is mixed as often as there are rows, which is counted. In `x` and the rows blocks stand diagonal by
-/// diagonal. The mixings go from `x` to `y` and back in turn.
+/// Replaces all rows by `count` new ones, as the first loop of scryptROMix does (RFC 7914, section 5, step 2): row `i`
+/// is `x` after `i` mixings. The call leaves `x` mixed `count` times, and counts these mixings. Blocks are in diagonal
+/// order in `x` and in the rows. The mixings go from `x` to `y` and from `y` to `x` in turn, and `y` is only memory for
+/// that.
 ///
-/// Preconditions: the number of rows is even and not 0, `x` and `y` have the length of a row, which is the 32r words
-/// of 2r blocks, for one r of at least 1, there is memory for all rows, and the meter has room.
+/// Preconditions:
+///
+/// - `count` is even and not 0.
+/// - `x` and `y` have 32r words each, which is the length of a row, for the same r of at least 1.
+/// - There is memory for all rows.
+/// - The meter can count the mixings without overflow.
 pub fn fill_by_mixing<R: Rows>(
     rows: &mut R,
     count: usize,

@@ -1,8 +1,8 @@
-//! The Salsa20/8 core of scrypt (RFC 7914, section 3), after Bernstein's Salsa20 specification.
+//! The Salsa20/8 core of scrypt (RFC 7914, section 3), following Bernstein's Salsa20 specification.
 //!
-//! The sixteen words of a block are a matrix of four rows. A column round is a quarter round of each
-//! column, and a row round one of each row, each begun on the diagonal; four times both are the eight
-//! rounds. The four quarter rounds of a round are one, of lanes.
+//! The sixteen words of a block form a matrix of four rows. A column round is a quarter round of each
+//! column, and a row round is one of each row; each starts on the diagonal. Four column rounds and four row
+//! rounds in turn are the eight rounds. The four quarter rounds of a round run at once, one in each lane.
 
 ghost use Rattle.std.specs.Prelude.{◌≡◌, ℕ, ◌<◌, [], ◌∷◌, bit_xor, length, slice_index};
 ghost use Rattle.std.specs.Fn.{iterate};
@@ -12,8 +12,8 @@ ghost use Rattle.prims_core.specs.Salsa.{rotated_sum, quarter_round, column_roun
 use crate::diagonals::Diagonals;
 use std::simd::u32x4;
 
-/// Replaces the sixteen words of a block by their Salsa20/8 (RFC 7914, section 3): each word is added to its word after
-/// eight rounds.
+/// Replaces the sixteen words of a block by their Salsa20/8 (RFC 7914, section 3): the words after eight rounds, added
+/// to the original words.
 pub fn salsa8(block: &mut [u32; 16])
     ensures { block.new ≡ salsa20_8 block.old }
 {
@@ -21,7 +21,7 @@ pub fn salsa8(block: &mut [u32; 16])
     mixed.store(block);
 }
 
-/// Returns Salsa20/8 of a block in lanes.
+/// Returns the Salsa20/8 of a block that is held in lanes.
 #[inline(always)]
 pub(crate) fn salsa8_of(block: &Diagonals) -> Diagonals
     ensures { result ≡ salsa20_8 block.now }
@@ -29,7 +29,7 @@ pub(crate) fn salsa8_of(block: &Diagonals) -> Diagonals
     block.sum(&four_double_rounds(block))
 }
 
-// The matrix after four double rounds.
+// Returns the matrix after four double rounds.
 #[inline(always)]
 fn four_double_rounds(x: &Diagonals) -> Diagonals
     ensures rows { chunks_exact result 4 ≡ iterate double_round 4 (chunks_exact x.now 4) }
@@ -38,7 +38,7 @@ fn four_double_rounds(x: &Diagonals) -> Diagonals
     double_round(&double_round(&double_round(&double_round(x))))
 }
 
-// A column round, and then a row round.
+// Does a column round, and then a row round.
 #[inline(always)]
 fn double_round(x: &Diagonals) -> Diagonals
     ensures rows { chunks_exact result 4 ≡ double_round (chunks_exact x.now 4) }
@@ -47,7 +47,7 @@ fn double_round(x: &Diagonals) -> Diagonals
     row_round(&column_round(x))
 }
 
-// A quarter round of each column, begun on the main diagonal.
+// Does a quarter round of each column, starting on the main diagonal.
 #[inline(always)]
 fn column_round(x: &Diagonals) -> Diagonals
     ensures { chunks_exact result 4 ≡ column_round (chunks_exact x.now 4) }
@@ -61,8 +61,9 @@ fn column_round(x: &Diagonals) -> Diagonals
     }
 }
 
-// A quarter round of each row, begun on the main diagonal. Its further words lie on the fourth, third
-// and second diagonal, one, two and three lanes on: these are turned to it, and back.
+// Does a quarter round of each row, starting on the main diagonal. The next three words of a row are on the
+// fourth, third and second diagonals, but one, two and three lanes further on. So these diagonals are rotated
+// to line up with the main one, and rotated back afterwards.
 #[inline(always)]
 fn row_round(x: &Diagonals) -> Diagonals
     ensures rows { chunks_exact result 4 ≡ row_round (chunks_exact x.now 4) }
@@ -82,7 +83,7 @@ fn row_round(x: &Diagonals) -> Diagonals
     }
 }
 
-// The quarter rounds of four words in each lane.
+// Does four quarter rounds at once: in each lane, one of the four words there.
 #[inline(always)]
 fn quarter_rounds(a: u32x4, b: u32x4, c: u32x4, d: u32x4) -> (u32x4, u32x4, u32x4, u32x4)
     ensures { (j : ℕ) → j < 4
@@ -96,8 +97,8 @@ fn quarter_rounds(a: u32x4, b: u32x4, c: u32x4, d: u32x4) -> (u32x4, u32x4, u32x
     (a, b, c, d)
 }
 
-// Adds the sums of `x` and `y`, rotated to the left, to `word` by XOR, the bits that the
-// rotation moves up and those that it moves down one after the other: that is faster than their union.
+// Returns `word` XOR the sum of `x` and `y` rotated left by `bits`. The two shifted halves of the rotation are
+// XORed in one after the other, which is faster than joining them first.
 #[inline(always)]
 fn xor_rotated_sum(word: u32x4, x: u32x4, y: u32x4, bits: u32) -> u32x4
     requires { (0 < bits) × (bits < 32) }

@@ -1,6 +1,6 @@
 //! The memory that scrypt uses besides its table: bytes, and 32-bit words.
 //!
-//! Each is one allocation in its full size, or lent by a caller.
+//! Each of the two is one allocation of its full size, or lent by the caller.
 
 ghost use Rattle.std.specs.Prelude.{◌≡◌, ◌+◌, ◌*◌, ◌^◌, ◌<◌, ◌≤◌, length, replicate, IfOk, OnOk, OnErr};
 ghost use Rattle.std.specs.Borrow.{sem};
@@ -76,7 +76,7 @@ impl Model for WordScratch {
 }
 
 impl WordScratch {
-    /// Returns `words` zero words, whose bytes, four each, the meter counts as scratch memory.
+    /// Returns `words` zero words. The meter counts their bytes, four for each word, as scratch memory.
     ///
     /// Preconditions: the words have at most 2^30 bytes, and the meter can count these without overflow.
     ///
@@ -111,7 +111,7 @@ impl WordScratch {
     }
 }
 
-/// Takes lent bytes as scratch memory, which the meter counts, and returns them.
+/// Counts lent bytes as scratch memory, and returns them.
 ///
 /// Precondition: the meter can count them without overflow.
 pub fn lent_bytes<'a>(bytes: &'a mut [u8], meter: &mut Meter) -> &'a mut [u8]
@@ -123,7 +123,7 @@ pub fn lent_bytes<'a>(bytes: &'a mut [u8], meter: &mut Meter) -> &'a mut [u8]
     bytes
 }
 
-/// Takes lent words as scratch memory, whose bytes, four each, the meter counts, and returns them.
+/// Counts the bytes of lent words, four for each word, as scratch memory, and returns the words.
 ///
 /// Preconditions: the words have at most 2^30 bytes, and the meter can count these without overflow.
 pub fn lent_words<'a>(words: &'a mut [u32], meter: &mut Meter) -> &'a mut [u32]

@@ -1,8 +1,8 @@
-//! The table of scrypt, the V of RFC 7914, section 5: rows of 32-bit words, all of one length.
+//! The table of scrypt (the V of RFC 7914, section 5): rows of 32-bit words, all of the same length.
 //!
-//! All rows stand one after another in one vector, so a table is one allocation, made at once in its full
-//! size. The vector holds whole rows. Rows of at most 1,024 words behind the last one that was set are not written yet
-//! and are read as zeros: writing these first would take as long as wiping them.
+//! All rows are in one vector, one after another, so a table is a single allocation of its full size. The vector's
+//! length is that of whole rows. Where rows have at most 1,024 words, those after the last one that was set are not
+//! written yet and read as zeros: writing the zeros first would take as long as wiping the memory.
 
 ghost use Rattle.std.specs.Prelude.{◌≡◌, ℕ, ◌+◌, ◌-◌, ◌*◌, ◌^◌, ◌<◌, ◌≤◌, [], ◌++◌, length, replicate, slice_index_or, slice_set, vec_len, vec_capacity, IfOk, OnOk, OnErr};
 ghost use Rattle.prims_core.specs.Memory.{HasShape};
@@ -12,10 +12,10 @@ use std::alloc::{AllocError, Global};
 use std::marker::Model;
 use std::mem::size_of;
 
-// A row of zeros, up to r = 32.
+// The zeros that an unwritten row reads as. They suffice for r up to 32.
 const ZEROS: [u32; 1024] = [0; 1024];
 
-/// Rows of words, all of one length.
+/// Rows of words, all of the same length. Contracts see them as a list of rows.
 #[derive(Drop)]
 pub struct Table {
     words: Vec<u32>,
@@ -35,13 +35,14 @@ impl Model for Table {
 }
 
 impl Table {
-    /// Returns `rows` rows of `row_words` zeros each, and counts their bytes, four a word, as table.
+    /// Returns a table of `rows` rows of `row_words` zeros each, and adds its bytes, four for each word, to the meter's
+    /// table bytes.
     ///
-    /// Preconditions: they are at most 2^30 bytes, and the meter has room for them.
+    /// Preconditions: the table has at most 2^30 bytes, and the meter can count these without overflow.
     ///
     /// # Errors
     ///
-    /// [`AllocError`] if memory is refused. Then nothing is counted.
+    /// - `AllocError`: the allocation failed. The meter is unchanged.
     pub fn new(
         alloc: Global,
         rows: usize,
@@ -84,9 +85,9 @@ impl Table {
         }
     }
 
-    /// Makes row `i` a copy of `row`. The other rows stay.
+    /// Copies `row` to row `i`. The other rows keep their words.
     ///
-    /// Preconditions: `i` is below the number of rows, and `row` has the length of a row.
+    /// Preconditions: `i` is below the number of rows, and `row` is as long as a row of the table.
     #[tactic(auto, using(crate::proofs::TableFacts::row_end))]
     pub fn set_row(&mut self, i: usize, row: &[u32])
         requires inside { i < length self.old }
@@ -99,7 +100,7 @@ impl Table {
         self.words[start..end].copy_from_slice(row);
     }
 
-    /// Returns the memory of the rows: a vector with capacity for all words of them.
+    /// Returns the table's vector, whose capacity is enough for the words of all rows.
     pub fn into_words(self) -> Vec<u32>
         ensures room { (rows row_words : ℕ) → HasShape self rows row_words → rows * row_words ≤ vec_capacity result }
     {
@@ -108,7 +109,9 @@ impl Table {
     }
 }
 
-// Appends zeros up to a length, for which there is room.
+// Appends zeros until `words` has `len` words. A longer vector stays as it is.
+//
+// Precondition: the vector has capacity for `len` words.
 fn fill(words: &mut Vec<u32>, len: usize)
     requires room { len ≤ vec_capacity words.old }
     ensures zeros { words.new.items ≡ words.old.items ++ replicate (len - length words.old.items) 0 }

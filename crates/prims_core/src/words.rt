@@ -1,14 +1,13 @@
-//! Numbers as bytes, in the byte order of the standards.
+//! Conversions between numbers and bytes, in the byte order of the standards.
 //!
-//! Block numbers have the highest byte first (RFC 8018), and the words of scrypt's blocks the lowest byte first (RFC
-//! 7914).
+//! PBKDF2 numbers its blocks highest byte first (RFC 8018), and scrypt reads its words lowest byte first (RFC 7914).
 
 ghost use Rattle.std.specs.Prelude.{◌≡◌, ◌*◌, length};
 ghost use Rattle.prims_core.specs.Words.{big_bytes, bytes_of_words, words_of};
 
 use byteorder::{BigEndian, ByteOrder, LittleEndian};
 
-/// Returns the four bytes of a number, the highest first, as INT (i) in RFC 8018, section 5.2.
+/// Returns the four bytes of a number, highest first. This is INT (i) of RFC 8018, section 5.2.
 pub fn number_be(number: u32) -> [u8; 4]
     ensures { result ≡ big_bytes 4 number }
 {
@@ -17,7 +16,7 @@ pub fn number_be(number: u32) -> [u8; 4]
     bytes
 }
 
-/// Fills `words` with the words of `bytes`, four bytes each, the lowest first (RFC 7914, section 3).
+/// Fills `words` from `bytes`, four bytes for each word, lowest first (RFC 7914, section 3).
 ///
 /// Precondition: `bytes` has four bytes for each word.
 pub fn load_words(bytes: &[u8], words: &mut [u32])
@@ -27,7 +26,7 @@ pub fn load_words(bytes: &[u8], words: &mut [u32])
     LittleEndian::read_u32_into(bytes, words);
 }
 
-/// Fills `bytes` with the bytes of `words`, four of each, the lowest first. It is the inverse of [`load_words`].
+/// Fills `bytes` from `words`, four bytes for each word, lowest first. It is the inverse of [`load_words`].
 ///
 /// Precondition: `bytes` has four bytes for each word.
 pub fn store_words(words: &[u32], bytes: &mut [u8])

@@ -1,4 +1,5 @@
--- Every digest consists of bytes, whatever the message.
+-- Every digest consists of bytes, for every message: the law `digest_bytes` of `Counted`, for MD5, SHA-256 and SHA-512.
+-- A digest is its state words one after another, so induction over the words, and over the bytes of a word, shows it.
 use Rattle.std.proofs.Common.{ℕ, zero, suc, ◌<◌, List, [], ◌∷◌, arith}
 use Rattle.std.specs.Prelude.{All, slice_index}
 use Rattle.std.specs.Int.{byte_at, bytes_low_first, bytes_high_first}

@@ -1,4 +1,4 @@
-//! MD5 (RFC 1321), counted.
+//! MD5 (RFC 1321), with its work counted by a meter.
 
 use super::Counted;
 use crate::meter::Meter;
@@ -6,7 +6,7 @@ use arrayvec::ArrayVec;
 use md5::{Digest, Md5};
 use std::marker::Model;
 
-/// A running MD5 (RFC 1321) digest. Clauses see it as the running digest of the digest crate.
+/// A running MD5 (RFC 1321) digest. Contracts see it as the running digest of the crate `md5`.
 #[derive(Debug, Drop)]
 pub struct CountedMd5 {
     running: Md5,

@@ -1,4 +1,4 @@
-//! SHA-512 (FIPS 180-4), counted.
+//! SHA-512 (FIPS 180-4), with its work counted by a meter.
 
 use super::Counted;
 use crate::meter::Meter;
@@ -6,7 +6,7 @@ use arrayvec::ArrayVec;
 use sha2::{Digest, Sha512};
 use std::marker::Model;
 
-/// A running SHA-512 (FIPS 180-4) digest. Clauses see it as the running digest of the digest crate.
+/// A running SHA-512 (FIPS 180-4) digest. Contracts see it as the running digest of the crate `sha2`.
 #[derive(Debug, Drop)]
 pub struct CountedSha512 {
     running: Sha512,
