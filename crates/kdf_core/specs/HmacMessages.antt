@@ -3,26 +3,26 @@ use Rattle.std.specs.Prelude.{◌≡◌, ℕ, ◌*◌, List, [], ◌∷◌, ◌+
 use Rattle.prims_core.specs.Digests.{sha256}
 use Rattle.kdf_core.specs.Hmac.{sha256_block, padded_key, key_digests}
 
--- A prepared key: its block under the inner pad, and its block under the outer pad.
+-- A prepared key: its block XOR the inner pad, and its block XOR the outer pad.
 pub record PaddedKey : Type 0 where
   pub inner : List ℕ
   pub outer : List ℕ
 
--- IsKeyOf held key: the prepared key was made of this key, which may have any length.
+-- IsKeyOf held key: held is this key, of any length, prepared for tags.
 pub record IsKeyOf (held : PaddedKey) (key : List ℕ) : Type 0 where
   pub inner : held.inner ≡ padded_key key 0x36
   pub outer : held.outer ≡ padded_key key 0x5c
 
--- key_messages key: the key itself, if it is longer than a block.
+-- key_messages key: what preparing a key digests: the key itself if it is longer than a block, and nothing otherwise.
 abbrev pub key_messages : List ℕ → List (List ℕ)
 key_messages key = if nat_lt sha256_block (length key) then key ∷ [] else []
 
--- key_bytes key_length: the number of bytes of these messages.
+-- key_bytes key_length: the number of bytes digested to prepare a key of this length.
 abbrev pub key_bytes : ℕ → ℕ
 key_bytes key_length = key_digests key_length * key_length
 
--- tag_messages key text: the inner padded key and the text, and then the outer padded key and the digest of the first
--- message.
+-- tag_messages key text: the two messages of a tag: the inner padded key followed by the text, and the outer padded key
+-- followed by the digest of the first message.
 abbrev pub tag_messages : List ℕ → List ℕ → List (List ℕ)
 tag_messages key text =
     let inner = padded_key key 0x36 ++ text in

@@ -1,4 +1,4 @@
--- Why three numbers are no parameters of scrypt.
+-- The errors for three numbers that are not parameters of scrypt.
 use Rattle.std.specs.Prelude.{ℕ, List, codes}
 use Rattle.kdf_core.specs.declared.params.ParamFault.{ParamFault}
 use Rattle.kdf_core.specs.declared.params.ParamFault.TheVariants.{Range, AboveCeiling}

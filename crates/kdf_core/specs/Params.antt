@@ -7,7 +7,7 @@ pub record ScryptParams : Type 0 where
   pub r : ℕ
   pub p : ℕ
 
--- scrypt_params log_n r p: the three numbers together.
+-- scrypt_params log_n r p: the three numbers as one record.
 abbrev pub scrypt_params : ℕ → ℕ → ℕ → ScryptParams
 scrypt_params log_n r p = record { log_n = log_n; r = r; p = p }
 
@@ -15,12 +15,12 @@ scrypt_params log_n r p = record { log_n = log_n; r = r; p = p }
 abbrev pub row_count : ScryptParams → ℕ
 row_count params = 2 ^ params.log_n
 
--- IsInRange params: log2 N is at least 1 and below 16 r, and neither r nor p is 0 (RFC 7914, section 2). The ceiling
--- implies that section's bound on p.
+-- IsInRange params: log2 N is at least 1 and below 16r, and neither r nor p is 0 (RFC 7914, section 2). That section's
+-- bound on p follows from the ceiling.
 abbrev pub IsInRange : ScryptParams → Type 0
 IsInRange params = (0 < params.log_n) × (params.log_n < 16 * params.r) × (0 < params.r) × (0 < params.p)
 
--- product params: N * r * p. The time grows with it, and it bounds the memory.
+-- product params: N * r * p. scrypt's time grows with it, and it bounds scrypt's memory.
 abbrev pub product : ScryptParams → ℕ
 product params = row_count params * params.r * params.p
 

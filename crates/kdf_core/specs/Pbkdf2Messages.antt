@@ -7,7 +7,7 @@ use Rattle.kdf_core.specs.HmacMessages.{tag_messages}
 use Rattle.kdf_core.specs.Pbkdf2.{chain}
 
 -- block_messages password salt rounds i: the messages of block i, which are those of the tags U_1 to U_c. U_1 is the
--- tag of S || INT (i), and each later one that of the tag before.
+-- tag of S || INT (i), and each later tag is the tag of the one before it.
 unfoldable pub block_messages : List ℕ → List ℕ → ℕ → ℕ → List (List ℕ)
 block_messages password salt rounds i =
     flat_map (λ j. tag_messages password (chain password salt i j)) (range_with_len 0 rounds)
@@ -17,8 +17,8 @@ unfoldable pub pbkdf2_messages : List ℕ → List ℕ → ℕ → ℕ → List 
 pbkdf2_messages password salt rounds count =
     flat_map (block_messages password salt rounds) (range_with_len 1 (div_ceil count sha256_length))
 
--- block_bytes salt_length rounds: the number of bytes of one block's messages: the tag of S || INT (i), and the other
--- tags.
+-- block_bytes salt_length rounds: the number of bytes of one block's messages: those of the tag of S || INT (i), and
+-- those of the other tags.
 abbrev pub block_bytes : ℕ → ℕ → ℕ
 block_bytes salt_length rounds = tag_bytes (salt_length + 4) + tag_bytes sha256_length * (rounds - 1)
 
@@ -26,6 +26,6 @@ block_bytes salt_length rounds = tag_bytes (salt_length + 4) + tag_bytes sha256_
 abbrev pub pbkdf2_digests : ℕ → ℕ → ℕ
 pbkdf2_digests rounds count = 2 * rounds * div_ceil count sha256_length
 
--- pbkdf2_bytes salt_length rounds count: the number of bytes of these messages: those of each block.
+-- pbkdf2_bytes salt_length rounds count: the number of bytes of the messages for count bytes: the same for each block.
 abbrev pub pbkdf2_bytes : ℕ → ℕ → ℕ → ℕ
 pbkdf2_bytes salt_length rounds count = div_ceil count sha256_length * block_bytes salt_length rounds

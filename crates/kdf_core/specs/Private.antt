@@ -1,2 +1,2 @@
--- Definitions that only contracts of private steps of scrypt cite. Readers of the public clauses need none of them.
+-- Definitions that only the contracts of scrypt's private steps use. Readers of the public contracts need none of them.
 pub mod Mixing

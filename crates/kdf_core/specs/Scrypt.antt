@@ -7,21 +7,21 @@ use Rattle.prims_core.specs.Words.{words_of, bytes_of_words, little_number, xor_
 use Rattle.kdf_core.specs.Params.{ScryptParams, row_count}
 use Rattle.kdf_core.specs.Pbkdf2.{pbkdf2_sha256}
 
--- integerify words: Integerify (X), the last 64-byte block of X as a little-endian number (section 5). The block is
--- sixteen words.
+-- integerify words: Integerify (X), the last 64-byte block of X, which is sixteen words, as a little-endian number
+-- (section 5).
 unfoldable pub integerify : List ℕ → ℕ
 integerify words = little_number 64 (bytes_of_words (drop (length words - 16) words))
 
--- mixed_back n start words: BlockMix (X XOR V), one step of ROMix's second loop (section 5). V is B after j mixings,
--- and j is Integerify (X) mod N.
+-- mixed_back n start words: BlockMix (X xor V[j]), one step of ROMix's second loop (section 5, step 3). X is `words`, j
+-- is Integerify (X) mod N, and V[j] is B after j mixings (step 2).
 unfoldable pub mixed_back : ℕ → List ℕ → List ℕ → List ℕ
 mixed_back n start words = block_mix (xor_lists words (iterate block_mix (integerify words % n) start))
 
--- romix n start: ROMix (B), which is N such steps, begun at B after N mixings (section 5).
+-- romix n start: ROMix (B) with N rows: N such steps, starting with B after N mixings (section 5).
 unfoldable pub romix : ℕ → List ℕ → List ℕ
 romix n start = iterate (mixed_back n start) n (iterate block_mix n start)
 
--- part_bytes params: the number of bytes of a part, which is 2r blocks of 64 bytes.
+-- part_bytes params: the number of bytes of a part B[i], which is 2r blocks of 64 bytes.
 abbrev pub part_bytes : ScryptParams → ℕ
 part_bytes params = 128 * params.r
 
@@ -29,12 +29,12 @@ part_bytes params = 128 * params.r
 abbrev pub parts_bytes : ScryptParams → ℕ
 parts_bytes params = part_bytes params * params.p
 
--- mixed_part n bytes: ROMix of a part, as bytes.
+-- mixed_part n bytes: ROMix of a part given as bytes, as bytes too.
 unfoldable pub mixed_part : ℕ → List ℕ → List ℕ
 mixed_part n bytes = bytes_of_words (romix n (words_of bytes))
 
--- scrypt password salt params count: scrypt (P, S, N, r, p, dkLen) with dkLen = count (section 6). B is PBKDF2 (P, S, 1,
--- 128rp), its p parts go through ROMix, and the result is PBKDF2 (P, B, 1, dkLen).
+-- scrypt password salt params count: scrypt (P, S, N, r, p, dkLen) with dkLen = count (section 6). B is PBKDF2 (P, S,
+-- 1, 128rp) (step 1), ROMix replaces each of its p parts (step 2), and the result is PBKDF2 (P, B, 1, dkLen) (step 3).
 unfoldable pub scrypt : List ℕ → List ℕ → ScryptParams → ℕ → List ℕ
 scrypt password salt params count =
     let derived = pbkdf2_sha256 password salt 1 (parts_bytes params) in

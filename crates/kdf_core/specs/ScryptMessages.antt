@@ -11,12 +11,12 @@ use Rattle.kdf_core.specs.Pbkdf2Messages.{pbkdf2_messages}
 use Rattle.kdf_core.specs.Scrypt.{mixed_part, part_bytes, parts_bytes}
 use Rattle.kdf_core.specs.ScryptWork.{scrypt_work}
 
--- mixed_parts n size bytes: ROMix with N rows of each part of size bytes, joined.
+-- mixed_parts n size bytes: the parts, of size bytes each, with each replaced by its ROMix with N rows (step 2).
 unfoldable pub mixed_parts : ℕ → ℕ → List ℕ → List ℕ
 mixed_parts n size bytes = flat_map (mixed_part n) (chunks_exact bytes size)
 
--- scrypt_messages password salt params count: the password if it is longer than a block of SHA-256, and then the messages
--- of both derivations.
+-- scrypt_messages password salt params count: the password if it is longer than a SHA-256 block, and then the messages
+-- of both PBKDF2 derivations.
 unfoldable pub scrypt_messages : List ℕ → List ℕ → ScryptParams → ℕ → List (List ℕ)
 scrypt_messages password salt params count =
     let derived = pbkdf2_sha256 password salt 1 (parts_bytes params) in

@@ -1,4 +1,4 @@
--- The work of scrypt (RFC 7914, section 6), as a closed form of the lengths of a password, a salt and a result.
+-- The work of scrypt (RFC 7914, section 6), as a closed form in the lengths of the password, the salt and the result.
 use Rattle.std.specs.Prelude.{◌≡◌, ℕ, ◌+◌, ◌*◌, ◌⊎◌}
 use Rattle.std.specs.Int.{div_ceil}
 use Rattle.prims_core.specs.declared.meter.Work.{Work}
@@ -6,16 +6,16 @@ use Rattle.kdf_core.specs.Hmac.{sha256_length, key_digests, tag_bytes}
 use Rattle.kdf_core.specs.Params.{ScryptParams, row_count}
 use Rattle.kdf_core.specs.Scrypt.{part_bytes, parts_bytes}
 
--- table_bytes params: the number of bytes of the one table, whose N rows are as long as a part.
+-- table_bytes params: the number of bytes of the one table, whose N rows are each as long as a part.
 abbrev pub table_bytes : ScryptParams → ℕ
 table_bytes params = row_count params * part_bytes params
 
--- scrypt_work params password_length salt_length count: all five counts, for a password and a salt of these lengths and a
--- result of count bytes.
---   digests  two for each tag of 32 bytes, of all parts and of the result; one more for a password longer than a block
---   bytes    that password, and the `tag_bytes` of each tag, whose text is a salt and the number of a block in 4 bytes.
---            The salt of the result is all parts
---   mixes    N to make the rows and N to mix with them, for each part
+-- scrypt_work params password_length salt_length count: all five counts, for a password and a salt of these lengths and
+-- a result of count bytes.
+--   digests  two for each 32-byte tag, of all parts and of the result; one more for a password longer than a block
+--   bytes    that password, and the `tag_bytes` of each tag. The text of a tag is a salt and a block's number in 4
+--            bytes; for the result, the salt is all parts
+--   mixes    for each part, N to fill the rows and N to mix with them
 --   table    the N rows
 --   scratch  all parts, and two halves in which a part is mixed
 abbrev pub scrypt_work : ScryptParams → ℕ → ℕ → ℕ → Work
@@ -28,12 +28,12 @@ scrypt_work params password_length salt_length count = record {
   scratch = parts_bytes params + 2 * part_bytes params;
 }
 
--- mixed_bytes params: the number of mixed bytes, one part in each mixing.
+-- mixed_bytes params: the number of bytes that are mixed, which is one part in each mixing.
 abbrev pub mixed_bytes : ScryptParams → ℕ
 mixed_bytes params = 2 * row_count params * params.p * part_bytes params
 
--- IsAfterRefusal before params after: these are the counts after scrypt failed to allocate the table, the parts, or the
--- halves. They include each allocation before the failed one.
+-- IsAfterRefusal before params after: these are the counts after scrypt failed to allocate the table, the parts or the
+-- halves. They include the allocations before the one that failed.
 abbrev pub IsAfterRefusal : Work → ScryptParams → Work → Type 0
 IsAfterRefusal before params after =
     (after ≡ before)

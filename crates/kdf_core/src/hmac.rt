@@ -1,7 +1,7 @@
 //! HMAC over SHA-256 (RFC 2104).
 //!
-//! A key is prepared once for any number of tags: [`HmacKey`] has its block under the inner pad and its block under the
-//! outer pad. Nothing here allocates.
+//! A key is prepared once and serves any number of tags: [`HmacKey`] holds its block XOR the inner pad, and its block
+//! XOR the outer pad. Nothing here allocates.
 
 ghost use Rattle.std.specs.Prelude.{◌≡◌, ℕ, ◌+◌, ◌^◌, ◌<◌, List, ◌++◌, length, replicate};
 ghost use Rattle.prims_core.specs.Digests.{sha256};
@@ -14,10 +14,10 @@ use prims_core::counted::{Counted, CountedSha256};
 use prims_core::meter::Meter;
 use std::marker::Model;
 
-/// The number of bytes of a block of SHA-256, to which HMAC fills a key.
+/// The number of bytes of a SHA-256 block, to which HMAC pads a key.
 pub(crate) const SHA256_BLOCK: usize = 64;
 
-/// The number of bytes of a digest of SHA-256.
+/// The number of bytes of a SHA-256 digest.
 pub(crate) const SHA256_LENGTH: usize = 32;
 
 // The byte of the inner pad.
@@ -26,7 +26,7 @@ const IPAD: u8 = 0x36;
 // The byte of the outer pad.
 const OPAD: u8 = 0x5c;
 
-/// A key of HMAC-SHA-256, prepared for tags. Contracts relate it to the key of which it was made, with `IsKeyOf`.
+/// A key of HMAC-SHA-256, prepared for tags. Contracts relate it to the original key with `IsKeyOf`.
 #[derive(Drop)]
 pub struct HmacKey {
     inner: [u8; 64],
@@ -42,10 +42,10 @@ impl Model for HmacKey {
 }
 
 impl HmacKey {
-    /// Returns a key of any length, prepared for tags (RFC 2104, section 2).
+    /// Prepares a key of any length for tags (RFC 2104, section 2).
     ///
-    /// A key of more than 64 bytes takes one digest of its bytes, and any other key none. Precondition: the meter can
-    /// count that without overflow.
+    /// A key of more than 64 bytes is digested once; any other key takes no digest. Precondition: the meter can count
+    /// that without overflow.
     pub fn new(key: &[u8], meter: &mut Meter) -> HmacKey
         requires digests_room { meter.old.digests + key_digests (length key.now) < 2 ^ 128 }
         requires bytes_room { meter.old.bytes + key_bytes (length key.now) < 2 ^ 128 }
@@ -59,10 +59,10 @@ impl HmacKey {
         }
     }
 
-    /// Returns the tag of `a` followed by `b`, which the call never joins (RFC 2104, section 2).
+    /// Returns the tag of the message `a || b`, without copying the two together (RFC 2104, section 2).
     ///
-    /// A tag takes two digests, of 160 bytes and those of `a` and `b`. Precondition: the meter can count that without
-    /// overflow.
+    /// A tag takes two digests, of 160 bytes more in all than `a` and `b` have. Precondition: the meter can count that
+    /// without overflow.
     pub fn tag(&self, a: &[u8], b: &[u8], meter: &mut Meter) -> [u8; 32]
         requires digests_room { meter.old.digests + 2 < 2 ^ 128 }
         requires bytes_room { meter.old.bytes + tag_bytes (length a.now + length b.now) < 2 ^ 128 }
@@ -76,7 +76,7 @@ impl HmacKey {
     }
 }
 
-// Returns the key, or its digest if it is longer than a block, and zeros up to a block.
+// Returns the key, or its digest if it is longer than a block, padded with zeros to a block.
 fn block_of(key: &[u8], meter: &mut Meter) -> [u8; 64]
     requires digests_room { meter.old.digests + key_digests (length key.now) < 2 ^ 128 }
     requires bytes_room { meter.old.bytes + key_bytes (length key.now) < 2 ^ 128 }
@@ -93,7 +93,7 @@ fn block_of(key: &[u8], meter: &mut Meter) -> [u8; 64]
     block
 }
 
-// Returns the block XOR the pad.
+// Returns the block XOR the pad, which is this byte repeated.
 fn padded(block: &[u8; 64], pad: u8) -> [u8; 64]
     ensures { result ≡ xor_lists block.now (replicate 64 pad) }
 {
@@ -112,7 +112,7 @@ pub(crate) fn xor_into(sum: &mut [u8], bytes: &[u8])
     }
 }
 
-// Returns the SHA-256 digest of the three pieces as one message.
+// Returns the SHA-256 digest of the three pieces, taken as one message.
 fn sha256_of(first: &[u8], second: &[u8], third: &[u8], meter: &mut Meter) -> [u8; 32]
     requires digests_room { meter.old.digests + 1 < 2 ^ 128 }
     requires bytes_room { meter.old.bytes + (length first.now + length second.now + length third.now) < 2 ^ 128 }

@@ -15,7 +15,7 @@ use prims_core::rows::LentRows;
 use prims_core::scratch::{lent_bytes, lent_words};
 use thiserror::Error;
 
-/// Why lent memory is not enough: the first of these errors.
+/// Why the lent memory is too small: the first of these errors that applies.
 #[derive(Clone, Copy, Debug, PartialEq, Eq, Drop, Error)]
 pub enum LentFault {
     /// There are fewer words than [`needed_words`].
@@ -26,8 +26,8 @@ pub enum LentFault {
     Bytes,
 }
 
-/// Returns the number of words that [`scrypt_lent`] needs, which is `32 * r * (N + 2)`: those of the table and of two
-/// halves. It is at most 2^29.
+/// Returns the number of words that [`scrypt_lent`] needs, which is `32 * r * (N + 2)`: the table of N rows, and two
+/// halves as long as a row. It is at most 2^29.
 pub fn needed_words(params: &Params) -> usize
     ensures words { result ≡ needed_words params.now }
     ensures below { result ≤ 2 ^ 29 }
@@ -36,8 +36,7 @@ pub fn needed_words(params: &Params) -> usize
     UNIT_WORDS * params.r() as usize * (params.row_count() as usize + 2)
 }
 
-/// Returns the number of bytes that [`scrypt_lent`] needs, which is `128 * r * p`: those of the parts. It is at most
-/// 2^29.
+/// Returns the number of bytes that [`scrypt_lent`] needs, which is `128 * r * p`: all parts. It is at most 2^29.
 pub fn needed_bytes(params: &Params) -> usize
     ensures bytes { result ≡ needed_bytes params.now }
     ensures below { result ≤ 2 ^ 29 }
@@ -45,16 +44,17 @@ pub fn needed_bytes(params: &Params) -> usize
     UNIT_BYTES * params.r() as usize * params.p() as usize
 }
 
-/// Fills `out` with bytes derived from a password and a salt, as [`scrypt`](crate::scrypt::scrypt) does, in lent memory.
+/// Fills `out` with bytes derived from a password and a salt, as [`scrypt`](crate::scrypt::scrypt) does, but in lent
+/// memory.
 ///
 /// Preconditions: `out` has at most `32 * (2^32 - 1)` bytes, and each count of the meter is at most 2^120.
 ///
-/// What the memory holds before does not matter, and what it holds after is not said. The meter rises as by
-/// [`scrypt`](crate::scrypt::scrypt): what is used of the lent memory counts as if it were allocated.
+/// The lent memory may hold anything before the call, and what it holds afterwards is unspecified. The meter counts the
+/// same as for [`scrypt`](crate::scrypt::scrypt): the lent memory that is used counts as if it were allocated.
 ///
 /// # Errors
 ///
-/// The first of these that applies. `out` and the meter are then as they were.
+/// The first of these that applies. `out` and the meter are then unchanged.
 ///
 /// - `Words`: fewer than [`needed_words`] words are lent.
 /// - `Bytes`: fewer than [`needed_bytes`] bytes are lent.

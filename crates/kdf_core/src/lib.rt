@@ -1,5 +1,5 @@
-//! Key derivation: HMAC (RFC 2104) and PBKDF2 (RFC 8018) over SHA-256, and scrypt (RFC 7914) with its parameters. A meter
-//! counts all digests, mixings and memory.
+//! Key derivation: HMAC (RFC 2104) and PBKDF2 (RFC 8018) over SHA-256, and scrypt (RFC 7914) with its parameters. A
+//! meter counts all digests, mixings and memory.
 #![tactic(auto)]
 
 pub mod hmac;

@@ -1,6 +1,6 @@
-//! The parameters of scrypt: N, r and p of RFC 7914, section 2, under a ceiling on their product.
+//! The parameters of scrypt: N, r and p of RFC 7914, section 2, with a ceiling on their product.
 //!
-//! The invariant of [`Params`] says that they are in range and within the ceiling, so their memory is bounded.
+//! The invariant of [`Params`] says that they are in range and within the ceiling, so scrypt's memory is bounded.
 
 ghost use Rattle.std.specs.Prelude.{◌≡◌, ◌↔◌, ◌≤◌, IfOk, IsOk, IsTrue};
 ghost use Rattle.kdf_core.specs.Params.{scrypt_params, product, row_count, IsInRange, IsWithinCeiling, IsAccepted, IsBounded};
@@ -8,10 +8,10 @@ ghost use Rattle.kdf_core.specs.Params.{scrypt_params, product, row_count, IsInR
 use std::marker::Model;
 use thiserror::Error;
 
-// The greatest product `N * r * p`: 2^23, so that a table of `128 * N * r` bytes has at most 2^30.
+// The ceiling on `N * r * p`, which is 2^23. It keeps a table of `128 * N * r` bytes within 2^30 bytes.
 const CEILING: u64 = 8_388_608;
 
-/// Why three numbers are no parameters of scrypt: the first of these errors.
+/// Why three numbers are not parameters of scrypt: the first of these errors that applies.
 #[derive(Clone, Copy, Debug, PartialEq, Eq, Drop, Error)]
 #[error("{}", self.text())]
 pub enum ParamFault {
@@ -129,8 +129,8 @@ fn is_in_range(log_n: u8, r: u32, p: u32) -> bool
     log_n > 0 && r > 0 && p > 0 && u64::from(log_n) < 16 * u64::from(r)
 }
 
-// Returns whether `2^log_n * r * p` is at most 2^23. The product of any `r` and `p` has at most 64 bits. It is compared
-// with the ceiling divided by N, so that nothing overflows.
+// Returns whether `2^log_n * r * p` is at most 2^23. The product of any `r` and `p` fits into 64 bits and is compared
+// with the ceiling divided by N, so nothing overflows.
 fn is_within_ceiling(log_n: u8, r: u32, p: u32) -> bool
     requires in_range { IsInRange (scrypt_params log_n r p) }
     ensures { IsTrue result ↔ IsWithinCeiling (scrypt_params log_n r p) }

@@ -1,6 +1,6 @@
 //! PBKDF2 over HMAC-SHA-256 (RFC 8018, section 5.2).
 //!
-//! Each block is made in an array of its own and copied to its place, so nothing here allocates.
+//! Each block is computed in an array and copied to its place, so nothing here allocates.
 
 ghost use Rattle.std.specs.Prelude.{◌≡◌, ℕ, ◌+◌, ◌-◌, ◌*◌, ◌^◌, ◌<◌, ◌≤◌, List, ◌++◌, length, take};
 ghost use Rattle.prims_core.specs.Meter.{with_work};
@@ -14,8 +14,8 @@ use prims_core::words::number_be;
 
 /// Fills `out` with the bytes that PBKDF2 derives from a password and a salt (RFC 8018, section 5.2).
 ///
-/// `key` is prepared from the password. Let `out` have q blocks of 32 bytes, of which the last may be cut, and let c be
-/// `rounds`. The call then takes `2cq` digests of `q(164 + s) + 192q(c - 1)` bytes for a salt of s bytes.
+/// `key` is prepared from the password. For q blocks of 32 bytes in `out`, the last of which may be short, c rounds and
+/// a salt of s bytes, the call takes `2cq` digests of `q(164 + s) + 192q(c - 1)` bytes in all.
 ///
 /// Preconditions:
 ///
@@ -38,7 +38,7 @@ pub fn pbkdf2(key: &HmacKey, salt: &[u8], rounds: u32, out: &mut [u8], meter: &m
     }
 }
 
-// Returns T_i = U_1 XOR U_2 XOR .. XOR U_c. i is `number`, and c is `rounds`.
+// Returns T_i = U_1 XOR U_2 XOR .. XOR U_c, where i is `number` and c is `rounds` (step 3).
 fn derived_block(
     key: &HmacKey,
     salt: &[u8],
@@ -64,7 +64,7 @@ fn derived_block(
     sum
 }
 
-// Writes a block from `start` on, as far as `out` goes.
+// Copies the block to `out` from `start` on, or as much of it as fits.
 fn put_block(out: &mut [u8], start: usize, block: &[u8; 32])
     requires { start < length out.old }
     ensures { take (start + 32) out.new ≡ take start out.old ++ take (length out.old - start) block.now }

@@ -1,7 +1,7 @@
 //! scryptROMix (RFC 7914, section 5), of one part after another in the same memory.
 //!
-//! Each step reads one half of words and writes the other, which are as long as a part. Blocks stand diagonal by
-//! diagonal here, as the mixing takes them.
+//! A part is one of the p blocks `B[i]` of section 6, of 128r bytes. Each step reads the words of one half and writes
+//! the other half. In the halves, 64-byte blocks are in diagonal order, as the mixing works on them.
 
 ghost use Rattle.std.specs.Prelude.{◌≡◌, ℕ, ◌+◌, ◌-◌, ◌*◌, ◌/◌, ◌^◌, ◌%◌, ◌<◌, ◌≤◌, List, length};
 ghost use Rattle.std.specs.Fn.{iterate};
@@ -18,14 +18,18 @@ use prims_core::mix::{from_diagonals, mix_xor_diagonals, to_diagonals};
 use prims_core::rows::{Rows, fill_by_mixing};
 use prims_core::words::{load_words, store_words};
 
-// The words of a block.
+// The number of words of a 64-byte block.
 const BLOCK_WORDS: usize = UNIT_WORDS / 2;
 
-/// Replaces each of `count` parts by its ROMix with N rows, and counts the 2N mixings of each.
+/// Replaces each of `count` parts by its ROMix with N rows (RFC 7914, section 6, step 2), and counts the 2N mixings of
+/// each.
 ///
-/// Preconditions: N, which is `row_count`, is a power of two from 2 to 2^32. The halves have the words of two parts, and
-/// the rows have memory for those of N. The parts have the bytes of `count` parts, and the meter can count the mixings
-/// without overflow.
+/// Preconditions:
+///
+/// - N, which is `row_count`, is a power of two from 2 to 2^32.
+/// - `halves` has the words of two parts, and `rows` has memory for the words of N parts.
+/// - `parts` has the bytes of `count` parts.
+/// - The meter can count the mixings without overflow.
 pub(crate) fn mix_parts<M: Rows>(
     parts: &mut [u8],
     count: usize,
@@ -54,7 +58,7 @@ pub(crate) fn mix_parts<M: Rows>(
     }
 }
 
-// Replaces a part by its ROMix.
+// Replaces a part by its ROMix with N rows (RFC 7914, section 5).
 fn mix_part<M: Rows>(
     part: &mut [u8],
     row_count: usize,
@@ -81,8 +85,8 @@ fn mix_part<M: Rows>(
     store_words(x, part);
 }
 
-// Makes the N steps of ROMix's second loop from `x` on. They write to `y` and to `x` in turn, so that no block is
-// copied. N is even, so the last step writes to `x`.
+// Does the N steps of ROMix's second loop (step 3), starting with `x`. They write to `y` and to `x` in turn, so no
+// block is copied. N is even, so the last step writes to `x`.
 fn mix_with_rows(table: &[u32], row_count: usize, x: &mut [u32], y: &mut [u32], meter: &mut Meter)
     requires power { (k : ℕ) × IsPower row_count k }
     requires halves { (r : ℕ) × AreHalves r x.old y.old }
@@ -98,7 +102,7 @@ fn mix_with_rows(table: &[u32], row_count: usize, x: &mut [u32], y: &mut [u32], 
     }
 }
 
-// Writes to `y` what one step of ROMix's second loop makes of `x`.
+// Does one step of ROMix's second loop: writes scryptBlockMix (X xor V[j]) to `y`, where `x` holds X.
 fn mix_back(table: &[u32], row_count: usize, x: &[u32], y: &mut [u32], meter: &mut Meter)
     requires power { (k : ℕ) × IsPower row_count k }
     requires halves { (r : ℕ) × AreHalves r x.now y.old }
@@ -112,8 +116,8 @@ fn mix_back(table: &[u32], row_count: usize, x: &[u32], y: &mut [u32], meter: &m
     mix_xor_diagonals(x, &table[start..start + x.len()], y, meter);
 }
 
-// Returns the number of the row that a step takes for X: Integerify (X) mod N. As N is a power of two of at most 2^32,
-// the first word of the last block decides. It is the first word of that block's first diagonal too.
+// Returns j, the number of the row that a step uses: Integerify (X) mod N. Since N is a power of two of at most 2^32,
+// it depends only on the first word of the last block, which comes first in diagonal order too.
 fn row_number(words: &[u32], row_count: usize) -> usize
     requires power { (k : ℕ) × IsPower row_count k }
     requires some_block { (r : ℕ) × (1 ≤ r) × (length words.now ≡ part_words r) }

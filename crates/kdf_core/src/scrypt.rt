@@ -1,7 +1,7 @@
 //! scrypt (RFC 7914), over PBKDF2 and ROMix.
 //!
-//! All memory is allocated before any work: one table, which serves one part after another; the parts as
-//! bytes; and two halves of words, each as long as a part. [`scrypt_lent`](crate::lent::scrypt_lent) takes it from its
+//! All memory is allocated before any work: one table, which all parts use in turn; the p parts (`B[i]`), as bytes; and
+//! two halves, as words, each as long as a part. [`scrypt_lent`](crate::lent::scrypt_lent) takes this memory from its
 //! caller instead.
 
 ghost use Rattle.std.specs.Prelude.{◌≡◌, ◌*◌, ◌-◌, ◌^◌, ◌≤◌, length, OnOk, OnErr};
@@ -22,10 +22,10 @@ use prims_core::scratch::{ByteScratch, WordScratch};
 use prims_core::table::Table;
 use std::alloc::{AllocError, Global};
 
-/// The bytes of two blocks, in which r counts.
+/// The number of bytes of two 64-byte blocks. r is a number of these units.
 pub(crate) const UNIT_BYTES: usize = 128;
 
-/// Their words, of 4 bytes each.
+/// The number of words of two blocks, of 4 bytes each.
 pub(crate) const UNIT_WORDS: usize = UNIT_BYTES / 4;
 
 /// Fills `out` with bytes derived from a password and a salt (RFC 7914, section 6).
@@ -33,14 +33,14 @@ pub(crate) const UNIT_WORDS: usize = UNIT_BYTES / 4;
 /// Preconditions: `out` has at most `32 * (2^32 - 1)` bytes, and each count of the meter is at most 2^120.
 ///
 /// Three allocations come before all work, in this order: the table of `128 * N * r` bytes, the parts of
-/// `128 * r * p` bytes, and the halves of `256 * r` bytes. The meter rises by these three and by
-/// `2 * N * p` mixings. With a password of L bytes, a salt of s bytes and q blocks of 32 bytes in `out`, the
-/// last of which may be short, it also rises by `8rp + 2q` digests of `4rp(164 + s) + q(164 + 128rp)` bytes.
-/// If L is above 64, it rises by one more digest, of L bytes.
+/// `128 * r * p` bytes, and the halves of `256 * r` bytes. The meter counts these bytes and `2 * N * p` mixings.
+/// With a password of L bytes, a salt of s bytes and q blocks of 32 bytes in `out`, the last of which may be
+/// short, it also counts `8rp + 2q` digests of `4rp(164 + s) + q(164 + 128rp)` bytes in all. If L is above 64,
+/// it counts one more digest, of L bytes.
 ///
 /// # Errors
 ///
-/// [`AllocError`] if an allocation is refused. Then `out` is as it was, and the meter has the allocations
+/// [`AllocError`] if an allocation fails. `out` is then unchanged, and the meter has counted the allocations
 /// before that one and nothing else.
 pub fn scrypt(
     alloc: Global,
@@ -80,10 +80,13 @@ pub fn scrypt(
     Ok(())
 }
 
-/// Does the work of scrypt in memory that is counted already: memory for N rows, all parts, and two halves.
+/// Does the work of scrypt (RFC 7914, section 6) in memory that the meter has counted already.
 ///
-/// Preconditions: the parts have `128 * r * p` bytes, the halves `64 * r` words, and the rows memory for `32 * N * r`
-/// words. `out` has at most `32 * (2^32 - 1)` bytes, and each count of the meter that rises is at most 2^120.
+/// Preconditions:
+///
+/// - `rows` has memory for `32 * N * r` words, `parts` has `128 * r * p` bytes, and `halves` has `64 * r` words.
+/// - `out` has at most `32 * (2^32 - 1)` bytes.
+/// - The meter's digests, bytes and mixings are each at most 2^120.
 pub(crate) fn derive<M: Rows>(
     rows: &mut M,
     parts: &mut [u8],
@@ -107,7 +110,10 @@ pub(crate) fn derive<M: Rows>(
     let row_count = params.row_count() as usize;
     let p = params.p() as usize;
     let key = HmacKey::new(password, meter);
+    // B = PBKDF2 (P, S, 1, 128rp)
     pbkdf2(&key, salt, 1, parts, meter);
+    // B[i] = scryptROMix (r, B[i], N)
     mix_parts(parts, p, row_count, rows, halves, meter);
+    // DK = PBKDF2 (P, B, 1, dkLen)
     pbkdf2(&key, parts, 1, out, meter);
 }

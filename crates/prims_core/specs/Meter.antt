@@ -8,8 +8,8 @@ abbrev pub with_work : Work → ℕ → ℕ → Work
 with_work counts digests bytes =
     record counts { digests = counts.digests + digests; bytes = counts.bytes + bytes }
 
--- HaveCountAndSum messages digests bytes: there are this many messages, with this many bytes in all. This is the work of
--- digesting them.
+-- HaveCountAndSum messages digests bytes: there are this many messages, with this many bytes in all, so these are the
+-- two counts of digesting them.
 pub record HaveCountAndSum (messages : List (List ℕ)) (digests bytes : ℕ) : Type 0 where
   pub count : length messages ≡ digests
   pub sum : sum_by length messages ≡ bytes

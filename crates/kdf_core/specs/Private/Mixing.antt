@@ -1,4 +1,4 @@
--- The memory in which scrypt mixes a part, and the counts of what it does there.
+-- The memory in which scrypt mixes a part, and the meter after a derivation in it.
 use Rattle.std.specs.Prelude.{◌≡◌, ℕ, ◌+◌, ◌*◌, ◌^◌, ◌≤◌, List, length}
 use Rattle.prims_core.specs.declared.meter.Work.{Work}
 use Rattle.kdf_core.specs.Params.{ScryptParams}
@@ -14,14 +14,14 @@ pub record AreHalves (r : ℕ) (x y : List ℕ) : Type 0 where
   pub first : length x ≡ part_words r
   pub second : length y ≡ part_words r
 
--- IsPower rows k: the number of rows is 2 ^ k, at least 2 and at most 2 ^ 32.
+-- IsPower rows k: the number of rows is 2 ^ k, from 2 to 2 ^ 32.
 pub record IsPower (rows k : ℕ) : Type 0 where
   pub power : rows ≡ 2 ^ k
   pub above_one : 1 ≤ k
   pub most : k ≤ 32
 
--- with_derivation counts params password_length salt_length count: the counts of a meter after the work of scrypt, but for
--- its memory.
+-- with_derivation counts params password_length salt_length count: the counts of a meter after scrypt has run in memory
+-- that was counted before.
 abbrev pub with_derivation : Work → ScryptParams → ℕ → ℕ → ℕ → Work
 with_derivation counts params password_length salt_length count =
     let work = scrypt_work params password_length salt_length count in
