@@ -1,4 +1,7 @@
--- The alphabet of crypt's numerals: which character each value below 64 has, and which bytes are no character of it.
+-- The characters of crypt's alphabet, for `value_of`, `read_30` and the packing of digests in crypt_core: the character
+-- of each value below 64, that no two values have the same one, and which bytes are not in the alphabet. The three
+-- ranges of characters are found by computing all their values with `passes_below`. The other facts are arithmetic on
+-- the three cases of `character_of-ranges`.
 use Rattle.std.proofs.Common.{◌≡◌, ℕ, ◌+◌, ◌-◌, ◌<◌, ◌≤◌, Bool, true, ◌⊎◌, inl, inr, eqb, length, get_or, refl, sym, ◌∙◌, ap, subst, arith}
 use Rattle.std.specs.Prelude.{Contains}
 use Rattle.std.specs.List.{list_all, range_with_len}
@@ -8,7 +11,7 @@ use Rattle.std.proofs.lemmas.Bool.{eqb-true, cases_lt}
 use Rattle.std.proofs.lemmas.Grind.{get_or_default_zero}
 use Rattle.prims_core.specs.Alphabet.{alphabet, character_of}
 
--- a test that computes to true at each number below n passes at each
+-- A test that computes to true for all numbers below n at once is true for each of them.
 pub passes_below : (p : ℕ → Bool) (n : ℕ) → list_all p (range_with_len 0 n) ≡ true
     → (v : ℕ) → v < n → p v ≡ true
 passes_below p n all v below =
@@ -22,7 +25,7 @@ pub length-alphabet : length alphabet ≡ 64
 unfolding alphabet
 length-alphabet = refl
 
--- the characters `.` to `9`, then `A` to `Z`, then `a` to `z`
+-- The three ranges of characters, as their bytes: `.` to `9`, then `A` to `Z`, then `a` to `z`.
 pub character_of-first : (v : ℕ) → v < 12 → character_of v ≡ v + 46
 unfolding alphabet
 character_of-first v below =
@@ -38,7 +41,7 @@ unfolding alphabet
 character_of-lower v below =
     eqb-true _ _ (passes_below (λ w. eqb (character_of (w + 38)) (w + 97)) 26 refl v below)
 
--- where the character of a value lies
+-- Each value below 64 is in one of the three ranges, and its byte follows from that.
 pub character_of-ranges : (v : ℕ) → v < 64
     → ((v < 12) × (character_of v ≡ v + 46))
     ⊎ (((12 ≤ v) × (v < 38) × (character_of v ≡ v + 53)) ⊎ ((38 ≤ v) × (character_of v ≡ v + 59)))
@@ -57,7 +60,7 @@ character_of-ranges v below = elim (cases_lt v 12) [
   ]
 ]
 
--- each character is in the alphabet, and what is in the alphabet has a value
+-- The alphabet contains exactly the characters of the values below 64.
 pub Contains-character_of : (c v : ℕ) → v < 64 → character_of v ≡ c → Contains alphabet c
 Contains-character_of c v below is =
     let inside : v < length alphabet = rw length-alphabet below in
@@ -67,18 +70,19 @@ pub value-from_Contains : (c : ℕ) → Contains alphabet c → (v : ℕ) × (v 
 value-from_Contains c (k, inside, is) =
     (k, rw length-alphabet at inside, sym (get_or_default_zero alphabet k c inside) ∙ is)
 
--- no two values have one character
+-- No two values have the same character.
 pub character_of-injective : (v w : ℕ) → v < 64 → w < 64 → character_of v ≡ character_of w → v ≡ w
 character_of-injective v w vs ws same =
     omega (arith, character_of-ranges v vs, character_of-ranges w ws)
 
--- a byte outside the three ranges is the character of no value
+-- IsOutside c: the byte is outside the three ranges. So it is the character of no value.
 abbrev pub IsOutside : ℕ → Type 0
 IsOutside c = (c < 46) ⊎ (((57 < c) × (c < 65)) ⊎ (((90 < c) × (c < 97)) ⊎ (122 < c)))
 
 pub no_value : (c : ℕ) → IsOutside c → (v : ℕ) → v < 64 → character_of v ≡ c → ⊥
 no_value c outside v below is = omega (arith, outside, character_of-ranges v below)
 
+-- So the alphabet doesn't contain it.
 pub outside_alphabet : (c : ℕ) → IsOutside c → Contains alphabet c → ⊥
 outside_alphabet c outside has =
     let found : (v : ℕ) × (v < 64) × (character_of v ≡ c) = value-from_Contains c has in

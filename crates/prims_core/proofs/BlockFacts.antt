@@ -1,5 +1,7 @@
--- Lists of blocks: `in_rows` rearranges each block on its own, lists of the same blocks are the same, and what a block
--- that is written over another leaves of the list.
+-- Lists of blocks of sixteen words, for `to_diagonals`, `from_diagonals`, `block_on_diagonals` and the mixing of
+-- blocks. `in_rows` rearranges each block on its own, so block i of the result is block i rearranged (induction over
+-- the blocks). Two lists with the same blocks are equal. Writing a block over another one changes that block alone,
+-- which is the step of each loop over blocks.
 use Rattle.std.proofs.Common.{◌≡◌, ℕ, zero, suc, ◌+◌, ◌-◌, ◌*◌, ◌/◌, ◌<◌, ◌≤◌, ◌⊎◌, inl, inr, List, [], ◌∷◌, ◌++◌, length, take, drop, get_or, refl, sym, ◌∙◌, ap, subst, arith}
 use borrow.Rule.Slice.PartMut.{put_mid}
 use Rattle.std.specs.List.{flat_map}
@@ -16,7 +18,7 @@ pub length-block_in_rows : (block : List ℕ) → length (block_in_rows block) �
 unfolding block_in_rows
 length-block_in_rows block = refl
 
--- pieces that are changed each on its own, and joined
+-- A list of pieces, each replaced by a piece of this size, and joined: its length, and each piece of it.
 length-joined : (f : List ℕ → List ℕ) (size : ℕ) → ((piece : List ℕ) → length (f piece) ≡ size) → (pieces : List (List ℕ))
     → length (flat_map f pieces) ≡ size * length pieces
 length-joined f size each [] = omega arith
@@ -50,7 +52,7 @@ block_at-in_rows words i inside =
     piece-joined block_in_rows 16 length-block_in_rows (chunks_exact words 16) i (omega (arith, all))
     ∙ ap block_in_rows (get_or-map-range_with_len cut 0 n i i [] (omega arith) (omega arith))
 
--- two lists of the same blocks
+-- Two lists that have the same blocks are equal.
 pub same_blocks : (n : ℕ) (xs ys : List ℕ) → length xs ≡ 16 * n → length ys ≡ 16 * n
     → ((i : ℕ) → i < n → block_at i xs ≡ block_at i ys) → xs ≡ ys
 same_blocks n xs ys whole_xs whole_ys each =
@@ -59,7 +61,7 @@ same_blocks n xs ys whole_xs whole_ys each =
     get_or-chunks_exact ys 16 n i (omega arith) whole_ys (omega arith) ∙ sym (each i (omega arith)))
     ∙ concat-chunks_exact ys 16 n (omega arith) whole_ys
 
--- a block that is written over a part of a list, and the other blocks
+-- A list after a block is written over block i: block i is the written one, and each other block k is as before.
 pub written_same : (i width : ℕ) (out x : List ℕ) → 16 * i + 16 ≤ length out → length x ≡ 16
     → block_at i (put_mid (16 * i) width out x) ≡ x
 written_same i width out x inside whole =
@@ -75,7 +77,8 @@ written_other i width k out x inside is whole (inl below) =
 written_other i width k out x inside is whole (inr above) =
     ap (take 16) (drop-put_mid (16 * i) width out x (16 * k) (omega arith) (omega arith) (omega arith))
 
--- blocks that are rearranged one by one, of which those before block i are done: one more is written in its place
+-- The loops of `to_diagonals` and `from_diagonals`, one step on: blocks before i have property P and the others are
+-- those of `start`. After a block with P is written over block i, the same holds of i + 1.
 pub rearranged-more : (n i width : ℕ) (P : ℕ → List ℕ → Type 0) (start words block : List ℕ) → length words ≡ 16 * n → i < n
     → width ≡ 16 → length block ≡ 16 → P i block
     → ((k : ℕ) → k < i → P k (block_at k words)) → ((k : ℕ) → i ≤ k → block_at k words ≡ block_at k start)

@@ -1,4 +1,6 @@
--- A list cut into pieces of one size by `chunks_exact`: how many there are, each of them, and the list they make joined.
+-- A list cut into pieces of one size by `chunks_exact`: their number, each piece, and that joining them gives the list
+-- back, if its length is a multiple of the size. `load_words`, `salsa8_of` and the mixing of blocks need it.
+-- `joined_from_pieces` shows the last part, by induction over the pieces.
 use Rattle.std.proofs.Common.{◌≡◌, ℕ, suc, ◌+◌, ◌*◌, ◌/◌, ◌<◌, List, [], ◌∷◌, ◌++◌, length, take, drop, get_or, sym, ◌∙◌, ap, ap₂, arith}
 use Rattle.std.specs.List.{concat}
 use Rattle.std.proofs.Math.Nat.{mul-div_cancel_left}
@@ -13,7 +15,7 @@ length-chunks_exact items size count some whole =
     length-map-range_with_len (λ i. take size (drop (size * i) items)) 0 (length items / size)
     ∙ ap (λ (n : ℕ). n / size) whole ∙ mul-div_cancel_left count some
 
--- the piece at a place
+-- Piece i is the size items from place size * i on.
 pub get_or-chunks_exact : (items : List ℕ) (size count i : ℕ) → 0 < size → length items ≡ size * count → i < count
     → get_or (chunks_exact items size) i [] ≡ take size (drop (size * i) items)
 unfolding chunks_exact
@@ -22,7 +24,7 @@ get_or-chunks_exact items size count i some whole inside =
     ap (λ (n : ℕ). n / size) whole ∙ mul-div_cancel_left count some in
     get_or-map-range_with_len (λ i. take size (drop (size * i) items)) 0 (length items / size) i i [] (omega arith) (omega arith)
 
--- a list whose pieces these are is these joined
+-- A list that consists of these pieces, one after another, is the pieces joined.
 pub joined_from_pieces : (size : ℕ) (pieces : List (List ℕ)) (items : List ℕ) → length items ≡ size * length pieces
     → ((i : ℕ) → i < length pieces → get_or pieces i [] ≡ take size (drop (size * i) items))
     → items ≡ concat pieces
@@ -37,7 +39,7 @@ joined_from_pieces size (piece ∷ pieces) items whole each =
     rw (drop-drop, ← place) there) in
     sym (take-append-drop size items) ∙ ap₂ ◌++◌ (sym first) rest
 
--- cut and joined
+-- A list that is cut into pieces, and joined again, is the same list.
 pub concat-chunks_exact : (items : List ℕ) (size count : ℕ) → 0 < size → length items ≡ size * count
     → concat (chunks_exact items size) ≡ items
 concat-chunks_exact items size count some whole =

@@ -1,4 +1,6 @@
--- A table while it is filled: each row holds the start after one mixing more, and so does the table once it is full.
+-- The rows that `fill_by_mixing` has filled so far: row i holds the start after i mixings, for each row there is
+-- (`HasMixings`). The loop adds two rows at a time, by `mixings-two_more`. Once all rows are there, `filled-held` is
+-- the clause `rows`. `mix_with_rows` and `mix_parts` of kdf_core use the lemmas on iterations and on counted mixings.
 use Rattle.std.proofs.Common.{◌≡◌, ℕ, zero, suc, ◌+◌, ◌*◌, ◌/◌, ◌<◌, ◌≤◌, List, [], ◌++◌, length, take, drop, refl, sym, ◌∙◌, ap, arith, below_more, length-append, length-drop}
 use Rattle.std.specs.Fn.{iterate}
 use Rattle.std.proofs.Math.Nat.{mul-le-mul_left}
@@ -10,14 +12,14 @@ use Rattle.prims_core.specs.Memory.{rows_of, HoldsMixings}
 use Rattle.prims_core.specs.declared.meter.Work.{Work}
 use Rattle.prims_core.proofs.TableFacts.{get_or-rows_of}
 
--- one application more
+-- n + 1 applications are one application after n.
 pub iterate-more : (h : List ℕ → List ℕ) (n : ℕ) (x : List ℕ) → iterate h (n + 1) x ≡ h (iterate h n x)
 iterate-more h zero x = refl
 iterate-more h (suc n) x =
     let next : suc n + 1 ≡ suc (n + 1) = omega arith in
     ap (λ k. iterate h k x) next ∙ iterate-more h n (h x)
 
--- two applications more
+-- The same for two more applications, where the values between them are given by equations.
 pub iterate-two_more : (h : List ℕ → List ℕ) (n : ℕ) (x a b c : List ℕ) → a ≡ iterate h (2 * n) x → b ≡ h a → c ≡ h b
     → c ≡ iterate h (2 * (n + 1)) x
 iterate-two_more h n x a b c is first second =
@@ -25,23 +27,24 @@ iterate-two_more h n x a b c is first second =
     let once : b ≡ iterate h (2 * n + 1) x = first ∙ (ap h is ∙ sym (iterate-more h (2 * n) x)) in
     second ∙ (ap h once ∙ (sym (iterate-more h (2 * n + 1) x) ∙ ap (λ k. iterate h k x) all))
 
--- the mixings of two calls
+-- A meter that counts m mixings and then n has counted their sum.
 pub mixes-more : (a b c : Work) (m n all : ℕ) → b ≡ record a { mixes = a.mixes + m } → c ≡ record b { mixes = b.mixes + n } → m + n ≡ all
     → c ≡ record a { mixes = a.mixes + all }
 mixes-more a b c m n all first then sum =
     let whole : a.mixes + m + n ≡ a.mixes + all = omega arith in
     then ∙ (ap (λ (x : Work). record x { mixes = x.mixes + n }) first ∙ ap (λ k. record a { mixes = k }) whole)
 
--- so many rows of w words in a list, of which row i holds B after i mixings; B is `start`
+-- HasMixings items w count start: the list is this number of rows of w words, and row i, which is in diagonal order,
+-- holds `start` after i mixings.
 pub record HasMixings (items : List ℕ) (w count : ℕ) (start : List ℕ) : Type 0 where
   pub long : length items ≡ count * w
   pub held : (i : ℕ) → i < count → in_rows (take w (drop (i * w) items)) ≡ iterate block_mix i start
 
--- none at first
+-- An empty list has no rows.
 pub mixings-none : (w : ℕ) (start : List ℕ) → HasMixings [] w 0 start
 mixings-none w start = record { long = omega arith; held = λ i none. absurd (omega arith) }
 
--- a row more
+-- Appending `start` after `count` mixings adds a row.
 pub mixings-more : (items row start : List ℕ) (w count : ℕ) → HasMixings items w count start → length row ≡ w
     → in_rows row ≡ iterate block_mix count start → HasMixings (items ++ row) w (count + 1) start
 mixings-more items row start w count before same is =
@@ -57,7 +60,7 @@ mixings-more items row start w count before same is =
           (ap in_rows (ap (take w) (drop_at items row (count * w) before.long) ∙ take_all w row (omega (arith, same))) ∙ is);
     }
 
--- two rows more
+-- The same for two rows, x and then y, where y is x mixed once more. This is a turn of the loop of `fill_by_mixing`.
 pub mixings-two_more : (items once twice x y start : List ℕ) (w i : ℕ) → HasMixings items w (2 * i) start → length x ≡ w → length y ≡ w
     → in_rows x ≡ iterate block_mix (2 * i) start → in_rows y ≡ block_mix (in_rows x) → once ≡ items ++ x → twice ≡ once ++ y
     → HasMixings twice w (2 * (i + 1)) start
@@ -67,12 +70,12 @@ mixings-two_more items once twice x y start w i before long_x long_y is mixed fi
     rw (second, ← all) (mixings-more once y start w (2 * i + 1) one long_y
     (mixed ∙ (ap block_mix is ∙ sym (iterate-more block_mix (2 * i) start))))
 
--- there is room for two rows more
+-- While i turns of two rows are done, and a further one is due, the memory for n rows holds two more.
 pub room_for_two_rows : (n w i : ℕ) → i < n / 2 → 2 * i * w + w + w ≤ n * w
 room_for_two_rows n w i inside =
     let more : 2 * i + 2 ≤ n = omega arith in
     omega (arith, mul-le-mul_left w more)
 
--- the rows of a table that is full
+-- A list with all its rows is a table that holds the mixings.
 pub filled-held : (n w : ℕ) (items start : List ℕ) → HasMixings items w n start → HoldsMixings (rows_of n w items) n start
 filled-held n w items start is = λ i inside. ap in_rows (get_or-rows_of n w items i [] inside) ∙ is.held i inside

@@ -1,4 +1,6 @@
--- A block of sixteen words on four diagonals: how its words are loaded and stored, and an operator on them lane by lane.
+-- A block of sixteen words as four diagonals, for `Diagonals`: loading it from row or diagonal order, storing it in
+-- either order, and applying an operator to it lane by lane. Lists of a known length are split into their items, by
+-- `four_lanes` and `word_by_word`, and then both sides compute to the same words.
 use Rattle.std.proofs.Common.{◌≡◌, ℕ, ◌+◌, ◌<◌, ◌≤◌, List, [], ◌∷◌, ◌++◌, length, take, drop, get_or, slice_index, refl, sym, ◌∙◌, ap, subst, arith}
 use Rattle.std.specs.List.{concat}
 use Rattle.std.specs.Simd.Lanes.{zip2, pick_l}
@@ -9,7 +11,7 @@ use Rattle.prims_core.specs.Private.Diagonals.{HaveFourWords, words_on}
 use Rattle.prims_core.specs.Words.{chunks_exact}
 use Rattle.prims_core.proofs.ChunkFacts.{concat-chunks_exact}
 
--- what holds of four items holds of a list of that length
+-- To show a property of a list of four items, it suffices to show it of its items written out.
 pub four_lanes : (P : List ℕ → Type 0) → (xs : List ℕ) → length xs ≡ 4
     → P (slice_index xs 0 ∷ slice_index xs 1 ∷ slice_index xs 2 ∷ slice_index xs 3 ∷ []) → P xs
 four_lanes P (w ∷ x ∷ y ∷ z ∷ []) four p = p
@@ -19,7 +21,7 @@ four_lanes P (w ∷ x ∷ []) four p = absurd (omega arith)
 four_lanes P (w ∷ x ∷ y ∷ []) four p = absurd (omega arith)
 four_lanes P (w ∷ x ∷ y ∷ z ∷ v ∷ xs) four p = absurd (omega arith)
 
--- four items from a place on
+-- The four items from place i on.
 take_four : (xs : List ℕ) (i : ℕ) → i + 4 ≤ length xs
     → take 4 (drop i xs) ≡ get_or xs i 0 ∷ get_or xs (i + 1) 0 ∷ get_or xs (i + 2) 0 ∷ get_or xs (i + 3) 0 ∷ []
 take_four xs i inside =
@@ -31,7 +33,7 @@ take_four xs i inside =
     let fourth = drop_more xs (i + 3) 0 (omega arith) in
     rw (first, second, two, third, three, fourth) refl
 
--- the rows of sixteen words
+-- Sixteen words cut into rows of four.
 rows_of_sixteen : (xs : List ℕ) → length xs ≡ 16
     → chunks_exact xs 4
     ≡ (get_or xs 0 0 ∷ get_or xs 1 0 ∷ get_or xs 2 0 ∷ get_or xs 3 0 ∷ [])
@@ -43,7 +45,7 @@ unfolding chunks_exact
 rows_of_sixteen xs sixteen =
     rw (sixteen, take_four xs 0 (omega arith), take_four xs 4 (omega arith), take_four xs 8 (omega arith), take_four xs 12 (omega arith)) refl
 
--- sixteen words, one by one
+-- A list of sixteen words is its words written out.
 word_by_word : (xs : List ℕ) → length xs ≡ 16
     → (slice_index xs 0 ∷ slice_index xs 1 ∷ slice_index xs 2 ∷ slice_index xs 3
     ∷ slice_index xs 4 ∷ slice_index xs 5 ∷ slice_index xs 6 ∷ slice_index xs 7
@@ -51,7 +53,7 @@ word_by_word : (xs : List ℕ) → length xs ≡ 16
     ∷ slice_index xs 12 ∷ slice_index xs 13 ∷ slice_index xs 14 ∷ slice_index xs 15 ∷ []) ≡ xs
 word_by_word xs long = sym (ap concat (rows_of_sixteen xs long)) ∙ concat-chunks_exact xs 4 4 (omega arith) (omega arith)
 
--- a block that stands row by row, as its diagonals are picked from memory
+-- `of`: picking the diagonals of a block in row order gives the block.
 pub loaded_from_rows : (xs : List ℕ) → length xs ≡ 16
     → words_on (pick_l 0 (xs ++ xs) (0 ∷ 5 ∷ 10 ∷ 15 ∷ [])) (pick_l 0 (xs ++ xs) (4 ∷ 9 ∷ 14 ∷ 3 ∷ []))
     (pick_l 0 (xs ++ xs) (8 ∷ 13 ∷ 2 ∷ 7 ∷ [])) (pick_l 0 (xs ++ xs) (12 ∷ 1 ∷ 6 ∷ 11 ∷ [])) ≡ xs
@@ -59,7 +61,7 @@ loaded_from_rows xs long =
     subst (λ (ys : List ℕ). words_on (pick_l 0 (ys ++ ys) (0 ∷ 5 ∷ 10 ∷ 15 ∷ [])) (pick_l 0 (ys ++ ys) (4 ∷ 9 ∷ 14 ∷ 3 ∷ []))
     (pick_l 0 (ys ++ ys) (8 ∷ 13 ∷ 2 ∷ 7 ∷ [])) (pick_l 0 (ys ++ ys) (12 ∷ 1 ∷ 6 ∷ 11 ∷ [])) ≡ ys) (word_by_word xs long) refl
 
--- its words, as they are picked from the diagonals, joined two by two, to be stored row by row
+-- `store`: the shuffles of the diagonals, joined two by two, give the block in row order.
 pub stored_in_rows : (a b c d : List ℕ) → length a ≡ 4 → length c ≡ 4
     → (slice_index (a ++ b) 0 ∷ slice_index (c ++ d) 5 ∷ slice_index (c ++ d) 2 ∷ slice_index (a ++ b) 7
     ∷ slice_index (a ++ b) 4 ∷ slice_index (a ++ b) 1 ∷ slice_index (c ++ d) 6 ∷ slice_index (c ++ d) 3
@@ -78,7 +80,7 @@ stored_in_rows a b c d four_a four_c =
     ∷ slice_index (c ++ d) 4 ∷ slice_index (c ++ d) 1 ∷ slice_index b 2 ∷ slice_index a 3 ∷ [])
     ≡ words_on a b c d) c four_c refl)
 
--- a block that stands diagonal by diagonal, as these are picked from memory
+-- `of_diagonals`: picking the diagonals of a block in diagonal order gives that block in row order.
 pub loaded_from_diagonals : (xs : List ℕ) → length xs ≡ 16
     → words_on (pick_l 0 (xs ++ xs) (0 ∷ 1 ∷ 2 ∷ 3 ∷ [])) (pick_l 0 (xs ++ xs) (4 ∷ 5 ∷ 6 ∷ 7 ∷ []))
     (pick_l 0 (xs ++ xs) (8 ∷ 9 ∷ 10 ∷ 11 ∷ [])) (pick_l 0 (xs ++ xs) (12 ∷ 13 ∷ 14 ∷ 15 ∷ [])) ≡ block_in_rows xs
@@ -88,7 +90,7 @@ loaded_from_diagonals xs long =
     (pick_l 0 (ys ++ ys) (8 ∷ 9 ∷ 10 ∷ 11 ∷ [])) (pick_l 0 (ys ++ ys) (12 ∷ 13 ∷ 14 ∷ 15 ∷ [])) ≡ block_in_rows ys)
     (word_by_word xs long) refl
 
--- its words, as they are picked from the diagonals, joined two by two, to be stored diagonal by diagonal
+-- `store_diagonals`: the shuffles of the diagonals, joined two by two, give the block in diagonal order.
 pub stored_by_diagonals : (a b c d : List ℕ) → length a ≡ 4 → length c ≡ 4
     → block_in_rows (slice_index (a ++ b) 0 ∷ slice_index (a ++ b) 1 ∷ slice_index (a ++ b) 2 ∷ slice_index (a ++ b) 3
     ∷ slice_index (a ++ b) 4 ∷ slice_index (a ++ b) 5 ∷ slice_index (a ++ b) 6 ∷ slice_index (a ++ b) 7
@@ -98,7 +100,7 @@ pub stored_by_diagonals : (a b c d : List ℕ) → length a ≡ 4 → length c �
 unfolding block_in_rows
 stored_by_diagonals a b c d four_a four_c = stored_in_rows a b c d four_a four_c
 
--- an operator on the lanes leaves four in each vector
+-- An operator applied lane by lane leaves four words in each diagonal.
 pub four_words-zip2 : (f : ℕ → ℕ → ℕ) (a b c d a' b' c' d' : List ℕ) → HaveFourWords a b c d → HaveFourWords a' b' c' d'
     → HaveFourWords (zip2 f a a') (zip2 f b b') (zip2 f c c') (zip2 f d d')
 four_words-zip2 f a b c d a' b' c' d' fours fours' =
@@ -106,7 +108,7 @@ four_words-zip2 f a b c d a' b' c' d' fours fours' =
     λ xs ys four_xs four_ys. length-zip2 f xs ys (four_xs ∙ sym four_ys) ∙ four_xs in
     (lanes a a' fours.0 fours'.0, lanes b b' fours.1 fours'.1, lanes c c' fours.2 fours'.2, lanes d d' fours.3 fours'.3)
 
--- and is that operator on the words
+-- Applying an operator to the diagonals applies it to the words of the block.
 pub words_on-zip2 : (f : ℕ → ℕ → ℕ) (a b c d a' b' c' d' : List ℕ) → HaveFourWords a b c d → HaveFourWords a' b' c' d'
     → words_on (zip2 f a a') (zip2 f b b') (zip2 f c c') (zip2 f d d') ≡ zip2 f (words_on a b c d) (words_on a' b' c' d')
 words_on-zip2 f a b c d a' b' c' d' fours fours' =

@@ -1,4 +1,7 @@
--- Block mixing: X from block to block, and the results that are written one by one, evens before odds.
+-- scryptBlockMix while it goes on, for `put_result`, `mix_blocks` and `mix_and_append`: X from block to block, and the
+-- results that are in their places so far. `placed_more` adds a result: its place is free, because no two results have
+-- the same place. Once all 2r are there, `in_order` shows that they are the results with even numbers followed by those
+-- with odd numbers.
 use Rattle.std.proofs.Common.{◌≡◌, ℕ, ◌+◌, ◌-◌, ◌*◌, ◌/◌, ◌%◌, ◌<◌, ◌⊎◌, inl, inr, List, [], ◌++◌, length, take, map, refl, sym, ◌∙◌, ap, add-one, arith}
 use borrow.Rule.Slice.PartMut.{put_mid}
 use Rattle.std.specs.List.{concat, range_with_len}
@@ -12,7 +15,7 @@ use Rattle.prims_core.specs.Diagonals.{block_in_rows, in_rows}
 use Rattle.prims_core.proofs.ChunkFacts.{joined_from_pieces}
 use Rattle.prims_core.proofs.BlockFacts.{block_at-in_rows, length-in_rows, written_same, written_other}
 
--- X at first, and once a block more is mixed
+-- X before the first block, and after one more block.
 pub x_after-none : (r : ℕ) (words : List ℕ) → x_after r words 0 ≡ block_at (2 * r - 1) words
 unfolding x_after
 x_after-none r words = refl
@@ -21,7 +24,7 @@ pub x_after-more : (r : ℕ) (words : List ℕ) (i : ℕ) → x_after r words (i
 unfolding x_after
 x_after-more r words i = rw add-one refl
 
--- the place of a result among the evens, or behind them among the odds
+-- The place of result i is i / 2 if i is even, and r places later if i is odd.
 pub place_cases : (r i : ℕ)
     → ((i % 2 ≡ 0) × (place_of r i ≡ i / 2)) ⊎ ((i % 2 ≡ 1) × (place_of r i ≡ i / 2 + r))
 place_cases r i = elim (cases_lt (i % 2) 1) [
@@ -29,7 +32,7 @@ place_cases r i = elim (cases_lt (i % 2) 1) [
   | inr odd ↦ let is : i % 2 ≡ 1 = omega arith in inr (is, rw is (omega arith))
 ]
 
--- the results that stand at their places, and one more
+-- Results 0 to i - 1 are in their places; after result i is written to its place, so are results 0 to i.
 pub placed_more : (r i width : ℕ) (y : ℕ → List ℕ) (out x : List ℕ) → length out ≡ 32 * r
     → i < 2 * r → width ≡ 16 → length x ≡ 16 → block_in_rows x ≡ y i → ArePlaced y r i out
     → ArePlaced y r (i + 1) (put_mid (16 * place_of r i) width out x)
@@ -39,6 +42,7 @@ placed_more r i width y out x whole inside sixteen block is before = λ k so_far
     let fits : place < 2 * r = omega (arith, place_cases r i) in
     elim (cases_lt k i) [
       | inl earlier ↦
+          -- Another result k has another place, so result i is not written over it.
           let apart : (other < place) ⊎ (place < other) = elim (cases_lt other place) [
             | inl below ↦ inl below
             | inr above ↦ inr (omega (arith, place_cases r i, place_cases r k))
@@ -49,7 +53,7 @@ placed_more r i width y out x whole inside sixteen block is before = λ k so_far
           rw this (ap block_in_rows (written_same place width out x (omega arith) block) ∙ is)
     ]
 
--- blocks that hold the results at even places and then those at odd places
+-- With all results in their places, the list is the even results and then the odd ones.
 pub in_order : (r : ℕ) (y : ℕ → List ℕ) (out : List ℕ) → length out ≡ 32 * r → ArePlaced y r (2 * r) out
     → in_rows out ≡ concat (map (λ i. y (2 * i)) (range_with_len 0 r) ++ map (λ i. y (2 * i + 1)) (range_with_len 0 r))
 in_order r y out whole placed =
@@ -58,6 +62,7 @@ in_order r y out whole placed =
     let front_length : length evens ≡ r = length-map-range_with_len (λ i. y (2 * i)) 0 r in
     let back_length : length odds ≡ r = length-map-range_with_len (λ i. y (2 * i + 1)) 0 r in
     let both : length (evens ++ odds) ≡ 2 * r = omega (arith, length-append evens odds) in
+    -- Block p of `out` in row order is block p of `in_rows out`.
     let there : (p : ℕ) → p < 2 * r → block_in_rows (block_at p out) ≡ block_at p (in_rows out) =
     λ p inside. sym (block_at-in_rows out p (omega arith)) in
     joined_from_pieces 16 (evens ++ odds) (in_rows out) (omega (arith, length-in_rows out)) (λ p inside.
@@ -75,7 +80,7 @@ in_order r y out whole placed =
           ∙ sym (rw place at (placed (2 * q + 1) (omega arith))) ∙ there p (omega arith)
     ])
 
--- so many blocks, and the next one
+-- The first i blocks followed by block i are the first i + 1 blocks.
 pub block_more : (i : ℕ) (src : List ℕ) → take (16 * i) src ++ block_at i src ≡ take (16 * (i + 1)) src
 block_more i src =
     let more : 16 * (i + 1) ≡ 16 * i + 16 = omega arith in

@@ -1,4 +1,7 @@
--- Numbers and their numerals: each number below 64 ^ n has one numeral of n characters, as it is written and read.
+-- Numbers and their numerals, for `put_group` and `read_30`: each number below 64 ^ n has exactly one numeral of n
+-- characters. `put_group` writes one from its first character on, and `read_30` reads one from its last character on;
+-- the lemmas `group_..` and `digits_..` are the first, middle and last steps of their loops. `numerals-injective`, by
+-- induction over n, makes what `read_30` returns the only such number.
 use Rattle.std.proofs.Common.{◌≡◌, ℕ, zero, suc, ◌+◌, ◌-◌, ◌*◌, ◌/◌, ◌%◌, ◌^◌, ◌<◌, ◌≤◌, List, [], ◌∷◌, ◌++◌, length, get_or, refl, sym, ◌∙◌, ap, subst, add-one, append_assoc, append-nil, length-append, arith}
 use Rattle.std.specs.Prelude.{Contains, All}
 use Rattle.std.proofs.Math.Nat.{pow-suc}
@@ -7,7 +10,7 @@ use Rattle.std.proofs.lemmas.Nat.{mod-mul-add, div-mul-add}
 use Rattle.prims_core.specs.Alphabet.{alphabet, character_of, numerals}
 use Rattle.prims_core.proofs.AlphabetFacts.{Contains-character_of, character_of-injective}
 
--- one character of a number, and the rest of it
+-- A numeral is the character of the lowest six bits, and then the numeral of the rest.
 pub numerals-step : (n m value : ℕ) → n ≡ m + 1
     → numerals n value ≡ character_of (value % 64) ∷ numerals m (value / 64)
 unfolding numerals
@@ -22,7 +25,7 @@ unfolding numerals
 length-numerals zero value = refl
 length-numerals (suc n) value = ap suc (length-numerals n (value / 64))
 
--- a group that is written up to a character, and with that character
+-- `put_group`, one character on: what is written and what is to come are still the whole numeral.
 pub group_more : (out more whole : List ℕ) (character chars count rest : ℕ)
     → more ≡ out ++ character ∷ [] → character ≡ character_of (rest % 64) → count < chars
     → out ++ numerals (chars - count) rest ≡ whole
@@ -32,6 +35,7 @@ group_more out more whole character chars count rest written is left so_far =
     rw is (numerals-step (chars - count) (chars - (count + 1)) rest (omega arith)) in
     rw (written, append_assoc) (ap (λ (xs : List ℕ). out ++ xs) (sym step) ∙ so_far)
 
+-- With all characters written, nothing is to come.
 pub group_all : (out whole : List ℕ) (chars count rest : ℕ) → chars ≤ count
     → out ++ numerals (chars - count) rest ≡ whole → out ≡ whole
 group_all out whole chars count rest none so_far =
@@ -40,19 +44,20 @@ group_all out whole chars count rest none so_far =
     subst (λ (xs : List ℕ). out ++ xs ≡ whole) (ap (λ (n : ℕ). numerals n rest) done ∙ numerals-none rest) so_far in
     sym (append-nil out) ∙ last
 
--- a number with one more character below it
+-- Putting the value v below a number puts its character in front of the numeral.
 pub numerals-more : (n number v c : ℕ) → v < 64 → character_of v ≡ c
     → numerals (n + 1) (number * 64 + v) ≡ c ∷ numerals n number
 numerals-more n number v c below is =
     rw (numerals-step (n + 1) n (number * 64 + v) refl, mod-mul-add number 64 v below, div-mul-add number 64 v below)
     (ap (λ (d : ℕ). d ∷ numerals n number) is)
 
+-- Such a number stays below the next power of 64.
 pub below-more : (n number v : ℕ) → number < 64 ^ n → v < 64 → number * 64 + v < 64 ^ (n + 1)
 below-more n number v small below =
     let power : 64 ^ (n + 1) ≡ 64 ^ n * 64 = rw add-one (pow-suc 64 n) in
     omega arith
 
--- each numeral is of the alphabet
+-- Each character of a numeral is in the alphabet.
 pub Contains-numerals : (n value i d : ℕ) → i < n → Contains alphabet (get_or (numerals n value) i d)
 unfolding numerals
 Contains-numerals zero value i d inside = absurd (omega arith)
@@ -65,7 +70,7 @@ All-numerals n value digits is i d inside =
     subst (λ (xs : List ℕ). Contains alphabet (get_or xs i d)) is
     (Contains-numerals n value i d (omega (arith, ap length is, length-numerals n value)))
 
--- no two numbers have the same numerals
+-- No two numbers below 64 ^ n have the same numeral of n characters.
 pub numerals-injective : (n a b : ℕ) → a < 64 ^ n → b < 64 ^ n → numerals n a ≡ numerals n b → a ≡ b
 unfolding numerals
 numerals-injective zero a b small_a small_b same = omega arith
@@ -77,7 +82,7 @@ numerals-injective (suc n) a b small_a small_b same =
     let high : a / 64 ≡ b / 64 = numerals-injective n (a / 64) (b / 64) (omega arith) (omega arith) rest in
     omega arith
 
--- a list with a character from outside the alphabet in it is not all of the alphabet
+-- A list that has a character outside the alphabet is not all in the alphabet.
 pub not_all_contained : (front back digits : List ℕ) (c : ℕ) → (front ++ c ∷ []) ++ back ≡ digits
     → (Contains alphabet c → ⊥) → All (Contains alphabet) digits → ⊥
 not_all_contained front back digits c is strange all =
@@ -88,7 +93,7 @@ not_all_contained front back digits c is strange all =
     omega (arith, simp length-append at (ap length is)) in
     strange (subst (Contains alphabet) at (all (length front) 0 inside))
 
--- a slice that is read from its end, up to a digit and with that digit
+-- `read_30`, from the last digit to the first: before any digit is read, after one more, and at the end.
 pub digits_none : (rest digits : List ℕ) → rest ≡ digits → rest ++ numerals 0 0 ≡ digits
 digits_none rest digits is = rw numerals-none (append-nil rest ∙ is)
 

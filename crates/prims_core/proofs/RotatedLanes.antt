@@ -1,4 +1,6 @@
--- Vectors of four lanes: a sum in each lane, rotated and added by exclusive or, is that of the words one by one.
+-- The additions and rotations of Salsa20/8 on vectors of four lanes, for `xor_rotated_sum` and `row_round`.
+-- `in_two_steps` shows for one word that XORing in the two shifted halves of a rotation, one after the other, XORs in
+-- the rotated word: the halves have no bit in common. `rotated_in_lanes` says it of each lane.
 use Rattle.std.proofs.Common.{◌≡◌, ℕ, zero, suc, ◌+◌, ◌-◌, ◌*◌, ◌/◌, ◌%◌, ◌^◌, ◌<◌, List, [], ◌∷◌, ◌++◌, length, slice_index, bit_xor, refl, sym, ◌∙◌, ap, pow-add, pow_pos, arith}
 use Rattle.std.specs.Int.{w32, rotate_left}
 use Rattle.std.specs.Int.Bits.{xor_assoc, xor_shifted}
@@ -9,7 +11,7 @@ use Rattle.std.proofs.lemmas.List.{get_or_append_left}
 use Rattle.prims_core.specs.Salsa.{sum_of_words, rotated_sum}
 use Rattle.prims_core.proofs.FourDiagonals.{four_lanes}
 
--- what holds of each of the four lanes
+-- To show a property of each lane, it suffices to show it of lanes 0 to 3.
 below_four : (P : ℕ → Type 0) → P 0 → P 1 → P 2 → P 3 → (j : ℕ) → j < 4 → P j
 below_four P p0 p1 p2 p3 zero inside = p0
 below_four P p0 p1 p2 p3 (suc zero) inside = p1
@@ -17,7 +19,7 @@ below_four P p0 p1 p2 p3 (suc (suc zero)) inside = p2
 below_four P p0 p1 p2 p3 (suc (suc (suc zero))) inside = p3
 below_four P p0 p1 p2 p3 (suc (suc (suc (suc n)))) inside = absurd (omega arith)
 
--- the lanes of a vector that is joined to itself
+-- The first four lanes of a vector joined to itself are its own. A rotation of lanes picks from such a list.
 pub lanes_of_twice : (xs : List ℕ) → length xs ≡ 4
     → (slice_index (xs ++ xs) 0 ≡ slice_index xs 0) × (slice_index (xs ++ xs) 1 ≡ slice_index xs 1)
     × (slice_index (xs ++ xs) 2 ≡ slice_index xs 2) × (slice_index (xs ++ xs) 3 ≡ slice_index xs 3)
@@ -26,7 +28,7 @@ lanes_of_twice xs four =
     λ k inside. get_or_append_left xs xs 0 k (omega arith) in
     (lane 0 (omega arith), lane 1 (omega arith), lane 2 (omega arith), lane 3 (omega arith))
 
--- the bits that a rotation moves up and those that it moves down, one after the other
+-- The halves of x that a rotation by `bits` shifts up and down, XORed into a word one after the other.
 in_two_steps : (bits : ℕ) → 0 < bits → bits < 32 → (word x : ℕ) → x < 2 ^ 32
     → bit_xor (bit_xor word (x * 2 ^ bits % 2 ^ 32)) (x / 2 ^ (32 - bits)) ≡ bit_xor word (rotate_left w32 x bits)
 in_two_steps bits some few word x fits =
@@ -34,6 +36,7 @@ in_two_steps bits some few word x fits =
     let all : down + bits ≡ 32 = omega arith in
     let whole : 2 ^ 32 ≡ 2 ^ bits * 2 ^ down = omega (ap (λ (n : ℕ). 2 ^ n) (sym all) ∙ pow-add 2 down bits, arith) in
     let up = x * 2 ^ bits / 2 ^ bits % 2 ^ down in
+    -- The half shifted up is a multiple of 2 ^ bits, and the half shifted down is below it.
     let moved_up : x * 2 ^ bits % 2 ^ 32 ≡ up * 2 ^ bits =
     omega (ap (λ (n : ℕ). x * 2 ^ bits % 2 ^ n) (sym all) ∙ mod-pow-add (x * 2 ^ bits) down bits, mul-mod_left x (2 ^ bits), arith) in
     let low : x / 2 ^ down < 2 ^ bits = (div-lt_iff_lt-mul (pow_pos down)).1 (omega arith) in
@@ -41,7 +44,8 @@ in_two_steps bits some few word x fits =
     let other : down % 32 ≡ down = omega arith in
     rw (xor_assoc, one, other, moved_up, xor_shifted up bits (x / 2 ^ down) low, or_shifted up bits (x / 2 ^ down) low) refl
 
--- the same in each lane
+-- IsRotatedInLanes bits word x y: in each lane, the operations of `xor_rotated_sum` give `word` XOR the rotated sum of
+-- x and y.
 abbrev IsRotatedInLanes : ℕ → List ℕ → List ℕ → List ℕ → Type 0
 IsRotatedInLanes bits word x y = (j : ℕ) → j < 4
     → slice_index (zip2 bit_xor

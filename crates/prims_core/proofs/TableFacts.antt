@@ -1,5 +1,7 @@
--- The rows of a table in one list: where each begins and ends, what is read of it, and what a row that is written leaves.
--- Behind the last row that is written, zeros count as written.
+-- The rows of a table in one list of words, for `Table` and, in kdf_core, `mix_back`: where row i starts and ends, what
+-- reading it gives, and what writing it leaves. A list shorter than the table counts as followed by zeros (`padded`).
+-- So a missing row reads as zeros, and appending zeros leaves the table as it is. `rows_of-written`, by induction over
+-- the rows, is the heart of `set_row`: it replaces one row and keeps the others.
 use Rattle.std.proofs.Common.{◌≡◌, ℕ, zero, suc, ◌+◌, ◌-◌, ◌*◌, ◌<◌, ◌≤◌, List, [], ◌∷◌, ◌++◌, length, get_or, set, take, drop, replicate, refl, sym, ◌∙◌, ap, arith, length-take, length-drop, length-append, length-take-le, append_assoc, zero-add}
 use Rattle.std.proofs.Math.Nat.{suc-mul, zero-mul}
 use Rattle.std.proofs.Math.Seq.{take-add, drop-append-add}
@@ -13,7 +15,7 @@ unfolding rows_of
 length-rows_of zero w xs = refl
 length-rows_of (suc n) w xs = ap suc (length-rows_of n w (drop w xs))
 
--- row i begins at i * w
+-- Row i is the w words from place i * w on.
 pub get_or-rows_of : (n w : ℕ) (xs : List ℕ) (i : ℕ) (d : List ℕ) → i < n
     → get_or (rows_of n w xs) i d ≡ take w (drop (i * w) xs)
 unfolding rows_of
@@ -23,10 +25,11 @@ get_or-rows_of (suc n) w xs (suc i) d inside =
     get_or-rows_of n w (drop w xs) i d (omega arith)
     ∙ ap (take w) (drop-drop (i * w) w xs ∙ ap (λ (k : ℕ). drop k xs) (omega (arith, suc-mul i w)))
 
+-- From here on, a table is given by an equation: it is the rows of this list.
 pub row_count : (n w : ℕ) (xs : List ℕ) (table : List (List ℕ)) → rows_of n w xs ≡ table → length table ≡ n
 row_count n w xs table is = sym (ap length is) ∙ length-rows_of n w xs
 
--- a place in the table is that of a row, which ends within the list
+-- A valid row number is below n, and the row ends within the list.
 pub row_inside : (n w : ℕ) (xs : List ℕ) (table : List (List ℕ)) (i : ℕ) → rows_of n w xs ≡ table
     → i < length table → i < n
 row_inside n w xs table i is inside = omega (arith, ap length is, length-rows_of n w xs)
@@ -37,7 +40,7 @@ row_end n w xs table i is inside =
     let below : i < n = row_inside n w xs table i is inside in
     grind (arith, rows)
 
--- what is read of row i, and its length
+-- Reading w words at i * w gives row i, which has w words.
 pub row_read : (n w : ℕ) (xs : List ℕ) (table : List (List ℕ)) (i : ℕ) → rows_of n w xs ≡ table
     → i < length table → take w (drop (i * w) xs) ≡ get_or table i []
 row_read n w xs table i is inside =
@@ -50,17 +53,17 @@ length-row n w xs table i is inside whole =
     ap length (sym (row_read n w xs table i is inside))
     ∙ length-take-le w (drop (i * w) xs) (omega (arith, length-drop (i * w) xs, row_end n w xs table i is inside))
 
--- zeros fill a list up to the size
+-- Padding fills a list up to the size.
 pub length-padded : (size : ℕ) (xs : List ℕ) → length xs ≤ size → length (padded size xs) ≡ size
 length-padded size xs inside = simp (length-append, length-replicate) (omega (arith, inside))
 
--- a row that is as long as one of the table
+-- A row that `set_row` accepts has w words.
 pub same_words : (n w : ℕ) (xs row : List ℕ) (table : List (List ℕ)) (i : ℕ) → rows_of n w (padded (n * w) xs) ≡ table
     → i < length table → length xs ≤ n * w → length row ≡ length (get_or table i []) → length row ≡ w
 same_words n w xs row table i is inside within same =
     same ∙ length-row n w (padded (n * w) xs) table i is inside (omega (arith, length-padded (n * w) xs within))
 
--- a table of a shape has as many words as its rows together
+-- A table with this shape has no more words than the padded list. `into_words` needs it.
 pub shape_fits : (n w rows words : ℕ) (xs : List ℕ) (table : List (List ℕ)) → rows_of n w (padded (n * w) xs) ≡ table
     → length xs ≤ n * w → HasShape table rows words → rows * words ≤ n * w
 shape_fits n w zero words xs table is within shape = omega (arith, zero-mul words)
@@ -72,6 +75,7 @@ shape_fits n w (suc rows) words xs table is within shape =
     ∙ length-row n w (padded (n * w) xs) table 0 is some (omega (arith, length-padded (n * w) xs within)) in
     rw (all, long) (omega arith)
 
+-- Zeros, cut into rows, are rows of zeros.
 pub rows_of-replicate : (n w : ℕ) → rows_of n w (replicate (n * w) 0) ≡ replicate n (replicate w 0)
 unfolding rows_of
 rows_of-replicate zero w = refl
@@ -84,7 +88,7 @@ rows_of-replicate (suc n) w =
     drop-replicate w (n * w + w) zero ∙ ap (λ (k : ℕ). replicate k zero) left in
     rw (all, first, rest, rows_of-replicate n w) refl
 
--- the row of place i written over in the list
+-- Writing a row of w words at i * w replaces row i, and keeps the others.
 pub rows_of-written : (n w i : ℕ) (xs row : List ℕ) → i < n → length row ≡ w → n * w ≤ length xs
     → rows_of n w (take (i * w) xs ++ (row ++ drop (i * w + w) xs)) ≡ set (rows_of n w xs) i row
 unfolding rows_of
@@ -108,7 +112,7 @@ rows_of-written (suc n) w (suc i) xs row inside long whole =
     )
     (ap (λ (xss : List (List ℕ)). take w xs ∷ xss) below)
 
--- some of these zeros written out
+-- Appending zeros doesn't change what the padded list is, so the table stays the same.
 pub padded-filled : (size len : ℕ) (xs : List ℕ) → len ≤ size
     → padded size (xs ++ replicate (len - length xs) 0) ≡ padded size xs
 padded-filled size len xs inside =
@@ -126,7 +130,7 @@ pub same_rows : (n w end : ℕ) (xs ys : List ℕ) (table : List (List ℕ)) →
 same_rows n w end xs ys table is inside filled =
     ap (λ (list : List ℕ). rows_of n w (padded (n * w) list)) filled ∙ ap (rows_of n w) (padded-filled (n * w) end xs inside) ∙ is
 
--- a part written over in the list
+-- Writing over a part of the list, and then padding it, is the same as writing over that part of the padded list.
 pub padded-put_mid : (size start count : ℕ) (xs row : List ℕ) → start + count ≤ length xs → length row ≡ count
     → padded size (put_mid start count xs row) ≡ put_mid start count (padded size xs) row
 padded-put_mid size start count xs row inside long =
@@ -143,7 +147,7 @@ padded-put_mid size start count xs row inside long =
     )
     refl
 
--- a row that stands in the list, and one behind it
+-- `row` reads a row that is in the list from the list. Any row after the end of the list is zeros.
 pub row_written_out : (n w : ℕ) (xs : List ℕ) (table : List (List ℕ)) (i : ℕ) → rows_of n w (padded (n * w) xs) ≡ table
     → i < length table → i * w + w ≤ length xs → take w (drop (i * w) xs) ≡ get_or table i []
 row_written_out n w xs table i is inside written =
@@ -165,7 +169,7 @@ row_of_zeros n w xs table i is inside behind =
     ∙ take-replicate w (n * w - length xs - (i * w - length xs)) zero (omega (arith, behind, ends)) in
     sym read ∙ row_read n w (padded (n * w) xs) table i is inside
 
--- a list of whole rows that ends before the end of a row ends before its beginning
+-- A list of whole rows that ends before the end of row i ends at the start of row i or before it.
 pub whole_rows : (n w size i : ℕ) → size ≡ n * w → size < i * w + w → size ≤ i * w
 whole_rows zero w size i whole short = rw (whole, zero-mul) (omega arith)
 whole_rows (suc n) w size zero whole short = absurd (omega (arith, whole, short, suc-mul n w))
@@ -174,7 +178,7 @@ whole_rows (suc n) w size (suc i) whole short =
     let before : size - w ≤ i * w = whole_rows n w (size - w) i (omega (arith, whole, suc-mul n w)) less in
     omega (arith, before, suc-mul i w)
 
--- with zeros up to the end of a row it has whole rows again
+-- A list of whole rows, extended by zeros to the end of row i if it is shorter, has whole rows again.
 pub whole_after : (n w size i : ℕ) → size ≡ n * w → (m : ℕ) × (size + (i * w + w - size) ≡ m * w)
 whole_after zero w size i whole = (suc i, rw (whole, zero-mul) (omega (arith, suc-mul i w)))
 whole_after (suc n) w size zero whole = (suc n, omega (arith, whole, suc-mul n w))
@@ -183,6 +187,7 @@ whole_after (suc n) w size (suc i) whole =
     whole_after n w (size - w) i (omega (arith, whole, suc-mul n w)) in
     (suc (before.0), omega (arith, before.1, whole, suc-mul i w, suc-mul n w, suc-mul (before.0) w))
 
+-- So the layout of a table holds after `set_row` has extended its list.
 pub laid_out_after : (n w size room i size' room' : ℕ) → IsLaidOut n w size room → i * w + w ≤ n * w
     → size' ≡ size + (i * w + w - size) → room ≤ room' → IsLaidOut n w size' room'
 laid_out_after n w size room i size' room' laid ends sized more =
@@ -193,7 +198,7 @@ laid_out_after n w size room i size' room' laid ends sized more =
       short = λ (less : size' < n * w). laid.short (omega (arith, less, sized));
     }
 
--- that row as a write to a part of a vector of so many items leaves it
+-- The clause of `set_row`: the list after the write, as the vector holds it, is the table with row i replaced.
 pub row_written : (n w : ℕ) (xs : List ℕ) (table : List (List ℕ)) (i size items : ℕ) (row : List ℕ)
     → rows_of n w (padded (n * w) xs) ≡ table → i < length table → i * w + w ≤ length xs → length xs ≤ n * w → items ≡ length xs
     → length row ≡ w → size ≡ w

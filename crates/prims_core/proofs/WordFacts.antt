@@ -1,4 +1,7 @@
--- Words from bytes and numbers from words, and the parts and lengths of two lists of words under exclusive or.
+-- Words as bytes and under XOR. `words_of-from_places` serves `load_words`: words that are each the number of their
+-- four bytes are `words_of` the bytes. `number-from_word` serves Integerify in kdf_core: of a number given by words,
+-- the first word decides the lowest 32 bits. The lemmas on `xor_lists` serve `mix_xor_diagonals`: a part of the XOR of
+-- two lists is the XOR of their parts.
 use Rattle.std.proofs.Common.{◌≡◌, ℕ, zero, suc, ◌+◌, ◌*◌, ◌%◌, ◌^◌, ◌<◌, ◌≤◌, List, [], ◌∷◌, ◌++◌, length, take, drop, get_or, map, bit_xor, flat_map, refl, sym, ◌∙◌, ap, arith}
 use Rattle.std.proofs.lemmas.Grind.{same_number_lists}
 use Rattle.std.proofs.lemmas.List.{get_or-map, get_or-take, length-map}
@@ -8,7 +11,7 @@ use Rattle.byteorder.specs.Endian.{little_from}
 use Rattle.prims_core.specs.Words.{bytes_of_words, chunks_exact, little_bytes, little_number, words_of, xor_lists}
 use Rattle.prims_core.proofs.ChunkFacts.{length-chunks_exact, get_or-chunks_exact}
 
--- the number of four bytes reads no further byte
+-- The number of four bytes depends on no further byte.
 little_number-take_four : (bytes : List ℕ) → little_number 4 (take 4 bytes) ≡ little_number 4 bytes
 little_number-take_four bytes =
     rw (
@@ -18,7 +21,7 @@ little_number-take_four bytes =
       get_or-take 4 bytes 3 0 (omega arith),
     ) refl
 
--- words that are read one by one
+-- Words that are each read from their own four bytes are the words of the bytes.
 pub words_of-from_places : (bytes words : List ℕ) → length bytes ≡ 4 * length words
     → ((k : ℕ) → k < length words → get_or words k 0 ≡ little_number 4 (drop (4 * k) bytes))
     → words ≡ words_of bytes
@@ -33,7 +36,7 @@ words_of-from_places bytes words four read =
     ∙ ap (little_number 4) (get_or-chunks_exact bytes 4 (length words) k (omega arith) four inside)
     ∙ little_number-take_four (drop (4 * k) bytes)))
 
--- the number of bytes that begin with those of a word: that word modulo 2 ^ 32, and a multiple of 2 ^ 32
+-- A number given by words is its first word modulo 2 ^ 32, plus a multiple of 2 ^ 32.
 pub number-from_word : (count word : ℕ) (words : List ℕ)
     → (above : ℕ) × (little_number (count + 4) (bytes_of_words (word ∷ words)) ≡ word % 2 ^ 32 + 2 ^ 32 * above)
 unfolding bytes_of_words
@@ -42,7 +45,7 @@ number-from_word count word words =
     let number : count + 4 ≡ suc (suc (suc (suc count))) = omega arith in
     (little_from 4 count all, rw number (omega arith))
 
--- a part of the items that an operator makes is what it makes of those parts
+-- A part of what an operator makes of two lists is what it makes of those parts of the lists.
 take-zip2 : (f : ℕ → ℕ → ℕ) (n : ℕ) (xs ys : List ℕ) → take n (zip2 f xs ys) ≡ zip2 f (take n xs) (take n ys)
 take-zip2 f zero xs ys = refl
 take-zip2 f (suc n) [] ys = refl
@@ -69,7 +72,7 @@ pub length-xor_lists : (xs ys : List ℕ) → length ys ≡ length xs → length
 unfolding xor_lists
 length-xor_lists xs ys same = length-zip2 bit_xor xs ys (sym same)
 
--- no longer than either
+-- The XOR of two lists is no longer than either.
 pub shorter-xor_lists : (xs ys : List ℕ) → (length (xor_lists xs ys) ≤ length xs) × (length (xor_lists xs ys) ≤ length ys)
 unfolding xor_lists
 shorter-xor_lists [] ys = (omega arith, omega arith)

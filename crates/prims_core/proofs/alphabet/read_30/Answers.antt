@@ -1,3 +1,6 @@
+-- The clauses of `read_30`. Each turn of the loop moves the last unread digit to the numeral of the number
+-- (`digits_more`), so at the end the numeral is all digits. Where the loop stops early, the digit is outside the
+-- alphabet, so the digits are not the numeral of any number.
 use Rattle.std.proofs.Common.{◌≡◌, ℕ, List, [], ◌∷◌, ◌++◌, ◌+◌, ◌<◌, ◌^◌, length, true, false, Some, refl, sym, ap, ◌∙◌, subst, arith, length-append}
 use Rattle.std.specs.Prelude.{Contains, All}
 use Rattle.prims_core.specs.Alphabet.{alphabet, numerals}
@@ -14,7 +17,7 @@ digits-init c = record {
   small = omega arith;
 }
 
--- the digit at which the call gives up is not of the alphabet
+-- The digit at which the call returns `None` is not in the alphabet, so not all digits are.
 stranger_here : (c : goal.After-from_residual) → All (Contains alphabet) c.args.digits.now → ⊥
 stranger_here c all =
     let strange : Contains alphabet c.in-Some.digit.now → ⊥ = λ inside. (let no : false ≡ true = c.in_err-value_of.ensures.accepts.1 inside in cc) in
@@ -41,7 +44,7 @@ digits-preserved c =
       small = rw (more, c.from.ensures) (below-more _ _ _ c.digits.invariant.small c.in_ok-value_of.ensures.value.0);
     }
 
--- the digits are the numerals of the number, once no digit is to come
+-- At the end no digit is unread: the digits are the numeral of the number, which is below 64 ^ 5.
 whole_number : (c : goal.In-None)
     → (numerals 5 c.digits.number ≡ c.args.digits.now) × (c.digits.number < 64 ^ 5)
 whole_number c =

@@ -1,8 +1,8 @@
+-- The loop of `read_30`: the unread digits, followed by the numeral of the number so far, are all digits.
 use Rattle.std.proofs.Common.{◌≡◌, ◌^◌, ◌++◌, ◌<◌, length}
 use Rattle.prims_core.specs.Alphabet.{numerals}
 use Rattle.prims_core.proofs.alphabet.read_30.Given as goal
 
--- the digits are those to come and the numerals of the number so far
 abbrev pub invariant-digits : goal.invariant-digits
 invariant-digits l = record {
   split : l.digit-iterator.iter.rest.now ++ numerals (length l.yielded) l.number ≡ l.digits;

@@ -1,3 +1,6 @@
+-- The clauses of `value_of`, for each arm of its match. In a range, the byte is the character of the value
+-- (`character_of-first` and the like), and no other value has that character. A byte of the last arm is in one of the
+-- four gaps around the ranges, so it is outside the alphabet.
 use Rattle.std.proofs.Common.{◌≡◌, ℕ, ◌+◌, ◌-◌, ◌<◌, arith, refl, sym, ◌∙◌, ap, inl, inr, Some}
 use Rattle.prims_core.specs.Alphabet.{character_of}
 use Rattle.prims_core.proofs.AlphabetFacts.{character_of-first, character_of-upper, character_of-lower, character_of-injective, Contains-character_of, IsOutside, outside_alphabet, no_value}

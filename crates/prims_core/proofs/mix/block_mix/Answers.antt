@@ -1,3 +1,4 @@
+-- The precondition of `from_diagonals` in `block_mix`: `dst` has whole blocks, as many as before the mixing.
 use Rattle.std.proofs.Common.{arith}
 use Rattle.prims_core.proofs.mix.block_mix.Goals as goal
 

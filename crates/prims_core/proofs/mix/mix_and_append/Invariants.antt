@@ -1,10 +1,11 @@
+-- The loop of `mix_and_append`: x is X before block i is mixed, the results before that block are in their places, and
+-- the blocks before it are appended to the rows.
 use Rattle.std.proofs.Common.{◌≡◌, ◌*◌, ◌++◌, take}
 use Rattle.prims_core.specs.BlockMix.{x_after}
 use Rattle.prims_core.specs.Diagonals.{in_rows}
 use Rattle.prims_core.specs.Private.Mixing.{y_at, ArePlaced}
 use Rattle.prims_core.proofs.mix.mix_and_append.Given as goal
 
--- x is X before block i is mixed, the results before that block stand at their places, and the blocks before it are appended
 abbrev pub invariant-mixing : goal.invariant-mixing
 invariant-mixing g l = record {
   before : l.x ≡ x_after l.r (in_rows l.src) l.i;

@@ -1,9 +1,9 @@
+-- The loop of `mix_blocks`: x is X before block i is mixed, and the results before that block are in their places.
 use Rattle.std.proofs.Common.{◌≡◌}
 use Rattle.prims_core.specs.BlockMix.{x_after}
 use Rattle.prims_core.specs.Private.Mixing.{y_at, ArePlaced}
 use Rattle.prims_core.proofs.mix.mix_blocks.Given as goal
 
--- x is X before block i is mixed, and the results before that block stand at their places
 abbrev pub invariant-mixing : goal.invariant-mixing
 invariant-mixing g l = record {
   before : l.x ≡ x_after l.r (g.B.Blocks.words l.src) l.i;

@@ -1,3 +1,4 @@
+-- The precondition of `mix_blocks` in `mix_xor_diagonals`: the XOR of the two lists has 32r words, as each of them has.
 use Rattle.std.proofs.Common.{◌≡◌, length, arith}
 use Rattle.prims_core.specs.Diagonals.{in_rows}
 use Rattle.prims_core.proofs.BlockFacts.{length-in_rows}

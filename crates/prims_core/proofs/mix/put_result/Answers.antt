@@ -1,3 +1,4 @@
+-- The clause of `put_result`: one more result is in its place, and the others stay in theirs (`placed_more`).
 use Rattle.std.proofs.Common.{◌∙◌, arith}
 use Rattle.prims_core.proofs.MixedBlocks.{placed_more}
 use Rattle.prims_core.proofs.mix.put_result.Goals as goal

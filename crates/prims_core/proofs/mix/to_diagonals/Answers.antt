@@ -1,3 +1,5 @@
+-- The clause of `to_diagonals`. A turn of its loop rearranges block i and leaves the others (`rearranged-more`). At the
+-- end each block, read in row order, is the original one, so the lists are equal (`same_blocks`).
 use Rattle.std.proofs.Common.{◌≡◌, ℕ, ◌+◌, ◌-◌, ◌*◌, ◌/◌, ◌<◌, length, take, drop, refl, ap, ◌∙◌, arith}
 use Rattle.prims_core.specs.BlockMix.{block_at}
 use Rattle.prims_core.specs.Diagonals.{block_in_rows, in_rows}
@@ -14,6 +16,7 @@ turning-preserved c =
     let whole : length c.turning.words ≡ 16 * n = omega (arith, c.turning.invariant.length, c.requires.whole) in
     let inside : i < n = omega arith in
     let size : 16 * i + 16 - 16 * i ≡ 16 = omega arith in
+    -- The slice that the code takes is block i.
     let read : take (16 * i + 16 - 16 * i) (drop (16 * i) c.turning.words) ≡ block_at i c.turning.words =
     ap (λ (k : ℕ). take k (drop (16 * i) c.turning.words)) size in
     let more = rearranged-more n i (16 * i + 16 - 16 * i) (λ k b. block_in_rows b ≡ block_at k c.args.words.now) c.args.words.now c.turning.words c.store_diagonals.new.words whole inside size

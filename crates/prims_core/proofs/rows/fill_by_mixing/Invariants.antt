@@ -1,3 +1,5 @@
+-- The loop of `fill_by_mixing`: after so many turns there are twice as many rows, each the start after as many mixings
+-- as its number. x is what the next row will hold, and the mixings are counted.
 use Rattle.std.proofs.Common.{◌≡◌, ◌+◌, ◌*◌, length}
 use Rattle.std.specs.Fn.{iterate}
 use Rattle.prims_core.specs.BlockMix.{block_mix}
@@ -5,7 +7,6 @@ use Rattle.prims_core.specs.Diagonals.{in_rows}
 use Rattle.prims_core.proofs.FilledTable.{HasMixings}
 use Rattle.prims_core.proofs.rows.fill_by_mixing.Given as goal
 
--- two rows a turn, of which x holds the next
 abbrev pub invariant-filling : goal.invariant-filling
 invariant-filling g l = record {
   filled : HasMixings (g.R.Rows.words l.rows) (length l.fn.x) (2 * l.counter) (in_rows l.fn.x);

@@ -1,3 +1,4 @@
+-- The clause of `quarter_rounds`: in each lane, the four steps are those of the quarter round of the definition.
 use Rattle.std.proofs.Common.{refl}
 use Rattle.prims_core.specs.Salsa.{quarter_round}
 use Rattle.prims_core.proofs.salsa.quarter_rounds.Goals as goal

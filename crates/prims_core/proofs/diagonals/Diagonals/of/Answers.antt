@@ -1,3 +1,4 @@
+-- The clause of `of`: the words that the four swizzles pick are the block (`loaded_from_rows`).
 use Rattle.std.proofs.Common.{arith}
 use Rattle.std.proofs.lemmas.List.{take_all}
 use Rattle.prims_core.proofs.FourDiagonals.{loaded_from_rows}

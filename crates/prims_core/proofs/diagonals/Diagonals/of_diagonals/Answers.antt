@@ -1,3 +1,5 @@
+-- The clause of `of_diagonals`: the words that the four swizzles pick are the block in row order
+-- (`loaded_from_diagonals`).
 use Rattle.std.proofs.Common.{arith}
 use Rattle.std.proofs.lemmas.List.{take_all}
 use Rattle.prims_core.proofs.FourDiagonals.{loaded_from_diagonals}

@@ -1,3 +1,5 @@
+-- The clause of `store`: the shuffles arrange the words in row order (`stored_in_rows`), and the copy replaces all
+-- sixteen words.
 use Rattle.std.proofs.Common.{arith, ◌∙◌}
 use Rattle.std.proofs.lemmas.Simd.{put_chunk_whole}
 use Rattle.prims_core.proofs.FourDiagonals.{stored_in_rows}

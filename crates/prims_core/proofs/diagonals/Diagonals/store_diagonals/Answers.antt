@@ -1,3 +1,5 @@
+-- The clause of `store_diagonals`: the shuffles arrange the words in diagonal order (`stored_by_diagonals`), and the
+-- copy replaces all sixteen words.
 use Rattle.std.proofs.Common.{arith, ap, ◌∙◌}
 use Rattle.std.proofs.lemmas.Simd.{put_chunk_whole}
 use Rattle.prims_core.specs.Diagonals.{block_in_rows}

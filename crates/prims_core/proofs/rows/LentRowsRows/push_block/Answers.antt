@@ -1,3 +1,5 @@
+-- The clause of `push_block` for `LentRows`: the words up to the new end are those before and the block, since the copy
+-- replaces exactly sixteen words at the old end.
 use Rattle.std.proofs.Common.{◌≡◌, ℕ, ◌+◌, ◌-◌, List, ◌++◌, length, take, drop, ap, ◌∙◌, arith, length-take, length-drop}
 use Rattle.std.specs.Simd.Lanes.{put_chunk, chunk}
 use Rattle.std.proofs.lemmas.List.{take_all}
@@ -10,6 +12,7 @@ returns-clause-words c =
     let words : List ℕ = c.args.self.now.words.now in
     let at : ℕ = c.args.self.now.written in
     let part : List ℕ = take (at + 16 - at) (drop at words) in
+    -- Loading the block as one vector gives all its words, since it has sixteen.
     let block : chunk 0 16 c.args.block.now ≡ c.args.block.now = take_all 16 c.args.block.now (omega (arith, c.requires.whole)) in
     let same : length part ≡ length (chunk 0 16 c.args.block.now) =
     omega (
@@ -21,6 +24,7 @@ returns-clause-words c =
       c.requires.whole,
       c.requires.fits,
     ) in
+    -- Copying it to a part of sixteen words leaves the block there.
     let written : put_chunk 0 part (chunk 0 16 c.args.block.now) ≡ c.args.block.now =
     put_chunk_whole part (chunk 0 16 c.args.block.now) same ∙ block in
     take-put_mid at (at + 16 - at) words (put_chunk 0 part (chunk 0 16 c.args.block.now)) (at + 16)

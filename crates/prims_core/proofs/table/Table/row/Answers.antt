@@ -1,3 +1,6 @@
+-- The clause of `row`, for its two cases. A row that ends within the vector is read from it (`row_written_out`). Any
+-- other row starts at the vector's end or after it, since the vector has whole rows (`whole_rows`). So it is zeros
+-- (`row_of_zeros`), and it is short enough for `ZEROS`.
 use Rattle.std.proofs.Common.{◌≡◌, ℕ, ◌+◌, ◌-◌, ◌*◌, ◌≤◌, List, take, drop, length, arith, ap, ◌∙◌}
 use Rattle.std.proofs.lemmas.List.{take-replicate}
 use Rattle.prims_core.proofs.TableFacts.{row_written_out, row_of_zeros, row_end, whole_rows}

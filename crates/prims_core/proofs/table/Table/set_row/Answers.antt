@@ -1,3 +1,5 @@
+-- The clauses of `set_row`. Filling up with zeros keeps the table as it is (`same_rows`), and its layout
+-- (`laid_out_after`). Then the row is within the vector, and copying to it replaces this row alone (`row_written`).
 use Rattle.std.proofs.Common.{◌≡◌, ℕ, ◌+◌, ◌-◌, ◌*◌, ◌≤◌, List, length, arith, ap, ◌∙◌, length-take, length-drop}
 use Rattle.std.specs.Vec.{with_items}
 use borrow.Rule.Slice.PartMut.{put_mid}
@@ -25,8 +27,10 @@ returns c =
     let ends : start + w ≤ n * w = row_end _ _ _ _ c.args.i c.self.view_is c.requires.inside in
     let long : length c.args.row.now ≡ w =
     same_words _ _ _ _ _ c.args.i c.self.view_is c.requires.inside (omega (arith, c.self.inside.words.ok.0, c.self.invariant.inside)) c.requires.same_length in
+    -- The table is the same after zeros are appended.
     let is : rows_of n w (padded (n * w) c.fill.new.words.items) ≡ c.args.self.now =
     same_rows n w (start + w) _ _ _ c.self.view_is ends c.fill.ensures.zeros in
+    -- The copy replaces the words of row i by the given row.
     let same : put_mid start (start + w - start) c.deref_mut.result.now c.copy_from_slice.new.self
     ≡ put_mid start (start + w - start) c.fill.new.words.items c.args.row.now = cc in
     ap (λ (words : List ℕ). rows_of n w (padded (n * w) (with_items c.fill.new.words words).items)) same
