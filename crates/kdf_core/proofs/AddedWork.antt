@@ -1,9 +1,10 @@
--- What a meter has after two pieces of work: the work of both, added.
+-- The counts of a meter after two pieces of work that digest: both are added. `derived_block` and `pbkdf2` count round
+-- by round and block by block with it.
 use Rattle.std.proofs.Common.{◌≡◌, ℕ, ◌+◌, ap, ◌∙◌, arith}
 use Rattle.prims_core.specs.Meter.{with_work}
 use Rattle.prims_core.specs.declared.meter.Work.{Work}
 
--- some work, and then some more
+-- The work d and x, and then e and y, is the work of their sums.
 pub work_more : (a b c : Work) (d x e y digests bytes : ℕ) → b ≡ with_work a d x → c ≡ with_work b e y
     → d + e ≡ digests → x + y ≡ bytes → c ≡ with_work a digests bytes
 work_more a b c d x e y digests bytes first then all_digests all_bytes =

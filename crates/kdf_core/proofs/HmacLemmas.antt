@@ -1,4 +1,6 @@
--- HMAC step by step: a key's block, long or short, the block under a pad byte by byte, and the tag of two digests.
+-- HMAC step by step, for the functions of `hmac`: the block of a long key and of any other key (`block_of`), the block
+-- XOR a pad (`HmacKey::new`), the tag from its two digests (`HmacKey::tag`), and XOR byte by byte (`xor_into`). Each
+-- lemma unfolds one definition of the standard, and rewrites its parts to what the code has.
 use Rattle.std.proofs.Common.{◌≡◌, ℕ, ◌-◌, ◌<◌, ◌≤◌, List, [], ◌++◌, length, get_or, bit_xor, replicate, drop, sym, ap, ◌∙◌, append_assoc, arith}
 use Rattle.std.proofs.lemmas.List.{append-nil, drop-replicate}
 use Rattle.std.proofs.lemmas.Bool.{cond_below, cond_above}
@@ -9,23 +11,24 @@ use Rattle.prims_core.specs.Words.{xor_lists}
 use Rattle.kdf_core.specs.Hmac.{hmac_sha256, key_block, padded_key}
 use Rattle.kdf_core.specs.HmacMessages.{PaddedKey, IsKeyOf}
 
--- a tag is the digest of the outer pad and the digest of the inner pad and the text
+-- A tag is the digest of the outer padded key and of the digest of the inner padded key and the text.
 pub tag_is : (held : PaddedKey) (key a b text tag : List ℕ) → IsKeyOf held key → text ≡ sha256 (held.inner ++ a ++ b)
     → tag ≡ sha256 (held.outer ++ text ++ []) → tag ≡ hmac_sha256 key (a ++ b)
 unfolding hmac_sha256
 tag_is held key a b text tag of_key first second =
     let inner = padded_key key 0x36 in
     let outer = padded_key key 0x5c in
+    -- The code's inner digest is that of the definition.
     let text_is : text ≡ sha256 (inner ++ (a ++ b)) =
     first ∙ ap sha256 (append_assoc held.inner a b ∙ ap (λ (x : List ℕ). x ++ (a ++ b)) of_key.inner) in
     second ∙ ap sha256 (append-nil (held.outer ++ text)
     ∙ (ap (λ (x : List ℕ). x ++ text) of_key.outer ∙ ap (λ (x : List ℕ). outer ++ x) text_is))
 
--- zeros up to a block
+-- filled kept: these bytes, with zeros up to a block.
 abbrev filled : List ℕ → List ℕ
 filled kept = kept ++ replicate (64 - length kept) 0
 
--- the block of a key that is longer than a block, whose digest is made in place of it
+-- The block of a key that is longer than a block: its digest and zeros.
 pub long_block : (key kept : List ℕ) → 64 < length key → kept ≡ sha256 key → length kept ≡ 32
     → kept ++ replicate 32 0 ≡ key_block key
 unfolding key_block
@@ -33,7 +36,7 @@ long_block key kept long is length_is =
     let zeros : 32 ≡ 64 - length kept = omega arith in
     ap (λ n. kept ++ replicate n 0) zeros ∙ ap filled (is ∙ cond_below 64 (length key) (sha256 key) key long)
 
--- the block of any other key
+-- The block of any other key: the key and zeros.
 pub short_block : (key kept zeros : List ℕ) → length key ≤ 64 → kept ≡ key → zeros ≡ replicate 64 0
     → kept ++ drop (length key) zeros ≡ key_block key
 unfolding key_block
@@ -42,13 +45,13 @@ short_block key kept zeros short is zeros_are =
     ap (drop (length key)) zeros_are ∙ drop-replicate (length key) 64 0 ∙ ap (λ (k : List ℕ). replicate (64 - length k) 0) (sym is) in
     ap (λ (x : List ℕ). kept ++ x) rest ∙ ap filled (cond_above 64 (length key) (sha256 key) key kept short is)
 
--- a block under a pad
+-- The block XOR the pad byte, repeated, is the padded key.
 pub padded_is : (key block padded : List ℕ) (pad : ℕ) → block ≡ key_block key
     → padded ≡ xor_lists block (replicate 64 pad) → padded ≡ padded_key key pad
 unfolding padded_key
 padded_is key block padded pad is under = under ∙ ap (λ (b : List ℕ). xor_lists b (replicate 64 pad)) is
 
--- a string that has the exclusive or at each place
+-- A list that has the XOR of two bytes at each place is the XOR of the two lists.
 pub xor_lists-from_places : (sum xs ys : List ℕ) → length sum ≡ length xs → length xs ≡ length ys
     → ((k : ℕ) → k < length xs → get_or sum k 0 ≡ bit_xor (get_or xs k 0) (get_or ys k 0)) → sum ≡ xor_lists xs ys
 unfolding xor_lists

@@ -1,4 +1,6 @@
--- Integerify modulo N is decided by one word, which is the same one by rows and by diagonals.
+-- Integerify (X) mod N, for `row_number`, which reads a single word. N is 2 ^ k with k at most 32, and the last block's
+-- number is its first word plus a multiple of 2 ^ 32, so modulo N only that word counts. Diagonal order keeps the first
+-- word of a block in its place.
 use Rattle.std.proofs.Common.{◌≡◌, ℕ, suc, ◌+◌, ◌-◌, ◌*◌, ◌^◌, ◌%◌, ◌<◌, ◌≤◌, List, length, get_or, take, drop, sym, ap, ◌∙◌, arith, ◌/◌}
 use Rattle.std.proofs.lemmas.List.{get_or-drop, get_or-take}
 use Rattle.std.proofs.lemmas.Nat.{pow-add}
@@ -10,7 +12,7 @@ use Rattle.prims_core.proofs.BlockFacts.{length-in_rows, block_at-in_rows}
 use Rattle.prims_core.proofs.WordFacts.{number-from_word}
 use Rattle.kdf_core.specs.Scrypt.{integerify}
 
--- the last block's number modulo a power of two is that of its first word
+-- Integerify modulo 2 ^ k is the first word of the last block modulo 2 ^ k.
 pub integerify-mod : (words : List ℕ) (k : ℕ) → 16 ≤ length words → k ≤ 32
     → integerify words % 2 ^ k ≡ get_or words (length words - 16) 0 % 2 ^ k
 unfolding integerify
@@ -18,12 +20,14 @@ integerify-mod words k some most =
     let at = length words - 16 in
     let inside : at < length words = omega arith in
     let word = get_or words at 0 in
+    -- The number is the first word of the last block modulo 2 ^ 32, and a multiple of 2 ^ 32.
     let split = number-from_word 60 word (drop (suc at) words) in
     let above : ℕ = split.0 in
     let bits : 32 ≡ k + (32 - k) = omega arith in
     let power : 2 ^ 32 ≡ 2 ^ k * 2 ^ (32 - k) = ap (λ e. 2 ^ e) bits ∙ pow-add 2 k (32 - k) in
     let multiple : (n : ℕ) → 2 ^ 32 * n ≡ 2 ^ k * (2 ^ (32 - k) * n) =
     λ n. ap (λ q. q * n) power ∙ mul_assoc (2 ^ k) (2 ^ (32 - k)) n in
+    -- A multiple of 2 ^ 32 changes nothing modulo 2 ^ k.
     let drops : (n m : ℕ) → (n + 2 ^ 32 * m) % 2 ^ k ≡ n % 2 ^ k =
     λ n m. ap (λ q. (n + q) % 2 ^ k) (multiple m) ∙ add-mul-mod_self_left n (2 ^ k) (2 ^ (32 - k) * m) in
     let word_is : word ≡ word % 2 ^ 32 + 2 ^ 32 * (word / 2 ^ 32) = omega arith in
@@ -32,7 +36,7 @@ integerify-mod words k some most =
     ∙ (drops (word % 2 ^ 32) above
     ∙ (sym (drops (word % 2 ^ 32) (word / 2 ^ 32)) ∙ ap (λ n. n % 2 ^ k) (sym word_is))))
 
--- the first word of the last block is the same one by its rows and by its diagonals
+-- The first word of the last block is the same in row order and in diagonal order.
 pub first_word-in_rows : (words : List ℕ) (r : ℕ) → 1 ≤ r → length words ≡ 32 * r
     → get_or (in_rows words) (length (in_rows words) - 16) 0 ≡ get_or words (length words - 16) 0
 unfolding block_in_rows
@@ -41,6 +45,7 @@ first_word-in_rows words r some whole =
     let long : length (in_rows words) ≡ length words = omega (arith, length-in_rows words, whole) in
     let place : length words - 16 ≡ 16 * last = omega (arith, whole) in
     let none : 16 * last ≡ 16 * last + 0 = omega arith in
+    -- The word at the start of a block is the first word of that block.
     let first : (xs : List ℕ) → get_or xs (16 * last) 0 ≡ get_or (take 16 (drop (16 * last) xs)) 0 0 =
     λ xs. ap (λ (k : ℕ). get_or xs k 0) none ∙ sym (get_or-take 16 (drop (16 * last) xs) 0 0 (omega arith) ∙ get_or-drop (16 * last) xs 0 0) in
     rw (long, place)

@@ -1,4 +1,7 @@
--- How many messages HMAC, PBKDF2 and scrypt digest, and how many bytes these have in all.
+-- How many messages HMAC, PBKDF2 and scrypt digest, and how many bytes these have in all: the clause `specified` of
+-- `scrypt` and `scrypt_lent`, which ties the closed form of the work to the messages of the standard. It adds up the
+-- key, the tags of a block, the blocks of a derivation, and both derivations. The lengths that this needs are those of
+-- digests, padded keys and derived bytes.
 use Rattle.std.proofs.Common.{◌≡◌, ℕ, zero, suc, true, false, ◌+◌, ◌-◌, ◌*◌, ◌≤◌, List, [], ◌∷◌, ◌++◌, length, replicate, nat_lt, if◌then◌else◌, inl, inr, arith, refl, ap, ◌∙◌}
 use Rattle.std.specs.Int.{div_ceil}
 use Rattle.std.specs.List.{flat_map, range_with_len}
@@ -24,14 +27,14 @@ use Rattle.kdf_core.proofs.MixedLengths.{length-flat_map_same, length-mixed_part
 use Rattle.kdf_core.proofs.Pbkdf2Lemmas.{block-one}
 use Rattle.kdf_core.proofs.ScryptResult.{digests-are, bytes-are}
 
--- the messages of one list, and then those of another
+-- The messages of one list, and then those of another: numbers and bytes are added.
 both-in_all : (xs ys : List (List ℕ)) (d b e c : ℕ) → HaveCountAndSum xs d b → HaveCountAndSum ys e c → HaveCountAndSum (xs ++ ys) (d + e) (b + c)
 both-in_all xs ys d b e c front rest = record {
   count = length-append xs ys ∙ omega (arith, front.count, rest.count);
   sum = sum_by-append length xs ys ∙ omega (arith, front.sum, rest.sum);
 }
 
--- the same number of messages, and of bytes, at each of some numbers
+-- If each of `count` numbers has the same number of messages and of bytes, all of them have `count` times as many.
 each-in_all : (messages : ℕ → List (List ℕ)) (d b from count : ℕ) → ((k : ℕ) → from ≤ k → HaveCountAndSum (messages k) d b)
     → HaveCountAndSum (flat_map messages (range_with_len from count)) (count * d) (count * b)
 each-in_all messages d b from zero each = record { count = omega arith; sum = omega arith }
@@ -41,18 +44,18 @@ each-in_all messages d b from (suc count) each =
     (each from (omega arith)) rest in
     record { count = all.count ∙ omega arith; sum = all.sum ∙ omega arith }
 
--- a digest has 32 bytes
+-- A digest has 32 bytes.
 length-sha256 : (message : List ℕ) → length (sha256 message) ≡ 32
 length-sha256 message = sha256_laws.length_digest-law message
 
--- what is kept of a key is within a block
+-- What is kept of a key, itself or its digest, has at most 64 bytes.
 length-kept : (key : List ℕ) → length (if nat_lt 64 (length key) then sha256 key else key) ≤ 64
 length-kept key = elim (cases_lt 64 (length key)) [
   | inl long ↦ omega (arith, ap length (cond_below 64 (length key) (sha256 key) key long), length-sha256 key)
   | inr short ↦ omega (arith, ap length (cond_above 64 (length key) (sha256 key) key key short refl))
 ]
 
--- so a key under a pad is a block
+-- So a padded key has exactly 64.
 length-padded_key : (key : List ℕ) (pad : ℕ) → length (padded_key key pad) ≡ 64
 unfolding padded_key key_block xor_lists
 length-padded_key key pad =
@@ -61,7 +64,7 @@ length-padded_key key pad =
     length-append kept (replicate (64 - length kept) 0) ∙ omega (arith, length-kept key, length-replicate {A = ℕ} (64 - length kept) 0) in
     length-zip2 _ (kept ++ replicate (64 - length kept) 0) (replicate 64 pad) whole ∙ whole
 
--- a key's message, if it has one
+-- A key has one message if it is longer than a block, and otherwise none.
 key-in_all : (key : List ℕ) → HaveCountAndSum (key_messages key) (key_digests (length key)) (key_bytes (length key))
 key-in_all key =
     elim (nat_lt 64 (length key))
@@ -70,7 +73,7 @@ key-in_all key =
       | false ↦ record { count = refl; sum = omega arith }
     ]
 
--- a tag's two messages
+-- A tag has two messages.
 tag-in_all : (key text : List ℕ) → HaveCountAndSum (tag_messages key text) 2 (tag_bytes (length text))
 tag-in_all key text =
     let inner = padded_key key 0x36 ++ text in
@@ -86,18 +89,17 @@ tag-in_all key text =
       );
     }
 
--- the first tag of a block is of the salt and the block's number
+-- The text of a block's first tag is the salt and the block's number, and that of each later one is a tag.
 length-chain_none : (password salt : List ℕ) (i : ℕ) → length (chain password salt i 0) ≡ length salt + 4
 unfolding chain
 length-chain_none password salt i = length-append salt (big_bytes 4 i)
 
--- and each further one is of a tag
 length-chain : (password salt : List ℕ) (i j : ℕ) → 1 ≤ j → length (chain password salt i j) ≡ 32
 unfolding chain hmac_sha256
 length-chain password salt i zero some = absurd (omega arith)
 length-chain password salt i (suc j) some = length-sha256 _
 
--- the tags of a block: the first, and the others
+-- A block's messages are those of its first tag, and those of the others, which have the same length.
 block-in_all : (password salt : List ℕ) (rounds i : ℕ) → 1 ≤ rounds
     → HaveCountAndSum (block_messages password salt rounds i) (2 * rounds) (block_bytes (length salt) rounds)
 unfolding block_messages
@@ -105,6 +107,7 @@ block-in_all password salt zero i some = absurd (omega arith)
 block-in_all password salt (suc more) i some =
     let u = chain password salt i in
     let messages = λ (j : ℕ). tag_messages password (u j) in
+    -- Each tag but the first is of a text of 32 bytes, the tag before it.
     let tags : (j : ℕ) → 1 ≤ j → HaveCountAndSum (messages j) 2 (tag_bytes 32) =
     λ j above. record {
       count = (tag-in_all password (u j)).count;
@@ -118,7 +121,7 @@ block-in_all password salt (suc more) i some =
       sum = all.sum ∙ omega (arith, length-chain_none password salt i);
     }
 
--- as many for each block
+-- Each block of a derivation has the same number of messages and of bytes.
 pbkdf2-in_all : (password salt : List ℕ) (rounds count : ℕ) → 1 ≤ rounds
     → HaveCountAndSum (pbkdf2_messages password salt rounds count) (pbkdf2_digests rounds count) (pbkdf2_bytes (length salt) rounds count)
 unfolding pbkdf2_messages
@@ -128,19 +131,21 @@ pbkdf2-in_all password salt rounds count some =
     (λ i above. block-in_all password salt rounds i some) in
     record { count = all.count ∙ omega arith; sum = all.sum }
 
--- derived bytes are as many as are wanted
+-- PBKDF2 derives as many bytes as are asked for.
 length-pbkdf2_sha256 : (password salt : List ℕ) (count : ℕ) → length (pbkdf2_sha256 password salt 1 count) ≡ count
 unfolding pbkdf2_sha256
 length-pbkdf2_sha256 password salt count =
     let blocks = div_ceil count 32 in
     let derived = flat_map (block password salt 1) (range_with_len 1 blocks) in
+    -- T_1 to T_q have 32 bytes each.
     let whole : length derived ≡ blocks * 32 =
     length-flat_map_same (block password salt 1) 32 (range_with_len 1 blocks)
     (λ k d inside. ap length (block-one password salt _) ∙ length-chain password salt _ 1 (omega arith))
     ∙ ap (λ n. n * 32) (length-range_with_len 1 blocks) in
     length-take-le count derived (omega (arith, whole, (div_ceil_times count 32 (omega arith)).0))
 
--- the password's message, and those of the two derivations, the second of which has all parts for its salt
+-- scrypt's messages: the password's, those of the derivation of the parts, and those of the result, whose salt is all
+-- parts.
 pub scrypt-in_all : (password salt : List ℕ) (params : ScryptParams) (count : ℕ)
     → HaveCountAndSum (scrypt_messages password salt params count) (scrypt_work params (length password) (length salt) count).digests
     (scrypt_work params (length password) (length salt) count).bytes
@@ -149,12 +154,14 @@ scrypt-in_all password salt params count =
     let first = parts_bytes params in
     let derived = pbkdf2_sha256 password salt 1 first in
     let last = mixed_parts (row_count params) (part_bytes params) derived in
+    -- Both PBKDF2 and ROMix give as many bytes as all parts have.
     let derived_length : length derived ≡ first = length-pbkdf2_sha256 password salt first in
     let last_length : length last ≡ first =
     length-mixed_parts (row_count params) (part_bytes params) params.r params.p derived (omega arith) derived_length ∙ derived_length in
     let key = key-in_all password in
     let firsts = pbkdf2-in_all password salt 1 first (omega arith) in
     let lasts = pbkdf2-in_all password last 1 count (omega arith) in
+    -- The three lists of messages, added up.
     let all = both-in_all (key_messages password ++ pbkdf2_messages password salt 1 first) (pbkdf2_messages password last 1 count) _ _ _ _
     (both-in_all (key_messages password) (pbkdf2_messages password salt 1 first) _ _ _ _ key firsts) lasts in
     record {

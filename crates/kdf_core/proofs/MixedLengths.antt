@@ -1,4 +1,7 @@
--- Block mixing, ROMix and the mixing of all parts keep the length of what they are given.
+-- Block mixing, ROMix and the mixing of all parts keep the length of their input, from Salsa20/8 upwards.
+-- `MessageCounts` needs it: the mixed parts are the salt of the last derivation, so their length decides how many bytes
+-- it digests. Each step keeps the shape of its input: a matrix of four rows of four words, blocks of sixteen words,
+-- parts of 32r words.
 use Rattle.std.proofs.Common.{◌≡◌, ℕ, zero, suc, ◌+◌, ◌-◌, ◌*◌, ◌/◌, ◌%◌, ◌<◌, ◌≤◌, List, [], ◌∷◌, ◌++◌, length, get_or, take, drop, map, refl, sym, ap, ◌∙◌, arith}
 use Rattle.std.specs.Prelude.{All, slice_index}
 use Rattle.std.specs.Fn.{iterate}
@@ -15,11 +18,11 @@ use Rattle.prims_core.specs.Words.{little_bytes, xor_lists, chunks_exact, words_
 use Rattle.kdf_core.specs.Scrypt.{integerify, mixed_back, romix, mixed_part}
 use Rattle.kdf_core.specs.ScryptMessages.{mixed_parts}
 
--- each of the pieces has so many items
+-- HaveSize size pieces: each of the pieces has this many items.
 abbrev HaveSize : ℕ → List (List ℕ) → Type 0
 HaveSize size = All (λ piece. length piece ≡ size)
 
--- lists of one length, joined
+-- Lists of one length, joined.
 pub length-flat_map_same : {X : Type 0} (f : X → List ℕ) (size : ℕ) (xs : List X) → All (λ x. length (f x) ≡ size) xs
     → length (flat_map f xs) ≡ length xs * size
 length-flat_map_same f size [] each = omega arith
@@ -32,12 +35,12 @@ length-flat_map_same {X = X} f size (x ∷ xs) each =
 length-concat : (size : ℕ) (pieces : List (List ℕ)) → HaveSize size pieces → length (concat pieces) ≡ length pieces * size
 length-concat size pieces each = ap length (concat_is pieces) ∙ length-flat_map_same (λ (piece : List ℕ). piece) size pieces each
 
--- what each step keeps is kept by any number of them
+-- What one step keeps, any number of steps keeps.
 iterate-keeps : {A : Type 0} (P : A → Type 0) (step : A → A) → ((x : A) → P x → P (step x)) → (n : ℕ) (x : A) → P x → P (iterate step n x)
 iterate-keeps P step keeps zero x holds = holds
 iterate-keeps P step keeps (suc n) x holds = iterate-keeps P step keeps n (step x) (keeps x holds)
 
--- how many pieces a list is cut into, and their size
+-- A list is cut into as many pieces as fit into it, each of the given size.
 length-chunks_exact : (items : List ℕ) (size : ℕ) → length (chunks_exact items size) ≡ length items / size
 unfolding chunks_exact
 length-chunks_exact items size = length-map-range_with_len (λ i. take size (drop (size * i) items)) 0 (length items / size)
@@ -54,7 +57,7 @@ size-chunks_exact items size =
     let room : size * (i + 1) ≤ size * count = mul-le-mul_left size next in
     length-take-le size (drop (size * i) items) (omega (arith, room, mul-div-le (length items) size, length-drop (size * i) items)))
 
--- The four rows of four words that Salsa20/8 works on
+-- The matrix that Salsa20/8 works on: four rows of four words. Each round keeps this shape.
 
 record IsMatrix (rows : List (List ℕ)) : Type 0 where
   four : length rows ≡ 4
@@ -104,10 +107,11 @@ matrix-double_round rows is =
     matrix-row_round (column_round rows)
     (matrix-transpose (row_round (transpose rows)) (matrix-row_round (transpose rows) (matrix-transpose rows is)))
 
--- sixteen words under Salsa20/8
+-- So Salsa20/8 of sixteen words has sixteen words.
 length-salsa20_8 : (words : List ℕ) → length words ≡ 16 → length (salsa20_8 words) ≡ 16
 unfolding salsa20_8
 length-salsa20_8 words sixteen =
+    -- Sixteen words, cut into rows, are a matrix, and the rounds keep it one.
     let cut : IsMatrix (chunks_exact words 4) =
     record { four = length-chunks_exact words 4 ∙ omega arith; each = size-chunks_exact words 4 } in
     let rounds = iterate double_round 4 (chunks_exact words 4) in
@@ -115,7 +119,7 @@ length-salsa20_8 words sixteen =
     let joined : length (concat rounds) ≡ 16 = length-concat 4 rounds mixed.each ∙ ap (λ n. n * 4) mixed.four in
     length-zip2 sum_of_words words (concat rounds) (sixteen ∙ sym joined) ∙ sixteen
 
--- The blocks of sixteen words that are mixed
+-- The blocks that are mixed: each X has sixteen words, so the results have as many words as the blocks.
 
 size-mixed_block : (x block : List ℕ) → length x ≡ 16 → length block ≡ 16 → length (salsa20_8 (xor_lists x block)) ≡ 16
 unfolding xor_lists
@@ -141,10 +145,12 @@ length-block_mix words r is =
     let evens = map (λ i. y (2 * i)) (range_with_len 0 n) in
     let odds = map (λ i. y (2 * i + 1)) (range_with_len 0 n) in
     let size = λ (piece : List ℕ). length piece ≡ 16 in
+    -- Each number of the range is below n, so each of the results has sixteen words.
     let at : (k d : ℕ) → k < length (range_with_len 0 n) → get_or (range_with_len 0 n) k d < n =
     λ k d inside. omega (arith, length-range_with_len 0 n, get_or-range_with_len 0 n k d (omega (arith, length-range_with_len 0 n))) in
     let each : (i : ℕ) → i < 2 * n → length (y i) ≡ 16 =
     λ i inside. size-x_after n words (i + 1) (omega arith) (omega arith) (omega arith) in
+    -- So the results with even numbers and those with odd numbers are 2n pieces of sixteen words.
     let pieces : HaveSize 16 (evens ++ odds) = All-append size evens odds
     (All-map size (λ i. y (2 * i)) (range_with_len 0 n)
     (λ k d inside. let below = at k d inside in each (2 * get_or (range_with_len 0 n) k d) (omega arith)))
@@ -159,13 +165,14 @@ length-block_mix words r is =
       length-map-range_with_len (λ i. y (2 * i + 1)) 0 n,
     )
 
--- The parts under ROMix
+-- The parts under ROMix: each step of its loops keeps the length of a part.
 
 length-mixed_back : (n : ℕ) (start : List ℕ) (r : ℕ) → length start ≡ 32 * r
     → (words : List ℕ) → length words ≡ 32 * r → length (mixed_back n start words) ≡ 32 * r
 unfolding mixed_back xor_lists
 length-mixed_back n start r first words is =
     let row = iterate block_mix (integerify words % n) start in
+    -- Mixing keeps the length, so the row V[j] is as long as X.
     let row_is : length row ≡ 32 * r =
     iterate-keeps (λ (x : List ℕ). length x ≡ 32 * r) block_mix (λ x. length-block_mix x r) (integerify words % n) start first in
     length-block_mix (xor_lists words row) r (length-zip2 _ words row (is ∙ sym row_is) ∙ is)
@@ -185,7 +192,7 @@ length-mixed_part n bytes r is =
     length-flat_map_same (little_bytes 4) 4 (romix n (words_of bytes)) (λ k d inside. refl)
     ∙ omega (arith, length-romix n (words_of bytes) r words)
 
--- all parts, each of 2r blocks of 64 bytes
+-- All parts, each of 2r blocks of 64 bytes.
 pub length-mixed_parts : (n size r count : ℕ) (bytes : List ℕ) → size ≡ 128 * r → length bytes ≡ size * count
     → length (mixed_parts n size bytes) ≡ length bytes
 unfolding mixed_parts

@@ -1,4 +1,6 @@
--- The parts that are replaced by their ROMix one by one: those that are done, those to come, and all of them.
+-- The loop of `mix_parts`, which replaces the parts by their ROMix one by one: the parts that are done, in front, and
+-- those to come, behind them. Its invariant says both, as `take` and `drop` at the end of the parts done.
+-- `parts_done-more` and `parts_to_come-more` are one turn, and `parts-all` is the clause at the end.
 use Rattle.std.proofs.Common.{◌≡◌, ℕ, ◌+◌, ◌*◌, ◌<◌, ◌≤◌, List, [], ◌∷◌, ◌++◌, length, take, drop, sym, ap, ◌∙◌, arith, ◌/◌}
 use Rattle.std.specs.List.{flat_map, range_with_len}
 use Rattle.std.proofs.lemmas.Grind.{flat_map-append}
@@ -13,21 +15,22 @@ use Rattle.kdf_core.proofs.Pbkdf2Lemmas.{range-more}
 use Rattle.kdf_core.specs.Scrypt.{mixed_part}
 use Rattle.kdf_core.specs.ScryptMessages.{mixed_parts}
 
--- no mixing at first
+-- Before the first turn no mixing is counted.
 pub mixes-none : (m : Work) (n : ℕ) → m ≡ record m { mixes = m.mixes + n * 0 }
 mixes-none m n = let none : m.mixes ≡ m.mixes + n * 0 = omega arith in ap (λ k. record m { mixes = k }) none
 
--- the first parts, each of `size` bytes, under ROMix
+-- first_parts n size bytes count: the first count parts, of size bytes each, with each replaced by its ROMix with n
+-- rows.
 unfoldable pub first_parts : ℕ → ℕ → List ℕ → ℕ → List ℕ
 first_parts n size bytes count =
     flat_map (λ i. mixed_part n (take size (drop (size * i) bytes))) (range_with_len 0 count)
 
--- no part at first
+-- Before the first turn no part is done.
 pub parts_done-none : (n size : ℕ) (bytes : List ℕ) → take (size * 0) bytes ≡ first_parts n size bytes 0
 unfolding first_parts
 parts_done-none n size bytes = let none : size * 0 ≡ 0 = omega arith in ap (λ m. take m bytes) none
 
--- a part more
+-- One more part is one more ROMix behind the others.
 first_parts-more : (n size : ℕ) (bytes : List ℕ) (i : ℕ)
     → first_parts n size bytes (i + 1) ≡ first_parts n size bytes i ++ mixed_part n (take size (drop (size * i) bytes))
 unfolding first_parts
@@ -39,7 +42,7 @@ first_parts-more n size bytes i =
     ∙ (ap (λ k. flat_map each (range_with_len 0 i) ++ (each k ++ [])) here
     ∙ ap (λ (b : List ℕ). flat_map each (range_with_len 0 i) ++ b) (append-nil (each i))))
 
--- the parts in front, where one more is written behind them
+-- After part i is written over by its ROMix, i + 1 parts are done.
 pub parts_done-more : (n size i k : ℕ) (start old part : List ℕ) → size * i + size ≤ length old → k ≡ size
     → take (size * i) old ≡ first_parts n size start i → drop (size * i) old ≡ drop (size * i) start
     → part ≡ mixed_part n (take k (drop (size * i) old)) → length part ≡ size
@@ -49,6 +52,7 @@ parts_done-more n size i k start old part inside k_is done to_come is length_is 
     let place : size * (i + 1) ≡ at + size = omega arith in
     let end : at + size ≡ at + length part = omega arith in
     let within : at ≤ length old = omega arith in
+    -- Part i is still the one from the start, so its ROMix is the one wanted.
     let read : take k (drop at old) ≡ take size (drop at start) = ap (λ m. take m (drop at old)) k_is ∙ ap (take size) to_come in
     ap (λ m. take m (put_mid at k old part)) place
     ∙ (take-put_mid at k old part (at + size) end within
@@ -56,7 +60,7 @@ parts_done-more n size i k start old part inside k_is done to_come is length_is 
     ∙ (ap (λ (b : List ℕ). first_parts n size start i ++ b) (is ∙ ap (mixed_part n) read)
     ∙ sym (first_parts-more n size start i))))
 
--- and the parts behind them
+-- The parts behind it are still as at the start.
 pub parts_to_come-more : (size i k : ℕ) (start old part : List ℕ) → size * i + size ≤ length old → k ≡ size
     → drop (size * i) old ≡ drop (size * i) start → length part ≡ size
     → drop (size * (i + 1)) (put_mid (size * i) k old part) ≡ drop (size * (i + 1)) start
@@ -72,7 +76,7 @@ parts_to_come-more size i k start old part inside k_is to_come length_is =
     ∙ (ap (drop size) to_come
     ∙ (drop-drop size at start ∙ ap (λ m. drop m start) (sym place)))))
 
--- all parts
+-- With all parts done, the bytes are those of `mixed_parts`.
 pub parts-all : (n size count : ℕ) (start old : List ℕ) → 0 < size → length start ≡ size * count → length old ≡ length start
     → take (size * count) old ≡ first_parts n size start count → old ≡ mixed_parts n size start
 unfolding mixed_parts chunks_exact first_parts

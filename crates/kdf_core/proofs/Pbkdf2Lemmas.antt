@@ -1,4 +1,6 @@
--- A block of PBKDF2, round by round, and the derived bytes, block by block.
+-- PBKDF2 step by step, for `derived_block` and `pbkdf2`: the tags U_j and the XOR of them round by round, and the
+-- derived bytes block by block. `block-more` takes the last round out of T_i, and `front_more` the last block out of
+-- the derived bytes, of which the last may be short. `front_all` is the clause at the end of `pbkdf2`.
 use Rattle.std.proofs.Common.{◌≡◌, ℕ, zero, suc, ◌+◌, ◌-◌, ◌*◌, ◌<◌, ◌≤◌, List, [], ◌∷◌, ◌++◌, length, map, take, refl, sym, ap, ◌∙◌, arith}
 use Rattle.std.specs.Prelude.{fold}
 use Rattle.std.specs.List.{flat_map, range_with_len}
@@ -12,12 +14,12 @@ use Rattle.kdf_core.specs.Hmac.{hmac_sha256}
 use Rattle.kdf_core.specs.Pbkdf2.{chain, block, pbkdf2_sha256}
 use Rattle.std.specs.Int.{div_ceil}
 
--- U_1 is of the salt and the block's number
+-- U_1 is the tag of the salt and the block's number.
 pub chain-one : (password salt : List ℕ) (i : ℕ) → chain password salt i 1 ≡ hmac_sha256 password (salt ++ big_bytes 4 i)
 unfolding chain
 chain-one password salt i = refl
 
--- each further one is of the one before, to which no more bytes are joined
+-- Each later U_j is the tag of the one before. The code passes an empty second piece.
 pub chain-more : (password salt : List ℕ) (i j : ℕ)
     → chain password salt i (j + 1) ≡ hmac_sha256 password (chain password salt i j ++ [])
 unfolding chain
@@ -25,6 +27,7 @@ chain-more password salt i j =
     let next : j + 1 ≡ suc j = omega arith in
     rw (next, append-nil) refl
 
+-- T_i of one round is U_1, and each further round XORs its tag in.
 pub block-one : (password salt : List ℕ) (i : ℕ) → block password salt 1 i ≡ chain password salt i 1
 unfolding block
 block-one password salt i = refl
@@ -41,7 +44,7 @@ block-more password salt i rounds some =
     ap (λ n. fold xor_lists (u 1) (map u (range_with_len 2 n))) count
     ∙ (ap (fold xor_lists (u 1)) more ∙ fold-append xor_lists (u 1) (map u (range_with_len 2 (rounds - 1))) (u (rounds + 1) ∷ []))
 
--- a number more
+-- A range that is one longer has one more number at its end.
 pub range-more : (a n : ℕ) → range_with_len a (n + 1) ≡ range_with_len a n ++ (a + n) ∷ []
 range-more a zero = ap (λ (k : ℕ). k ∷ []) (omega arith)
 range-more a (suc n) =
@@ -49,7 +52,8 @@ range-more a (suc n) =
     let last : a + 1 + n ≡ a + suc n = omega arith in
     ap (range_with_len a) next ∙ ap (λ (ks : List ℕ). a ∷ ks) (range-more (a + 1) n ∙ ap (λ (k : ℕ). range_with_len (a + 1) n ++ k ∷ []) last)
 
--- the blocks so far, of which there is room for each, and one more as far as there is room
+-- One turn of the loop of `pbkdf2`: after the next block is written behind the others, or as much of it as fits, `out`
+-- begins with one block more.
 pub front_more : (block : ℕ → List ℕ) (old new part : List ℕ) (room i : ℕ) → 32 * i < room → length old ≡ room
     → take (32 * i) old ≡ take room (flat_map block (range_with_len 1 i)) → part ≡ block (i + 1)
     → take (32 * i + 32) new ≡ take (32 * i) old ++ take (room - 32 * i) part
@@ -57,6 +61,7 @@ pub front_more : (block : ℕ → List ℕ) (old new part : List ℕ) (room i : 
 front_more block old new part room i inside length_is front is written =
     let blocks = flat_map block (range_with_len 1 i) in
     let rest = room - 32 * i in
+    -- There was room for each of the blocks before, so none of them is cut.
     let whole : length blocks ≡ 32 * i =
     omega (arith, ap length front, length-take (32 * i) old, length-take room blocks) in
     let front_is : take (32 * i) old ≡ blocks = front ∙ take_all room blocks (omega arith) in
@@ -66,12 +71,13 @@ front_more block old new part room i inside length_is front is written =
     let more : flat_map block (range_with_len 1 (i + 1)) ≡ blocks ++ block (i + 1) =
     ap (flat_map block) (range-more 1 i) ∙ (flat_map-append block (range_with_len 1 i) ((1 + i) ∷ [])
     ∙ (ap (λ k. blocks ++ (block k ++ [])) next ∙ ap (λ (b : List ℕ). blocks ++ b) (append-nil (block (i + 1))))) in
+    -- The wanted bytes are the blocks before, and as much of the next one as fits.
     let wanted : take room (flat_map block (range_with_len 1 (i + 1))) ≡ blocks ++ take rest (block (i + 1)) =
     ap (take room) more ∙ (ap (λ k. take k (blocks ++ block (i + 1))) (sym end) ∙ take-append-add blocks (block (i + 1)) rest) in
     ap (λ k. take k new) place ∙ (written ∙ (ap (λ (b : List ℕ). b ++ take rest part) front_is
     ∙ (ap (λ (b : List ℕ). blocks ++ take rest b) is ∙ sym wanted)))
 
--- where all blocks are written, there is no room left
+-- With all blocks written, `out` is the derived bytes.
 pub front_all : (password salt out : List ℕ) (rounds room i : ℕ) → length out ≡ room → i ≡ div_ceil room 32
     → take (32 * i) out ≡ take room (flat_map (block password salt rounds) (range_with_len 1 i))
     → out ≡ pbkdf2_sha256 password salt rounds room

@@ -1,4 +1,6 @@
--- What the ceiling on N * r * p bounds, and the number of rows as a power of two.
+-- Bounds on scrypt's numbers that follow from the ceiling on N * r * p, so that nothing overflows and all memory fits:
+-- the clauses `bounded` of `params`, the preconditions in `romix`, `scrypt` and `lent`, and the overflow checks in
+-- `scrypt_work`. Each factor of the product is at least 1, so a product of some of them is within the ceiling as well.
 use Rattle.std.proofs.Common.{◌≡◌, ℕ, ◌+◌, ◌-◌, ◌*◌, ◌/◌, ◌^◌, ◌<◌, ◌≤◌, ap, ◌∙◌, true, false, nat_lt, if◌then◌else◌, arith}
 use Rattle.std.proofs.Math.Nat.{le-mul_of_pos_right, mul-le-mul_left, mul-le-mul_right, lt_of_not-le}
 use Rattle.std.proofs.Math.Pow.{pow_mono}
@@ -11,6 +13,7 @@ use Rattle.kdf_core.specs.Scrypt.{parts_bytes}
 use Rattle.kdf_core.specs.ScryptWork.{table_bytes}
 use Rattle.std.specs.Int.{div_ceil}
 
+-- Accepted parameters are bounded.
 pub bounded : (params : ScryptParams) → IsAccepted params → IsBounded params
 bounded params accepted =
     let n = row_count params in
@@ -24,6 +27,7 @@ bounded params accepted =
     let mixes : n * p ≤ n * p * r = le-mul_of_pos_right (n * p) some_r in
     let parts : 2 * (r * p) ≤ n * (r * p) = mul-le-mul_right (r * p) two in
     let blocks : r ≤ r * p = le-mul_of_pos_right r some_p in
+    -- log2 N of 23 or more needs r of at least 2, since log2 N is below 16r, and then N * r is above the ceiling.
     let low : params.log_n < 23 = lt_of_not-le (λ high.
     let power : 2 ^ 23 ≤ n = pow_mono high in
     let two_r : 2 ≤ r = omega (arith, accepted.0.1) in
@@ -39,7 +43,7 @@ bounded params accepted =
       mixes = omega arith;
     }
 
--- N as a power
+-- N is a power of two, from 2 to 2 ^ 32. So it is even, and not 0.
 pub rows_power : (params : ScryptParams) (n : ℕ) → IsAccepted params → n ≡ row_count params → IsPower n params.log_n
 rows_power params n accepted is =
     let log = (bounded params accepted).log in
@@ -55,14 +59,14 @@ even rows k is =
 pub some_row : (rows k : ℕ) → IsPower rows k → 0 < rows
 some_row rows k is = omega (arith, is.power, pow_pos k)
 
--- the bytes of all parts, by the numbers as they are read
+-- The bytes of all parts, as the code computes them, are those of the definition.
 pub parts-product : (params : ScryptParams) (r p : ℕ) → r ≡ params.r → p ≡ params.p → 128 * r * p ≡ parts_bytes params
 parts-product params r p r_is p_is = ap (λ n. 128 * n * p) r_is ∙ ap (λ n. 128 * params.r * n) p_is
 
 pub parts-fit : (params : ScryptParams) → IsAccepted params → parts_bytes params ≤ 2 ^ 29
 parts-fit params accepted = omega (arith, (bounded params accepted).parts)
 
--- and the blocks of a digest in them
+-- The parts are 4rp blocks of 32 bytes, as PBKDF2 derives them.
 pub parts-blocks : (params : ScryptParams) → div_ceil (parts_bytes params) 32 ≡ 4 * (params.r * params.p)
 parts-blocks params =
     let product : parts_bytes params ≡ 32 * (4 * (params.r * params.p)) = omega arith in
@@ -72,7 +76,7 @@ pub key_bytes-le : (length : ℕ) → key_bytes length ≤ length
 key_bytes-le length =
     elim (nat_lt 64 length) as (λ b. (if b then 1 else 0) * length ≤ length) [ true ↦ omega arith | false ↦ omega arith ]
 
--- the bytes that are digested stay far below 2 ^ 128
+-- The bytes that scrypt digests stay far below 2 ^ 128.
 pub bytes-fit : (before key blocks each more last : ℕ) → before ≤ 2 ^ 120 → key < 2 ^ 64 → blocks ≤ 2 ^ 24 → each ≤ 2 ^ 65
     → more ≤ 2 ^ 33 → last ≤ 2 ^ 31 → before + key + blocks * each + more * last < 2 ^ 128
 bytes-fit before key blocks each more last a b c d e f =
@@ -80,11 +84,12 @@ bytes-fit before key blocks each more last a b c d e f =
     let answer : more * last ≤ 2 ^ 33 * last = mul-le-mul_right last e in
     omega arith
 
+-- The bytes of the table, as the code computes them, are those of the definition.
 pub table-product : (params : ScryptParams) (n r : ℕ) → n ≡ row_count params → r ≡ params.r → 4 * (n * (32 * r)) ≡ table_bytes params
 table-product params n r n_is r_is =
     ap (λ k. 4 * (k * (32 * r))) n_is ∙ (ap (λ k. 4 * (row_count params * (32 * k))) r_is ∙ omega arith)
 
--- so there is room for all bytes
+-- So a meter with room can count all bytes of scrypt without overflow.
 pub all_bytes-fit : (before password_length salt_length count first last : ℕ) (params : ScryptParams) → IsAccepted params → before ≤ 2 ^ 120
     → password_length < 2 ^ 64 → salt_length < 2 ^ 64 → count ≤ 32 * (2 ^ 32 - 1) → first ≡ parts_bytes params → last ≡ parts_bytes params
     → before + key_bytes password_length + pbkdf2_bytes salt_length 1 first + pbkdf2_bytes last 1 count < 2 ^ 128
@@ -93,7 +98,7 @@ all_bytes-fit before password_length salt_length count first last params accepte
     bytes-fit before (key_bytes password_length) (div_ceil first 32) (block_bytes salt_length 1) (div_ceil count 32) (block_bytes last 1) a
     (omega (arith, key_bytes-le password_length)) (omega arith) (omega arith) (omega arith) (omega arith)
 
--- of lengths of at most 2 ^ 32 they fit 64 bits
+-- `scrypt_work`: with lengths of at most 2 ^ 32, the bytes fit into 64 bits.
 pub known_bytes-fit : (key parts tag blocks last : ℕ) → key ≤ 2 ^ 32 → parts ≤ 2 ^ 22 → tag ≤ 2 ^ 33 → blocks ≤ 2 ^ 27 → last ≤ 2 ^ 30
     → key + 4 * parts * tag + blocks * last < 2 ^ 64
 known_bytes-fit key parts tag blocks last a b c d e =

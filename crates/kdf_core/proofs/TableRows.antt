@@ -1,21 +1,22 @@
--- The rows of a table that lie in one list one after another: where one ends, and what is read of it.
+-- The rows of a table that lie one after another in a slice, as `mix_back` reads them: row i ends within the slice, and
+-- the slice from its start to its end is the row.
 use Rattle.std.proofs.Common.{◌≡◌, ℕ, ◌+◌, ◌-◌, ◌*◌, ◌<◌, ◌≤◌, List, [], length, get_or, take, drop, length-take, length-drop, sym, ap, ◌∙◌, arith}
 use Rattle.std.proofs.lemmas.Nat.{rows}
 use Rattle.prims_core.specs.Memory.{rows_of}
 use Rattle.prims_core.proofs.TableFacts.{get_or-rows_of}
 
--- a row ends within the table
+-- A row ends within the table.
 pub row_inside : (n w i size : ℕ) → i < n → size ≡ n * w → i * w + w ≤ size
 row_inside n w i size inside whole = rw whole (grind (arith, rows))
 
--- so what is read of it has its length
+-- So the slice of it has the length of a row.
 pub length-row_read : (n w i : ℕ) (table : List ℕ) → i < n → length table ≡ n * w
     → length (take (i * w + w - i * w) (drop (i * w) table)) ≡ w
 length-row_read n w i table inside whole =
     let ends : i * w + w ≤ length table = row_inside n w i (length table) inside whole in
     simp (length-take, length-drop) (omega (arith, ends))
 
--- and is the row
+-- And it is the row.
 pub row_read : (n w i : ℕ) (table : List ℕ) → i < n
     → take (i * w + w - i * w) (drop (i * w) table) ≡ get_or (rows_of n w table) i []
 row_read n w i table inside =

@@ -68,11 +68,13 @@ in_order r y out whole placed =
     joined_from_pieces 16 (evens ++ odds) (in_rows out) (omega (arith, length-in_rows out)) (λ p inside.
     elim (cases_lt p r) [
       | inl front ↦
+          -- Before place r: block p is result 2p.
           let place : place_of r (2 * p) ≡ p = omega (arith, place_cases r (2 * p)) in
           get_or_append_left evens odds [] p (omega arith)
           ∙ get_or-map-range_with_len (λ i. y (2 * i)) 0 r p p [] front (omega arith)
           ∙ sym (rw place at (placed (2 * p) (omega arith))) ∙ there p (omega arith)
       | inr back ↦
+          -- From place r on: block r + q is result 2q + 1.
           let q = p - r in
           let place : place_of r (2 * q + 1) ≡ p = omega (arith, place_cases r (2 * q + 1)) in
           get_or-append_right evens odds r p [] front_length back

@@ -99,6 +99,7 @@ rows_of-written (suc n) w (suc i) xs row inside long whole =
     let more : suc i * w ≡ w + i * w = omega (arith, suc-mul i w) in
     let first : length (take w xs) ≡ w = length-take-le w xs (omega (arith, suc-mul n w)) in
     let rest : List ℕ = drop w xs in
+    -- The first row is untouched, and the rest is the list of the other rows with row i of them written over.
     let apart : take (suc i * w) xs ++ (row ++ drop (suc i * w + w) xs)
     ≡ take w xs ++ (take (i * w) rest ++ (row ++ drop (i * w + w) rest)) =
     rw (more, take-add w (i * w) xs, append_assoc, drop-drop (i * w + w) w xs)

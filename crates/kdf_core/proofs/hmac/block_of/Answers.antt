@@ -1,3 +1,5 @@
+-- The clause `block` of `block_of`, for its two cases: a key longer than a block is replaced by its digest
+-- (`long_block`), and any other key is copied (`short_block`). Zeros fill the rest, since the block starts as zeros.
 use Rattle.std.proofs.Common.{◌≡◌, refl, ap, ◌∙◌, arith}
 use Rattle.std.proofs.lemmas.List.{append-nil}
 use Rattle.prims_core.specs.Digests.{sha256}

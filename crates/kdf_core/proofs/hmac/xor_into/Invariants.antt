@@ -1,7 +1,7 @@
+-- The loop of `xor_into`: the places below the index hold the XOR, and those from it on are as at the start.
 use Rattle.std.proofs.Common.{◌≡◌, ℕ, ◌<◌, ◌≤◌, bit_xor, get_or}
 use Rattle.kdf_core.proofs.hmac.xor_into.Given as goal
 
--- the places below the index are added, and those from it on are as they were
 abbrev pub invariant-places : goal.invariant-places
 invariant-places l = record {
   added : (k : ℕ) → k < l.i → get_or l.sum k 0 ≡ bit_xor (get_or l.fn.sum k 0) (get_or l.bytes k 0);

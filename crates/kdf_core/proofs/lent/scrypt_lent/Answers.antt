@@ -1,3 +1,5 @@
+-- The clause `specified` of `scrypt_lent`, which holds at each of its returns: the closed form of the work counts the
+-- messages of scrypt (`scrypt-in_all`).
 use Rattle.std.proofs.Common.{length}
 use Rattle.kdf_core.proofs.MessageCounts.{scrypt-in_all}
 use Rattle.kdf_core.proofs.lent.scrypt_lent.Goals as goal

@@ -1,3 +1,5 @@
+-- The clause of `is_within_ceiling`, for its two cases: up to log2 N = 23 the comparison with the quotient is exact
+-- (`within_by_quotient`), and from 24 on the product is above the ceiling (`above_by_power`).
 use Rattle.kdf_core.proofs.CeilingByQuotient.{within_by_quotient, above_by_power}
 use Rattle.kdf_core.proofs.params.is_within_ceiling.Goals as goal
 

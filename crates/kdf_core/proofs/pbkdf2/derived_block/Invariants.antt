@@ -1,3 +1,5 @@
+-- The loop of `derived_block`: the last tag is U_j for the rounds done so far, the sum is T_i of these rounds, and
+-- their work is counted.
 use Rattle.std.proofs.Common.{◌≡◌, ℕ, ◌*◌, List, length}
 use Rattle.prims_core.specs.Meter.{with_work}
 use Rattle.kdf_core.specs.HmacMessages.{IsKeyOf}
@@ -5,7 +7,6 @@ use Rattle.kdf_core.specs.Pbkdf2.{chain, block}
 use Rattle.kdf_core.specs.Pbkdf2Messages.{block_bytes}
 use Rattle.kdf_core.proofs.pbkdf2.derived_block.Given as goal
 
--- the last tag, the block of so many rounds, and their work
 abbrev pub invariant-rounds : goal.invariant-rounds
 invariant-rounds l = record {
   last : (password : List ℕ) → IsKeyOf l.key password → l.last ≡ chain password l.salt l.number l.counter;

@@ -1,3 +1,6 @@
+-- The clauses of `pbkdf2`, from its loop over the blocks: each turn writes the next block behind the others
+-- (`front_more`), and at the end `out` is the derived bytes (`front_all`). The precondition gives room to count all
+-- blocks, so there is room for one more as long as a block is missing.
 use Rattle.std.proofs.Common.{◌≡◌, ℕ, ◌+◌, ◌*◌, ◌<◌, ◌≤◌, ◌-◌, ◌++◌, length, take, ap, ◌∙◌, arith}
 use Rattle.std.specs.Int.{div_ceil}
 use Rattle.std.proofs.Math.Nat.{mul-le-mul_left, mul-le-mul_right}
@@ -8,7 +11,7 @@ use Rattle.kdf_core.proofs.AddedWork.{work_more}
 use Rattle.kdf_core.proofs.Pbkdf2Lemmas.{front_more, front_all}
 use Rattle.kdf_core.proofs.pbkdf2.pbkdf2.Goals as goal
 
--- the work of one block more is within that of all
+-- The work of one more block is within the work of all.
 pub derived_block-block-requires-clause-digests_room : goal.derived_block-block-requires-clause-digests_room
 derived_block-block-requires-clause-digests_room c =
     let so_far = ap (λ m. m.digests) c.filling.invariant.count in

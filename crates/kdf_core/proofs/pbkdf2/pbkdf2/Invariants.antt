@@ -1,3 +1,4 @@
+-- The loop of `pbkdf2`: `out` begins with the blocks so far, as far as they fit, and their work is counted.
 use Rattle.std.proofs.Common.{◌≡◌, ℕ, ◌*◌, List, length, take}
 use Rattle.std.specs.List.{flat_map, range_with_len}
 use Rattle.prims_core.specs.Meter.{with_work}
@@ -6,7 +7,6 @@ use Rattle.kdf_core.specs.Pbkdf2.{block}
 use Rattle.kdf_core.specs.Pbkdf2Messages.{block_bytes}
 use Rattle.kdf_core.proofs.pbkdf2.pbkdf2.Given as goal
 
--- the blocks so far stand in front, as far as there is room, and their work is in the meter
 abbrev pub invariant-filling : goal.invariant-filling
 invariant-filling l = record {
   front : (password : List ℕ) → IsKeyOf l.key password

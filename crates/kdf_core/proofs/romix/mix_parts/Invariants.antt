@@ -1,8 +1,9 @@
+-- The loop of `mix_parts`: the parts before part i are replaced by their ROMix, those from it on are as at the start,
+-- and the mixings are counted.
 use Rattle.std.proofs.Common.{◌≡◌, ◌+◌, ◌*◌, take, drop}
 use Rattle.kdf_core.proofs.MixedParts.{first_parts}
 use Rattle.kdf_core.proofs.romix.mix_parts.Given as goal
 
--- the parts so far are mixed, and those to come are as they were
 abbrev pub invariant-parts : goal.invariant-parts
 invariant-parts g l = record {
   done : take (l.size * l.i) l.parts ≡ first_parts l.row_count l.size l.fn.parts l.i;

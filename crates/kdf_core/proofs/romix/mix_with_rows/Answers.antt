@@ -1,3 +1,5 @@
+-- The clauses of `mix_with_rows`, from its loop: a turn is two steps of ROMix's second loop, from x to y and back
+-- (`iterate-two_more`). N is even (`even`), so half as many turns are N steps.
 use Rattle.std.proofs.Common.{◌≡◌, ℕ, ◌+◌, ◌*◌, List, length, subst, sym, ap, ◌∙◌, arith}
 use Rattle.prims_core.specs.Memory.{rows_of, HoldsMixings}
 use Rattle.std.specs.Fn.{iterate}
@@ -11,6 +13,7 @@ pub mixing-preserved : goal.mixing-preserved
 mixing-preserved c =
     let n = c.mixing.counter in
     let count = c.args.row_count in
+    -- x and y keep their length, so the rows of the table are the same at each step.
     let holds_as : (w : ℕ) (start : List ℕ) → length c.args.x.now ≡ w → HoldsMixings (rows_of count (length c.args.x.now) c.args.table.now) count start
     → HoldsMixings (rows_of count w c.args.table.now) count start =
     λ w start same holds. subst (λ (k : ℕ). HoldsMixings (rows_of count k c.args.table.now) count start) same holds in

@@ -1,3 +1,5 @@
+-- The loop of `mix_with_rows`: after so many turns x has gone through twice as many steps of ROMix's second loop, and
+-- the mixings are counted.
 use Rattle.std.proofs.Common.{◌≡◌, ℕ, ◌+◌, ◌*◌, List, length}
 use Rattle.std.specs.Fn.{iterate}
 use Rattle.prims_core.specs.Diagonals.{in_rows}
@@ -5,7 +7,6 @@ use Rattle.prims_core.specs.Memory.{rows_of, HoldsMixings}
 use Rattle.kdf_core.specs.Scrypt.{mixed_back}
 use Rattle.kdf_core.proofs.romix.mix_with_rows.Given as goal
 
--- two mixings a turn
 abbrev pub invariant-mixing : goal.invariant-mixing
 invariant-mixing l = record {
   mixed : (start : List ℕ) → HoldsMixings (rows_of l.row_count (length l.fn.x) l.table) l.row_count start

@@ -1,3 +1,5 @@
+-- The clause of `row_number`: the word that it reads is the first word of the last block in row order too
+-- (`first_word-in_rows`), and modulo N it decides Integerify (`integerify-mod`).
 use Rattle.std.proofs.Common.{◌%◌, ◌-◌, ◌≤◌, sym, ap, ◌∙◌, length, get_or, arith}
 use Rattle.prims_core.specs.Diagonals.{in_rows}
 use Rattle.prims_core.proofs.BlockFacts.{length-in_rows}

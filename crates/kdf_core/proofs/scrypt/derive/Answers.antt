@@ -1,3 +1,5 @@
+-- The clauses of `derive`: its three calls compose to scrypt of the definition (`value-is`), and the meter can count
+-- the bytes of the last derivation (`all_bytes-fit`).
 use Rattle.std.proofs.Common.{◌≡◌, ◌∙◌, length, arith}
 use Rattle.kdf_core.specs.Scrypt.{parts_bytes}
 use Rattle.kdf_core.proofs.ScryptBounds.{all_bytes-fit}

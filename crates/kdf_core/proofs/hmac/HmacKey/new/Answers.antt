@@ -1,3 +1,4 @@
+-- The clause of `new`: the block XOR each pad is the padded key of the definition (`padded_is`).
 use Rattle.kdf_core.proofs.HmacLemmas.{padded_is}
 use Rattle.kdf_core.proofs.hmac.HmacKey.new.Goals as goal
 

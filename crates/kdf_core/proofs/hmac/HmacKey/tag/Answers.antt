@@ -1,3 +1,4 @@
+-- The clause of `tag`: the two digests that the code takes are those of the definition (`tag_is`).
 use Rattle.std.proofs.Common.{sym, subst}
 use Rattle.kdf_core.specs.HmacMessages.{PaddedKey, IsKeyOf}
 use Rattle.kdf_core.proofs.HmacLemmas.{tag_is}

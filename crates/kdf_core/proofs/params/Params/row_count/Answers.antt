@@ -1,3 +1,5 @@
+-- The clauses of `row_count`: log2 N is at most 22 (`bounded`), so the shift doesn't overflow and gives the power of
+-- two.
 use Rattle.std.proofs.Common.{◌<◌, ◌^◌, ◌∙◌, ap, arith}
 use Rattle.std.proofs.lemmas.Nat.{one_shl}
 use Rattle.kdf_core.proofs.ScryptBounds.{bounded}
