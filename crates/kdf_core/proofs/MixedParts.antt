@@ -1,6 +1,6 @@
--- The loop of `mix_parts`, which replaces the parts by their ROMix one by one: the parts that are done, in front, and
--- those to come, behind them. Its invariant says both, as `take` and `drop` at the end of the parts done.
--- `parts_done-more` and `parts_to_come-more` are one turn, and `parts-all` is the clause at the end.
+-- The loop of `mix_parts`, which replaces the parts by their ROMix one by one. Its invariant says what the bytes before
+-- part i are (`take`) and that those from part i on are unchanged (`drop`). `parts_done-more` and `parts_to_come-more`
+-- are one iteration, and `parts-all` is the clause at the end.
 use Rattle.std.proofs.Common.{◌≡◌, ℕ, ◌+◌, ◌*◌, ◌<◌, ◌≤◌, List, [], ◌∷◌, ◌++◌, length, take, drop, sym, ap, ◌∙◌, arith, ◌/◌}
 use Rattle.std.specs.List.{flat_map, range_with_len}
 use Rattle.std.proofs.lemmas.Grind.{flat_map-append}
@@ -15,7 +15,7 @@ use Rattle.kdf_core.proofs.Pbkdf2Lemmas.{range-more}
 use Rattle.kdf_core.specs.Scrypt.{mixed_part}
 use Rattle.kdf_core.specs.ScryptMessages.{mixed_parts}
 
--- Before the first turn no mixing is counted.
+-- Before the first iteration no mixing is counted.
 pub mixes-none : (m : Work) (n : ℕ) → m ≡ record m { mixes = m.mixes + n * 0 }
 mixes-none m n = let none : m.mixes ≡ m.mixes + n * 0 = omega arith in ap (λ k. record m { mixes = k }) none
 
@@ -25,12 +25,12 @@ unfoldable pub first_parts : ℕ → ℕ → List ℕ → ℕ → List ℕ
 first_parts n size bytes count =
     flat_map (λ i. mixed_part n (take size (drop (size * i) bytes))) (range_with_len 0 count)
 
--- Before the first turn no part is done.
+-- Before the first iteration no part is done.
 pub parts_done-none : (n size : ℕ) (bytes : List ℕ) → take (size * 0) bytes ≡ first_parts n size bytes 0
 unfolding first_parts
 parts_done-none n size bytes = let none : size * 0 ≡ 0 = omega arith in ap (λ m. take m bytes) none
 
--- One more part is one more ROMix behind the others.
+-- The first i + 1 parts are the first i, followed by the ROMix of part i.
 first_parts-more : (n size : ℕ) (bytes : List ℕ) (i : ℕ)
     → first_parts n size bytes (i + 1) ≡ first_parts n size bytes i ++ mixed_part n (take size (drop (size * i) bytes))
 unfolding first_parts
@@ -42,7 +42,7 @@ first_parts-more n size bytes i =
     ∙ (ap (λ k. flat_map each (range_with_len 0 i) ++ (each k ++ [])) here
     ∙ ap (λ (b : List ℕ). flat_map each (range_with_len 0 i) ++ b) (append-nil (each i))))
 
--- After part i is written over by its ROMix, i + 1 parts are done.
+-- After the ROMix of part i is written over it, i + 1 parts are done.
 pub parts_done-more : (n size i k : ℕ) (start old part : List ℕ) → size * i + size ≤ length old → k ≡ size
     → take (size * i) old ≡ first_parts n size start i → drop (size * i) old ≡ drop (size * i) start
     → part ≡ mixed_part n (take k (drop (size * i) old)) → length part ≡ size
@@ -60,7 +60,7 @@ parts_done-more n size i k start old part inside k_is done to_come is length_is 
     ∙ (ap (λ (b : List ℕ). first_parts n size start i ++ b) (is ∙ ap (mixed_part n) read)
     ∙ sym (first_parts-more n size start i))))
 
--- The parts behind it are still as at the start.
+-- The parts after it are still as at the start.
 pub parts_to_come-more : (size i k : ℕ) (start old part : List ℕ) → size * i + size ≤ length old → k ≡ size
     → drop (size * i) old ≡ drop (size * i) start → length part ≡ size
     → drop (size * (i + 1)) (put_mid (size * i) k old part) ≡ drop (size * (i + 1)) start

@@ -52,8 +52,8 @@ range-more a (suc n) =
     let last : a + 1 + n ≡ a + suc n = omega arith in
     ap (range_with_len a) next ∙ ap (λ (ks : List ℕ). a ∷ ks) (range-more (a + 1) n ∙ ap (λ (k : ℕ). range_with_len (a + 1) n ++ k ∷ []) last)
 
--- One turn of the loop of `pbkdf2`: after the next block is written behind the others, or as much of it as fits, `out`
--- begins with one block more.
+-- One iteration of the loop of `pbkdf2`: after the next block is written after the others, or as much of it as fits,
+-- `out` begins with one block more.
 pub front_more : (block : ℕ → List ℕ) (old new part : List ℕ) (room i : ℕ) → 32 * i < room → length old ≡ room
     → take (32 * i) old ≡ take room (flat_map block (range_with_len 1 i)) → part ≡ block (i + 1)
     → take (32 * i + 32) new ≡ take (32 * i) old ++ take (room - 32 * i) part
@@ -61,7 +61,7 @@ pub front_more : (block : ℕ → List ℕ) (old new part : List ℕ) (room i : 
 front_more block old new part room i inside length_is front is written =
     let blocks = flat_map block (range_with_len 1 i) in
     let rest = room - 32 * i in
-    -- There was room for each of the blocks before, so none of them is cut.
+    -- The blocks before all fit into `out`, so none of them is cut.
     let whole : length blocks ≡ 32 * i =
     omega (arith, ap length front, length-take (32 * i) old, length-take room blocks) in
     let front_is : take (32 * i) old ≡ blocks = front ∙ take_all room blocks (omega arith) in

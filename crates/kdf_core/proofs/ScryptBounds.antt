@@ -89,7 +89,7 @@ pub table-product : (params : ScryptParams) (n r : ℕ) → n ≡ row_count para
 table-product params n r n_is r_is =
     ap (λ k. 4 * (k * (32 * r))) n_is ∙ (ap (λ k. 4 * (row_count params * (32 * k))) r_is ∙ omega arith)
 
--- So a meter with room can count all bytes of scrypt without overflow.
+-- So a meter with counts of at most 2 ^ 120 can count all bytes of scrypt without overflow.
 pub all_bytes-fit : (before password_length salt_length count first last : ℕ) (params : ScryptParams) → IsAccepted params → before ≤ 2 ^ 120
     → password_length < 2 ^ 64 → salt_length < 2 ^ 64 → count ≤ 32 * (2 ^ 32 - 1) → first ≡ parts_bytes params → last ≡ parts_bytes params
     → before + key_bytes password_length + pbkdf2_bytes salt_length 1 first + pbkdf2_bytes last 1 count < 2 ^ 128

@@ -29,7 +29,7 @@ part_bytes params = 128 * params.r
 abbrev pub parts_bytes : ScryptParams → ℕ
 parts_bytes params = part_bytes params * params.p
 
--- mixed_part n bytes: ROMix of a part given as bytes, as bytes too.
+-- mixed_part n bytes: ROMix with n rows of a part. The part and the result are bytes.
 unfoldable pub mixed_part : ℕ → List ℕ → List ℕ
 mixed_part n bytes = bytes_of_words (romix n (words_of bytes))
 

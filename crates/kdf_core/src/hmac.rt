@@ -61,8 +61,8 @@ impl HmacKey {
 
     /// Returns the tag of the message `a || b`, without copying the two together (RFC 2104, section 2).
     ///
-    /// A tag takes two digests, of 160 bytes more in all than `a` and `b` have. Precondition: the meter can count that
-    /// without overflow.
+    /// A tag takes two digests, which together digest 160 bytes more than `a` and `b` have. Precondition: the meter can
+    /// count that without overflow.
     pub fn tag(&self, a: &[u8], b: &[u8], meter: &mut Meter) -> [u8; 32]
         requires digests_room { meter.old.digests + 2 < 2 ^ 128 }
         requires bytes_room { meter.old.bytes + tag_bytes (length a.now + length b.now) < 2 ^ 128 }

@@ -1,7 +1,8 @@
 //! scryptROMix (RFC 7914, section 5), of one part after another in the same memory.
 //!
-//! A part is one of the p blocks `B[i]` of section 6, of 128r bytes. Each step reads the words of one half and writes
-//! the other half. In the halves, 64-byte blocks are in diagonal order, as the mixing works on them.
+//! A part is one of the p blocks `B[i]` of section 6, of 128r bytes. It is mixed in two halves of scratch memory, each
+//! as long as a part: a step reads one half and writes the other. Blocks of 64 bytes are in diagonal order there, as
+//! the mixing works on them.
 
 ghost use Rattle.std.specs.Prelude.{◌≡◌, ℕ, ◌+◌, ◌-◌, ◌*◌, ◌/◌, ◌^◌, ◌%◌, ◌<◌, ◌≤◌, List, length};
 ghost use Rattle.std.specs.Fn.{iterate};

@@ -12,7 +12,7 @@ use prims_core::meter::Work;
 
 /// Returns the work of scrypt for a password, a salt and a result of these lengths in bytes (RFC 7914, section 6).
 ///
-/// The meter of scrypt counts exactly this. The call neither derives nor allocates anything.
+/// [`scrypt`](crate::scrypt::scrypt) raises its meter by exactly this. The call neither derives nor allocates anything.
 ///
 /// Precondition: each length is at most 2^32. This keeps the digested bytes far below 2^64.
 pub fn scrypt_work(params: &Params, password_len: u64, salt_len: u64, out_len: u64) -> Work

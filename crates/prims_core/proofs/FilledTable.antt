@@ -60,7 +60,8 @@ mixings-more items row start w count before same is =
           (ap in_rows (ap (take w) (drop_at items row (count * w) before.long) ∙ take_all w row (omega (arith, same))) ∙ is);
     }
 
--- The same for two rows, x and then y, where y is x mixed once more. This is a turn of the loop of `fill_by_mixing`.
+-- The same for two rows, x and then y, where y is x mixed once more. This is one iteration of the loop of
+-- `fill_by_mixing`.
 pub mixings-two_more : (items once twice x y start : List ℕ) (w i : ℕ) → HasMixings items w (2 * i) start → length x ≡ w → length y ≡ w
     → in_rows x ≡ iterate block_mix (2 * i) start → in_rows y ≡ block_mix (in_rows x) → once ≡ items ++ x → twice ≡ once ++ y
     → HasMixings twice w (2 * (i + 1)) start
@@ -70,7 +71,7 @@ mixings-two_more items once twice x y start w i before long_x long_y is mixed fi
     rw (second, ← all) (mixings-more once y start w (2 * i + 1) one long_y
     (mixed ∙ (ap block_mix is ∙ sym (iterate-more block_mix (2 * i) start))))
 
--- While i turns of two rows are done, and a further one is due, the memory for n rows holds two more.
+-- After i iterations, of two rows each, the memory for n rows still holds two more if i is below n / 2.
 pub room_for_two_rows : (n w i : ℕ) → i < n / 2 → 2 * i * w + w + w ≤ n * w
 room_for_two_rows n w i inside =
     let more : 2 * i + 2 ≤ n = omega arith in

@@ -38,11 +38,11 @@ pub placed_more : (r i width : ℕ) (y : ℕ → List ℕ) (out x : List ℕ) �
     → ArePlaced y r (i + 1) (put_mid (16 * place_of r i) width out x)
 placed_more r i width y out x whole inside sixteen block is before = λ k so_far.
     let place : ℕ = place_of r i in
+    -- A result k other than i has another place, so writing result i leaves it.
     let other : ℕ = place_of r k in
     let fits : place < 2 * r = omega (arith, place_cases r i) in
     elim (cases_lt k i) [
       | inl earlier ↦
-          -- Another result k has another place, so result i is not written over it.
           let apart : (other < place) ⊎ (place < other) = elim (cases_lt other place) [
             | inl below ↦ inl below
             | inr above ↦ inr (omega (arith, place_cases r i, place_cases r k))
@@ -65,16 +65,15 @@ in_order r y out whole placed =
     -- Block p of `out` in row order is block p of `in_rows out`.
     let there : (p : ℕ) → p < 2 * r → block_in_rows (block_at p out) ≡ block_at p (in_rows out) =
     λ p inside. sym (block_at-in_rows out p (omega arith)) in
+    -- Before place r, block p is result 2p; from there on it is result 2q + 1, where q is p - r.
     joined_from_pieces 16 (evens ++ odds) (in_rows out) (omega (arith, length-in_rows out)) (λ p inside.
     elim (cases_lt p r) [
       | inl front ↦
-          -- Before place r: block p is result 2p.
           let place : place_of r (2 * p) ≡ p = omega (arith, place_cases r (2 * p)) in
           get_or_append_left evens odds [] p (omega arith)
           ∙ get_or-map-range_with_len (λ i. y (2 * i)) 0 r p p [] front (omega arith)
           ∙ sym (rw place at (placed (2 * p) (omega arith))) ∙ there p (omega arith)
       | inr back ↦
-          -- From place r on: block r + q is result 2q + 1.
           let q = p - r in
           let place : place_of r (2 * q + 1) ≡ p = omega (arith, place_cases r (2 * q + 1)) in
           get_or-append_right evens odds r p [] front_length back

@@ -25,7 +25,7 @@ unfolding numerals
 length-numerals zero value = refl
 length-numerals (suc n) value = ap suc (length-numerals n (value / 64))
 
--- `put_group`, one character on: what is written and what is to come are still the whole numeral.
+-- `put_group`, one character on: what is written and what is left are still the whole numeral.
 pub group_more : (out more whole : List ℕ) (character chars count rest : ℕ)
     → more ≡ out ++ character ∷ [] → character ≡ character_of (rest % 64) → count < chars
     → out ++ numerals (chars - count) rest ≡ whole
@@ -35,7 +35,7 @@ group_more out more whole character chars count rest written is left so_far =
     rw is (numerals-step (chars - count) (chars - (count + 1)) rest (omega arith)) in
     rw (written, append_assoc) (ap (λ (xs : List ℕ). out ++ xs) (sym step) ∙ so_far)
 
--- With all characters written, nothing is to come.
+-- With all characters written, what is written is the whole numeral.
 pub group_all : (out whole : List ℕ) (chars count rest : ℕ) → chars ≤ count
     → out ++ numerals (chars - count) rest ≡ whole → out ≡ whole
 group_all out whole chars count rest none so_far =

@@ -16,8 +16,9 @@ rows_of (suc rows) row_words list = take row_words list ∷ rows_of rows row_wor
 abbrev pub padded : ℕ → List ℕ → List ℕ
 padded size list = list ++ replicate (size - length list) 0
 
--- IsLaidOut rows row_words size room: a vector with this size and capacity, in words, holds a table of this shape. Its
--- words are the first rows, whole; it has capacity for all rows; and if rows are missing, a row has at most 1024 words.
+-- IsLaidOut rows row_words size room: a vector with this size and capacity, in words, can hold a table of this shape.
+-- It has whole rows, from the first one on, and capacity for all of them. If any are missing, a row has at most 1024
+-- words.
 pub record IsLaidOut (rows row_words size room : ℕ) : Type 0 where
   pub whole : (set : ℕ) × (size ≡ set * row_words)
   pub inside : size ≤ rows * row_words

@@ -20,7 +20,7 @@ pub use counted_sha512::CountedSha512;
 ///
 /// The message is all pieces joined in order, so the digest does not depend on where the message is cut.
 pub trait Counted: Drop {
-    // `holds running message`: the pieces fed so far join to this message.
+    // `holds running message`: the pieces fed so far, joined, are this message.
     ghost holds: { Self → List ℕ → Type 0 };
 
     // The digest of a whole message.

@@ -1,7 +1,7 @@
 //! The meter: five counts of the work done.
 //!
-//! Only the call that does the work raises a count, so the counts after a run are the work done through the meter. With
-//! a [`Reading`] from before a call, [`Meter::work_since`] returns the [`Work`] of that call.
+//! Only calls that do work raise a count, so the counts after a run are exactly the work done through the meter. With a
+//! [`Reading`] from before a call, [`Meter::work_since`] returns the [`Work`] of that call.
 
 ghost use Rattle.std.specs.Prelude.{◌≡◌, ◌+◌, ◌^◌, ◌<◌};
 ghost use Rattle.prims_core.specs.Work.{no_work, raised_by, work_between, IsBelow, IsWithin};

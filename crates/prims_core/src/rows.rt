@@ -51,8 +51,8 @@ impl Rows for Vec<u32> {
         self.clear();
     }
 
-    // The block is loaded as one vector, as the mixing loads it, so it is loaded only once. Since there is room, the
-    // capacity is not tested, and the mixing's loop has no branch.
+    // The block is loaded as one vector, as the mixing loads it, so it is loaded only once. The capacity is known to be
+    // enough, so it is not tested, and the mixing's loop has no branch.
     #[inline(always)]
     fn push_block(&mut self, block: &[u32]) {
         'appending: for word in u32x16::from_slice(block).to_array() {
@@ -114,8 +114,7 @@ impl<'a> Rows for LentRows<'a> {
 
 /// Replaces all rows by `count` new ones, as the first loop of scryptROMix does (RFC 7914, section 5, step 2): row `i`
 /// is `x` after `i` mixings. The call leaves `x` mixed `count` times, and counts these mixings. Blocks are in diagonal
-/// order in `x` and in the rows. The mixings go from `x` to `y` and from `y` to `x` in turn, and `y` is only memory for
-/// that.
+/// order in `x` and the rows. Each mixing reads one of `x` and `y` and writes the other; `y` is only memory for that.
 ///
 /// Preconditions:
 ///

@@ -1,8 +1,8 @@
 //! The Salsa20/8 core of scrypt (RFC 7914, section 3), following Bernstein's Salsa20 specification.
 //!
 //! The sixteen words of a block form a matrix of four rows. A column round is a quarter round of each
-//! column, and a row round is one of each row; each starts on the diagonal. Four column rounds and four row
-//! rounds in turn are the eight rounds. The four quarter rounds of a round run at once, one in each lane.
+//! column, and a row round is one of each row; each starts on the diagonal. The eight rounds
+//! alternate between the two. The four quarter rounds of a round run at once, one in each lane.
 
 ghost use Rattle.std.specs.Prelude.{◌≡◌, ℕ, ◌<◌, [], ◌∷◌, bit_xor, length, slice_index};
 ghost use Rattle.std.specs.Fn.{iterate};
@@ -83,7 +83,7 @@ fn row_round(x: &Diagonals) -> Diagonals
     }
 }
 
-// Does four quarter rounds at once: in each lane, one of the four words there.
+// Does four quarter rounds at once, one in each lane.
 #[inline(always)]
 fn quarter_rounds(a: u32x4, b: u32x4, c: u32x4, d: u32x4) -> (u32x4, u32x4, u32x4, u32x4)
     ensures { (j : ℕ) → j < 4

@@ -1,8 +1,8 @@
 //! The table of scrypt (the V of RFC 7914, section 5): rows of 32-bit words, all of the same length.
 //!
-//! All rows are in one vector, one after another, so a table is a single allocation of its full size. The vector's
-//! length is that of whole rows. Where rows have at most 1,024 words, those after the last one that was set are not
-//! written yet and read as zeros: writing the zeros first would take as long as wiping the memory.
+//! All rows are in one vector, one after another, so a table is a single allocation of its full size. The vector holds
+//! whole rows only. Where rows have at most 1,024 words, those after the last one that was set are not written yet and
+//! read as zeros: writing the zeros first would take as long as wiping the memory.
 
 ghost use Rattle.std.specs.Prelude.{◌≡◌, ℕ, ◌+◌, ◌-◌, ◌*◌, ◌^◌, ◌<◌, ◌≤◌, [], ◌++◌, length, replicate, slice_index_or, slice_set, vec_len, vec_capacity, IfOk, OnOk, OnErr};
 ghost use Rattle.prims_core.specs.Memory.{HasShape};

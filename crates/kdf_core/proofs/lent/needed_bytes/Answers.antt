@@ -1,4 +1,5 @@
--- `needed_bytes` doesn't overflow, and its result is at most 2 ^ 29: the bytes of all parts are (`parts-fit`).
+-- All parts have at most 2 ^ 29 bytes (`parts-fit`), so `needed_bytes` doesn't overflow, and its result is within that
+-- bound.
 use Rattle.std.proofs.Common.{arith}
 use Rattle.kdf_core.proofs.ScryptBounds.{parts-product, parts-fit}
 use Rattle.kdf_core.proofs.lent.needed_bytes.Goals as goal

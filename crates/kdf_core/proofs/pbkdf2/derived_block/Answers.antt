@@ -1,5 +1,5 @@
--- The clauses of `derived_block`, from its loop over the rounds. The first tag is U_1 (`first_is`). Each turn computes
--- the next tag from the one before (`chain-more`) and XORs it into the sum (`block-more`).
+-- The clauses of `derived_block`, from its loop over the rounds. The first tag is U_1 (`first_is`). Each iteration
+-- computes the next tag from the one before (`chain-more`) and XORs it into the sum (`block-more`).
 use Rattle.std.proofs.Common.{◌≡◌, ◌≤◌, ℕ, List, [], ◌+◌, ◌++◌, length, sym, ap, ◌∙◌, arith}
 use Rattle.prims_core.specs.Meter.{with_work}
 use Rattle.prims_core.specs.Words.{xor_lists}
@@ -37,7 +37,7 @@ rounds-preserved c =
     let n = c.rounds.counter in
     let before = c.rounds.invariant in
     let some : 1 ≤ n = omega arith in
-    -- The tag of this turn is the next U_j.
+    -- The tag of this iteration is the next U_j.
     let last : (password : List ℕ) → IsKeyOf c.args.key.now password → c.tag-last-in-rounds.result ≡ chain password salt i (n + 1) =
     λ password of_key. c.tag-last-in-rounds.ensures.tag password of_key
     ∙ (ap (λ (x : List ℕ). hmac_sha256 password (x ++ [])) (before.last password of_key) ∙ sym (chain-more password salt i n)) in

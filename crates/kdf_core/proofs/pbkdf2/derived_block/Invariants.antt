@@ -1,5 +1,5 @@
--- The loop of `derived_block`: the last tag is U_j for the rounds done so far, the sum is T_i of these rounds, and
--- their work is counted.
+-- The loop of `derived_block`: after j rounds, the last tag is U_j, the sum is T_i of j rounds, and their work is
+-- counted.
 use Rattle.std.proofs.Common.{◌≡◌, ℕ, ◌*◌, List, length}
 use Rattle.prims_core.specs.Meter.{with_work}
 use Rattle.kdf_core.specs.HmacMessages.{IsKeyOf}

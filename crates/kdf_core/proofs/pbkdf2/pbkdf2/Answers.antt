@@ -1,6 +1,6 @@
--- The clauses of `pbkdf2`, from its loop over the blocks: each turn writes the next block behind the others
--- (`front_more`), and at the end `out` is the derived bytes (`front_all`). The precondition gives room to count all
--- blocks, so there is room for one more as long as a block is missing.
+-- The clauses of `pbkdf2`, from its loop over the blocks: each iteration writes the next block after the others
+-- (`front_more`), and at the end `out` is the derived bytes (`front_all`). The meter can count one more block while a
+-- block is missing, since it can count all of them.
 use Rattle.std.proofs.Common.{◌≡◌, ℕ, ◌+◌, ◌*◌, ◌<◌, ◌≤◌, ◌-◌, ◌++◌, length, take, ap, ◌∙◌, arith}
 use Rattle.std.specs.Int.{div_ceil}
 use Rattle.std.proofs.Math.Nat.{mul-le-mul_left, mul-le-mul_right}

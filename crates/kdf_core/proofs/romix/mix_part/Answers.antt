@@ -1,6 +1,5 @@
--- The clause `part` of `mix_part`: it composes the clauses of its calls to ROMix of the definition. The words are
--- loaded and rearranged, the first loop fills the rows, the second loop uses them, and the words are rearranged back
--- and stored.
+-- The clause `part` of `mix_part`: the clauses of its calls compose to ROMix as defined. The words are loaded and
+-- rearranged, the first loop fills the rows, the second loop uses them, and the words are rearranged back and stored.
 use Rattle.std.proofs.Common.{◌≡◌, ◌*◌, ℕ, length, subst, ap, ◌∙◌, arith}
 use Rattle.std.specs.Fn.{iterate}
 use Rattle.prims_core.specs.Diagonals.{in_rows}

@@ -1,5 +1,5 @@
--- The clauses of `mix_parts`, from its loop: each turn replaces the next part by its ROMix and keeps the parts behind
--- it (`parts_done-more`, `parts_to_come-more`). At the end all parts are replaced (`parts-all`).
+-- The clauses of `mix_parts`, from its loop: each iteration replaces the next part by its ROMix and keeps the later
+-- parts (`parts_done-more`, `parts_to_come-more`). At the end all parts are replaced (`parts-all`).
 use Rattle.std.proofs.Common.{◌≡◌, ◌+◌, ◌*◌, ◌≤◌, ◌-◌, ◌∙◌, ℕ, length, take, drop, length-take, length-drop, subst, refl, arith}
 use Rattle.std.proofs.Math.Nat.{mul-le-mul_left}
 use Rattle.prims_core.proofs.FilledTable.{mixes-more}

@@ -1,5 +1,5 @@
--- The clauses of `mix_with_rows`, from its loop: a turn is two steps of ROMix's second loop, from x to y and back
--- (`iterate-two_more`). N is even (`even`), so half as many turns are N steps.
+-- The clauses of `mix_with_rows`, from its loop: each iteration is two steps of ROMix's second loop, from x to y and
+-- back (`iterate-two_more`). N is even (`even`), so N / 2 iterations are N steps.
 use Rattle.std.proofs.Common.{◌≡◌, ℕ, ◌+◌, ◌*◌, List, length, subst, sym, ap, ◌∙◌, arith}
 use Rattle.prims_core.specs.Memory.{rows_of, HoldsMixings}
 use Rattle.std.specs.Fn.{iterate}

@@ -1,5 +1,5 @@
--- The loop of `mix_with_rows`: after so many turns x has gone through twice as many steps of ROMix's second loop, and
--- the mixings are counted.
+-- The loop of `mix_with_rows`: after n iterations x has gone through 2n steps of ROMix's second loop, and the mixings
+-- are counted.
 use Rattle.std.proofs.Common.{◌≡◌, ℕ, ◌+◌, ◌*◌, List, length}
 use Rattle.std.specs.Fn.{iterate}
 use Rattle.prims_core.specs.Diagonals.{in_rows}

@@ -1,5 +1,5 @@
--- The clauses of `put_group`, from the invariant of its loop: each turn writes one character of the numeral
--- (`group_more`), and after the last one nothing is left to write (`group_all`).
+-- The clauses of `put_group`, from the invariant of its loop: each iteration writes one character of the numeral
+-- (`group_more`), and after the last one the numeral is whole (`group_all`).
 use Rattle.std.proofs.Common.{arith}
 use Rattle.prims_core.proofs.NumeralFacts.{group_more, group_all}
 use Rattle.prims_core.proofs.alphabet.put_group.Goals as goal

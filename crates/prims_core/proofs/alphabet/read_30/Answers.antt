@@ -1,4 +1,4 @@
--- The clauses of `read_30`. Each turn of the loop moves the last unread digit to the numeral of the number
+-- The clauses of `read_30`. Each iteration puts the last unread digit in front of the numeral of the number so far
 -- (`digits_more`), so at the end the numeral is all digits. Where the loop stops early, the digit is outside the
 -- alphabet, so the digits are not the numeral of any number.
 use Rattle.std.proofs.Common.{◌≡◌, ℕ, List, [], ◌∷◌, ◌++◌, ◌+◌, ◌<◌, ◌^◌, length, true, false, Some, refl, sym, ap, ◌∙◌, subst, arith, length-append}

@@ -1,5 +1,5 @@
--- The clause of `from_diagonals`. A turn of its loop rearranges block i and leaves the others (`rearranged-more`). At
--- the end each block is the rearranged one, so the lists are equal (`same_blocks`).
+-- The clause of `from_diagonals`. Each iteration of its loop rearranges block i and leaves the others
+-- (`rearranged-more`). At the end each block is the rearranged one, so the lists are equal (`same_blocks`).
 use Rattle.std.proofs.Common.{◌≡◌, ℕ, ◌+◌, ◌-◌, ◌*◌, ◌/◌, ◌<◌, length, take, drop, refl, ap, ◌∙◌, sym, arith}
 use Rattle.prims_core.specs.BlockMix.{block_at}
 use Rattle.prims_core.specs.Diagonals.{block_in_rows, in_rows}

@@ -1,6 +1,6 @@
--- The clauses of `mix_and_append`, as for `mix_blocks`: a turn of its loop makes the next X (`x_after-more`), puts it
--- in its place and appends block i to the rows (`block_more`). After 2r turns the results are those of scryptBlockMix
--- in their order (`in_order`). The rows have room for each block, since they have it for all of `src`.
+-- The clauses of `mix_and_append`, as for `mix_blocks`: each iteration computes the next X (`x_after-more`), writes it
+-- to its place and appends block i to the rows (`block_more`). After 2r iterations the results are those of
+-- scryptBlockMix in their order (`in_order`). Each block fits into the rows' memory, since all of `src` does.
 use Rattle.std.proofs.Common.{◌≡◌, ℕ, ◌+◌, ◌*◌, ◌/◌, ◌≤◌, List, ◌++◌, length, take, sym, ap, ap₂, ◌∙◌, arith, length-take, length-drop, length-append, append_assoc, append-nil}
 use Rattle.prims_core.specs.BlockMix.{block_at, x_after, block_mix}
 use Rattle.prims_core.specs.Diagonals.{in_rows}
@@ -47,7 +47,7 @@ mixing-preserved g c =
     let i : ℕ = c.mixing.i in
     let r : ℕ = length c.args.src.now / 32 in
     let old : List ℕ = g.R.Rows.words c.args.rows.now in
-    -- X after this turn is the X of the definition after block i.
+    -- X after this iteration is the X of the definition after block i.
     let is : c.mixed_block-x.result ≡ x_after r words (i + 1) =
     c.mixed_block-x.ensures ∙ ap₂ mixed_block {y = x_after r words i} c.mixing.invariant.before c.block_on_diagonals.ensures ∙ sym (x_after-more r words i) in record {
       before = is;

@@ -1,5 +1,5 @@
--- The clause of `mix_blocks`. A turn of its loop makes the next X (`x_after-more`) and puts it in its place (by the
--- clause of `put_result`). After 2r turns the results are those of scryptBlockMix in their order (`in_order`).
+-- The clause of `mix_blocks`. Each iteration computes the next X (`x_after-more`) and writes it to its place (by the
+-- clause of `put_result`). After 2r iterations the results are those of scryptBlockMix in their order (`in_order`).
 use Rattle.std.proofs.Common.{◌≡◌, ◌+◌, ◌/◌, length, ap₂, sym, ◌∙◌, arith}
 use Rattle.prims_core.specs.BlockMix.{x_after, block_mix}
 use Rattle.prims_core.specs.Private.Mixing.{mixed_block, y_at}
@@ -17,7 +17,7 @@ mixing-preserved g c =
     let words = g.B.Blocks.words c.args.src.now in
     let i = c.mixing.i in
     let r = c.args.r in
-    -- X after this turn is the X of the definition after block i.
+    -- X after this iteration is the X of the definition after block i.
     let is : c.mixed_block-x.result ≡ x_after r words (i + 1) =
     c.mixed_block-x.ensures ∙ ap₂ mixed_block {y = x_after r words i} c.mixing.invariant.before c.block.ensures ∙ sym (x_after-more r words i) in record {
       before = is;

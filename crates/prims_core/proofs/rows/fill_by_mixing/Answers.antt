@@ -1,6 +1,6 @@
--- The clauses of `fill_by_mixing`. A turn of its loop appends x and then y, which is x mixed once, and leaves x mixed
--- twice (`mixings-two_more`). While a turn is due, the memory holds two more rows (`room_for_two_rows`). Since the
--- number of rows is even, all of them are there after the last turn (`filled-held`).
+-- The clauses of `fill_by_mixing`. Each iteration appends x and then y, which is x mixed once, and leaves x mixed twice
+-- (`mixings-two_more`). The memory holds both rows (`room_for_two_rows`). Since the number of rows is even, all of them
+-- are there after the last iteration (`filled-held`).
 use Rattle.std.proofs.Common.{rules, ◌≡◌, ℕ, ◌+◌, ◌*◌, length, ap, ◌∙◌, arith, length-append}
 use Rattle.prims_core.specs.BlockMix.{block_mix}
 use Rattle.prims_core.specs.Diagonals.{in_rows}

@@ -1,5 +1,5 @@
--- The loop of `fill_by_mixing`: after so many turns there are twice as many rows, each the start after as many mixings
--- as its number. x is what the next row will hold, and the mixings are counted.
+-- The loop of `fill_by_mixing`: after n iterations there are 2n rows, and row i is the start after i mixings. x is the
+-- start after 2n mixings, and all mixings are counted.
 use Rattle.std.proofs.Common.{◌≡◌, ◌+◌, ◌*◌, length}
 use Rattle.std.specs.Fn.{iterate}
 use Rattle.prims_core.specs.BlockMix.{block_mix}

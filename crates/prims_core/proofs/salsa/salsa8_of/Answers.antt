@@ -1,5 +1,5 @@
--- The clause of `salsa8_of`: the sixteen words after four double rounds are their rows joined (`concat-chunks_exact`),
--- to which the block is added.
+-- The clause of `salsa8_of`: the sixteen words after the double rounds are the four rows joined
+-- (`concat-chunks_exact`), and the block is added to them.
 use Rattle.std.proofs.Common.{ap, ◌∙◌, sym, arith}
 use Rattle.std.specs.Simd.Lanes.{zip2}
 use Rattle.std.specs.List.{concat}

@@ -1,4 +1,4 @@
--- The clause of `into_words`: a table of this shape has no more words than its rows in the list (`shape_fits`), and the
+-- The clause of `into_words`: a table of this shape has no more words than the rows of the list (`shape_fits`), and the
 -- vector has capacity for these.
 use Rattle.std.proofs.Common.{arith}
 use Rattle.prims_core.proofs.TableFacts.{shape_fits}
