@@ -1,4 +1,4 @@
-//! The audit of a stored field, without a password: is its hash within the budget, whole, and not outdated?
+//! The audit of a stored field, which needs no password: is its hash within the budget, whole and up to date?
 ghost use Rattle.std.specs.Prelude.{◌≡◌};
 ghost use Rattle.prims_core.specs.Work.{no_work};
 ghost use Rattle.call_core.specs.Audits.{Audits, ForeseesLogins, IsCurrent, Passes, audit_report, standing_report, with_scheme};
@@ -11,9 +11,10 @@ use crypt_core::md5crypt::ROUNDS;
 use crypt_core::scheme::Scheme;
 use crypt_core::standing::Standing;
 
-/// Returns the report on what an audit finds in a field, by the scheme that new hashes have with the method and the rounds, and by
-/// the budget. Rounds of 0 are the recommended ones, and a budget of 0 is that of an audit: a hash within it is one that a login
-/// by the limit of the policy checks, at least with the empty password.
+/// Audits a stored field against the policy that new hashes follow, and returns the report.
+///
+/// `method` and `rounds` make the scheme of new hashes; rounds of 0 are the recommended ones. A budget of 0 is the
+/// audit's own: a login under the limit of the policy can check every hash within it, at least with the empty password.
 pub fn report_audit(field: &[u8], method: u32, rounds: u32, budget: u64) -> Report
     ensures audits { Audits field.now method rounds budget result }
     ensures current { Passes result → IsCurrent field.now method rounds budget }
@@ -50,7 +51,7 @@ fn finding_report(finding: &Finding) -> Report
     }
 }
 
-// Returns the report of a hash with a standing, whose greatest cost is `most`.
+// Returns the report of a hash with this standing; `most` is its greatest cost.
 fn standing_report(standing: Standing, most: u64) -> Report
     ensures { result ≡ standing_report standing most }
 {
@@ -63,7 +64,7 @@ fn standing_report(standing: Standing, most: u64) -> Report
 }
 
 impl Report {
-    // Returns the report with a scheme's number, and its rounds, or N, r and p.
+    // Returns the report with the number of the scheme and its rounds, or N, r and p for scrypt.
     fn with_scheme(self, scheme: &Scheme) -> Report
         ensures { result ≡ with_scheme scheme.now self }
     {

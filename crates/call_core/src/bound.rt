@@ -8,7 +8,8 @@ use crate::report::Report;
 use crypt_core::password::PASSWORD_LIMIT;
 use crypt_core::work::{bound, cost};
 
-/// Returns the report of the greatest cost and work of a hash with the setting in the text.
+/// Returns the report of the greatest cost and work of a hash with the setting in `text`, for any password of
+/// `password_len` bytes.
 pub fn report_bound(password_len: usize, text: &[u8]) -> Report
     ensures bounds { Bounds password_len text.now result }
 {

@@ -1,4 +1,4 @@
-//! What a budget allows. Nothing here hashes or allocates.
+//! Whether a budget allows a hash. Nothing here hashes or allocates.
 ghost use Rattle.std.specs.Prelude.{◌≡◌, ◌<◌, ◌≤◌, length, IfOk, IfErr};
 ghost use Rattle.crypt_core.specs.Work.{cost};
 ghost use Rattle.call_core.specs.Hashes.{admission};
@@ -11,7 +11,7 @@ use crypt_core::password::Password;
 use crypt_core::setting::Setting;
 use crypt_core::work::cost;
 
-/// Returns the cost, if the budget allows the hash, or else the report of the refusal.
+/// Returns the cost of the hash if the budget allows it, and otherwise the report of the refusal.
 pub(crate) fn cost_within(
     password: &Password,
     setting: &Setting,
@@ -29,7 +29,8 @@ pub(crate) fn cost_within(
     Ok(most)
 }
 
-/// Returns the cost, if the budget and then the capacity allow the hash, or else the report of the refusal.
+/// Returns the cost of the hash if the budget allows it and `room` bytes hold it with a zero byte; otherwise the report
+/// of the refusal. The budget comes first.
 pub(crate) fn admit(
     password: &Password,
     setting: &Setting,

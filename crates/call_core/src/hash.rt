@@ -22,7 +22,7 @@ use crypt_core::password::Password;
 use crypt_core::setting::Setting;
 use prims_core::meter::Meter;
 
-/// Hashes the password with the setting in the text, and writes the hash to `out`, or after a refusal the token.
+/// Hashes the password with the setting in `text` and writes the hash to `out`; after a refusal it writes the token.
 pub fn put_hash<M: Memory>(
     memory: &mut M,
     password: &[u8],
@@ -45,7 +45,7 @@ pub fn put_hash<M: Memory>(
     put_hashed(hashed, token(text), out)
 }
 
-/// Writes the hash to `out`, or after a refusal `lock`, and returns the report.
+/// Writes the hash to `out`, or `lock` after a refusal, and returns the report.
 pub(crate) fn put_hashed(
     hashed: Result<(Hashed, Report), Report>,
     lock: &[u8],
@@ -59,7 +59,8 @@ pub(crate) fn put_hashed(
     }
 }
 
-// Hashes the password with the setting in the text, for `room` bytes, and returns the hash and the report.
+// Hashes the password with the setting in `text`, if the hash fits into `room` bytes, and returns the hash and the
+// report.
 fn hash_of<M: Memory>(
     memory: &mut M,
     password: &[u8],
@@ -81,7 +82,7 @@ fn hash_of<M: Memory>(
     hash_within(memory, &password, &setting, budget, room, meter)
 }
 
-/// Hashes, if the budget and then `room` bytes allow it, and returns the hash and the report.
+/// Hashes the password if the budget allows it and then `room` bytes do, and returns the hash and the report.
 pub(crate) fn hash_within<M: Memory>(
     memory: &mut M,
     password: &Password,

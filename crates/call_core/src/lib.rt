@@ -1,10 +1,10 @@
-//! The calls for C (`crypt_c`) and for a web page (`crypt_web`), with a heap or lent memory: they read their arguments,
-//! hash, and return a report.
+//! The calls that C (`crypt_c`) and web pages (`crypt_web`) share, on a heap or in lent memory: they read their
+//! arguments, hash, and return a report.
 //!
-//! Both are static libraries, which no crate can depend on, so this is a library below them. A call that can hash takes a
-//! new meter, and its report has all that this meter counted. So it hashes nothing that it does not report: nothing above
-//! the budget, without capacity for the hash, or after a refusal, but for the decoy of a login.
-//! tests/program/test_sources.py checks that it makes no other meter.
+//! Both of those crates are static libraries, on which no crate can depend, so this library sits below them. A call
+//! that can hash takes a new meter and reports everything that the meter counted. So it does no hashing that it doesn't
+//! report: none above the budget, none for an `out` that is too small, and none after a refusal, except for the decoy
+//! of a login. tests/program/test_sources.py checks that the calls make no other meter.
 #![tactic(auto)]
 
 pub mod audit;

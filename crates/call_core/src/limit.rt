@@ -1,5 +1,5 @@
-//! The limit on the cost of a login and of a new hash: the budget of the call, or one that its method and rounds give. Nothing
-//! here hashes or allocates.
+//! The limit on the cost of a login and of a new hash: the budget that the caller passes, or the limit of the policy
+//! that the method and the rounds make. Nothing here hashes or allocates.
 ghost use Rattle.std.specs.Prelude.{◌≡◌, ◌≢◌, ℕ, ◌≤◌};
 ghost use Rattle.crypt_core.specs.Passwords.{password_limit};
 ghost use Rattle.crypt_core.specs.Policies.{NeverFits};
@@ -13,20 +13,20 @@ use crate::report::Report;
 use crypt_core::password::PASSWORD_LIMIT;
 use crypt_core::scheme::Scheme;
 
-/// The budget that stands for the limit of the policy.
+/// The budget that means the limit of the policy.
 const TWICE: u64 = 0;
 
 /// The limit on the cost of a login and of a new hash.
 #[derive(Clone, Copy, Debug, PartialEq, Eq)]
 pub enum Limit {
-    /// That of the policy by which new hashes have the method and the rounds: [`Scheme::policy_limit`].
+    /// The limit of the policy whose new hashes have the method and the rounds: [`Scheme::policy_limit`].
     Policy,
-    /// A budget of the caller's own, in bytes digested and mixed.
+    /// The caller's own budget, in bytes digested and mixed.
     Bytes(u64),
 }
 
 impl Limit {
-    /// Returns the limit that a budget stands for: 0 stands for that of the policy.
+    /// Returns the limit that a budget means: 0 means the limit of the policy.
     pub fn of(budget: u64) -> Limit
         ensures { result ≡ meant budget }
     {
@@ -37,7 +37,7 @@ impl Limit {
         }
     }
 
-    /// Returns the limit in bytes digested and mixed, by a policy whose new hashes have the scheme.
+    /// Returns the limit in bytes digested and mixed, for a policy whose new hashes have this scheme.
     pub fn bytes(self, scheme: &Scheme) -> u64
         ensures { result ≡ limit_bytes self scheme.now }
     {
@@ -47,8 +47,8 @@ impl Limit {
         }
     }
 
-    /// Returns the most that a hash of a password of `password_len` bytes may cost, by a policy whose new hashes have the scheme. If
-    /// the limit is the policy's, and such a new hash would be above it, it is 0, which admits no hash.
+    /// Returns the most that a hash of a password of `password_len` bytes may cost, for a policy whose new hashes have
+    /// this scheme. Under the policy's own limit it is 0, which admits no hash, if the new hash itself would cost more.
     ///
     /// Precondition: `password_len` is at most [`PASSWORD_LIMIT`].
     pub(crate) fn allowance(self, scheme: &Scheme, password_len: usize) -> u64
@@ -62,8 +62,9 @@ impl Limit {
     }
 }
 
-/// Reports the limit, the length of the longest password whose new hash with the method and the rounds is within it, and the
-/// rounds, which for 0 are the recommended ones. If no new hash is within the limit, it is `OverBudget`, with the limit.
+/// Returns the report of the limit, of the length of the longest password whose new hash is within it, and of the
+/// rounds of new hashes. Rounds of 0 are the recommended ones. If no new hash is within the limit, the error is
+/// `OverBudget` and the cost is the limit.
 pub fn report_limit(method: u32, rounds: u32, limit: Limit) -> Report
     ensures limits { Limits method rounds limit result }
     ensures used { (len : ℕ) → result.error ≡ 0 → len ≤ result.length → limit_in method rounds limit len ≡ result.cost }
@@ -79,9 +80,11 @@ pub fn report_limit(method: u32, rounds: u32, limit: Limit) -> Report
     }
 }
 
-/// Reports the rounds of a new hash that is within the limit, of a password of `password_len` bytes, and its cost, by a policy of
-/// the method and the rounds: these, or for SHA-crypt fewer. If there are none, it is `OverBudget`, with the cost by the
-/// policy's rounds.
+/// Returns the report of rounds with which a new hash of any password of `password_len` bytes is within the limit, and
+/// of the cost of that hash.
+///
+/// The rounds are the policy's own, or fewer rounds of SHA-crypt. If no rounds are few enough, the error is
+/// `OverBudget` and the cost is that of a hash with the policy's rounds.
 pub fn report_rounds(password_len: usize, method: u32, rounds: u32, limit: Limit) -> Report
     ensures rounds { ReportsRounds password_len method rounds limit result }
     ensures fitted { (scheme : Made) → IsSchemeMade TakesNewRounds method rounds scheme → result.error ≡ 0
@@ -104,7 +107,7 @@ pub fn report_rounds(password_len: usize, method: u32, rounds: u32, limit: Limit
     }
 }
 
-// Returns the limit of the policy, or 0 if a new hash of a password of this length would be above it.
+// Returns the limit of the policy, or 0 if a new hash of a password of this length costs more.
 fn policy_allowance(scheme: &Scheme, password_len: usize) -> u64
     requires { password_len ≤ password_limit }
     ensures { result ≡ limit_by scheme.now password_len }

@@ -1,5 +1,5 @@
-//! A login: a password against a stored hash, which may be outdated. If the stored hash can't be checked, the password is
-//! hashed as a new one is, so that the call costs the same.
+//! A login: it checks a password against a stored hash, which may be outdated. If the stored hash can't be checked, it
+//! hashes the password as for a new hash, so that the call takes as long.
 ghost use Rattle.std.specs.Prelude.{◌≡◌, ◌≤◌, ◌⊎◌, ◌≢◌, length};
 ghost use Rattle.prims_core.specs.Work.{no_work};
 ghost use Rattle.crypt_core.specs.Needs.{AreEnough};
@@ -27,8 +27,9 @@ use crypt_core::setting::Setting;
 use crypt_core::stored::StoredHash;
 use prims_core::meter::Meter;
 
-/// Compares the password's hash with the stored one, if the limit allows it, or else makes and drops a hash like a new
-/// one. `outdated` tells whether a new hash with the method and the rounds would replace the stored one.
+/// Checks the password against the stored hash if the limit allows it; otherwise it makes a decoy, a hash like a new
+/// one, and drops it. After a match `outdated` says whether a new hash with the method and the rounds would replace the
+/// stored one.
 pub fn log_in<M: Memory>(
     memory: &mut M,
     password: &[u8],
@@ -83,7 +84,7 @@ pub fn log_in<M: Memory>(
     }
 }
 
-// Returns the reason of a password that doesn't match the stored hash: `Dead` if no password does.
+// Returns the reason for a password that doesn't match: `Dead` if no password matches the stored hash.
 fn miss_of(stored: &StoredHash<'_>) -> Reason
     ensures miss { IsMiss stored.now.text stored.now.setting result }
 {
@@ -94,8 +95,9 @@ fn miss_of(stored: &StoredHash<'_>) -> Reason
     }
 }
 
-// Makes and drops a hash with the setting `decoy`, if the budget allows it, and returns the refusal with its work. If scrypt
-// lacks memory for it, the report says so, since the call then takes less time.
+// Makes and drops a hash with the setting `decoy`, if the budget allows it, and returns the refusal with the work of
+// that hash. If scrypt gets no memory for the decoy, the call is faster than usual, so its error is `OutOfMemory`
+// instead.
 fn decline<M: Memory>(
     memory: &mut M,
     password: &Password,

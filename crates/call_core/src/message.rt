@@ -1,13 +1,13 @@
-//! The messages of the reasons, by the numbers in a report.
+//! The messages for the reasons in a report, by their numbers.
 ghost use Rattle.call_core.specs.Names.{PutsMessage};
 
 use crate::reason::Reason;
 use crate::report::{put, put_whole};
 
-/// Writes the message for the reason with this number and a byte 0 to `out`, cut to its capacity: `unknown reason` if no reason has
-/// the number.
+/// Writes the message for the reason with this number and a zero byte to `out`, cut to its capacity. If no reason has
+/// the number, the message is `unknown reason`.
 ///
-/// It returns 1, or 0 if the message is cut or no reason has the number.
+/// Returns 1, or 0 if the message was cut or no reason has the number.
 pub fn put_message(number: u32, out: &mut [u8]) -> i32
     ensures { PutsMessage number out.old result out.new }
 {

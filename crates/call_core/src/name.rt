@@ -1,14 +1,14 @@
-//! The names of schemes, by the numbers that an audit reports.
+//! The names of the schemes that an audit reports, by their numbers.
 ghost use Rattle.call_core.specs.Names.{PutsSchemeName};
 
 use crate::report::{put, put_whole};
 use crypt_core::method::Method;
 use crypt_core::other_scheme::OtherScheme;
 
-/// Writes the name in crypt(5) of the scheme with this number and a byte 0 to `out`, cut to its capacity, or `unknown scheme` if none
-/// has the number.
+/// Writes the crypt(5) name of the scheme with this number and a zero byte to `out`, cut to its capacity. If no scheme
+/// has the number, the name is `unknown scheme`.
 ///
-/// It returns 1, or 0 if the name is cut or no scheme has the number.
+/// Returns 1, or 0 if the name was cut or no scheme has the number.
 pub fn put_scheme_name(number: u32, out: &mut [u8]) -> i32
     ensures { PutsSchemeName number out.old result out.new }
 {

@@ -1,4 +1,4 @@
-//! The memory that a call needs for its hash, so that its caller can lend it. Nothing here hashes or allocates.
+//! How much memory a call needs for its hash, so that its caller can lend it. Nothing here hashes or allocates.
 ghost use Rattle.std.specs.Prelude.{length};
 ghost use Rattle.call_core.specs.Limits.{limit_in};
 ghost use Rattle.call_core.specs.Needs.{HashesWith, IsNeed, LoginHashesWith};
@@ -10,11 +10,11 @@ use crate::verify::checkable;
 use crypt_core::need::Need;
 use crypt_core::setting::Setting;
 
-/// The need of a call that makes no hash.
+/// What a call needs that makes no hash.
 const NOTHING: Need = Need { words: 0, bytes: 0 };
 
-/// Returns what [`verify`](crate::verify::verify) needs for a password and a stored field within the budget, and
-/// [`put_hash`](crate::hash::put_hash) for a password and a text with a setting.
+/// Returns the memory that [`verify`](crate::verify::verify) needs for a password and a stored hash within the budget,
+/// or [`put_hash`](crate::hash::put_hash) for a password and a setting.
 pub fn hash_need(password: &[u8], text: &[u8], budget: u64) -> Need
     ensures { IsNeed (HashesWith password.now text.now budget) result }
 {
@@ -27,8 +27,9 @@ pub fn hash_need(password: &[u8], text: &[u8], budget: u64) -> Need
     }
 }
 
-/// Returns what [`log_in`](crate::login::log_in) needs with these arguments: what the stored hash needs if it can be checked within
-/// the limit, and else what a new hash does if the limit admits it. A call that makes no hash needs nothing.
+/// Returns the memory that [`log_in`](crate::login::log_in) needs with these arguments: that of the stored hash if it
+/// can be checked within the limit, and otherwise that of a new hash if the limit admits it. A call that makes no hash
+/// needs nothing.
 pub fn login_need(password: &[u8], field: &[u8], method: u32, rounds: u32, limit: Limit) -> Need
     ensures { IsNeed (LoginHashesWith password.now field.now method rounds (limit_in method rounds limit (length password.now))) result }
 {

@@ -1,4 +1,4 @@
-//! The hash of a password with a new setting.
+//! The hash of a password with a new salt.
 ghost use Rattle.std.specs.Prelude.{◌≡◌, ◌≢◌, [], length, take, IfErr, IfOk};
 ghost use Rattle.prims_core.specs.Work.{no_work};
 ghost use Rattle.crypt_core.specs.Needs.{AreEnough};
@@ -23,9 +23,10 @@ use crypt_core::memory::Memory;
 use crypt_core::setting::Setting;
 use prims_core::meter::Meter;
 
-/// Hashes the password with a new setting, and writes the hash to `out`, or after a refusal the token.
+/// Hashes the password with a new setting and writes the hash to `out`; after a refusal it writes the token.
 ///
-/// Without three random numbers it refuses, once nothing else but memory can be refused.
+/// Three random numbers make the salt. Without them the call still checks everything else, and its error is
+/// `NoRandomNumbers` only if nothing but a lack of memory could then refuse the hash.
 pub fn put_new_hash<M: Memory>(
     memory: &mut M,
     password: &[u8],
@@ -53,7 +54,7 @@ pub fn put_new_hash<M: Memory>(
     put_hashed(hashed, token(b""), out)
 }
 
-// Hashes the password with a new setting, for `room` bytes, and returns the hash and the report.
+// Hashes the password with a new setting, if the hash fits into `room` bytes, and returns the hash and the report.
 fn new_hash_of<M: Memory>(
     memory: &mut M,
     password: &[u8],
@@ -84,7 +85,7 @@ fn new_hash_of<M: Memory>(
             meter,
         );
     }
-    // Neither the cost nor the length of a hash depends on the random numbers.
+    // Any salt will do here: the cost and the length of a hash don't depend on the random numbers.
     let setting = Setting::salted(request.scheme, [0; 3]);
     let most = admit(&request.password, &setting, request.limit, room)?;
     Err(Report::refused(Reason::NoRandomNumbers, most))

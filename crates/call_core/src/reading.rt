@@ -1,5 +1,5 @@
-//! What a call is given, read: a password, a setting, the scheme that a method's number and the rounds make, and the hash in a
-//! stored field; or the reason why it is refused.
+//! Reads the arguments of a call: a password, a setting, a method's number and rounds, a given salt, and the hash in a
+//! stored field. Each function returns the value, or the reason why the argument is refused.
 ghost use Rattle.std.specs.Prelude.{◌≡◌, ◌≢◌, ◌↔◌, length, IfOk, IfErr, IsOk, IsOkAnd, IsTrue};
 ghost use Rattle.prims_core.specs.Work.{no_work};
 ghost use Rattle.crypt_core.specs.MadeSettings.{TakesRounds};
@@ -29,7 +29,7 @@ use crypt_core::stored::{StoredField, StoredHash};
 ///
 /// # Errors
 ///
-/// The reason for which [`Password::new`] refuses it.
+/// The reason why [`Password::new`] refuses it.
 pub(crate) fn read_password(bytes: &[u8]) -> Result<Password, Reason>
     ensures ok { IfOk result (λ password. (password ≡ bytes.now) × IsPassword bytes.now) }
     ensures refused { IfErr result (λ reason. (fault : Fault) × IsPasswordRefused bytes.now fault × (reason ≡ password_reason fault)) }
@@ -42,7 +42,7 @@ pub(crate) fn read_password(bytes: &[u8]) -> Result<Password, Reason>
 ///
 /// # Errors
 ///
-/// The reason for which [`Setting::read`] refuses it.
+/// The reason why [`Setting::read`] refuses it.
 pub(crate) fn read_setting(text: &[u8]) -> Result<Setting, Reason>
     ensures spelled { IfOk result (λ setting. Spells text.now setting) }
     ensures refused { IfErr result (λ reason. (fault : Broken) × IsRefused text.now fault × (reason ≡ setting_reason fault)) }
@@ -51,7 +51,7 @@ pub(crate) fn read_setting(text: &[u8]) -> Result<Setting, Reason>
     Ok(Setting::read(text)?)
 }
 
-// Returns the method with this number, where 0 stands for the recommended one.
+// Returns the method with this number; 0 is the recommended one.
 fn chosen_method(number: u32) -> Option<Method>
     ensures { result ≡ chosen_method number }
 {
@@ -61,7 +61,7 @@ fn chosen_method(number: u32) -> Option<Method>
     Method::numbered(number)
 }
 
-/// Makes the scheme with a method's number and the rounds, where 0 stands for the recommended ones.
+/// Returns the scheme that a method's number and the rounds make. Rounds of 0 are the recommended ones.
 ///
 /// # Errors
 ///
@@ -79,7 +79,7 @@ pub(crate) fn scheme_of(number: u32, rounds: u32) -> Result<Scheme, Reason>
     }
 }
 
-/// Makes the scheme of new hashes with a method's number and the rounds.
+/// Returns the scheme of new hashes that a method's number and the rounds make.
 ///
 /// # Errors
 ///
@@ -95,12 +95,13 @@ pub(crate) fn new_scheme_of(number: u32, rounds: u32) -> Result<Scheme, Reason>
     Ok(scheme)
 }
 
-/// Makes the setting of a new hash with a method's number, the rounds and a given salt.
+/// Returns the setting of a new hash that a method's number, the rounds and a given salt make.
 ///
 /// # Errors
 ///
 /// - `UnknownMethod`: no method has the number.
-/// - `SaltLength`, `SaltCharacter`: the salt is empty, has more characters than the method keeps, or one outside crypt's alphabet.
+/// - `SaltLength`, `SaltCharacter`: the salt is empty, is longer than the method allows, or has a character outside
+///   crypt's alphabet.
 /// - `Rounds`: the method does not take the rounds, or would clamp them.
 pub(crate) fn given_setting(number: u32, rounds: u32, salt: &[u8]) -> Result<Setting, Reason>
     ensures { IsGivenReading number rounds salt.now result }
@@ -115,7 +116,8 @@ pub(crate) fn given_setting(number: u32, rounds: u32, salt: &[u8]) -> Result<Set
     Ok(setting)
 }
 
-// Returns whether the rounds were clamped when this scheme was made of them. 0 are the recommended ones, which never are.
+// Returns whether this scheme has other rounds than were asked for, because they were clamped. Rounds of 0, the
+// recommended ones, never are.
 fn is_clamped(scheme: &Scheme, rounds: u32) -> bool
     ensures { IsTrue result ↔ IsClamped scheme.now rounds }
 {
@@ -125,7 +127,7 @@ fn is_clamped(scheme: &Scheme, rounds: u32) -> bool
     }
 }
 
-/// What a login and a new hash are asked for.
+/// The arguments that a login and a new hash have in common.
 #[derive(Drop)]
 pub(crate) struct Request {
     pub(crate) password: Password,
@@ -135,12 +137,12 @@ pub(crate) struct Request {
     pub(crate) limit: u64,
 }
 
-/// Reads what a login or a new hash is asked for: a password, the scheme of new hashes by its method's number and the rounds,
-/// and a limit.
+/// Reads the arguments that a login and a new hash have in common: a password, a method's number and rounds, and a
+/// limit.
 ///
 /// # Errors
 ///
-/// The report of the first refusal: of the password, or else that of [`new_scheme_of`].
+/// The report of the first refusal: of the password, and then of [`new_scheme_of`].
 pub(crate) fn read_request(
     password: &[u8],
     number: u32,
@@ -164,13 +166,13 @@ pub(crate) fn read_request(
     })
 }
 
-/// Returns the stored hash in a field, read as [`StoredField::read`] does.
+/// Returns the stored hash in a field, as [`StoredField::read`] reads it.
 ///
 /// # Errors
 ///
 /// - `NoHash`: the field is empty.
 /// - `Locked`: the field begins with `!` or `*`, whatever follows.
-/// - the reason for the first rule that any other field breaks as a setting.
+/// - The reason for the first rule of a setting that any other field breaks.
 pub(crate) fn stored_hash(field: &[u8]) -> Result<StoredHash<'_>, Reason>
     ensures spelled { IfOk result (IsHashOf field.now) }
     ensures refused { IfErr result (IsFieldRefusal field.now) }

@@ -1,6 +1,5 @@
-//! The reasons why a call did not do what its name says: the one list of them, with their numbers and messages.
-//!
-//! `c/mkpasswd.h` and what is generated from it read this list (tools/reasons).
+//! The reasons why a call did not do what its name says, with their numbers and messages. This is the only such list:
+//! `c/mkpasswd.h`, and what is generated from that, follow it (tools/reasons).
 ghost use Rattle.std.specs.Prelude.{◌≡◌, IfSome};
 ghost use Rattle.call_core.specs.Reasons.{reason_numbered, reason_row};
 
@@ -8,7 +7,7 @@ use crypt_core::hash::HashFault;
 use crypt_core::password::PasswordFault;
 use crypt_core::setting::{MakeFault, SettingFault};
 
-/// Why a call did not do what its name says. The number is the one in the report; 0 is no reason.
+/// Why a call did not do what its name says. The number is the `error` in the report; 0 means no error.
 #[derive(Clone, Copy, Debug, PartialEq, Eq)]
 pub enum Reason {
     /// The password has more than 1,024 bytes.
@@ -33,11 +32,11 @@ pub enum Reason {
     BadSalt = 10,
     /// No method has the number.
     UnknownMethod = 11,
-    /// The given salt is empty, or longer than the method keeps.
+    /// The given salt is empty, or longer than the method allows.
     SaltLength = 12,
     /// The given salt has a character outside `./0-9A-Za-z`.
     SaltCharacter = 13,
-    /// New hashes of the method can't have the rounds: SHA-crypt takes 0 and 1000 to 999999999, scrypt 0 and 6 to 11.
+    /// The method can't use the rounds for new hashes: SHA-crypt takes 0 and 1000 to 999999999, scrypt 0 and 6 to 11.
     Rounds = 14,
     /// The field begins with `!` or `*`.
     Locked = 15,
@@ -47,11 +46,11 @@ pub enum Reason {
     NoScheme = 17,
     /// The hash can cost more than the budget.
     OverBudget = 18,
-    /// The caller's bytes are too few for the result and a zero byte.
+    /// `out` is too small for the result and a zero byte.
     TooFewBytes = 19,
     /// The system gave no random numbers for a salt.
     NoRandomNumbers = 20,
-    /// scrypt lacked memory. No other method needs any.
+    /// scrypt did not get its memory. No other method needs any.
     OutOfMemory = 21,
     /// The password does not match the stored hash.
     WrongPassword = 22,
@@ -59,7 +58,7 @@ pub enum Reason {
     Dead = 23,
 }
 
-// All of them, in the order of their numbers.
+// All reasons, in the order of their numbers.
 const REASONS: [Reason; 23] = [
     Reason::PasswordTooLong,
     Reason::PasswordZeroByte,

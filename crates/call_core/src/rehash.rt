@@ -5,7 +5,7 @@ ghost use Rattle.call_core.specs.Rehashes.{IsOutdated, Rehashes};
 use crate::reading::{read_setting, scheme_of};
 use crate::report::{NO_WORK, Report};
 
-/// Returns the report on whether a hash with the method and the rounds would replace the stored one.
+/// Returns the report on whether a new hash with the method and the rounds would replace the stored one.
 pub fn report_rehash(stored: &[u8], method: u32, rounds: u32) -> Report
     ensures rehashes { Rehashes stored.now method rounds result }
     ensures outdated { result.outdated ≡ 1 → IsOutdated stored.now method rounds }

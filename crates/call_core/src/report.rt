@@ -1,4 +1,4 @@
-//! The report of a call, and the string that it leaves in the caller's bytes.
+//! The report of a call, and the string that a call writes to the caller's `out`.
 ghost use Rattle.std.specs.Prelude.{◌≡◌, ◌↔◌, if◌then◌else◌, pos, IsTrue};
 ghost use Rattle.prims_core.specs.Work.{no_work};
 ghost use Rattle.call_core.specs.Reports.{Answers, AnswersCurrent, AnswersOutdated, IsOneOrZero, Leaves, PutsWhole, failed, found, put, refused, succeeded, token};
@@ -20,35 +20,37 @@ pub const NO_WORK: Work = Work {
 #[repr(C)]
 #[derive(Clone, Copy, Debug, PartialEq, Eq)]
 pub struct Report {
-    /// 0 if the call did what its name says, or else the number of the reason why not. A call that asks whether a stored hash is
-    /// outdated reports 0 for both answers, and an audit for a current hash and for an outdated one.
+    /// 0 if the call did what its name says, otherwise the number of the reason why it did not. A call that asks
+    /// whether a stored hash is outdated reports 0 for both answers, and an audit reports 0 for a current hash and for
+    /// an outdated one.
     pub error: u32,
-    /// 1 if a login, an audit, or a call that asks for it reports no error and a new hash by the policy would replace the stored
-    /// one, or else 0. After a login it is 1 only if the password matches.
+    /// 1 if a login, an audit or the call that asks for it reports no error and a new hash by the policy would replace
+    /// the stored one, otherwise 0. After a login it is 1 only if the password matches.
     pub outdated: u32,
-    /// The number of bytes written to `out`, without the byte 0, if the error is 0. In the report of a limit it is that of
-    /// the longest password.
+    /// The number of bytes written to `out`, without the zero byte, if the error is 0. In the report of a limit, the
+    /// length of the longest password.
     pub length: u32,
-    /// In the report of an audit, the number of the stored hash's scheme, or of the other scheme whose form the field has.
-    /// Otherwise 0.
+    /// In the report of an audit, the number of the stored hash's method, or of the other scheme that the field looks
+    /// like. Otherwise 0.
     pub scheme: u32,
-    /// The rounds of new hashes, in the report of a limit or of rounds, as [`Scheme::made`](crypt_core::scheme::Scheme::made) takes
-    /// them: 0 for md5crypt. In the report of an audit, those of the stored hash: 1000 for md5crypt, and 0 for scrypt. Otherwise 0.
+    /// In the report of a limit or of rounds, the rounds of new hashes, as
+    /// [`Scheme::made`](crypt_core::scheme::Scheme::made) takes them: 0 for md5crypt. In the report of an audit, the
+    /// rounds of the stored hash: 1000 for md5crypt and 0 for scrypt. Otherwise 0.
     pub rounds: u32,
-    /// scrypt's N, in the report of an audit, or else 0.
+    /// scrypt's N in the report of an audit, otherwise 0.
     pub n: u32,
-    /// scrypt's r, in the report of an audit, or else 0.
+    /// scrypt's r in the report of an audit, otherwise 0.
     pub r: u32,
-    /// scrypt's p, in the report of an audit, or else 0.
+    /// scrypt's p in the report of an audit, otherwise 0.
     pub p: u32,
-    /// The greatest cost of a hash with this setting and a password of this length, once both are known to be valid: of an audit
-    /// for the longest password. In the report of a limit it is the limit.
+    /// The greatest cost of a hash with this setting and a password of this length, in bytes digested and mixed, once
+    /// both are known to be valid. An audit takes the longest password. In the report of a limit, the limit.
     pub cost: u64,
-    /// All the work that was done. In the report of a bound it is the greatest work.
+    /// The work that the call did. In the report of a bound, the greatest work.
     pub work: Work,
 }
 
-// C and the page read the fields at fixed places.
+// C and web pages read the fields at fixed offsets.
 const _: () = prove!(size_of::<Report>() == 80);
 
 impl Report {
@@ -87,8 +89,8 @@ impl Report {
         Report::failed(reason, cost, NO_WORK)
     }
 
-    /// Returns the report of a stored hash that was found, or that the password matches; a check without a policy reports none as
-    /// outdated.
+    /// Returns the report of a call that found a stored hash, or whose password matches it. A check without a policy
+    /// passes `false`.
     pub fn found(is_outdated: bool, cost: u64, work: Work) -> Report
         ensures { result ≡ found (if is_outdated then 1 else 0) cost work }
     {
@@ -98,7 +100,7 @@ impl Report {
         }
     }
 
-    /// Returns the report of a policy's rounds, with a length and a cost. Nothing was hashed.
+    /// Returns the report of the rounds of a policy, with a length and a cost. The call hashed nothing.
     pub fn of_rounds(rounds: u32, length: u32, cost: u64) -> Report
         ensures { result ≡ record (succeeded length cost no_work) { rounds = rounds } }
     {
@@ -117,7 +119,7 @@ impl From<Reason> for Report {
     }
 }
 
-/// Writes the report of a call and returns its result: 1 if the error is 0, else 0.
+/// Writes the report of a call and returns what the call returns: 1 if the error is 0, otherwise 0.
 pub fn tell(report: &mut Report, told: Report) -> i32
     ensures told { report.new ≡ told }
     ensures answers { Answers result told }
@@ -125,7 +127,7 @@ pub fn tell(report: &mut Report, told: Report) -> i32
     answer(report, told, told.error == 0)
 }
 
-/// Writes the report of a call and returns 1 if the stored hash is outdated, else 0.
+/// Writes the report of a call and returns 1 if the stored hash is outdated, otherwise 0.
 pub fn tell_outdated(report: &mut Report, told: Report) -> i32
     ensures told { report.new ≡ told }
     ensures answers { AnswersOutdated result told }
@@ -133,7 +135,7 @@ pub fn tell_outdated(report: &mut Report, told: Report) -> i32
     answer(report, told, told.outdated == 1)
 }
 
-/// Writes the report of a call and returns 1 if the stored hash is current, else 0.
+/// Writes the report of a call and returns 1 if the stored hash is current, otherwise 0.
 pub fn tell_current(report: &mut Report, told: Report) -> i32
     ensures told { report.new ≡ told }
     ensures answers { AnswersCurrent result told }
@@ -141,7 +143,7 @@ pub fn tell_current(report: &mut Report, told: Report) -> i32
     answer(report, told, told.error == 0 && told.outdated == 0)
 }
 
-// Writes the report of a call and returns 1 for yes, else 0.
+// Writes the report of a call and returns 1 for yes and 0 for no.
 fn answer(report: &mut Report, told: Report, is_yes: bool) -> i32
     ensures told { report.new ≡ told }
     ensures yes { result ≡ pos 1 ↔ IsTrue is_yes }
@@ -151,7 +153,8 @@ fn answer(report: &mut Report, told: Report, is_yes: bool) -> i32
     i32::from(is_yes)
 }
 
-/// Returns the string that a refusal leaves in place of a hash with the setting (crypt(3)).
+/// Returns the string that a refusal writes in place of a hash with this setting: `*0`, or `*1` if the setting begins
+/// with `*0` (crypt(3)).
 pub fn token(setting: &[u8]) -> &'static [u8]
     ensures { result.now ≡ token setting.now }
 {
@@ -162,7 +165,7 @@ pub fn token(setting: &[u8]) -> &'static [u8]
     }
 }
 
-/// Writes a string and a byte 0 to `out`, cut to the capacity of `out`.
+/// Writes a string and a zero byte to `out`, cut to the capacity of `out`. An empty `out` stays empty.
 pub fn put(out: &mut [u8], text: &[u8])
     ensures { out.new ≡ put text.now out.old }
 {
@@ -174,7 +177,7 @@ pub fn put(out: &mut [u8], text: &[u8])
     out[cut] = 0;
 }
 
-/// Writes a string to `out` as [`put`] does, and returns 1, or 0 if it was cut.
+/// Writes a string to `out` as [`put`] does. Returns 1, or 0 if the string was cut.
 pub fn put_whole(out: &mut [u8], text: &[u8]) -> i32
     ensures { PutsWhole text.now out.old result out.new }
 {

@@ -1,4 +1,4 @@
-//! A new setting.
+//! The setting of a new hash.
 ghost use Rattle.std.specs.Prelude.{◌≡◌, ◌≢◌, []};
 ghost use Rattle.crypt_core.specs.Settings.{canonical_text};
 ghost use Rattle.call_core.specs.Reports.{put, token};
@@ -9,7 +9,8 @@ use crate::reason::Reason;
 use crate::report::{NO_WORK, Report, leave, token};
 use crypt_core::setting::Setting;
 
-/// Writes the setting that three random numbers make to `out`, or after a refusal the token, and returns the report.
+/// Writes the setting whose salt three random numbers make to `out`, or the token after a refusal, and returns the
+/// report.
 pub fn put_setting(method: u32, rounds: u32, numbers: [u64; 3], out: &mut [u8]) -> Report
     ensures puts { PutsSetting method rounds numbers out.old result out.new }
     ensures locked { result.error ≢ 0 → out.new ≡ put (token []) out.old }
@@ -20,7 +21,7 @@ pub fn put_setting(method: u32, rounds: u32, numbers: [u64; 3], out: &mut [u8]) 
     }
 }
 
-/// Writes the setting with the given salt to `out`, or after a refusal the token, and returns the report.
+/// Writes the setting with the given salt to `out`, or the token after a refusal, and returns the report.
 pub fn put_setting_with_salt(method: u32, rounds: u32, salt: &[u8], out: &mut [u8]) -> Report
     ensures puts { PutsGivenSetting method rounds salt.now out.old result out.new }
     ensures locked { result.error ≢ 0 → out.new ≡ put (token []) out.old }
@@ -31,7 +32,7 @@ pub fn put_setting_with_salt(method: u32, rounds: u32, salt: &[u8], out: &mut [u
     }
 }
 
-// Writes the setting to `out`, or the token if there is no room for it, and returns the report.
+// Writes the setting to `out`, or the token if it doesn't fit, and returns the report.
 fn put_text(setting: &Setting, out: &mut [u8]) -> Report
     ensures puts { PutsText (canonical_text setting.now) out.old result out.new }
     ensures locked { result.error ≢ 0 → out.new ≡ put (token []) out.old }

@@ -1,4 +1,4 @@
-//! A password against a stored hash.
+//! Checks a password against a stored hash.
 ghost use Rattle.std.specs.Prelude.{◌≡◌, ◌≢◌, ◌⊎◌, ◌≤◌, if◌then◌else◌, length, true, IfOk, IfErr, IsOk};
 ghost use Rattle.prims_core.specs.Work.{no_work};
 ghost use Rattle.crypt_core.specs.Crypt.{allocates, crypt};
@@ -21,7 +21,7 @@ use crypt_core::password::Password;
 use crypt_core::stored::StoredHash;
 use prims_core::meter::Meter;
 
-/// Compares the password's hash with the stored one, if the budget allows it.
+/// Hashes the password with the setting of the stored hash, if the budget allows it, and compares the two hashes.
 pub fn verify<M: Memory>(
     memory: &mut M,
     password: &[u8],
@@ -58,8 +58,8 @@ pub fn verify<M: Memory>(
     }
 }
 
-/// Returns the stored hash in the field, and the cost of comparing the password with it, if the budget allows that; or
-/// else the report of the first refusal.
+/// Returns the stored hash in the field and the cost of checking the password against it, if the budget allows that.
+/// Otherwise it returns the report of the first refusal.
 pub(crate) fn checkable<'a>(
     password: &Password,
     field: &'a [u8],
@@ -78,8 +78,8 @@ pub(crate) fn checkable<'a>(
     Ok((stored, most))
 }
 
-/// Compares the password's hash, which costs at most `most`, with the stored one. If they are the same, the report says
-/// whether the stored one is outdated, and else the reason is `misses`.
+/// Hashes the password, which costs at most `most`, and compares the hash with the stored one. If they are equal, the
+/// report says whether the stored one is outdated (`is_outdated`); otherwise its error is `misses`.
 pub(crate) fn compare<M: Memory>(
     memory: &mut M,
     password: &Password,
