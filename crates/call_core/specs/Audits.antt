@@ -1,4 +1,4 @@
--- The audit of a stored field, without a password.
+-- The audit of a stored field, which needs no password.
 use Rattle.std.specs.Prelude.{◌≡◌, ◌⊎◌, ℕ, List, []}
 use Rattle.prims_core.specs.Work.{no_work}
 use Rattle.crypt_core.specs.Findings.{Finds}
@@ -23,14 +23,14 @@ use Rattle.call_core.specs.Reports.{found, refused}
 use Rattle.call_core.specs.declared.reason.Reason.TheVariants as reasons
 use Rattle.call_core.specs.declared.report.Report.{Report}
 
--- standing_report standing most: the report of a hash with this standing, whose greatest cost is `most`.
+-- standing_report standing most: the report of a hash with this standing; `most` is its greatest cost.
 abbrev pub standing_report : Standing → ℕ → Report
 standing_report standings.OverBudget most = refused reasons.OverBudget most
 standing_report standings.Dead most = refused reasons.Dead most
 standing_report standings.Outdated most = found 1 most no_work
 standing_report standings.Current most = found 0 most no_work
 
--- with_scheme scheme report: the report, with a scheme's number and its rounds, or N, r and p.
+-- with_scheme scheme report: the report with the number of the scheme and its rounds, or N, r and p for scrypt.
 abbrev pub with_scheme : Scheme → Report → Report
 with_scheme Md5crypt report = record report { scheme = (method_row methods.Md5crypt).number; rounds = md5crypt_rounds }
 with_scheme (Shacrypt sha rounds) report = record report { scheme = (method_row (sha_method sha)).number; rounds = rounds.count }
@@ -38,13 +38,13 @@ with_scheme (Scrypt params) report =
     record report { scheme = (method_row methods.Scrypt).number; n = row_count params; r = params.r; p = params.p }
 
 -- audit_report finding: the report of a finding.
---   Hash       that of its standing, with its scheme
---   NoHash     that there is none
---   Locked     that it is locked
+--   Hash       the report of its standing, with its scheme
+--   NoHash     the field is empty
+--   Locked     the field is locked
 --   Malformed  what is wrong with the setting
 --   Other      an unknown scheme, with its number
 --   Unknown    an unknown scheme
---   NoScheme   that it is of no scheme
+--   NoScheme   the field has the form of no scheme
 abbrev pub audit_report : Finding → Report
 audit_report (Hash scheme most standing) = with_scheme scheme (standing_report standing most)
 audit_report NoHash = refused reasons.NoHash 0
@@ -54,26 +54,27 @@ audit_report (Other other) = record (refused reasons.UnknownScheme 0) { scheme =
 audit_report Unknown = refused reasons.UnknownScheme 0
 audit_report NoScheme = refused reasons.NoScheme 0
 
--- The report of mkpasswd_audit and web_audit: what an audit finds in the field; or the refusal of the method or the rounds. A
--- budget of 0 stands for the audit's own.
+-- Audits field number rounds budget report: the report of mkpasswd_audit and web_audit. It says what the audit finds in
+-- the field, or that it refuses the method or the rounds. A budget of 0 is the audit's own.
 abbrev pub Audits : List ℕ → ℕ → ℕ → ℕ → Report → Type 0
 Audits field number rounds budget report =
     OnScheme TakesNewRounds number rounds (Refuses report) (λ scheme.
     (finding : Finding) × Finds scheme budget field finding × (report ≡ audit_report finding))
 
--- A field that an audit passes: it spells a setting, and is current by the scheme of the method and the rounds, within the
--- budget.
+-- IsCurrent field number rounds budget: an audit passes the field: it spells a setting, and its hash is current by the
+-- scheme of the method and the rounds, and within the budget.
 abbrev pub IsCurrent : List ℕ → ℕ → ℕ → ℕ → Type 0
 IsCurrent field number rounds budget =
     (kept : SettingValue) × (scheme : Scheme) × Spells field kept × IsSchemeMade TakesNewRounds number rounds scheme
     × HasStanding scheme budget field kept standings.Current
 
--- The report of a field that an audit passes.
+-- Passes report: the report of a field that an audit passes.
 abbrev pub Passes : Report → Type 0
 Passes report = (report.error ≡ 0) × (report.outdated ≡ 0)
 
--- A hash that an audit by its own budget calls current, outdated or dead is one that a login by the same method and rounds
--- can check within the limit of their policy, at least with the empty password.
+-- ForeseesLogins field number rounds budget report: if an audit by its own budget reports the hash as current, outdated
+-- or dead, a login by the same method and rounds can check it within the limit of their policy, at least with the empty
+-- password.
 abbrev pub ForeseesLogins : List ℕ → ℕ → ℕ → ℕ → Report → Type 0
 ForeseesLogins field number rounds budget report =
     (report.error ≡ 0) ⊎ (report.error ≡ (reason_row reasons.Dead).0) → budget ≡ 0

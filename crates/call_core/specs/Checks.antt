@@ -1,7 +1,7 @@
--- The check of a password against a stored hash, for C and for a web page alike.
+-- How a password is checked against a stored hash, both for C and for web pages.
 --
--- A password is the list of its bytes, `kept` is the setting that a text spells, and `most` is the cost of a hash: the most
--- bytes that it digests and mixes.
+-- A password is the list of its bytes, `kept` is the setting that a text spells, and `most` is the cost of a hash: the
+-- most bytes that it digests and mixes.
 use Rattle.std.specs.Prelude.{◌≡◌, ◌⊎◌, ◌≤◌, if◌then◌else◌, ℕ, nat_lt, false, MatchBool, List, length}
 use Rattle.std.specs.Str.{bytes_eq}
 use Rattle.crypt_core.specs.Crypt.{allocates, crypt}
@@ -15,33 +15,34 @@ use Rattle.call_core.specs.declared.reason.Reason.{Reason}
 use Rattle.call_core.specs.declared.reason.Reason.TheVariants.{OverBudget, WrongPassword}
 use Rattle.call_core.specs.declared.report.Report.{Report}
 
--- A password that opens a stored hash: the hash spells a setting, the password's hash with that setting is the stored
--- hash, and its cost is at most the budget.
+-- Opens password stored budget: the password opens the stored hash: that spells a setting, the hash of the password
+-- with this setting is the stored hash, and it costs at most the budget.
 abbrev pub Opens : List ℕ → List ℕ → ℕ → Type 0
 Opens password stored budget =
     IsPassword password × ((kept : SettingValue) × Spells stored kept × (crypt password kept ≡ stored)
     × (cost kept (length password) ≤ budget))
 
--- The text spells a setting with which a hash needs no memory.
+-- NeedsNoMemory text: the text spells a setting whose hash needs no memory.
 abbrev pub NeedsNoMemory : List ℕ → Type 0
 NeedsNoMemory text = (kept : SettingValue) × Spells text kept × (allocates kept.scheme ≡ false)
 
--- A dead hash: the text spells a setting, but it is not whole, so no password matches it.
+-- IsDead text: a dead hash: the text spells a setting but is not whole, so no password matches it.
 abbrev pub IsDead : List ℕ → Type 0
 IsDead text = (kept : SettingValue) × Spells text kept × ¬ IsWhole text kept
 
--- The report of a hash that is compared with the stored one: no error if they are the same, and whether the stored one is
--- outdated, 1 or 0; or else the reason `misses`; or that scrypt lacked memory.
+-- Compares password kept stored outdated misses report: the report of a password's hash that is compared with the
+-- stored one. If they are equal, there is no error, and `outdated` is reported; otherwise the error is `misses`. Or
+-- scrypt lacked memory.
 abbrev pub Compares : List ℕ → SettingValue → List ℕ → ℕ → Reason → Report → Type 0
 Compares password kept stored outdated misses report =
     let most = cost kept (length password) in
     (report ≡ (if bytes_eq (crypt password kept) stored then found outdated most (work password kept) else failed misses most (work password kept)))
     ⊎ LacksMemory kept most report
 
--- The report of mkpasswd_verify and web_verify.
---   a refusal         that refusal
---   above the budget  OverBudget and the cost, without work
---   otherwise         no error or WrongPassword with the cost and the work of one hash, or that scrypt lacked memory
+-- Verifies password stored budget report: the report of mkpasswd_verify and web_verify.
+--   a refused argument  the reason
+--   above the budget    OverBudget and the cost, without work
+--   otherwise           no error or WrongPassword, with the cost and the work of one hash; or scrypt lacked memory
 abbrev pub Verifies : List ℕ → List ℕ → ℕ → Report → Type 0
 Verifies password stored budget report =
     OnPassword password (Refuses report) (OnField stored (Refuses report) (λ kept.

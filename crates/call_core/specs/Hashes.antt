@@ -1,7 +1,7 @@
--- The hash of a password with a setting, or with a new one, for C and for a web page alike.
+-- The hash of a password with a given or a new setting, both for C and for web pages.
 --
--- A password is the list of its bytes, `kept` is the setting that a text spells, and `most` is the cost of a hash: the most
--- bytes that it digests and mixes. `out` has the bytes `old` before a call, and `new` after it.
+-- A password is the list of its bytes, `kept` is the setting that a text spells, and `most` is the cost of a hash: the
+-- most bytes that it digests and mixes. `out` holds the bytes `old` before a call and `new` after it.
 use Rattle.std.specs.Prelude.{◌⊎◌, ◌==◌, if◌then◌else◌, ℕ, nat_lt, MatchBool, MatchResult, List, [], ◌∷◌, length, Result, Ok, Err}
 use Rattle.crypt_core.specs.Crypt.{crypt}
 use Rattle.crypt_core.specs.MadeSettings.{salted}
@@ -13,8 +13,8 @@ use Rattle.call_core.specs.declared.reason.Reason.{Reason}
 use Rattle.call_core.specs.declared.reason.Reason.TheVariants.{TooFewBytes, OverBudget, NoRandomNumbers}
 use Rattle.call_core.specs.declared.report.Report.{Report}
 
--- The cost, if the budget and then the capacity `room` allow the hash and a byte 0; otherwise the report of the
--- refusal.
+-- admission budget room password kept: the cost of the hash, if the budget allows it and `room` bytes hold it with a
+-- zero byte; otherwise the report of the refusal. The budget comes first.
 abbrev pub admission : ℕ → ℕ → List ℕ → SettingValue → Result ℕ Report
 admission budget room password kept =
     let most = cost kept (length password) in
@@ -22,8 +22,8 @@ admission budget room password kept =
     else if nat_lt (length (crypt password kept)) room then Ok most
     else Err (refused TooFewBytes most)
 
--- The report and `out` of a hash with a setting: the hash, or the lock with the first refusal in the order budget,
--- capacity, memory.
+-- PutsHash password kept budget lock old report new: the call reports the hash and writes it to `out`; or it reports
+-- the first refusal in the order budget, capacity, memory, and writes `lock`.
 abbrev pub PutsHash : List ℕ → SettingValue → ℕ → List ℕ → List ℕ → Report → List ℕ → Type 0
 PutsHash password kept budget lock old report new =
     let text = crypt password kept in
@@ -32,14 +32,16 @@ PutsHash password kept budget lock old report new =
     ⊎ (LacksMemory kept most report × Leaves report lock old report new))
     (λ refusal. Leaves refusal lock old report new)
 
--- The effect of mkpasswd_hash and web_hash: the hash, or the token with the first refusal.
+-- Hashes password text budget old report new: the effect of mkpasswd_hash and web_hash, which write the hash, or the
+-- token after the first refusal.
 abbrev pub Hashes : List ℕ → List ℕ → ℕ → List ℕ → Report → List ℕ → Type 0
 Hashes password text budget old report new =
     let Locks = λ (reason : Reason). Leaves (refused reason 0) (token text) old report new in
     OnPassword password Locks (OnSetting text Locks (λ kept. PutsHash password kept budget (token text) old report new))
 
--- The effect of mkpasswd_proved_new_from: with three random numbers the hash with the setting that they make. Without them it
--- is the first refusal that precedes them, or else that they are missing.
+-- HashesAnew password number rounds budget numbers old report new: the effect of mkpasswd_proved_new_from. With three
+-- random numbers it hashes with the setting that they make. Without them it reports the first refusal that precedes
+-- them, or else NoRandomNumbers.
 abbrev pub HashesAnew : List ℕ → ℕ → ℕ → ℕ → List ℕ → List ℕ → Report → List ℕ → Type 0
 HashesAnew password number rounds budget numbers old report new =
     let Locks = λ (reason : Reason). Leaves (refused reason 0) (token []) old report new in

@@ -1,7 +1,7 @@
--- A login: the check of a password against a stored hash, which does the work of a new hash if it can't be made.
+-- A login: it checks a password against a stored hash, and does the work of a new hash if it can't check it.
 --
--- A password is the list of its bytes, `kept` is the setting that a text spells, and `most` is the cost of a hash: the most
--- bytes that it digests and mixes.
+-- A password is the list of its bytes, `kept` is the setting that a text spells, and `most` is the cost of a hash: the
+-- most bytes that it digests and mixes.
 use Rattle.std.specs.Prelude.{◌≡◌, ◌≢◌, ◌⊎◌, ◌↔◌, ◌<◌, ◌≤◌, ◌+◌, ◌*◌, if◌then◌else◌, ℕ, ℤ, pos, nat_lt, true, MatchBool, List, [], ◌∷◌, length, Err}
 use Rattle.prims_core.specs.Work.{no_work}
 use Rattle.prims_core.specs.declared.meter.Work.{Work}
@@ -25,21 +25,23 @@ use Rattle.call_core.specs.declared.reason.Reason.{Reason}
 use Rattle.call_core.specs.declared.reason.Reason.TheVariants.{Dead, OutOfMemory, OverBudget, WrongPassword}
 use Rattle.call_core.specs.declared.report.Report.{Report}
 
--- The setting of the hash that a login makes and drops if it can't check the stored one: a new hash's, with a fixed salt.
+-- decoy scheme: the setting of the hash that a login makes and drops if it can't check the stored one. It is that of a
+-- new hash, with a fixed salt.
 abbrev pub decoy : Scheme → SettingValue
 decoy scheme = salted scheme (0 ∷ 0 ∷ 0 ∷ [])
 
--- The work of a hash with this setting, or of scrypt's allocations before one failed; none if the hash can cost more than
--- the budget.
+-- IsHashWork password kept budget done: the work of a hash with this setting, or of scrypt's allocations before one
+-- failed. It is none if the hash can cost more than the budget.
 abbrev pub IsHashWork : List ℕ → SettingValue → ℕ → Work → Type 0
 IsHashWork password kept budget done =
     MatchBool (nat_lt budget (cost kept (length password)))
     (done ≡ no_work)
     ((done ≡ work password kept) ⊎ IsAfterRefusedGrowth no_work kept.scheme done)
 
--- The report of a login that can't check the stored hash, and makes and drops a hash with this setting: the refusal with the
--- work of that hash, or with the error that scrypt lacked memory for it, and the work of the allocations before. If the hash
--- can cost more than the budget, it is the refusal alone.
+-- Declines password kept budget refusal report: the report of a login that can't check the stored hash, and instead
+-- makes and drops a hash with this setting. It is the refusal with the work of that hash; or, if scrypt lacked memory
+-- for it, OutOfMemory with the work of the allocations before; or the refusal alone, if the hash can cost more than the
+-- budget.
 abbrev pub Declines : List ℕ → SettingValue → ℕ → Report → Report → Type 0
 Declines password kept budget refusal report =
     MatchBool (nat_lt budget (cost kept (length password)))
@@ -48,16 +50,17 @@ Declines password kept budget refusal report =
     ⊎ ((done : Work) × IsAfterRefusedGrowth no_work kept.scheme done
     × (report ≡ record refusal { error = (reason_row OutOfMemory).0; work = done })))
 
--- The reason of a password that doesn't match the stored hash: Dead if no password does, because it is not whole.
+-- IsMiss field kept reason: the reason for a password that doesn't match the stored hash: Dead if no password does,
+-- because the hash is not whole.
 abbrev pub IsMiss : List ℕ → SettingValue → Reason → Type 0
 IsMiss field kept reason = ((reason ≡ WrongPassword) × IsWhole field kept) ⊎ ((reason ≡ Dead) × ¬ IsWhole field kept)
 
--- The report of mkpasswd_login.
---   a refused password, method or rounds that refusal, without work
---   a stored hash that can't be checked  the report of mkpasswd_verify with the work of the decoy, or with the error that
---                                        scrypt lacked memory for the decoy
---   otherwise                            the report of mkpasswd_verify, with whether the scheme replaces the setting if the
---                                        password matches, and Dead in place of WrongPassword if the hash is not whole
+-- LogsIn password field number rounds budget report: the report of mkpasswd_login.
+--   a refused password, method or rounds  the reason, without work
+--   a stored hash that can't be checked   the report of mkpasswd_verify with the work of the decoy, or OutOfMemory if scrypt
+--                                         lacked memory for the decoy
+--   otherwise                             the report of mkpasswd_verify; after a match with whether the scheme replaces the
+--                                         setting, and with Dead in place of WrongPassword if the hash is not whole
 abbrev pub LogsIn : List ℕ → List ℕ → ℕ → ℕ → ℕ → Report → Type 0
 LogsIn password field number rounds budget report =
     OnPassword password (Refuses report) (OnScheme TakesNewRounds number rounds (Refuses report) (λ scheme.
@@ -68,25 +71,28 @@ LogsIn password field number rounds budget report =
     ((misses : Reason) × IsMiss field kept misses
     × Compares password kept field (if is_outdated_by kept.scheme scheme then 1 else 0) misses report))))
 
--- What the work of a hash with this scheme cost: the bytes that were digested, and for scrypt those that were mixed, 2r
--- blocks of 64 bytes in each mixing.
+-- spent scheme done: what the work of a hash with this scheme cost: the bytes that it digested and, for scrypt, those
+-- that it mixed, 2r blocks of 64 bytes each time.
 abbrev pub spent : Scheme → Work → ℕ
 spent (Scrypt params) done = done.bytes + done.mixes * (128 * params.r)
 spent scheme done = done.bytes
 
--- The work of a login: none, or that of one hash, with the stored setting or with the decoy. It costs at most the budget.
+-- IsLoginWork password field number rounds budget done: the work of a login: none, or that of one hash, with the stored
+-- setting or with the decoy. It costs at most the budget.
 abbrev pub IsLoginWork : List ℕ → List ℕ → ℕ → ℕ → ℕ → Work → Type 0
 IsLoginWork password field number rounds budget done =
     (done ≡ no_work) ⊎ ((kept : SettingValue)
     × (Spells field kept ⊎ ((scheme : Scheme) × IsSchemeMade TakesNewRounds number rounds scheme × (kept ≡ decoy scheme)))
     × IsHashWork password kept budget done × (spent kept.scheme done ≤ budget))
 
--- A stored hash that a login can't check: each setting that it spells, if any, costs more than the budget.
+-- IsUncheckable password field budget: a login can't check the stored hash: the field spells no setting, or one whose
+-- hash costs more than the budget.
 abbrev pub IsUncheckable : List ℕ → List ℕ → ℕ → Type 0
 IsUncheckable password field budget = (kept : SettingValue) → Spells field kept → budget < cost kept (length password)
 
--- A report that agrees with that of mkpasswd_verify, by a policy whose new hashes have the scheme: its cost and error are the
--- same, but Dead may stand for WrongPassword, and, if the decoy needs memory, OutOfMemory for a refusal without work.
+-- Agrees scheme report verified: the report of a login agrees with that of mkpasswd_verify, for a policy whose new
+-- hashes have this scheme. The cost is the same. So is the error, except that Dead may replace WrongPassword and, if
+-- the decoy needs memory, OutOfMemory may replace a refusal without work.
 abbrev pub Agrees : Scheme → Report → Report → Type 0
 Agrees scheme report verified =
     (report.cost ≡ verified.cost)
@@ -94,8 +100,9 @@ Agrees scheme report verified =
     ⊎ (((report.error ≡ (reason_row Dead).0) × (verified.error ≡ (reason_row WrongPassword).0))
     ⊎ ((report.error ≡ (reason_row OutOfMemory).0) × (allocates scheme ≡ true) × (verified.error ≢ 0) × (verified.work ≡ no_work))))
 
--- If the method and the rounds are valid, and a valid password is checked against a dead hash within the budget, the report is
--- Dead with the cost and the work of the check, or scrypt lacked memory.
+-- TellsDead password field number rounds budget report: if the method, the rounds and the password are valid, and the
+-- stored hash is dead and within the budget, the report is Dead with the cost and the work of the check; or scrypt
+-- lacked memory.
 abbrev pub TellsDead : List ℕ → List ℕ → ℕ → ℕ → ℕ → Report → Type 0
 TellsDead password field number rounds budget report =
     (scheme : Scheme) → (kept : SettingValue) → IsSchemeMade TakesNewRounds number rounds scheme → IsPassword password
@@ -103,11 +110,12 @@ TellsDead password field number rounds budget report =
     → (report ≡ failed Dead (cost kept (length password)) (work password kept))
     ⊎ ((report.error ≡ (reason_row OutOfMemory).0) × (allocates kept.scheme ≡ true))
 
--- How a login judges the stored hash, for C and for a web page alike.
+-- JudgesStoredHash password field number rounds budget result report: how a login judges the stored hash, both for C
+-- and for web pages.
 --   shut       a dead hash lets nobody in
 --   dead       the report of a check against a dead hash is Dead
 --   tells      only a dead hash has that report
---   outdated   the report says so exactly if the password is let in, and a new hash would replace the stored one
+--   outdated   the report says so exactly if the password is let in and a new hash would replace the stored one
 --   as_verify  the report agrees with that of mkpasswd_verify with the same budget
 pub record JudgesStoredHash (password field : List ℕ) (number rounds budget : ℕ) (result : ℤ) (report : Report) : Type 0 where
   pub shut : IsDead field → result ≡ pos 0
@@ -117,12 +125,13 @@ pub record JudgesStoredHash (password field : List ℕ) (number rounds budget : 
   pub as_verify : (scheme : Scheme) → IsSchemeMade TakesNewRounds number rounds scheme
       → (verified : Report) × Verifies password field budget verified × Agrees scheme report verified
 
--- What a login does alike for all fields, or for all that can't be checked, for C and for a web page. Its limit is `limit_of`.
--- With scrypt the decoy may end at an allocation.
+-- TreatsFieldsAlike password field number rounds budget result report: what a login does alike for all fields, or for
+-- all that it can't check, both for C and for web pages. Its limit is `limit_of`. With scrypt the decoy may end at an
+-- allocation.
 --   one_hash      the work is that of at most one hash, within the limit
---   decoy_lacks   a decoy that the limit admits is made, or the error says that scrypt lacked memory for it
---   decoy_made    a field that can't be checked costs the decoy, if the limit is the policy's and admits a new hash
---   decoy         by any other limit too, if that admits the decoy; if not, it costs nothing
+--   decoy_lacks   if the limit admits the decoy, it is made, or the error is OutOfMemory because scrypt lacked memory for it
+--   decoy_made    under the policy's limit, if that admits a new hash, a field that can't be checked costs the decoy
+--   decoy         under any other limit too, if it admits the decoy; otherwise such a field costs nothing
 --   alike         an invalid password is refused with the same report for each field
 --   alike_rounds  so are a method and rounds that no new hash can have
 --   alike_long    a password whose new hash is above the policy's limit gets in by no field, and costs nothing

@@ -47,12 +47,12 @@ reasons =
 abbrev pub reason_numbered : ℕ → Option Reason
 reason_numbered number = find (λ reason. number == (reason_row reason).0) reasons
 
--- The reason for each refusal of a password.
+-- password_reason fault: the reason for a refused password.
 abbrev pub password_reason : PasswordFault → Reason
 password_reason password.TooLong = PasswordTooLong
 password_reason password.HasNul = PasswordZeroByte
 
--- The reason for each refusal of a setting.
+-- setting_reason fault: the reason for a refused setting.
 abbrev pub setting_reason : SettingFault → Reason
 setting_reason setting.TooLong = SettingTooLong
 setting_reason setting.BadCharacter = BadCharacter
@@ -63,7 +63,7 @@ setting_reason setting.ScryptRange = ScryptRange
 setting_reason setting.AboveCeiling = AboveCeiling
 setting_reason setting.BadSalt = BadSalt
 
--- The reason why a setting with a given salt can't be made.
+-- make_reason fault: the reason why a method, rounds and a given salt make no setting.
 abbrev pub make_reason : MakeFault → Reason
 make_reason making.SaltLength = SaltLength
 make_reason making.SaltCharacter = SaltCharacter

@@ -9,14 +9,15 @@ use Rattle.call_core.specs.Arguments.{IsSchemeMade, OnScheme, OnSetting, Refuses
 use Rattle.call_core.specs.Reports.{found}
 use Rattle.call_core.specs.declared.report.Report.{Report}
 
--- A stored hash that is out of date: it spells a setting that the scheme of the method and the rounds replaces.
+-- IsOutdated stored number rounds: the stored hash is outdated: it spells a setting that the scheme of the method and
+-- the rounds replaces.
 abbrev pub IsOutdated : List ℕ → ℕ → ℕ → Type 0
 IsOutdated stored number rounds =
     (kept : SettingValue) × (scheme : Scheme) × Spells stored kept × IsSchemeMade TakesRounds number rounds scheme
     × IsTrue (is_outdated_by kept.scheme scheme)
 
--- The report of mkpasswd_needs_rehash and web_needs_rehash: no error, and whether the scheme replaces the setting; or the
--- refusal of an argument.
+-- Rehashes stored number rounds report: the report of mkpasswd_needs_rehash and web_needs_rehash: no error, and whether
+-- the scheme replaces the setting; or the reason why an argument is refused.
 abbrev pub Rehashes : List ℕ → ℕ → ℕ → Report → Type 0
 Rehashes stored number rounds report =
     OnSetting stored (Refuses report) (λ kept. OnScheme TakesRounds number rounds (Refuses report) (λ scheme.

@@ -1,4 +1,4 @@
--- The bound on the work of a hash, and a new setting, for C and for a web page alike.
+-- The bound on the work of a hash, and the setting of a new hash, both for C and for web pages.
 use Rattle.std.specs.Prelude.{◌≡◌, ℕ, nat_lt, MatchBool, List, [], length}
 use Rattle.prims_core.specs.Work.{no_work}
 use Rattle.crypt_core.specs.MadeSettings.{salted}
@@ -9,28 +9,30 @@ use Rattle.call_core.specs.Reports.{Leaves, refused, succeeded, token}
 use Rattle.call_core.specs.declared.reason.Reason.TheVariants.{TooFewBytes}
 use Rattle.call_core.specs.declared.report.Report.{Report}
 
--- The report of mkpasswd_bound and web_cost: the cost, and the bound on the work, of each password of this length.
+-- Bounds len stored report: the report of mkpasswd_bound and web_cost: the cost, and the bound on the work, of the hash
+-- of any password of this length.
 abbrev pub Bounds : ℕ → List ℕ → Report → Type 0
 Bounds len stored report =
     OnLength len (Refuses report) (OnSetting stored (Refuses report) (λ kept.
     report ≡ succeeded 0 (cost kept len) (work_bound kept len)))
 
--- The report and `out` of a setting: its text, or the token if the capacity is too small.
+-- PutsText text old report new: the call reports the setting and writes its text to `out`, or writes the token if the
+-- capacity is too small.
 abbrev pub PutsText : List ℕ → List ℕ → Report → List ℕ → Type 0
 PutsText text old report new =
     MatchBool (nat_lt (length text) (length old))
     (Leaves (succeeded (length text) 0 no_work) text old report new)
     (Leaves (refused TooFewBytes 0) (token []) old report new)
 
--- The effect of web_setting: the setting that the random numbers make; or the token, if the method or
--- the rounds are refused, or the capacity is too small.
+-- PutsSetting number rounds numbers old report new: the effect of web_setting: it writes the setting that the random
+-- numbers make, or the token if the method or the rounds are refused or the capacity is too small.
 abbrev pub PutsSetting : ℕ → ℕ → List ℕ → List ℕ → Report → List ℕ → Type 0
 PutsSetting number rounds numbers old report new =
     OnScheme TakesNewRounds number rounds (λ reason. Leaves (refused reason 0) (token []) old report new) (λ scheme.
     PutsText (canonical_text (salted scheme numbers)) old report new)
 
--- The effect of mkpasswd_setting: the setting with the given salt; or the token, if the method, the salt or the rounds are
--- refused, or the capacity is too small.
+-- PutsGivenSetting number rounds salt old report new: the effect of mkpasswd_setting: it writes the setting with the
+-- given salt, or the token if the method, the salt or the rounds are refused or the capacity is too small.
 abbrev pub PutsGivenSetting : ℕ → ℕ → List ℕ → List ℕ → Report → List ℕ → Type 0
 PutsGivenSetting number rounds salt old report new =
     OnGiven number rounds salt (λ reason. Leaves (refused reason 0) (token []) old report new) (λ kept. PutsText (canonical_text kept) old report new)

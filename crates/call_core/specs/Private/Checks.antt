@@ -1,4 +1,4 @@
--- What the steps of a call that checks a password leave to it.
+-- What the steps of a call that checks a password promise to it.
 use Rattle.std.specs.Prelude.{◌≡◌, ◌⊎◌, ◌<◌, ℕ, List, length}
 use Rattle.crypt_core.specs.Settings.{SettingValue, Spells}
 use Rattle.crypt_core.specs.Work.{cost}
@@ -8,8 +8,8 @@ use Rattle.call_core.specs.declared.reason.Reason.{Reason}
 use Rattle.call_core.specs.declared.reason.Reason.TheVariants.{OverBudget}
 use Rattle.call_core.specs.declared.report.Report.{Report}
 
--- The report of a field against which the password is not checked: the field is refused, or its setting costs more than
--- the budget.
+-- IsCheckRefused password field budget report: the report if the password is not checked against the field: the field
+-- is refused, or its setting costs more than the budget.
 abbrev pub IsCheckRefused : List ℕ → List ℕ → ℕ → Report → Type 0
 IsCheckRefused password field budget report =
     ((reason : Reason) × IsFieldRefusal field reason × Refuses report reason)
