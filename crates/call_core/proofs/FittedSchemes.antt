@@ -1,4 +1,6 @@
--- The rounds of a scheme make it again, those of a fitted scheme too.
+-- The rounds that mkpasswd_rounds reports make the fitted scheme again, for the clause `fitted` of `report_rounds`. The
+-- argument goes method by method: SHA-crypt clamps rounds that are in range to themselves, and scrypt's parameters give
+-- back the rounds that made them. GivenSettings uses `new_rounds` too.
 use Rattle.std.proofs.Common.{◌≡◌, ◌==◌, ◌<◌, ◌≤◌, ◌∙◌, ℕ, Bool, Some, None, true, false, nat_le, if◌then◌else◌, inl, inr, refl, ap, sym, arith}
 use Rattle.crypt_core.specs.MadeSettings.{made_params, made_rounds, made_scheme, rounds_of}
 use Rattle.crypt_core.specs.Policies.{chosen_rounds, fewer_rounds, fitted, new_cost, recommended_rounds}
@@ -12,7 +14,7 @@ use Rattle.call_core.specs.Arguments.{IsSchemeMade, TakesNewRounds}
 
 -- ---- SHA-crypt
 
--- rounds in range make themselves, with a field
+-- SHA-crypt's rounds that are in range make themselves, and are written in the setting
 count_made : (n : ℕ) → made_rounds (chosen_rounds methods.Sha512crypt (clamped n)) ≡ record { count = clamped n; is_written = true }
 count_made n = go (clamped n) (omega arith) (omega arith) where
   go : (count : ℕ) → 0 < count → clamped count ≡ count → made_rounds (chosen_rounds methods.Sha512crypt count) ≡ record { count = count; is_written = true }
@@ -20,7 +22,7 @@ count_made n = go (clamped n) (omega arith) (omega arith) where
       let none : (count == 0) ≡ false = grind (arith, some) in
       rw (none, none, same) refl
 
--- and those of new hashes have a field
+-- so are the rounds of a new hash, clamped
 pub new_rounds : (rounds : ℕ) → made_rounds (chosen_rounds methods.Sha512crypt rounds)
     ≡ record { count = clamped (chosen_rounds methods.Sha512crypt rounds); is_written = true }
 new_rounds rounds = go (rounds == 0) refl where
@@ -31,6 +33,7 @@ new_rounds rounds = go (rounds == 0) refl where
 
 -- ---- scrypt
 
+-- the rounds of scrypt's parameters make the same parameters
 again : (rounds : ℕ) → 6 ≤ rounds → rounds ≤ 11
     → made_scheme methods.Scrypt (chosen_rounds methods.Scrypt (rounds_of (Scrypt (made_params rounds)))) ≡ Scrypt (made_params rounds)
 again rounds low high =
@@ -38,9 +41,9 @@ again rounds low high =
     let same : rounds_of (Scrypt (made_params rounds)) ≡ rounds = rw some (omega arith) in
     rw (same, some, some) refl
 
--- ---- each scheme
+-- ---- Each scheme
 
--- the rounds of a scheme of new hashes make it
+-- the rounds of a scheme of new hashes make that scheme
 pub remade : (number rounds : ℕ) (scheme : Scheme) → IsSchemeMade TakesNewRounds number rounds scheme
     → IsSchemeMade TakesNewRounds number (rounds_of scheme) scheme
 remade number rounds scheme (methods.Md5crypt, named, takes, is) = rw is (methods.Md5crypt, named, tt, refl)
@@ -61,13 +64,14 @@ remade number rounds scheme (methods.Scrypt, named, inr (low, high), is) =
     let same : rounds_of (Scrypt (made_params rounds)) ≡ rounds = rw some (omega arith) in
     rw (made, same) (methods.Scrypt, named, inr (low, high), rw (some, some) refl)
 
--- as do those of one with fewer rounds
+-- the scheme that is found with fewer rounds of SHA-crypt is the one that is tried
 clamped_own : (sha : Sha) (n : ℕ) (within : Bool) (own : Scheme)
     → (if within then Some (Shacrypt sha (record { count = clamped n; is_written = true })) else None) ≡ Some own
     → Shacrypt sha (record { count = clamped n; is_written = true }) ≡ own
 clamped_own sha n true own e = cc e
 clamped_own sha n false own e = absurd (cc e)
 
+-- its rounds make it again too
 fewer_made : (number rounds limit len : ℕ) (scheme own : Scheme) → IsSchemeMade TakesNewRounds number rounds scheme
     → fewer_rounds scheme limit len ≡ Some own → IsSchemeMade TakesNewRounds number (rounds_of own) own
 fewer_made number rounds limit len scheme own (methods.Md5crypt, named, takes, is) e = absurd (cc (rw is at e))
@@ -79,6 +83,7 @@ fewer_made number rounds limit len scheme own (methods.Sha512crypt, named, takes
     let same = clamped_own Sha512 _ _ own (rw is at e) in
     rw (← same) (methods.Sha512crypt, named, inr (omega arith), sym (ap (Shacrypt Sha512) (count_made _)))
 
+-- so do the rounds of a fitted scheme: it is the policy's own, or one with fewer rounds
 pub fitted_made : (number rounds limit len : ℕ) (scheme own : Scheme) → IsSchemeMade TakesNewRounds number rounds scheme
     → fitted scheme limit len ≡ Some own → IsSchemeMade TakesNewRounds number (rounds_of own) own
 fitted_made number rounds limit len scheme own makes = go (nat_le (new_cost scheme len) limit) where

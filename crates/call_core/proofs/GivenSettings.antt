@@ -1,4 +1,7 @@
--- A setting with a given salt: the first rule that it breaks is the one that making it finds, or else that its rounds would be clamped.
+-- The first rule that a method, rounds and a given salt break, for the clause of `given_setting`. Either making the
+-- setting finds it (`made_refused`), or making it succeeds and the rounds were clamped (`clamped_refused`); if neither
+-- happens, no rule is broken (`unbroken`). The rules on the salt are the same for both; the rule on the rounds is
+-- compared method by method.
 use Rattle.std.proofs.Common.{◌≡◌, ◌≢◌, ◌==◌, ◌∙◌, ℕ, List, Some, false, inl, inr, refl, sym, ap, arith}
 use Rattle.crypt_core.specs.MadeSettings.{BreaksMake, IsMakeRefused, TakesRounds, made_rounds, made_scheme}
 use Rattle.crypt_core.specs.Policies.{chosen_rounds}
@@ -11,30 +14,33 @@ use Rattle.call_core.specs.Arguments.{BreaksGiven, IsGivenRefused, TakesNewRound
 use Rattle.call_core.specs.Private.Settings.{IsClamped}
 use Rattle.call_core.proofs.FittedSchemes.{new_rounds}
 
--- rounds other than 0 are chosen themselves
+-- rounds other than 0 are used as they are
 chosen : (rounds : ℕ) → rounds ≢ 0 → chosen_rounds methods.Sha512crypt rounds ≡ rounds
 chosen rounds some =
     let none : (rounds == 0) ≡ false = grind (arith, some) in
     rw none refl
 
--- and made rounds are these, clamped
+-- so a made scheme of SHA-crypt has these rounds, clamped
 counted : (rounds : ℕ) → rounds ≢ 0 → (made_rounds (chosen_rounds methods.Sha512crypt rounds)).count ≡ clamped rounds
 counted rounds some = ap (λ (made : Rounds). made.count) (new_rounds rounds) ∙ ap clamped (chosen rounds some)
 
--- ---- the rule of the rounds
+-- ---- The rule on the rounds
 
+-- scrypt takes the recommended rounds too, so what it takes, it takes after 0 is replaced
 scrypt_takes : (rounds : ℕ) → TakesRounds methods.Scrypt rounds → TakesRounds methods.Scrypt (chosen_rounds methods.Scrypt rounds)
 scrypt_takes rounds (inl none) = rw none (inr (omega arith, omega arith))
 scrypt_takes rounds (inr (low, high)) =
     let some : (rounds == 0) ≡ false = grind (arith, low) in
     rw some (inr (low, high))
 
+-- rounds that the method does not take are not taken for new hashes
 made_breaks : (method : Method) (rounds : ℕ) → ¬ TakesRounds method (chosen_rounds method rounds) → ¬ TakesNewRounds method rounds
 made_breaks methods.Md5crypt rounds never takes = never tt
 made_breaks methods.Sha256crypt rounds never takes = never tt
 made_breaks methods.Sha512crypt rounds never takes = never tt
 made_breaks methods.Scrypt rounds never takes = never (scrypt_takes rounds takes)
 
+-- nor are rounds that it clamps
 clamped_breaks : (method : Method) (rounds : ℕ) → IsClamped (made_scheme method (chosen_rounds method rounds)) rounds → ¬ TakesNewRounds method rounds
 clamped_breaks methods.Md5crypt rounds is takes = is
 clamped_breaks methods.Sha256crypt rounds (some, other) (inl none) = some none
@@ -43,6 +49,7 @@ clamped_breaks methods.Sha512crypt rounds (some, other) (inl none) = some none
 clamped_breaks methods.Sha512crypt rounds (some, other) (inr same) = other (counted rounds some ∙ same)
 clamped_breaks methods.Scrypt rounds is takes = is
 
+-- but all other rounds are
 kept : (method : Method) (rounds : ℕ) → ¬ (¬ TakesRounds method (chosen_rounds method rounds))
     → ¬ IsClamped (made_scheme method (chosen_rounds method rounds)) rounds → ¬ (¬ TakesNewRounds method rounds)
 kept methods.Md5crypt rounds taken same never = never tt
@@ -56,8 +63,9 @@ kept methods.Scrypt rounds taken same never = taken (λ made. never (scrypt_give
   scrypt_given : (rounds : ℕ) → TakesRounds methods.Scrypt (chosen_rounds methods.Scrypt rounds) → TakesRounds methods.Scrypt rounds
   scrypt_given rounds takes = search (arith, takes)
 
--- ---- the first rule that is broken
+-- ---- The first rule that is broken
 
+-- a rule that making the setting finds broken is the first
 pub made_refused : (method : Method) (rounds : ℕ) (salt : List ℕ) (fault : MakeFault)
     → IsMakeRefused method (chosen_rounds method rounds) (Some salt) fault → IsGivenRefused method rounds salt fault
 unfolding IsMakeRefused IsGivenRefused
@@ -67,6 +75,7 @@ made_refused method rounds salt fault (inr (fits, inr (known, inl (is, broken)))
     inr (fits, inr (known, inl (is, made_breaks method rounds broken)))
 made_refused method rounds salt fault (inr (fits, inr (known, inr never))) = absurd never.1
 
+-- if making it finds none and the rounds were clamped, it is the rule on the rounds
 pub clamped_refused : (method : Method) (rounds : ℕ) (salt : List ℕ)
     → ((fault : MakeFault) → ¬ BreaksMake method (chosen_rounds method rounds) (Some salt) fault)
     → IsClamped (made_scheme method (chosen_rounds method rounds)) rounds → IsGivenRefused method rounds salt Cost
@@ -74,6 +83,7 @@ unfolding IsGivenRefused
 clamped_refused method rounds salt none is =
     inr (none SaltLength, inr (none SaltCharacter, inl (refl, clamped_breaks method rounds is)))
 
+-- otherwise no rule is broken
 pub unbroken : (method : Method) (rounds : ℕ) (salt : List ℕ)
     → ((fault : MakeFault) → ¬ BreaksMake method (chosen_rounds method rounds) (Some salt) fault)
     → ¬ IsClamped (made_scheme method (chosen_rounds method rounds)) rounds → (fault : MakeFault) → ¬ BreaksGiven method rounds salt fault

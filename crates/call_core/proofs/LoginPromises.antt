@@ -1,4 +1,6 @@
--- What a login promises follows from what `log_in` ensures.
+-- What mkpasswd_login and web_login promise (their clauses `judges` and `treats_alike`) follows from what `log_in`
+-- ensures. Each field of `JudgesStoredHash` and `TreatsFieldsAlike` is a lemma of LoginReports about the report, or of
+-- PolicyLimits about the limit. mkpasswd_new uses `by_policy` too.
 use Rattle.std.proofs.Common.{◌≡◌, ◌≢◌, ℕ, ℤ, pos, List, length, inl, inr}
 use Rattle.crypt_core.specs.declared.scheme.Scheme.{Scheme}
 use Rattle.call_core.specs.Arguments.{IsSchemeMade, TakesNewRounds}
@@ -19,12 +21,12 @@ refuses result report answers never = elim answers.0 [
   | inr zero ↦ zero
 ]
 
--- for a budget of 0 the limit is the policy's
+-- with a budget of 0 the limit is that of the policy
 pub by_policy : (number rounds budget len : ℕ) (scheme : Scheme) → IsSchemeMade TakesNewRounds number rounds scheme → budget ≡ twice
     → limit_of number rounds budget len ≡ limit_by scheme len
 by_policy number rounds budget len scheme makes policy = rw policy (limit_made number rounds scheme Policy len makes)
 
--- a login judges the stored hash; the budget is its limit
+-- `log_in` judges the stored hash, where `budget` is its limit
 pub judges : (password field : List ℕ) (number rounds budget : ℕ) (result : ℤ) (report : Report) → Answers result report
     → LogsIn password field number rounds budget report
     → (IsDead field → (report.error ≢ 0))
@@ -40,7 +42,7 @@ judges password field number rounds budget result report answers logged shut dea
   as_verify = λ scheme made. reports.agrees password field number rounds budget scheme report made logged;
 }
 
--- and by the limit of its budget it treats all fields alike
+-- and treats all fields alike, where its limit is the one that the budget means
 pub treats_alike : (password field : List ℕ) (number rounds budget : ℕ) (result : ℤ) (report : Report) → Answers result report
     → LogsIn password field number rounds (limit_of number rounds budget (length password)) report
     → (report.error ≡ 0 → Opens password field (limit_of number rounds budget (length password)))

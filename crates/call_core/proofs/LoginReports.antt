@@ -1,4 +1,10 @@
--- What the report of a login says of its password and the stored hash.
+-- What the report of a login (`LogsIn`) says about the password and the stored hash. `log_in` proves its clause
+-- `logs_in` by the lemmas on its branches; LoginPromises makes `JudgesStoredHash` and `TreatsFieldsAlike` of the
+-- others, for mkpasswd_login and web_login.
+--
+-- Each argument goes through the cases of `LogsIn`: a refused password, a refused method or rounds, a field that can't
+-- be checked and costs the decoy, and a hash that is compared. Two schemes that the same number and rounds make are
+-- equal (`made_once`), so all cases speak of one scheme.
 use Rattle.std.proofs.Common.{◌≡◌, ◌≤◌, ◌<◌, ◌⊎◌, ℕ, Bool, List, Err, length, nat_lt, if◌then◌else◌, false, true, ap, inl, inr, refl, sym, subst, arith, ◌∙◌, ◌≢◌}
 use Rattle.std.specs.Prelude.{IsTrue, MatchBool}
 use Rattle.std.specs.Str.{bytes_eq}
@@ -29,14 +35,16 @@ use Rattle.call_core.proofs.MadeSchemes.{made_once, never_refused}
 use Rattle.call_core.proofs.ReasonNumbers.{never_zero, reason_once}
 use Rattle.call_core.specs.Logins.{Agrees, Declines, IsHashWork, IsLoginWork, IsMiss, IsUncheckable, LogsIn, decoy, spent}
 
--- ---- The report, by the branches of a login
+-- ---- The report in each branch of a login
 
+-- the password, the method or the rounds are refused
 pub refused_request : (password field : List ℕ) (number rounds budget : ℕ) (report : Report) → IsRequestRefused password number rounds report
     → LogsIn password field number rounds budget report
 refused_request password field number rounds budget report (inr refused) = inr refused
 refused_request password field number rounds budget report (inl (is, inr refused)) = inl (is, inr refused)
 refused_request password field number rounds budget report (inl (is, inl (scheme, makes, never))) = absurd never
 
+-- the stored hash can't be checked, and the decoy is made and dropped
 pub declined : (password field : List ℕ) (number rounds budget : ℕ) (scheme : Scheme) (refusal report : Report)
     → IsPassword password → IsSchemeMade TakesNewRounds number rounds scheme → IsCheckRefused password field budget refusal
     → Declines password (decoy scheme) budget refusal report → LogsIn password field number rounds budget report
@@ -46,6 +54,7 @@ declined password field number rounds budget scheme refusal report is makes (inr
     let test : nat_lt budget (cost kept (length password)) ≡ true = grind arith in
     inl (is, inl (scheme, makes, inl (kept, spells, rw test (rw e at declines))))
 
+-- the password's hash is compared with the stored one
 pub compared : (password field : List ℕ) (number rounds budget : ℕ) (scheme : Scheme) (kept : SettingValue) (misses : Reason) (report : Report)
     → IsPassword password → IsSchemeMade TakesNewRounds number rounds scheme → Spells field kept → cost kept (length password) ≤ budget
     → IsMiss field kept misses → Compares password kept field (if is_outdated_by kept.scheme scheme then 1 else 0) misses report
@@ -60,12 +69,13 @@ outdated_is kept other scheme also same made is = rw (same, made) is
 
 -- ---- It agrees with mkpasswd_verify
 
--- only scrypt can be refused for want of memory
+-- only scrypt can lack memory
 refused_allocates : (scheme : Scheme) (done : Work) → IsAfterRefusedGrowth no_work scheme done → allocates scheme ≡ true
 refused_allocates (Scrypt params) done lacks = refl
 refused_allocates Md5crypt done never = absurd never
 refused_allocates (Shacrypt sha rounds) done never = absurd never
 
+-- the decoy changes neither the cost nor, unless scrypt lacks memory, the error of the refusal
 declines_cost : (password : List ℕ) (kept : SettingValue) (budget : ℕ) (refusal report : Report)
     → Declines password kept budget refusal report → report.cost ≡ refusal.cost
 declines_cost password kept budget refusal report declines = go (nat_lt budget (cost kept (length password))) declines where
@@ -89,6 +99,7 @@ declines_error password kept budget refusal report declines = go (nat_lt budget 
   go false (inl e) = inl (ap (λ (r : Report). r.error) e)
   go false (inr (done, lacks, e)) = inr (ap (λ (r : Report). r.error) e, refused_allocates kept.scheme done lacks)
 
+-- and the work is that of the decoy
 declines_work : (password : List ℕ) (kept : SettingValue) (budget : ℕ) (refusal report : Report) → refusal.work ≡ no_work
     → Declines password kept budget refusal report → IsHashWork password kept budget report.work
 declines_work password kept budget refusal report idle declines = go (nat_lt budget (cost kept (length password))) declines where
@@ -115,6 +126,7 @@ pub miss_is : (field : List ℕ) (kept : SettingValue) (misses : Reason) → IsM
 miss_is field kept misses (inl (wrong, whole)) = inl wrong
 miss_is field kept misses (inr (dead, cut)) = inr dead
 
+-- a comparison reports what mkpasswd_verify does, except that Dead may replace WrongPassword
 told_agrees : (scheme : Scheme) (equal : Bool) (outdated : ℕ) (misses : Reason) (most : ℕ) (counts : Work) (report : Report) → (misses ≡ WrongPassword) ⊎ (misses ≡ Dead)
     → report ≡ (if equal then found outdated most counts else failed misses most counts)
     → Agrees scheme report (if equal then found 0 most counts else failed WrongPassword most counts)
@@ -122,6 +134,7 @@ told_agrees scheme false outdated misses most counts report (inl wrong) e = rw (
 told_agrees scheme false outdated misses most counts report (inr dead) e = rw (e, dead) (refl, inr (inl (refl, refl)))
 told_agrees scheme true outdated misses most counts report miss e = rw e (refl, inl refl)
 
+-- mkpasswd_verify has a report with which that of a field with a setting agrees
 checked_agrees : (over equal : Bool) (outdated : ℕ) (password field : List ℕ) (budget most : ℕ) (scheme : Scheme) (kept : SettingValue) (report : Report)
     → MatchBool over (Declines password (decoy scheme) budget (refused OverBudget most) report)
     ((misses : Reason) × IsMiss field kept misses
@@ -157,8 +170,9 @@ agrees password field number rounds budget scheme report makes (inl (is, inl (ot
     password field budget most scheme kept report (rw same at checked) in
     (agree.0, inl (is, inl (kept, spells, agree.1)), agree.2)
 
--- ---- What it can't check
+-- ---- Fields that a login can't check
 
+-- if no setting of the field is within the budget, the field can't be checked
 pub uncheckable : (password field : List ℕ) (budget : ℕ)
     → ((kept : SettingValue) → Spells field kept → cost kept (length password) ≤ budget → ⊥) → IsUncheckable password field budget
 uncheckable password field budget never = λ kept spells. go kept spells (nat_lt budget (cost kept (length password))) refl where
@@ -167,7 +181,7 @@ uncheckable password field budget never = λ kept spells. go kept spells (nat_lt
   go kept spells true e = grind (arith, e)
   go kept spells false e = absurd (never kept spells (grind (arith, e)))
 
--- ---- Its work
+-- ---- The work of a login
 
 -- a hash spends at most its cost
 work_spent : (scheme : Scheme) (password salt : List ℕ)
@@ -188,7 +202,7 @@ refused_spent (Scrypt params) done (inr (inr e)) = rw e (none_spent (Scrypt para
 refused_spent Md5crypt done never = absurd never
 refused_spent (Shacrypt sha rounds) done never = absurd never
 
--- so what is hashed within a budget spends at most that
+-- so the work of a hash within a budget spends at most the budget
 spent_within : (password : List ℕ) (kept : SettingValue) (budget : ℕ) (done : Work) → IsHashWork password kept budget done
     → spent kept.scheme done ≤ budget
 spent_within password kept budget done hashed = go (nat_lt budget (cost kept (length password))) refl hashed where
@@ -206,6 +220,7 @@ compared_work : (equal : Bool) (outdated most : ℕ) (misses : Reason) (counts :
 compared_work true outdated most misses counts = refl
 compared_work false outdated most misses counts = refl
 
+-- a field with a setting costs the decoy if the setting is above the budget, and otherwise its own hash
 checked_work : (above : Bool) (password field : List ℕ) (budget : ℕ) (scheme : Scheme) (kept : SettingValue) (outdated : ℕ) (report : Report)
     → nat_lt budget (cost kept (length password)) ≡ above
     → MatchBool above (Declines password (decoy scheme) budget (refused OverBudget (cost kept (length password))) report)
@@ -235,7 +250,7 @@ one_hash password field number rounds budget report (inl (is, inl (scheme, makes
       | inr old ↦ inr (kept, inl spells, old, spent_within password kept budget _ old)
     ]
 
--- a stored hash that can't be checked costs what a new hash costs
+-- a login that can't check the stored hash makes the decoy in its place
 pub declines : (password field : List ℕ) (number rounds budget : ℕ) (scheme : Scheme) (report : Report)
     → IsSchemeMade TakesNewRounds number rounds scheme → IsPassword password → IsUncheckable password field budget
     → LogsIn password field number rounds budget report
@@ -254,6 +269,7 @@ declines password field number rounds budget scheme report makes is never (inl (
     let decoyed = rw above at checked in
     (refused OverBudget (cost kept (length password)), refl, rw same at decoyed)
 
+-- so its work is that of the decoy
 pub pretends : (password field : List ℕ) (number rounds budget : ℕ) (scheme : Scheme) (report : Report)
     → IsSchemeMade TakesNewRounds number rounds scheme → IsPassword password → IsUncheckable password field budget
     → LogsIn password field number rounds budget report → IsHashWork password (decoy scheme) budget report.work
@@ -261,7 +277,7 @@ pretends password field number rounds budget scheme report makes is never logged
     let declined = declines password field number rounds budget scheme report makes is never logged in
     declines_work password (decoy scheme) budget declined.0 report declined.1 declined.2
 
--- or the error says that there was no memory for it
+-- or its error says that scrypt lacked memory for the decoy
 pub lacks : (password field : List ℕ) (number rounds budget : ℕ) (scheme : Scheme) (report : Report)
     → IsSchemeMade TakesNewRounds number rounds scheme → IsPassword password → IsUncheckable password field budget
     → LogsIn password field number rounds budget report → cost (decoy scheme) (length password) ≤ budget
@@ -274,7 +290,7 @@ lacks password field number rounds budget scheme report makes is never logged lo
       | inr refused ↦ inr (ap (λ (r : Report). r.error) refused.2)
     ]
 
--- a password that no hash has is refused alike for every field
+-- an invalid password is refused with the same report for every field
 pub alike : (password field : List ℕ) (number rounds budget : ℕ) (fault : PasswordFault) (report : Report)
     → IsPasswordRefused password fault → LogsIn password field number rounds budget report → report ≡ refused (password_reason fault) 0
 alike password field number rounds budget TooLong report broken (inl (is, rest)) = absurd (omega (arith, is.0, broken))
@@ -284,7 +300,7 @@ alike password field number rounds budget HasNul report broken (inr (HasNul, als
 alike password field number rounds budget TooLong report broken (inr (HasNul, also, e)) = absurd (omega (arith, also.0, broken))
 alike password field number rounds budget HasNul report broken (inr (TooLong, also, e)) = absurd (omega (arith, broken.0, also))
 
--- a method and a cost that no new hash has are refused alike for every field
+-- so are a method and rounds that no new hash can have
 pub alike_rounds : (password field : List ℕ) (number rounds budget : ℕ) (reason : Reason) (report : Report) → IsPassword password
     → IsSchemeReading TakesNewRounds number rounds (Err reason) → LogsIn password field number rounds budget report → report ≡ refused reason 0
 alike_rounds password field number rounds budget reason report is reading (inr (TooLong, broken, e)) = absurd (omega (arith, is.0, broken))
@@ -300,9 +316,9 @@ alike_rounds password field number rounds budget reason report is (inl (kind, no
 alike_rounds password field number rounds budget reason report is (inr (kind, (method, named, never))) (inl (also, inl (scheme, makes, rest))) =
     never_refused number rounds scheme _ makes method named never
 
--- ---- It tells a dead hash
+-- ---- Only a dead hash is reported as Dead
 
--- a report with the error of another reason, or of none, is of no dead hash
+-- a report with the error of another reason is not that of a dead hash
 not_dead : (reason : Reason) (report : Report) → reason ≢ Dead → report.error ≡ (reason_row reason).0 → report.error ≡ (reason_row Dead).0 → ⊥
 not_dead reason report other is told = other (reason_once reason Dead (sym is ∙ told))
 
@@ -314,6 +330,7 @@ declines_not_dead password kept budget reason most report other declines told =
       | inr lacks ↦ not_dead OutOfMemory report (λ same. absurd (cc same)) lacks.0 told
     ]
 
+-- a comparison that reports Dead had a hash that is not whole
 compared_dead : (equal : Bool) (outdated : ℕ) (field : List ℕ) (kept : SettingValue) (misses : Reason) (most : ℕ) (counts : Work) (report : Report)
     → Spells field kept → IsMiss field kept misses
     → report ≡ (if equal then found outdated most counts else failed misses most counts)
@@ -324,6 +341,7 @@ compared_dead false outdated field kept misses most counts report spells (inl (w
     absurd (not_dead WrongPassword report (λ same. absurd (cc same)) (rw wrong at (ap (λ (r : Report). r.error) e)) told)
 compared_dead false outdated field kept misses most counts report spells (inr (dead, cut)) e told = (kept, spells, cut)
 
+-- and so had the check of a field with a setting, by the budget
 checked_dead : (above equal : Bool) (outdated : ℕ) (password field : List ℕ) (budget : ℕ) (scheme : Scheme) (kept : SettingValue) (report : Report)
     → Spells field kept
     → MatchBool above (Declines password (decoy scheme) budget (refused OverBudget (cost kept (length password))) report)
@@ -338,7 +356,7 @@ checked_dead false equal outdated password field budget scheme kept report spell
 checked_dead false equal outdated password field budget scheme kept report spells (misses, miss, inr (done, lacks, e)) told =
     absurd (not_dead OutOfMemory report (λ same. absurd (cc same)) (ap (λ (r : Report). r.error) e) told)
 
--- no reason for a refused password, setting or field is Dead
+-- no password, setting or field is refused as Dead
 password_other : (fault : PasswordFault) → password_reason fault ≢ Dead
 password_other TooLong = λ same. absurd (cc same)
 password_other HasNul = λ same. absurd (cc same)
@@ -358,6 +376,7 @@ field_other field reason (inl (is, empty)) = λ same. absurd (cc (is, same))
 field_other field reason (inr (inl (is, locked))) = λ same. absurd (cc (is, same))
 field_other field reason (inr (inr (fault, stored, broken, is))) = λ same. setting_other fault (sym is ∙ same)
 
+-- so if a login reports Dead, the stored hash is dead
 pub told_dead : (password field : List ℕ) (number rounds budget : ℕ) (report : Report) → LogsIn password field number rounds budget report
     → report.error ≡ (reason_row Dead).0 → IsDead field
 told_dead password field number rounds budget report (inr (fault, is, e)) told =

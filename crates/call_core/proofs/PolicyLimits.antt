@@ -1,5 +1,9 @@
--- The limit of a policy: it admits a new hash of each password that has up to 64 bytes, and a login by it makes its hash, or
--- none for a password whose new hash is above it.
+-- The limit of a policy. It admits a new hash of each password of up to 64 bytes; a login under it makes the decoy if
+-- it admits a new hash of the password, and makes no hash and lets nobody in if it does not.
+--
+-- The clauses `used` of `report_limit`, `writes` of mkpasswd_new, and `treats_alike` of a login rest on this, and so
+-- does `ForeseesLogins` of an audit. The key step for a password whose new hash is above the limit: its limit is 0, and
+-- every hash costs more than 0.
 use Rattle.std.proofs.Common.{◌≡◌, ◌≤◌, ◌<◌, ◌+◌, ◌*◌, ◌⊎◌, ℕ, Bool, List, [], ◌∷◌, length, nat_lt, false, true, inl, inr, refl, ap, sym, ◌∙◌, arith}
 use Rattle.std.specs.Prelude.{MatchBool, ◌||◌, if◌then◌else◌}
 use Rattle.std.specs.Option.{option_map_or}
@@ -33,13 +37,14 @@ use Rattle.call_core.proofs.MadeSchemes.{made_once}
 
 -- ---- The limit of a call
 
+-- the test of the rounds holds if the method takes them
 taken : (method : Method) (rounds : ℕ) → TakesNewRounds method rounds → takes_new_rounds method rounds ≡ true
 taken methods.Md5crypt rounds takes = refl
 taken methods.Sha256crypt rounds takes = grind (arith, nat_tests, takes)
 taken methods.Sha512crypt rounds takes = grind (arith, nat_tests, takes)
 taken methods.Scrypt rounds takes = grind (arith, nat_tests, takes)
 
--- by a method's number and rounds it is that by the scheme that they make
+-- by a method's number and rounds the limit is that by the scheme that they make
 pub limit_made : (number rounds : ℕ) (scheme : Scheme) (limit : Limit) (len : ℕ) → IsSchemeMade TakesNewRounds number rounds scheme
     → limit_in number rounds limit len ≡ allowance limit scheme len
 limit_made number rounds scheme (Bytes budget) len makes = refl
@@ -50,7 +55,7 @@ limit_made number rounds scheme Policy len (method, named, takes, is) =
     ap (λ (takes : Bool). if takes then limit_by (made_scheme method (chosen_rounds method rounds)) len else 0) (taken method rounds takes) in
     found ∙ own ∙ ap (λ (s : Scheme). limit_by s len) (sym is)
 
--- for a password whose new hash is within the policy's limit, that is the limit
+-- if the new hash of a password is within the policy's limit, its limit is that of the policy
 pub admitting : (scheme : Scheme) (len limit : ℕ) → limit ≡ limit_by scheme len → len ≤ password_limit → new_cost scheme len ≤ policy_limit scheme
     → limit ≡ policy_limit scheme
 admitting scheme len limit is short within =
@@ -58,15 +63,16 @@ admitting scheme len limit is short within =
     let below : nat_lt (policy_limit scheme) (new_cost scheme len) ≡ false = grind (arith, within) in
     rw (few, below) at is
 
--- for a password that is within the limit it is the limit
+-- so it is under any limit that the new hash is within
 pub limit_used : (number rounds : ℕ) (scheme : Scheme) (limit : Limit) (len : ℕ) → IsSchemeMade TakesNewRounds number rounds scheme
     → len ≤ password_limit → new_cost scheme len ≤ limit_bytes limit scheme → limit_in number rounds limit len ≡ limit_bytes limit scheme
 limit_used number rounds scheme (Bytes budget) len makes short within = refl
 limit_used number rounds scheme Policy len makes short within =
     admitting scheme len (limit_in number rounds Policy len) (limit_made number rounds scheme Policy len makes) short within
 
--- ---- It admits new hashes
+-- ---- The limit admits new hashes
 
+-- a new hash of a password of up to 64 bytes costs no more than one of 64 bytes
 less_than_of_64 : (scheme : Scheme) (len : ℕ) → len ≤ 64 → new_cost scheme len ≤ new_cost scheme 64
 less_than_of_64 scheme len short = longest_of_64 scheme len (method_row (method_of scheme)).made_salt_length short
 
@@ -79,7 +85,7 @@ empty_admitted scheme =
 pub salted-cost : (scheme : Scheme) (numbers : List ℕ) (len : ℕ) → cost (salted scheme numbers) len ≡ new_cost scheme len
 salted-cost scheme numbers len = ap (cost_by scheme len) (length-made_salt numbers (method_row (method_of scheme)).made_salt_length)
 
--- by a limit that admits it the decoy is made
+-- a limit that admits a new hash admits the decoy
 pub decoy_made : (password : List ℕ) (scheme : Scheme) (limit : ℕ) (done : Work) → limit ≡ policy_limit scheme
     → new_cost scheme (length password) ≤ policy_limit scheme → IsHashWork password (decoy scheme) limit done
     → (done ≡ work password (decoy scheme)) ⊎ IsAfterRefusedGrowth no_work scheme done
@@ -89,7 +95,7 @@ decoy_made password scheme limit done is within hashed =
     ap (nat_lt limit) (salted-cost scheme (0 ∷ 0 ∷ 0 ∷ []) (length password)) ∙ below in
     rw test at hashed
 
--- for any other it is 0
+-- a limit that admits no new hash of a password is 0 for it
 pub none_admitted : (scheme : Scheme) (len limit : ℕ) → limit ≡ limit_by scheme len → policy_limit scheme < new_cost scheme len → limit ≡ 0
 none_admitted scheme len limit is above =
     let test : nat_lt (policy_limit scheme) (new_cost scheme len) ≡ true = grind (arith, above) in
@@ -99,8 +105,9 @@ none_admitted scheme len limit is above =
     go true e = e
     go false e = e
 
--- ---- It admits nothing for a password whose new hash is above it
+-- ---- A limit of 0 admits no hash
 
+-- the rounds of SHA-crypt are positive, whether or not the setting spells them
 written_count : (written : Bool) (count : ℕ) (Written Unwritten : Type 0) → (Written → 0 < count) → (Unwritten → 0 < count)
     → MatchBool written Written Unwritten → 0 < count
 written_count true count Written Unwritten one other is = one is
@@ -110,6 +117,7 @@ rounds_positive : (rounds : Rounds) (part after : List ℕ) → SpellsRounds rou
 rounds_positive rounds part after spells =
     written_count rounds.is_written rounds.count _ _ (λ is. omega (arith, is.3)) (λ is. omega (arith, is.1)) spells
 
+-- so at least one digest is made, and the cost is positive
 sha_positive : (count digest bytes : ℕ) → 0 < count → 0 < digest → count * digest ≤ bytes → 0 < bytes
 sha_positive count digest bytes some long most =
     let times : 1 * digest ≤ count * digest = mul-le-mul_right digest some in
@@ -123,15 +131,17 @@ cost_positive (Shacrypt Sha512 rounds) part after len salt spells =
     sha_positive rounds.count (64 + len) _ (rounds_positive rounds part after spells) (omega arith) (omega arith)
 cost_positive (Scrypt params) part after len salt spells = omega arith
 
+-- every setting that a text spells has a positive cost
 spelled_positive : (text : List ℕ) (kept : SettingValue) (len : ℕ) → Spells text kept → 0 < cost kept len
 spelled_positive text kept len spells = cost_positive kept.scheme spells.scheme.0 _ len (length kept.salt) spells.scheme.2
 
--- a limit of 0 admits no hash
+-- so within a limit of 0 no hash is made
 none_made : (password : List ℕ) (kept : SettingValue) (done : Work) → 0 < cost kept (length password) → IsHashWork password kept 0 done → done ≡ no_work
 none_made password kept done some hashed =
     let test : nat_lt 0 (cost kept (length password)) ≡ true = grind (arith, some) in
     rw test at hashed
 
+-- a login does no work then
 pub none_logs_in : (password field : List ℕ) (number rounds : ℕ) (scheme : Scheme) (done : Work)
     → IsSchemeMade TakesNewRounds number rounds scheme → policy_limit scheme < new_cost scheme (length password)
     → IsLoginWork password field number rounds 0 done → done ≡ no_work
@@ -145,7 +155,7 @@ none_logs_in password field number rounds scheme done makes above (inr (kept, in
     ∙ ap (λ (own : Scheme). new_cost own (length password)) one in
     none_made password kept done (omega (arith, price, above)) hashed
 
--- nor any login
+-- and lets nobody in
 pub none_opens : (password stored : List ℕ) → Opens password stored 0 → ⊥
 none_opens password stored opens =
     let some = spelled_positive stored opens.1.0 (length password) opens.1.1 in

@@ -1,4 +1,7 @@
--- Hashes that are made, and put into the caller's bytes.
+-- The hash that a call made is the one that it writes to the caller's bytes, for the clauses `hashes` and `opens` of
+-- `put_hash` and `put_new_hash`. A step makes a hash or a refusal (`MakesHash`), another writes it (`IsPut`); the
+-- lemmas put the two together, case by case. A hash that fits is written whole, so what holds of it holds of the first
+-- `length` bytes of `out`.
 use Rattle.std.proofs.Common.{◌≡◌, ◌⊎◌, ◌<◌, ℕ, List, [], ◌∷◌, length, take, Result, Ok, Err, inl, inr, refl, subst, sym, arith}
 use Rattle.std.proofs.Math.Seq.{take-append_seam}
 use Rattle.std.proofs.lemmas.List.{take_all}
@@ -12,6 +15,7 @@ use Rattle.call_core.specs.Private.Hashes.{IsPut, IsTold, MakesHash, MakesHashOf
 use Rattle.call_core.specs.Reports.{LacksMemory, Leaves, put, succeeded, token}
 use Rattle.call_core.specs.declared.report.Report.{Report}
 
+-- by what the budget and the capacity admit
 puts_at : (password text : List ℕ) (kept : SettingValue) (lock old : List ℕ) (made : Result (List ℕ × Report) Report) (report : Report) (new : List ℕ)
     (admitted : Result ℕ Report)
     → MatchResult admitted
@@ -29,11 +33,13 @@ puts_at password text kept lock old made report new (Ok most) (inr (told, e, lac
     inr (rw left.0 lacks, (refl, left.1))
 puts_at password text kept lock old made report new (Err refusal) e put = rw e at put
 
+-- a hash with a setting that is made and written is the effect `PutsHash`
 pub puts : (password : List ℕ) (kept : SettingValue) (budget : ℕ) (lock old : List ℕ) (made : Result (List ℕ × Report) Report) (report : Report) (new : List ℕ)
     → MakesHash password kept budget (length old) made → IsPut made lock old report new → PutsHash password kept budget lock old report new
 puts password kept budget lock old made report new makes put =
     puts_at password (crypt password kept) kept lock old made report new (admission budget (length old) password kept) makes put
 
+-- with the setting in a text, or after the refusal of an argument, it is the effect `Hashes`
 pub puts_hash : (password text : List ℕ) (budget : ℕ) (old : List ℕ) (made : Result (List ℕ × Report) Report) (report : Report) (new : List ℕ)
     → MakesHashOf password text budget (length old) made → IsPut made (token text) old report new → Hashes password text budget old report new
 puts_hash password text budget old made report new (inr (fault, is, e)) put = inr (fault, is, rw e at put)
@@ -41,7 +47,7 @@ puts_hash password text budget old made report new (inl (is, inr (fault, broken,
 puts_hash password text budget old made report new (inl (is, inl (kept, spells, makes))) put =
     inl (is, inl (kept, spells, puts password kept budget (token text) old made report new makes put))
 
--- a text for which there is room is put whole
+-- a text that fits is written whole
 take_put : (text old : List ℕ) → length text < length old → take (length text) (put text old) ≡ text
 take_put text [] room = absurd (omega arith)
 take_put text (b ∷ rest) room =

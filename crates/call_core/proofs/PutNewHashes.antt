@@ -1,4 +1,6 @@
--- Hashes that are made, and put into the caller's bytes.
+-- The effect of a call that makes a new hash, for the clauses of `new_hash_of` and `put_new_hash` and for the clause
+-- `writes` of mkpasswd_new. The argument splits on whether there are three random numbers: with them the hash is made
+-- and written as in PutHashes; without them the call reports the first refusal, or NoRandomNumbers.
 use Rattle.std.proofs.Common.{◌≡◌, ◌≢◌, ◌==◌, ◌⊎◌, ap, nat_lt, refl, ℕ, List, [], ◌∷◌, length, Result, Ok, Err, false, inl, inr, arith}
 use Rattle.std.specs.Prelude.{MatchBool, MatchResult, Bool, true}
 use Rattle.crypt_core.specs.Crypt.{crypt}
@@ -20,8 +22,9 @@ use Rattle.call_core.proofs.PutHashes.{puts}
 use Rattle.call_core.specs.Hashes.{HashesAnew}
 use Rattle.call_core.specs.Private.Hashes.{MakesHashAnew}
 
--- ---- What is made
+-- ---- What the first step makes
 
+-- without three numbers: a refusal
 pub without_numbers : (password : List ℕ) (number rounds : ℕ) (numbers : List ℕ) (budget room : ℕ) (scheme : Scheme) (admitted : Result ℕ Report)
     (made : Result (List ℕ × Report) Report) → IsPassword password → IsSchemeMade TakesNewRounds number rounds scheme
     → (length numbers == 3) ≡ false → admitted ≡ admission budget room password (salted scheme (0 ∷ 0 ∷ 0 ∷ []))
@@ -30,14 +33,16 @@ pub without_numbers : (password : List ℕ) (number rounds : ℕ) (numbers : Lis
 without_numbers password number rounds numbers budget room scheme admitted made is makes missing e fails =
     inl (is, inl (scheme, makes, rw missing (rw e at fails)))
 
+-- with three numbers: the hash with the setting that they make
 pub with_numbers : (password : List ℕ) (number rounds : ℕ) (numbers : List ℕ) (budget room : ℕ) (scheme : Scheme)
     (made : Result (List ℕ × Report) Report) → IsPassword password → IsSchemeMade TakesNewRounds number rounds scheme
     → (length numbers == 3) ≡ true → MakesHash password (salted scheme numbers) budget room made
     → MakesHashAnew password number rounds numbers budget room made
 with_numbers password number rounds numbers budget room scheme made is makes drawn hashed = inl (is, inl (scheme, makes, rw drawn hashed))
 
--- ---- What is put
+-- ---- What the call writes
 
+-- the refusal without three numbers is reported, and the token written
 fails_at : (old : List ℕ) (made : Result (List ℕ × Report) Report) (report : Report) (new : List ℕ) (admitted : Result ℕ Report)
     → MatchResult admitted (λ most. made ≡ Err (refused NoRandomNumbers most)) (λ refusal. made ≡ Err refusal)
     → IsPut made (token []) old report new
@@ -45,6 +50,7 @@ fails_at : (old : List ℕ) (made : Result (List ℕ × Report) Report) (report 
 fails_at old made report new (Ok most) e put = rw e at put
 fails_at old made report new (Err refusal) e put = rw e at put
 
+-- by whether there are three numbers
 puts_with : (password : List ℕ) (scheme : Scheme) (numbers : List ℕ) (budget : ℕ) (old : List ℕ) (made : Result (List ℕ × Report) Report)
     (report : Report) (new : List ℕ) (three : Bool)
     → MatchBool three
@@ -63,6 +69,7 @@ puts_with password scheme numbers budget old made report new true makes put =
 puts_with password scheme numbers budget old made report new false makes put =
     fails_at old made report new (admission budget (length old) password (salted scheme (0 ∷ 0 ∷ 0 ∷ []))) makes put
 
+-- so the call has the effect `HashesAnew`
 pub puts_new_hash : (password : List ℕ) (number rounds budget : ℕ) (numbers old : List ℕ) (made : Result (List ℕ × Report) Report) (report : Report)
     (new : List ℕ) → MakesHashAnew password number rounds numbers budget (length old) made → IsPut made (token []) old report new
     → HashesAnew password number rounds budget numbers old report new
@@ -77,9 +84,9 @@ puts_new_hash password number rounds budget numbers old made report new (inl (is
 pub no_three : (n : ℕ) → n ≢ 3 → (n == 3) ≡ false
 no_three n other = grind arith
 
--- ---- What has to be made
+-- ---- A hash that nothing refuses
 
--- a hash that the budget and the room allow is made, but for memory
+-- a hash that the budget and the capacity allow is made, unless scrypt lacks memory
 made_within : (password : List ℕ) (kept : SettingValue) (budget : ℕ) (lock old : List ℕ) (report : Report) (new : List ℕ)
     → nat_lt budget (cost kept (length password)) ≡ false → nat_lt (length (crypt password kept)) (length old) ≡ true
     → PutsHash password kept budget lock old report new
@@ -90,6 +97,7 @@ made_within password kept budget lock old report new low room puts =
       | inr lacks ↦ inr (ap (λ (r : Report). r.error) lacks.0.2)
     ]
 
+-- so a new hash of a valid password with three numbers is written, unless scrypt lacks memory
 pub written : (password : List ℕ) (number rounds budget : ℕ) (numbers old : List ℕ) (scheme : Scheme) (report : Report) (new : List ℕ)
     → IsSchemeMade TakesNewRounds number rounds scheme → IsPassword password → (length numbers == 3) ≡ true
     → nat_lt budget (cost (salted scheme numbers) (length password)) ≡ false

@@ -1,3 +1,4 @@
+-- The report of a finding of a hash has no work (`idle`), whatever its scheme and standing.
 use Rattle.std.proofs.Common.{◌∙◌, ap}
 use Rattle.call_core.specs.declared.report.Report.{Report}
 use Rattle.call_core.proofs.AuditReports.{scheme_idle, standing_idle}

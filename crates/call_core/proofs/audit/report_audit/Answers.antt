@@ -1,3 +1,5 @@
+-- The clauses `current`, `passes` and `checked` of `report_audit`, from what AuditReports says about the report of a
+-- finding.
 use Rattle.std.proofs.Common.{subst, sym}
 use Rattle.call_core.specs.Audits.{ForeseesLogins, Passes}
 use Rattle.call_core.proofs.AuditReports.{foreseen, passed, passes}

@@ -1,3 +1,4 @@
+-- The clauses `hashes` and `opens` of `put_hash`, from those of its two steps, `hash_of` and `put_hashed` (PutHashes).
 use Rattle.std.proofs.Common.{ℕ, List}
 use Rattle.call_core.specs.Checks.{Opens}
 use Rattle.call_core.proofs.PutHashes.{put_whole, puts_hash}

@@ -1,3 +1,5 @@
+-- The limit that `report_limit` reports is the one that a login and a new hash use for every password up to the
+-- reported length (`used`): the new hash of each is within the limit, and then `limit_used` applies.
 use Rattle.std.proofs.Common.{◌≡◌, ◌≤◌, ap, arith}
 use Rattle.crypt_core.specs.Passwords.{password_limit}
 use Rattle.call_core.specs.Limits.{limit_bytes, new_cost}

@@ -1,3 +1,5 @@
+-- What holds of the rounds that `report_rounds` reports (`fitted`): they make the fitted scheme again, at its cost,
+-- within the limit (FittedSchemes).
 use Rattle.std.proofs.Common.{◌≡◌, ◌≤◌, Some, ap, sym}
 use Rattle.std.specs.Prelude.{false}
 use Rattle.crypt_core.specs.MadeSettings.{rounds_of}

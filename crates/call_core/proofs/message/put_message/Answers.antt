@@ -1,3 +1,5 @@
+-- `put_message` writes the message for the reason that has the number: the one that it found, since no two reasons have
+-- the same number.
 use Rattle.std.proofs.Common.{◌≡◌, rules}
 use Rattle.call_core.proofs.ReasonNumbers.{numbered_row}
 use Rattle.call_core.proofs.message.put_message.Goals as goal

@@ -1,3 +1,5 @@
+-- The clauses of `new_hash_of`, with three random numbers and without (PutNewHashes). The new hash is not outdated,
+-- because its scheme is the one that the method and the rounds make, and no scheme replaces itself.
 use Rattle.std.proofs.Common.{◌≡◌, ◌==◌, ℕ, List, [], ◌∷◌, length, false, true, arith, inl, refl, rules, Ok, Err}
 use Rattle.std.specs.Prelude.{slice_index}
 use Rattle.std.proofs.lemmas.Grind.{common_steps}
@@ -7,6 +9,7 @@ use Rattle.call_core.proofs.PutNewHashes.{no_three, with_numbers, without_number
 use Rattle.call_core.proofs.MadeSchemes.{never_replaced, new_made}
 use Rattle.call_core.proofs.new_hash.new_hash_of.Goals as goal
 
+-- a list of three numbers is that of its first three
 three : (numbers : List ℕ) → length numbers ≡ 3 → numbers ≡ slice_index numbers 0 ∷ slice_index numbers 1 ∷ slice_index numbers 2 ∷ []
 three [] few = absurd (omega (arith, few))
 three (a ∷ []) few = absurd (omega (arith, few))

@@ -1,3 +1,5 @@
+-- `read_request` reports the refusal of a method or of rounds (`refused`): the report is the one that `?` makes of the
+-- reason.
 use Rattle.std.proofs.Common.{◌≡◌, Ok, Err, inl, refl}
 use Rattle.std.specs.Prelude.{IfErr, IsErrAnd, Result}
 use Rattle.call_core.specs.Arguments.{Refuses, TakesNewRounds}
@@ -6,6 +8,7 @@ use Rattle.call_core.specs.declared.report.Report.{Report}
 use Rattle.call_core.proofs.MadeSchemes.{scheme_refused}
 use Rattle.call_core.proofs.reading.read_request.Goals as goal
 
+-- what holds of the wanted report holds of the error, which is that report
 err_is : {A : Type 0} → (made : Result A Report) (report : Report) (P : Report → Type 0) → IsErrAnd made (λ told. told ≡ report) → P report → IfErr made P
 err_is (Ok a) report P is holds = tt
 err_is (Err told) report P is holds = rw is holds

@@ -1,3 +1,5 @@
+-- `report_rehash` reports every outdated hash (`replaced`), and a refused method or rounds (`rehashes`). The setting
+-- and the scheme of an outdated hash are those that the call read, because there is only one of each.
 use Rattle.std.proofs.Common.{◌≡◌, ap, true, inl}
 use Rattle.crypt_core.specs.MadeSettings.{TakesRounds}
 use Rattle.crypt_core.specs.OutdatedSchemes.{is_outdated_by}

@@ -1,3 +1,5 @@
+-- `checkable` admits a stored hash whose cost is within the budget (`admits`), and returns the only setting of the
+-- field (`only`).
 use Rattle.call_core.proofs.CheckReports.{never_above}
 use Rattle.call_core.proofs.verify.checkable.Goals as goal
 

@@ -1,3 +1,6 @@
+-- The clauses `verifies`, `opens` and `shut` of `verify`, once the field is refused (`in-Err-checkable`) and once it is
+-- compared (`in-Ok-checkable`). CheckReports has the report of each; the setting of a hash that the password opens is
+-- the one that was read.
 use Rattle.std.proofs.Common.{◌≡◌, ◌∙◌, inl, inr, sym, ap, arith}
 use Rattle.crypt_core.specs.Crypt.{allocates}
 use Rattle.crypt_core.specs.Settings.{SettingValue}
