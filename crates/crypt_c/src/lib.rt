@@ -1,17 +1,18 @@
-//! mkpasswd for C: the calls of `c/mkpasswd.h`, which says how to use each of them.
+//! mkpasswd for C: the calls behind `c/mkpasswd.h`, which says how to use each of them.
 //!
-//! A list of bytes is a pointer and a number of bytes. All calls but [`mkpasswd_message_bytes`], [`mkpasswd_scheme_name_bytes`]
-//! and [`mkpasswd_version`] have a report. Such a call returns 1 for yes: it did what its name says, the password matches, the
-//! stored hash is outdated, or current for an audit. Otherwise it returns 0. It always writes the whole report, whose error is 0
-//! or the number of the reason why not. After an error `out` holds a token, which matches no password, cut to the capacity of
-//! `out`.
+//! A list of bytes is a pointer and a number of bytes. All calls have a report except [`mkpasswd_message_bytes`],
+//! [`mkpasswd_scheme_name_bytes`] and [`mkpasswd_version`]. A call with a report returns 1 for yes: it did what its
+//! name says, the password matches, the stored hash is outdated, or for an audit the stored hash is current. Otherwise
+//! it returns 0. It always writes the whole report, whose error is 0 or the number of the reason why not. After an
+//! error `out` holds a token, which matches no password, cut to the capacity of `out`.
 //!
-//! The error is the first one that applies, in this order: password, setting, method, salt, rounds, budget, capacity, random
-//! numbers, memory. For a login and an audit method and rounds come before the field; but a login that lacks memory for its decoy
-//! reports that, not the field's error. [`mkpasswd_proved_verify`],
-//! [`mkpasswd_proved_login`] and [`mkpasswd_audit_bytes`] read a stored field: a locked one is `Locked` and an empty one `NoHash`,
-//! where the other calls report what is wrong with it as a setting. A method of 0 is the recommended one, sha512crypt, and
-//! rounds of 0 are the recommended ones. The calls share no state and start no threads, so many threads may call at once.
+//! If several errors apply, the call reports the first in this order: password, setting, method, salt, rounds, budget,
+//! capacity, random numbers, memory. A login and an audit check the method and the rounds before the field; but a login
+//! that lacks memory for its decoy reports that and not the field's error. [`mkpasswd_proved_verify`],
+//! [`mkpasswd_proved_login`] and [`mkpasswd_audit_bytes`] read a stored field: a locked one is `Locked` and an empty
+//! one `NoHash`, where the other calls report what is wrong with it as a setting. A method of 0 is the recommended one,
+//! sha512crypt, and rounds of 0 are the recommended ones. The calls share no state and start no threads, so many
+//! threads may call at once.
 #![tactic(auto)]
 
 ghost use Rattle.std.specs.Prelude.{◌≡◌, ◌≢◌, ◌⊎◌, ◌↔◌, ◌<◌, ◌≤◌, pos, [], length, take};
@@ -51,10 +52,10 @@ use crypt_core::version::VERSION_NUMBER;
 use prims_core::meter::Meter;
 use std::alloc::Global;
 
-/// Returns 1 exactly if the password matches the stored hash and its hash costs at most the budget, unless scrypt could not
-/// allocate.
+/// Checks a password against a stored hash. Returns 1 exactly if the password matches and its hash costs at most the
+/// budget, unless scrypt could not allocate.
 ///
-/// A budget of 0 lets nobody in. The call hashes nothing above the budget, and allocates only for scrypt. The report
+/// The call hashes nothing above the budget, so a budget of 0 lets nobody in. It allocates only for scrypt. The report
 /// has the cost once the password and the stored hash are known to be valid, and the work of the hash.
 ///
 /// For example, `password` and `$1$xxxxxxxx$UYCIxa628.9qXjpQCjM4a.` with a budget of 1000000 give 1.
@@ -89,30 +90,32 @@ pub extern "C" fn mkpasswd_proved_verify(
     )
 }
 
-/// Returns 1 exactly if a new hash can have the method and the rounds, and [`mkpasswd_proved_verify`] returns 1 within the same
-/// limit, unless scrypt could not allocate. The report's `outdated` then tells whether [`mkpasswd_needs_rehash_bytes`] would
-/// return 1. After a 0 it is 0.
+/// Checks the password of a login. Returns 1 exactly if a new hash can have the method and the rounds and
+/// [`mkpasswd_proved_verify`] returns 1 within the same limit, unless scrypt could not allocate. After a 1 the report's
+/// `outdated` says whether [`mkpasswd_needs_rehash_bytes`] would return 1; after a 0 it is 0.
 ///
-/// If the field has no setting, or one above the budget, the call hashes the password with the method, the rounds and a
-/// fixed salt, and returns 0. So such a name does the work of a new hash. For an unknown name, pass an empty field.
-/// Whatever the field is, the call makes at most one hash, and digests and mixes no more bytes than the budget.
+/// If the field has no valid setting, or one whose hash can cost more than the limit, the call hashes the password with
+/// the method, the rounds and a fixed salt, drops the hash, and returns 0. So such a name costs the work of a new hash.
+/// For an unknown name, pass an empty field. Whatever the field is, the call makes at most one hash, and digests and
+/// mixes no more bytes than the limit.
 ///
-/// Rounds of 0 are the recommended ones. A budget of 0 is the limit of the policy: twice what a new hash with the method and
-/// the rounds costs for a password of 64 bytes, and at least 150000000. It admits a new hash of each such password. A
-/// password whose new hash would be above it is refused without work, whatever the field is.
+/// The limit is the budget. Rounds of 0 are the recommended ones, and a budget of 0 is the limit of the policy: twice
+/// what a new hash with the method and the rounds costs for a password of 64 bytes, and at least 150000000. It admits a
+/// new hash of every password of up to 64 bytes. A password whose new hash would be above it is refused without work,
+/// whatever the field is.
 ///
 /// # Errors
 ///
-/// - `PasswordTooLong`, `PasswordZeroByte`: the password is invalid. The field makes no difference.
-/// - `UnknownMethod`, `Rounds`: no method has the number, or a new hash cannot have the rounds. Here too the field makes no
-///   difference.
+/// - `PasswordTooLong`, `PasswordZeroByte`: the password is invalid, whatever the field is.
+/// - `UnknownMethod`, `Rounds`: no method has the number, or a new hash cannot have the rounds, whatever the field is.
 /// - `Locked`, `NoHash`: the field begins with `!` or `*`, or is empty.
-/// - `SettingTooLong` to `BadSalt`, `OverBudget`: any other field has no valid hash, or one that can cost more than the budget. After these
-///   four the work is that of the new hash: none if that can cost more than the budget.
+/// - `SettingTooLong` to `BadSalt`, `OverBudget`: any other field has no valid hash, or one that can cost more than the
+///   limit. After these errors, and after `Locked` and `NoHash`, the work is that of the new hash, or none if that can
+///   cost more than the limit.
 /// - `WrongPassword`: the password does not match.
 /// - `Dead`: no password matches the stored hash, because it is not whole. The work is that of `WrongPassword`.
-/// - `OutOfMemory`: scrypt could not allocate, for the stored hash or, if that cannot be checked, for a new one. The work is that of
-///   the allocations before.
+/// - `OutOfMemory`: scrypt could not allocate, for the stored hash or, if that cannot be checked, for a new one. The
+///   work is that of the allocations before.
 #[unsafe(no_mangle)]
 pub extern "C" fn mkpasswd_proved_login(
     alloc: Global,
@@ -147,23 +150,24 @@ pub extern "C" fn mkpasswd_proved_login(
     )
 }
 
-/// Hashes a password with a new setting of the method and the rounds, and writes the hash and a byte 0 to `out`.
+/// Hashes a password with a new setting of the method and the rounds, and writes the hash and a zero byte to `out`.
 ///
-/// Three random `numbers` make the salt. Without them the report has the first refusal that precedes them, or
-/// else that they are missing. So C's `mkpasswd_new` first calls it without numbers, and draws three only if nothing but
-/// memory can then be refused.
+/// Three random `numbers` make the salt. Without them the report has the first refusal that precedes them, or else
+/// `NoRandomNumbers`. So C's `mkpasswd_new` first calls it without numbers, and draws three only if nothing but a lack
+/// of memory can then refuse the hash.
 ///
 /// The method is 1 for md5crypt, 5 for sha256crypt, 6 for sha512crypt or 7 for scrypt, as in their hashes. The rounds
-/// are those of `mkpasswd -R`, but 0 is the recommended ones. A budget of 0 is the limit of the policy, as for
-/// [`mkpasswd_proved_login`], which accepts the hash for its password by the same method, rounds and budget, unless scrypt lacks
-/// memory. For the same method and rounds [`mkpasswd_needs_rehash_bytes`] does not report it as outdated.
+/// are those of `mkpasswd -R`, except that 0 is the recommended ones. A budget of 0 is the limit of the policy, as for
+/// [`mkpasswd_proved_login`]. With the same method, rounds and budget, [`mkpasswd_proved_login`] accepts the hash for
+/// its password, unless scrypt lacks memory, and [`mkpasswd_needs_rehash_bytes`] does not report it as outdated.
 ///
 /// # Errors
 ///
 /// - `PasswordTooLong`, `PasswordZeroByte`: the password is invalid.
-/// - `UnknownMethod`, `Rounds`: no method has the number, or the method does not accept the rounds, or would clamp them.
+/// - `UnknownMethod`, `Rounds`: no method has the number, or the method does not accept the rounds, or would clamp
+///   them.
 /// - `OverBudget`: the hash can cost more than the budget.
-/// - `TooFewBytes`: the hash and the byte 0 do not fit into `out`.
+/// - `TooFewBytes`: the hash and the zero byte do not fit into `out`.
 /// - `NoRandomNumbers`: `numbers` does not have three.
 /// - `OutOfMemory`: scrypt could not allocate.
 #[unsafe(no_mangle)]
@@ -205,8 +209,8 @@ pub extern "C" fn mkpasswd_proved_new_from(
 
 /// Returns 1 if a new hash with the method and the rounds would replace the stored one.
 ///
-/// It would if the stored hash has another method, fewer rounds, or for scrypt a smaller `N * r * p`. The report's `outdated` says
-/// the same, and its error is 0 for both answers.
+/// It would if the stored hash has another method, fewer rounds, or for scrypt a smaller `N * r * p`. The report's
+/// `outdated` says the same, and its error is 0 for both answers. The call hashes and allocates nothing.
 ///
 /// # Errors
 ///
@@ -226,26 +230,28 @@ pub extern "C" fn mkpasswd_needs_rehash_bytes(
     tell_outdated(report, report_rehash(stored, method, rounds))
 }
 
-/// Returns 1 if the stored hash in a field is current: some digest makes it, no hash with its setting costs more than the
-/// budget, and a new hash with the method and the rounds would not replace it.
+/// Audits the stored hash in a field. Returns 1 if it is current: some digest makes it, no hash with its setting costs
+/// more than the budget, and a new hash with the method and the rounds would not replace it.
 ///
-/// Rounds of 0 are the recommended ones, 656000 and for scrypt 7. A budget of 0 is the greatest cost of a hash with the
-/// method and the rounds, and at least that of sha512crypt with 656000 rounds; above it is also a hash for which a login by
-/// them and the limit of the policy refuses even the empty password. The report has of a valid hash the
-/// scheme, its rounds, or scrypt's N, r and p, and the greatest cost of a hash with its setting, for a password of 1,024 bytes; of
-/// another scheme (`UnknownScheme`) its number, or 0 if none is known by the field's form. The call hashes and allocates nothing.
+/// Rounds of 0 are the recommended ones: 656000, and 7 for scrypt. A budget of 0 is the greatest cost of a hash with
+/// the method and the rounds, and at least that of sha512crypt with 656000 rounds; a hash is then also over budget if a
+/// login with the method, the rounds and the limit of the policy would refuse even the empty password.
+///
+/// For a valid hash the report has the scheme, its rounds, or scrypt's N, r and p, and the greatest cost of a hash with
+/// its setting, for a password of 1,024 bytes. For another scheme (`UnknownScheme`) it has the number of the scheme
+/// that the field looks like, or 0 if it looks like none that is known. The call hashes and allocates nothing.
 ///
 /// # Errors
 ///
 /// - `UnknownMethod`, `Rounds`: no method has the number, or a new hash cannot have the rounds.
 /// - `Locked`, `NoHash`: the field begins with `!` or `*`, or is empty.
-/// - `SettingTooLong` to `BadSalt`: any other field begins with `$`, and has no valid hash; or with `UnknownScheme` it has the form of another scheme
-///   of crypt(5).
+/// - `SettingTooLong` to `BadSalt`: any other field begins with `$` and has no valid hash, or for `UnknownScheme` looks
+///   like another scheme of crypt(5).
 /// - `NoScheme`: any other field has the form of no scheme: it is a password, say, or a damaged hash.
-/// - `OverBudget`: the hash is over the budget.
+/// - `OverBudget`: a hash with its setting can cost more than the budget.
 /// - `Dead`: no password matches the hash, because it is not whole.
 ///
-/// If only a new hash would replace it, the error is 0, and the report's `outdated` is 1.
+/// If a new hash would replace it and nothing else is wrong, the error is 0 and the report's `outdated` is 1.
 #[unsafe(no_mangle)]
 pub extern "C" fn mkpasswd_audit_bytes(
     field: &[u8],
@@ -263,12 +269,12 @@ pub extern "C" fn mkpasswd_audit_bytes(
     tell_current(report, report_audit(field, method, rounds, budget))
 }
 
-/// Reports the limit on the cost of a login and of a new hash, by a method, rounds and a budget, and the length of the longest
-/// password whose new hash is within it.
+/// Reports the limit on the cost of a login and of a new hash for a method, rounds and a budget, and the length of the
+/// longest password whose new hash is within it.
 ///
-/// The cost in the report is the limit: the budget, or for 0 the limit of the policy. Of the lengths of a password exactly those
-/// up to the length in the report are within it. The rounds in the report are those of new hashes, which for 0 are the
-/// recommended ones.
+/// The cost in the report is the limit: the budget, or for 0 the limit of the policy. Passwords of up to the reported
+/// length are within it, and all longer ones are not. The rounds in the report are those of new hashes; for 0 they are
+/// the recommended ones.
 ///
 /// # Errors
 ///
@@ -287,19 +293,20 @@ pub extern "C" fn mkpasswd_limit_bytes(
     tell(report, report_limit(method, rounds, Limit::of(budget)))
 }
 
-/// Reports the rounds of a new hash that is within the limit of a method, rounds and a budget, for any password of this length, and
-/// the cost of that hash.
+/// Reports rounds with which a new hash of any password of this length is within the limit for a method, rounds and a
+/// budget, and the cost of that hash.
 ///
-/// They are the policy's own, if a hash with them is within the limit, or else fewer rounds of SHA-crypt, but as few as 1000 are
-/// enough. A caller gives them to [`mkpasswd_proved_new_from`], with the limit that [`mkpasswd_limit_bytes`] reports as the budget, since fewer
-/// rounds have a lower limit of their own; and the same budget to [`mkpasswd_proved_login`].
+/// They are the policy's own rounds if a hash with them is within the limit, and otherwise fewer rounds of SHA-crypt,
+/// as many as surely fit but at least 1000. Pass them to [`mkpasswd_proved_new_from`], and pass the limit that
+/// [`mkpasswd_limit_bytes`] reports as the budget to that call and to [`mkpasswd_proved_login`], since fewer rounds
+/// have a lower limit of their own.
 ///
 /// # Errors
 ///
 /// - `PasswordTooLong`: the length exceeds that of any password.
 /// - `UnknownMethod`, `Rounds`: no method has the number, or a new hash cannot have the rounds.
-/// - `OverBudget`: no hash of such a password is within the limit, with SHA-crypt by whatever rounds. With a budget of 0 there
-///   always is one.
+/// - `OverBudget`: no hash of such a password is within the limit, with any rounds of SHA-crypt. With a budget of 0
+///   there always is one.
 #[unsafe(no_mangle)]
 pub extern "C" fn mkpasswd_rounds_bytes(
     password_len: usize,
@@ -321,14 +328,13 @@ pub extern "C" fn mkpasswd_rounds_bytes(
     tell(report, told)
 }
 
-/// Reports the greatest cost and the greatest work of a hash with this setting, for any password of this length.
-///
-/// It hashes and allocates nothing.
+/// Reports the greatest cost and the greatest work of a hash with this setting, for any password of this length. The
+/// call hashes and allocates nothing.
 ///
 /// # Errors
 ///
 /// - `PasswordTooLong`: the length exceeds that of any password.
-/// - `SettingTooLong` to `BadSalt`: the stored hash is invalid.
+/// - `SettingTooLong` to `BadSalt`: the setting is invalid.
 #[unsafe(no_mangle)]
 pub extern "C" fn mkpasswd_bound_bytes(
     stored: &[u8],
@@ -341,16 +347,16 @@ pub extern "C" fn mkpasswd_bound_bytes(
     tell(report, report_bound(password_len, stored))
 }
 
-/// Hashes a password with a setting, and writes the hash and a byte 0 to `out`. [`mkpasswd_proved_verify`] accepts it for the
-/// password within the budget, unless scrypt lacks memory.
+/// Hashes a password with a setting, and writes the hash and a zero byte to `out`. [`mkpasswd_proved_verify`] accepts
+/// it for the password within the budget, unless scrypt could not allocate.
 ///
-/// The token after a 0 is `*0`, or `*1` if the setting begins with `*0`.
+/// After a refusal `out` holds the token `*0`, or `*1` if the setting begins with `*0`, cut to the capacity of `out`.
 ///
 /// # Errors
 ///
 /// - `PasswordTooLong` to `BadSalt`: the password or the setting is invalid.
 /// - `OverBudget`: the hash can cost more than the budget.
-/// - `TooFewBytes`: the hash and the byte 0 do not fit into `out`.
+/// - `TooFewBytes`: the hash and the zero byte do not fit into `out`.
 /// - `OutOfMemory`: scrypt could not allocate.
 #[unsafe(no_mangle)]
 pub extern "C" fn mkpasswd_proved_hash(
@@ -373,14 +379,15 @@ pub extern "C" fn mkpasswd_proved_hash(
     tell(report, told)
 }
 
-/// Makes a setting with a method, the rounds and a given salt, and writes it and a byte 0 to `out`.
+/// Makes a setting with a method, the rounds and a given salt, and writes it and a zero byte to `out`.
 ///
 /// # Errors
 ///
 /// - `UnknownMethod`: no method has the number.
-/// - `SaltLength`, `SaltCharacter`: the salt is empty, has more characters than the method keeps, or one outside crypt's alphabet.
+/// - `SaltLength`, `SaltCharacter`: the salt is empty, is longer than the method allows, or has a character outside
+///   crypt's alphabet.
 /// - `Rounds`: the method does not accept the rounds, or would clamp them.
-/// - `TooFewBytes`: the setting and the byte 0 do not fit into `out`.
+/// - `TooFewBytes`: the setting and the zero byte do not fit into `out`.
 #[unsafe(no_mangle)]
 pub extern "C" fn mkpasswd_setting_bytes(
     method: u32,
@@ -397,10 +404,10 @@ pub extern "C" fn mkpasswd_setting_bytes(
     tell(report, told)
 }
 
-/// Writes the message for the reason with this number and a byte 0 to `out`, cut to the capacity of `out`, or `unknown reason` if
-/// none has the number.
+/// Writes the message for the reason with this number and a zero byte to `out`, cut to the capacity of `out`. If no
+/// reason has the number, the message is `unknown reason`.
 ///
-/// It returns 1, or 0 if the message is cut or no reason has the number.
+/// Returns 1, or 0 if the message was cut or no reason has the number.
 #[unsafe(no_mangle)]
 pub extern "C" fn mkpasswd_message_bytes(error: u32, out: &mut [u8]) -> i32
     ensures { PutsMessage error out.old result out.new }
@@ -408,10 +415,10 @@ pub extern "C" fn mkpasswd_message_bytes(error: u32, out: &mut [u8]) -> i32
     put_message(error, out)
 }
 
-/// Writes the name in crypt(5) of the scheme with this number and a byte 0 to `out`, cut to the capacity of `out`, or `unknown scheme`
-/// if none has the number.
+/// Writes the crypt(5) name of the scheme with this number and a zero byte to `out`, cut to the capacity of `out`. If
+/// no scheme has the number, the name is `unknown scheme`.
 ///
-/// It returns 1, or 0 if the name is cut or no scheme has the number.
+/// Returns 1, or 0 if the name was cut or no scheme has the number.
 #[unsafe(no_mangle)]
 pub extern "C" fn mkpasswd_scheme_name_bytes(scheme: u32, out: &mut [u8]) -> i32
     ensures { PutsSchemeName scheme out.old result out.new }

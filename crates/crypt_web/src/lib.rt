@@ -1,20 +1,26 @@
-//! mkpasswd for a web page and for node: hashing and checking, without a heap, in memory that the caller lends for scrypt.
+//! mkpasswd for web pages and for node: it hashes and checks passwords without a heap, in memory that the caller lends
+//! for scrypt.
 //!
-//! A web page or node calls the WebAssembly module built from this crate. A list is a pointer and the number of its items.
-//! Pointers are valid; the report, `words` and `need` are aligned; and what a call writes (`words`, `bytes`, `out`, the report,
-//! `need`) overlaps no other argument. Nothing is wiped.
+//! A web page or node calls the WebAssembly module built from this crate. A list is a pointer and the number of its
+//! items. The caller makes sure that pointers are valid, that the report, `words` and `need` are aligned, and that what
+//! a call writes (`words`, `bytes`, `out`, the report, `need`) overlaps no other argument. The calls wipe nothing.
 //!
-//! But for [`web_need`] and [`web_login_need`], each call returns 1 for yes: it did what its name says, the password matches, the
-//! stored hash is outdated, or current for an audit. Otherwise it returns 0. It writes the whole report, whose error is 0 or the
-//! number of the first reason why not, in the order password, setting, method, rounds, budget, capacity, memory; of a login and an
-//! audit method and rounds come before the field; but a login that lacks memory for its decoy reports that, not the field's error.
-//! [`web_verify`], [`web_login`] and [`web_audit`] read a stored field: a locked one is `Locked` and an empty one `NoHash`,
-//! where the other calls report what is wrong with it as a setting. A method of 0 is the recommended one, sha512crypt, and rounds
-//! of 0 are the recommended ones. These numbers, the report's other fields and what is left in `out` are those of the calls for C.
+//! All calls have a report except [`web_need`], [`web_login_need`], [`web_message`] and [`web_scheme_name`]. A call
+//! with a report returns 1 for yes: it did what its name says, the password matches, the stored hash is outdated, or
+//! for an audit the stored hash is current. Otherwise it returns 0. It always writes the whole report, whose error is 0
+//! or the number of the reason why not. After an error `out` holds a token, which matches no password, cut to the
+//! capacity of `out`.
 //!
-//! Only scrypt needs memory, as `words` of 4 bytes and `bytes`. [`web_need`] and [`web_login_need`] tell how much a call needs with
-//! its arguments. With so much lent, or more, it is never `OutOfMemory`. What the memory holds before does not matter, and what it
-//! holds after is not said.
+//! If several errors apply, the call reports the first in this order: password, setting, method, rounds, budget,
+//! capacity, memory. A login and an audit check the method and the rounds before the field; but a login that lacks
+//! memory for its decoy reports that and not the field's error. [`web_verify`], [`web_login`] and [`web_audit`] read a
+//! stored field: a locked one is `Locked` and an empty one `NoHash`, where the other calls report what is wrong with it
+//! as a setting. A method of 0 is the recommended one, sha512crypt, and rounds of 0 are the recommended ones. The
+//! numbers, the report and what is left in `out` are those of the calls for C.
+//!
+//! Only scrypt needs memory: `words` of 4 bytes, and `bytes`. [`web_need`] and [`web_login_need`] report how much a
+//! call needs with its arguments. If at least that much is lent, the call never reports `OutOfMemory`. The memory may
+//! hold anything before the call, and holds unspecified values after it.
 #![tactic(auto)]
 
 ghost use Rattle.std.specs.Prelude.{◌≡◌, ◌≢◌, ◌≤◌, ◌⊎◌, ◌↔◌, pos, [], ◌∷◌, length, take};
@@ -54,11 +60,11 @@ use crypt_core::memory::Lent;
 use crypt_core::need::Need;
 use prims_core::meter::Meter;
 
-/// Checks a password against a stored hash. Returns 1 exactly if it matches and its hash costs at most the budget, unless too
-/// little memory is lent for scrypt.
+/// Checks a password against a stored hash. Returns 1 exactly if the password matches and its hash costs at most the
+/// budget, unless too little memory is lent for scrypt.
 ///
-/// The call hashes nothing above the budget. The report has the cost once the password and the stored hash are known to be
-/// valid, and the work of the hash.
+/// The call hashes nothing above the budget, so a budget of 0 lets nobody in. The report has the cost once the password
+/// and the stored hash are known to be valid, and the work of the hash.
 ///
 /// For example, `password` and `$1$xxxxxxxx$UYCIxa628.9qXjpQCjM4a.` with a budget of 1000000 give 1.
 ///
@@ -68,8 +74,8 @@ use prims_core::meter::Meter;
 /// - `Locked`, `NoHash`: the stored hash begins with `!` or `*`, or is empty.
 /// - `SettingTooLong` to `BadSalt`: any other stored hash is invalid.
 /// - `OverBudget`: the hash can cost more than the budget.
-/// - `OutOfMemory`: less memory is lent than [`web_need`] tells.
 /// - `WrongPassword`: the password does not match.
+/// - `OutOfMemory`: less memory is lent than [`web_need`] reports.
 #[unsafe(no_mangle)]
 pub extern "C" fn web_verify(
     words: &mut [u32],
@@ -94,30 +100,32 @@ pub extern "C" fn web_verify(
     tell(report, told)
 }
 
-/// Checks the password of a login, as `mkpasswd_login` does for C. Returns 1 exactly if a new hash can have the method and the
-/// rounds, and [`web_verify`] with the same limit returns 1, unless too little memory is lent for scrypt. The report's `outdated`
-/// then tells whether [`web_needs_rehash`] would return 1. After a 0 it is 0.
+/// Checks the password of a login, as `mkpasswd_login` does for C. Returns 1 exactly if a new hash can have the method
+/// and the rounds and [`web_verify`] returns 1 within the same limit, unless too little memory is lent for scrypt.
+/// After a 1 the report's `outdated` says whether [`web_needs_rehash`] would return 1; after a 0 it is 0.
 ///
-/// If the field has no setting, or one above the limit, the call hashes the password with the method, the rounds and a
-/// fixed salt, and returns 0. So such a name does the work of a new hash. A name that is not known has an empty field.
-/// Whatever the field is, the call makes at most one hash, and digests no more bytes than the limit.
+/// If the field has no valid setting, or one whose hash can cost more than the limit, the call hashes the password with
+/// the method, the rounds and a fixed salt, drops the hash, and returns 0. So such a name costs the work of a new hash.
+/// For an unknown name, pass an empty field. Whatever the field is, the call makes at most one hash, and digests and
+/// mixes no more bytes than the limit.
 ///
-/// Rounds of 0 are the recommended ones. A budget of 0 is the limit of the policy: twice what a new hash with the method and
-/// the rounds costs for a password of 64 bytes, and at least 150000000. A password whose new hash would be above it is
-/// refused without work, whatever the field is.
+/// The limit is the budget. Rounds of 0 are the recommended ones, and a budget of 0 is the limit of the policy: twice
+/// what a new hash with the method and the rounds costs for a password of 64 bytes, and at least 150000000. It admits a
+/// new hash of every password of up to 64 bytes. A password whose new hash would be above it is refused without work,
+/// whatever the field is.
 ///
 /// # Errors
 ///
-/// - `PasswordTooLong`, `PasswordZeroByte`: the password is invalid. The field makes no difference.
-/// - `UnknownMethod`, `Rounds`: no method has the number, or a new hash cannot have the rounds. Here too the field makes no
-///   difference.
+/// - `PasswordTooLong`, `PasswordZeroByte`: the password is invalid, whatever the field is.
+/// - `UnknownMethod`, `Rounds`: no method has the number, or a new hash cannot have the rounds, whatever the field is.
 /// - `Locked`, `NoHash`: the field begins with `!` or `*`, or is empty.
-/// - `SettingTooLong` to `BadSalt`, `OverBudget`: any other field has no valid hash, or one that can cost more than the budget. After these
-///   four the work is that of the new hash: none if that can cost more than the budget.
-/// - `OutOfMemory`: less memory is lent than [`web_login_need`] tells, for the stored hash or, if that cannot be checked, for a new
-///   one.
+/// - `SettingTooLong` to `BadSalt`, `OverBudget`: any other field has no valid hash, or one that can cost more than the
+///   limit. After these errors, and after `Locked` and `NoHash`, the work is that of the new hash, or none if that can
+///   cost more than the limit.
 /// - `WrongPassword`: the password does not match.
 /// - `Dead`: no password matches the stored hash, because it is not whole. The work is that of `WrongPassword`.
+/// - `OutOfMemory`: less memory is lent than [`web_login_need`] reports, for the stored hash or, if that cannot be
+///   checked, for a new one.
 #[unsafe(no_mangle)]
 pub extern "C" fn web_login(
     words: &mut [u32],
@@ -156,9 +164,9 @@ pub extern "C" fn web_login(
     tell(report, told)
 }
 
-/// Tells what memory [`web_login`] needs with these arguments: what the stored hash needs if it can be checked within the limit, and
-/// else what a new hash needs if the limit admits it; a call that makes no hash needs nothing. So a stored hash above the limit
-/// never makes anybody lend its memory.
+/// Reports the memory that [`web_login`] needs with these arguments: that of the stored hash if it can be checked
+/// within the limit, and otherwise that of a new hash if the limit admits it. A call that makes no hash needs nothing.
+/// So no caller has to lend memory for a stored hash above the limit.
 #[unsafe(no_mangle)]
 pub extern "C" fn web_login_need(
     password: &[u8],
@@ -173,9 +181,11 @@ pub extern "C" fn web_login_need(
     *need = login_need(password, field, method, rounds, Limit::of(budget));
 }
 
-/// Returns 1 if a new hash with the method and the rounds would replace the stored one, as `mkpasswd_needs_rehash` does for C.
+/// Returns 1 if a new hash with the method and the rounds would replace the stored one, as `mkpasswd_needs_rehash` does
+/// for C.
 ///
-/// It hashes nothing. The report's `outdated` says the same, and its error is 0 for both answers.
+/// It would if the stored hash has another method, fewer rounds, or for scrypt a smaller `N * r * p`. The report's
+/// `outdated` says the same, and its error is 0 for both answers. The call hashes nothing.
 ///
 /// # Errors
 ///
@@ -195,17 +205,17 @@ pub extern "C" fn web_needs_rehash(
     tell_outdated(report, report_rehash(stored, method, rounds))
 }
 
-/// Hashes a password with a setting, and writes the hash and a byte 0 to `out`. [`web_verify`] accepts it for the password
-/// within the budget.
+/// Hashes a password with a setting, and writes the hash and a zero byte to `out`. [`web_verify`] accepts it for the
+/// password within the budget, unless too little memory is lent for scrypt.
 ///
-/// After a refusal `out` has the token `*0`, or `*1` if the setting begins with `*0`, cut to the capacity of `out`.
+/// After a refusal `out` holds the token `*0`, or `*1` if the setting begins with `*0`, cut to the capacity of `out`.
 ///
 /// # Errors
 ///
 /// - `PasswordTooLong` to `BadSalt`: the password or the setting is invalid.
 /// - `OverBudget`: the hash can cost more than the budget.
-/// - `TooFewBytes`: the hash and the byte 0 do not fit into `out`.
-/// - `OutOfMemory`: less memory is lent than [`web_need`] tells.
+/// - `TooFewBytes`: the hash and the zero byte do not fit into `out`.
+/// - `OutOfMemory`: less memory is lent than [`web_need`] reports.
 #[unsafe(no_mangle)]
 pub extern "C" fn web_hash(
     words: &mut [u32],
@@ -231,7 +241,8 @@ pub extern "C" fn web_hash(
     tell(report, told)
 }
 
-/// Tells what memory [`web_verify`] needs for a password and a stored hash, and [`web_hash`] for a password and a setting.
+/// Reports the memory that [`web_verify`] needs for a password and a stored hash, or [`web_hash`] for a password and a
+/// setting.
 #[unsafe(no_mangle)]
 pub extern "C" fn web_need(password: &[u8], text: &[u8], budget: u64, need: &mut Need)
     ensures { IsNeed (HashesWith password.now text.now budget) need.new }
@@ -239,16 +250,17 @@ pub extern "C" fn web_need(password: &[u8], text: &[u8], budget: u64, need: &mut
     *need = hash_need(password, text, budget);
 }
 
-/// Makes a setting with a method, the rounds and three random numbers, and writes it and a byte 0 to `out`.
+/// Makes a setting with a method, the rounds and three random numbers, and writes it and a zero byte to `out`.
 ///
-/// The method is 1 for md5crypt, 5 for sha256crypt, 6 for sha512crypt or 7 for scrypt, as in their hashes. The rounds are
-/// those of `mkpasswd -R`, but 0 is the recommended ones. After a refusal `out` has the token `*0`, cut to the capacity of
-/// `out`.
+/// The method is 1 for md5crypt, 5 for sha256crypt, 6 for sha512crypt or 7 for scrypt, as in their hashes. The rounds
+/// are those of `mkpasswd -R`, except that 0 is the recommended ones. After a refusal `out` holds the token `*0`, cut
+/// to the capacity of `out`.
 ///
 /// # Errors
 ///
-/// - `UnknownMethod`, `Rounds`: no method has the number, or the method does not accept the rounds, or would clamp them.
-/// - `TooFewBytes`: the setting and the byte 0 do not fit into `out`.
+/// - `UnknownMethod`, `Rounds`: no method has the number, or the method does not accept the rounds, or would clamp
+///   them.
+/// - `TooFewBytes`: the setting and the zero byte do not fit into `out`.
 #[unsafe(no_mangle)]
 pub extern "C" fn web_setting(
     method: u32,
@@ -269,23 +281,29 @@ pub extern "C" fn web_setting(
     )
 }
 
-/// Audits the stored hash in a field, as `mkpasswd_audit` does for C. Returns 1 if it is current: some digest makes it, no
-/// hash with its setting costs more than the budget, and a new hash with the method and the rounds would not replace it.
+/// Audits the stored hash in a field, as `mkpasswd_audit` does for C. Returns 1 if it is current: some digest makes it,
+/// no hash with its setting costs more than the budget, and a new hash with the method and the rounds would not replace
+/// it.
 ///
-/// It hashes nothing. Rounds of 0 are the recommended ones, and a budget of 0 is that of an audit. The report has of a
-/// valid hash the scheme, its rounds, or scrypt's N, r and p, and its greatest cost; of another scheme (`UnknownScheme`) its number,
-/// or 0 if none is known by the field's form.
+/// Rounds of 0 are the recommended ones: 656000, and 7 for scrypt. A budget of 0 is the greatest cost of a hash with
+/// the method and the rounds, and at least that of sha512crypt with 656000 rounds; a hash is then also over budget if a
+/// login with the method, the rounds and the limit of the policy would refuse even the empty password.
+///
+/// For a valid hash the report has the scheme, its rounds, or scrypt's N, r and p, and the greatest cost of a hash with
+/// its setting, for a password of 1,024 bytes. For another scheme (`UnknownScheme`) it has the number of the scheme
+/// that the field looks like, or 0 if it looks like none that is known. The call hashes nothing.
 ///
 /// # Errors
 ///
 /// - `UnknownMethod`, `Rounds`: no method has the number, or a new hash cannot have the rounds.
 /// - `Locked`, `NoHash`: the field begins with `!` or `*`, or is empty.
-/// - `SettingTooLong` to `BadSalt`: any other field begins with `$`, and has no valid hash; or with `UnknownScheme` it has the form of another scheme
-///   of crypt(5).
-/// - `NoScheme`: any other field has the form of no scheme.
-/// - `OverBudget`, `Dead`: the hash is over the budget; no password matches it, because it is not whole.
+/// - `SettingTooLong` to `BadSalt`: any other field begins with `$` and has no valid hash, or for `UnknownScheme` looks
+///   like another scheme of crypt(5).
+/// - `NoScheme`: any other field has the form of no scheme: it is a password, say, or a damaged hash.
+/// - `OverBudget`: a hash with its setting can cost more than the budget.
+/// - `Dead`: no password matches the hash, because it is not whole.
 ///
-/// If only a new hash would replace it, the error is 0, and the report's `outdated` is 1.
+/// If a new hash would replace it and nothing else is wrong, the error is 0 and the report's `outdated` is 1.
 #[unsafe(no_mangle)]
 pub extern "C" fn web_audit(
     field: &[u8],
@@ -303,12 +321,12 @@ pub extern "C" fn web_audit(
     tell_current(report, report_audit(field, method, rounds, budget))
 }
 
-/// Reports the limit on the cost of a login and of a new hash, by a method, rounds and a budget, and the length of the longest
-/// password whose new hash is within it, as `mkpasswd_limit` does for C.
+/// Reports the limit on the cost of a login and of a new hash for a method, rounds and a budget, and the length of the
+/// longest password whose new hash is within it, as `mkpasswd_limit` does for C.
 ///
-/// The cost in the report is the limit: the budget, or for 0 the limit of the policy. Of the lengths of a password exactly those
-/// up to the length in the report are within it. The rounds in the report are those of new hashes, which for 0 are the
-/// recommended ones.
+/// The cost in the report is the limit: the budget, or for 0 the limit of the policy. Passwords of up to the reported
+/// length are within it, and all longer ones are not. The rounds in the report are those of new hashes; for 0 they are
+/// the recommended ones.
 ///
 /// # Errors
 ///
@@ -322,19 +340,19 @@ pub extern "C" fn web_limit(method: u32, rounds: u32, budget: u64, report: &mut 
     tell(report, report_limit(method, rounds, Limit::of(budget)))
 }
 
-/// Reports the rounds of a new hash that is within the limit of a method, rounds and a budget, for any password of this length, and
-/// the cost of that hash, as `mkpasswd_rounds` does for C.
+/// Reports rounds with which a new hash of any password of this length is within the limit for a method, rounds and a
+/// budget, and the cost of that hash, as `mkpasswd_rounds` does for C.
 ///
-/// They are the policy's own, if a hash with them is within the limit, or else fewer rounds of SHA-crypt, but as few as 1000 are
-/// enough. A caller gives them to `mkpasswd_new`, with the limit that [`web_limit`] reports as the budget, since fewer
-/// rounds have a lower limit of their own; and the same budget to [`web_login`].
+/// They are the policy's own rounds if a hash with them is within the limit, and otherwise fewer rounds of SHA-crypt,
+/// as many as surely fit but at least 1000. Pass them to [`web_setting`], and pass the limit that [`web_limit`] reports
+/// as the budget to [`web_hash`] and to [`web_login`], since fewer rounds have a lower limit of their own.
 ///
 /// # Errors
 ///
 /// - `PasswordTooLong`: the length exceeds that of any password.
 /// - `UnknownMethod`, `Rounds`: no method has the number, or a new hash cannot have the rounds.
-/// - `OverBudget`: no hash of such a password is within the limit, with SHA-crypt by whatever rounds. With a budget of 0 there
-///   always is one.
+/// - `OverBudget`: no hash of such a password is within the limit, with any rounds of SHA-crypt. With a budget of 0
+///   there always is one.
 #[unsafe(no_mangle)]
 pub extern "C" fn web_rounds(
     password_len: usize,
@@ -356,9 +374,8 @@ pub extern "C" fn web_rounds(
     tell(report, told)
 }
 
-/// Reports the greatest cost and the greatest work of a hash with this setting, for any password of this length.
-///
-/// It hashes nothing.
+/// Reports the greatest cost and the greatest work of a hash with this setting, for any password of this length. The
+/// call hashes nothing.
 ///
 /// # Errors
 ///
@@ -372,10 +389,10 @@ pub extern "C" fn web_cost(setting: &[u8], password_len: usize, report: &mut Rep
     tell(report, report_bound(password_len, setting))
 }
 
-/// Writes the message for the reason with this number and a byte 0 to `out`, cut to the capacity of `out`, or `unknown reason` if
-/// none has the number.
+/// Writes the message for the reason with this number and a zero byte to `out`, cut to the capacity of `out`. If no
+/// reason has the number, the message is `unknown reason`.
 ///
-/// It returns 1, or 0 if the message is cut or no reason has the number.
+/// Returns 1, or 0 if the message was cut or no reason has the number.
 #[unsafe(no_mangle)]
 pub extern "C" fn web_message(error: u32, out: &mut [u8]) -> i32
     ensures { PutsMessage error out.old result out.new }
@@ -383,10 +400,10 @@ pub extern "C" fn web_message(error: u32, out: &mut [u8]) -> i32
     put_message(error, out)
 }
 
-/// Writes the name in crypt(5) of the scheme with this number and a byte 0 to `out`, cut to the capacity of `out`, or `unknown scheme`
-/// if none has the number.
+/// Writes the crypt(5) name of the scheme with this number and a zero byte to `out`, cut to the capacity of `out`. If
+/// no scheme has the number, the name is `unknown scheme`.
 ///
-/// It returns 1, or 0 if the name is cut or no scheme has the number.
+/// Returns 1, or 0 if the name was cut or no scheme has the number.
 #[unsafe(no_mangle)]
 pub extern "C" fn web_scheme_name(scheme: u32, out: &mut [u8]) -> i32
     ensures { PutsSchemeName scheme out.old result out.new }

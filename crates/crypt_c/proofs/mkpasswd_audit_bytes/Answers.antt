@@ -1,3 +1,5 @@
+-- The clauses of `mkpasswd_audit_bytes`: its report is that of `report_audit`, and its result is 1 exactly if an audit
+-- passes the field.
 use Rattle.std.proofs.Common.{rules}
 use Rattle.crypt_c.proofs.mkpasswd_audit_bytes.Goals as goal
 

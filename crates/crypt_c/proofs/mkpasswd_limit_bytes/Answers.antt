@@ -1,3 +1,5 @@
+-- The clause `limits` of `mkpasswd_limit_bytes`: its report is that of `report_limit`, by the limit that the budget
+-- means.
 use Rattle.crypt_c.proofs.mkpasswd_limit_bytes.Goals as goal
 
 pub returns-clause-limits : goal.returns-clause-limits

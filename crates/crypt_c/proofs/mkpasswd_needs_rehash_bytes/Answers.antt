@@ -1,3 +1,4 @@
+-- The clause `rehashes` of `mkpasswd_needs_rehash_bytes`: its report is that of `report_rehash`.
 use Rattle.crypt_c.proofs.mkpasswd_needs_rehash_bytes.Goals as goal
 
 pub returns-clause-rehashes : goal.returns-clause-rehashes

@@ -1,3 +1,6 @@
+-- The clauses of `mkpasswd_proved_login`: its report is that of `log_in`, by the limit that the budget means, and its
+-- result says whether the report's error is 0. LoginPromises makes `judges` and `treats_alike` of what `log_in`
+-- ensures.
 use Rattle.std.proofs.Common.{inl, inr, rules, length}
 use Rattle.call_core.specs.Limits.{limit_of}
 use Rattle.call_core.proofs.LoginPromises.{judges, treats_alike}

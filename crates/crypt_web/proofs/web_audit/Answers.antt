@@ -1,3 +1,5 @@
+-- The clauses of `web_audit`: its report is that of `report_audit`, and its result is 1 exactly if an audit passes the
+-- field.
 use Rattle.std.proofs.Common.{rules}
 use Rattle.crypt_web.proofs.web_audit.Goals as goal
 

@@ -1,3 +1,7 @@
+-- The clauses of `web_login`: its report is that of `log_in`, by the limit that the budget means, and its result says
+-- whether the report's error is 0. LoginPromises makes `judges` and `treats_alike` of what `log_in` ensures. The memory
+-- that was lent is enough for the hash (`enough`), because each of its two parts has at least the length that the need
+-- gives.
 use Rattle.std.proofs.Common.{arith, inl, inr, rules, length}
 use Rattle.call_core.specs.Limits.{limit_of}
 use Rattle.call_core.proofs.LoginPromises.{judges, treats_alike}

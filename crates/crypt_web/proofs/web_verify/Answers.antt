@@ -1,3 +1,6 @@
+-- The clauses of `web_verify`: its report is that of `verify`, and its result is 1 exactly if the report's error is 0.
+-- The memory that was lent is enough for the hash (`enough`), because each of its two parts has at least the length
+-- that the need gives.
 use Rattle.std.proofs.Common.{arith, inl, inr, rules}
 use Rattle.crypt_web.proofs.web_verify.Goals as goal
 
