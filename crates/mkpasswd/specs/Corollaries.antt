@@ -28,29 +28,29 @@ use Rattle.mkpasswd.specs.declared.plan.Plan.TheVariants.{Methods, One, Batch, C
 use Rattle.run_core.specs.declared.line.Kind.{Kind}
 use Rattle.run_core.specs.declared.line.Kind.TheVariants as kinds
 
--- ---- status 0
+-- ---- Status 0
 
 module _ {I O E : Type 0} where
-  -- `out` took this text and was flushed. No call failed, and only `out` changed.
+  -- GivesOnly text old new: `out` took this text and was flushed. No call failed, and only `out` changed.
   pub record GivesOnly (text : List ℕ) (old new : RunState I O E) : Type 0 where
     pub others : new ≡ record old { out = new.out }
     pub gives : Takes 0 1 old.out new.out text
 
-  -- A run read these bytes and wrote these answers, none of which is a refusal, the verdict `no` or an account that
-  -- needs care.
+  -- Succeeds read answers old new: a run read these bytes and wrote these answers. None of them is a refusal, the
+  -- answer `no` or an account that needs care.
   pub record Succeeds (read : List ℕ) (answers : List Answer) (old new : RunState I O E) : Type 0 where
     pub input : Reads old.input new.input read
     pub run : Finishes answers old new (Ok (tally_of answers))
     pub status : tally_status (tally_of answers) ≡ 0
 
-  -- The run read the input to its end, and answered each of its lines.
+  -- SucceedsByLines kind job old new: a run read the input to its end, and answered each of its lines.
   abbrev pub SucceedsByLines : Kind → Job → RunState I O E → RunState I O E → Type 0
   SucceedsByLines kind job old new =
       (bytes : List ℕ) × (answers : List Answer) × IsAtEnd new.input.shown × AreAnswers kind job job.first_line (lines_of bytes) old.stream answers
       × Succeeds bytes answers old new
 
-  -- The command did everything that the plan asks for. If the password is an argument, the input is unchanged. If it is
-  -- in the input, the bytes that were read determine it.
+  -- IsDone plan old new: the command did everything that the plan asks for. If the password is an argument, the input
+  -- is unchanged. If it is in the input, the bytes that were read determine it.
   abbrev pub IsDone : Plan → RunState I O E → RunState I O E → Type 0
   IsDone Methods old new = GivesOnly methods_text old new
   IsDone (One job (Word password)) old new =
@@ -63,31 +63,31 @@ module _ {I O E : Type 0} where
   IsDone (Check job) old new = SucceedsByLines kinds.Check job old new
   IsDone (Audit job) old new = SucceedsByLines kinds.Audit job old new
 
-  -- The arguments ask for help or the version, and `out` took some text.
+  -- IsHelped arguments old new: the arguments ask for help or the version, and `out` took some text.
   abbrev pub IsHelped : List Text → RunState I O E → RunState I O E → Type 0
   IsHelped arguments old new =
       (error : Error) × Plans arguments (Err (Parse error)) × (parse_status (kind_of error) ≡ 0)
       × (text : List ℕ) × GivesOnly text old new
 
-  -- The arguments have a plan, all of which was done; or they ask for help or the version, which was printed. `Made` and
-  -- `IsKept` are as in `IsAsked`.
+  -- EndsWhole Made IsKept arguments old new: the arguments make a plan, and all of it was done; or they ask for help or
+  -- the version, which was printed. `Made` and `IsKept` are as in `IsAsked`.
   abbrev pub EndsWhole : Type 0 → Type 0 → List Text → RunState I O E → RunState I O E → Type 0
   EndsWhole Made IsKept arguments old new =
       ((plan : Plan) × Plans arguments (Ok plan) × IsAsked Made IsKept (wants_generator plan) × IsDone plan old new)
       ⊎ (IsAsked Made IsKept false × IsHelped arguments old new)
 
--- ---- one hash
+-- ---- One hash
 
--- The arguments are `-m TYPE -S SALT PASSWORD`.
+-- hash_arguments method salt password: the arguments `-m TYPE -S SALT PASSWORD`.
 abbrev pub hash_arguments : Text → Text → Text → List Text
 hash_arguments method salt password = codes "-m" ∷ method ∷ codes "-S" ∷ salt ∷ password ∷ []
 
--- The command takes the argument as a value. It does not begin with a hyphen, or is a single hyphen.
+-- IsNoOption word: `clap` takes the argument as a value: it does not begin with a hyphen, or is a single hyphen.
 abbrev pub IsNoOption : Text → Type 0
 IsNoOption word = (word ≡ codes "-") ⊎ ¬ BeginsWith word (codes "-")
 
--- The output took the hash of the password and a line feed. The setting of the hash has the method, its default rounds
--- and the salt.
+-- PrintsHash method salt password old new: the output took the hash of the password and a line feed. The setting of the
+-- hash has the method, its default rounds and the salt.
 abbrev pub PrintsHash : {O : Type 0} → Method → Text → Text → Device O → Device O → Type 0
 PrintsHash method salt password old new =
     Appends old.shown new.shown (as_line (crypt password (record { scheme = made_scheme method 0; salt = salt })))

@@ -14,15 +14,15 @@ use Rattle.mkpasswd.specs.declared.fault.Fault.{Fault}
 use Rattle.mkpasswd.specs.declared.fault.Fault.TheVariants.{Start, Usage, Run}
 use Rattle.mkpasswd.specs.declared.fault.UsageFault.TheVariants.{Parse, Method, TwoSalts, TwoModes, Make, OutOfMemory}
 
--- The exit status of `clap`'s error is 0 if the arguments ask for help or the version, else 2.
+-- parse_status kind: the exit status of `clap`'s error: 0 if the arguments ask for help or the version, otherwise 2.
 abbrev pub parse_status : ErrorKind → ℕ
 parse_status DisplayHelp = 0
 parse_status DisplayVersion = 0
 parse_status _ = 2
 
--- Each error has an exit status and a message. The status is 0 if the arguments ask for help or the version. It is 2 if
--- the arguments or the password are invalid, and 3 after a system error or too many I/O calls. `clap` has messages of
--- its own.
+-- fault_row fault: the exit status and the message of an error. The status is 0 if the arguments ask for help or the
+-- version, 2 if the arguments or the password are invalid, and 3 after a system error or too many I/O calls. `clap` has
+-- messages of its own.
 abbrev pub fault_row : Fault → ℕ × List ℕ
 fault_row Start = (3, codes "start fault")
 fault_row (Usage (Parse error)) = (parse_status (kind_of error), [])
@@ -33,12 +33,12 @@ fault_row (Usage (Make fault)) = (2, make_fault_text fault)
 fault_row (Usage OutOfMemory) = (3, codes "out of memory")
 fault_row (Run fault) = run_row fault
 
--- The line of an error is `mkpasswd: `, its message and a line feed.
+-- fault_line fault: the line of an error: `mkpasswd: `, the message and a line feed.
 abbrev pub fault_line : Fault → List ℕ
 fault_line fault = as_line (codes "mkpasswd: " ++ (fault_row fault).1)
 
--- The command wrote the line of the error and flushed it, in at most as many calls as it has bytes. If that failed, a
--- prefix of it is written.
+-- IsTold fault old new: the command wrote the line of the error and flushed it, in at most as many calls as it has
+-- bytes. If that failed, a prefix of it is written.
 abbrev pub IsTold : {E : Type 0} → Fault → Device E → Device E → Type 0
 IsTold fault old new =
     (result : Result Tally RunFault) × Shows (length (fault_line fault)) old new (fault_line fault) result

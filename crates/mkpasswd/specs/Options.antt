@@ -23,23 +23,24 @@ use Rattle.mkpasswd.specs.declared.fault.UsageFault.TheVariants.{Parse, Method a
 use Rattle.mkpasswd.specs.declared.plan.Plan.{Plan}
 use Rattle.mkpasswd.specs.declared.plan.Plan.TheVariants.{Methods, One, Batch, Check, Audit}
 
--- ---- the command, as `clap` parses it
+-- ---- The command, as `clap` parses it
 
--- The argument takes one value.
+-- value_rule id: the rule of an argument that takes one value.
 abbrev pub value_rule : Text → Rule
 value_rule id = record (new_rule id) { action = Some Set; value_names = 1 }
 
--- The option takes one value. Its long name is its id, and it may have a short name of one character.
+-- option_rule id letter: the rule of an option that takes one value. Its long name is its id, and its short name is the
+-- character with this number, if there is one.
 abbrev pub option_rule : Text → Option ℕ → Rule
 option_rule id letter = record (value_rule id) { short = letter; long = Some id }
 
--- The flag takes no value. Its names are those of an option.
+-- flag_rule id letter: the rule of a flag, which takes no value. It has names like an option.
 abbrev pub flag_rule : Text → Option ℕ → Rule
 flag_rule id letter = record (new_rule id) { action = Some SetTrue; short = letter; long = Some id }
 
--- The short options are `-m` (109), `-S` (83), `-R` (82) and `-s` (115). The number of `-R` is at most 2^32 - 1, that of
--- `--budget` at most 2^64 - 1, and that of `--first-line` 1 to 2^32 - 1. Of the arguments that are no options, the first
--- is the password and the second the salt.
+-- The rules of all arguments. The short options are `-m` (109), `-S` (83), `-R` (82) and `-s` (115). The number of `-R`
+-- is at most 2^32 - 1, that of `--budget` at most 2^64 - 1, and that of `--first-line` 1 to 2^32 - 1. The first
+-- argument that is no option is the password, and the second is the salt.
 abbrev pub command_rules : List Rule
 command_rules =
     option_rule (codes "method") (Some 109) ∷ option_rule (codes "salt") (Some 83)
@@ -54,49 +55,49 @@ command_rules =
 unfoldable pub command : App
 command = fold with_rule (on_top (λ s. record s { no_binary_name = true; has_version = true }) (new_app (codes "mkpasswd"))) command_rules
 
--- ---- what `clap` finds in the arguments: a row for each one that is given
+-- ---- What `clap` finds in the arguments: a row for each one that is given
 
--- The flag with this id is given.
+-- is_set id rows: the flag with this id is given.
 abbrev pub is_set : Text → List Row → Bool
 is_set id rows = option_map_or (bytes_eq (codes "true")) (one_of id rows) false
 
--- The number is that of the option with this id, if it is given. A plus may precede its digits.
+-- number_in id rows: the number of the option with this id, if it is given. A plus may precede its digits.
 abbrev pub number_in : Text → List Row → Option ℕ
 number_in id rows = option_map (λ text. digits_value 10 (without_leading_plus text)) (one_of id rows)
 
--- TYPE is the value of `-m`, and by default sha512crypt.
+-- type_of rows: TYPE: the value of `-m`, or sha512crypt without it.
 abbrev pub type_of : List Row → Text
 type_of rows = unwrap_or (first_of (codes "method") rows) (codes "sha512crypt")
 
--- The rounds are the number of `-R`, and by default 0.
+-- rounds_of rows: the number of `-R`, or 0 without it.
 abbrev pub rounds_of : List Row → ℕ
 rounds_of rows = unwrap_or (number_in (codes "rounds") rows) 0
 
--- The rounds of the job are those of the arguments. For an audit 0 stands for the recommended ones.
+-- job_rounds method rows: the rounds of the job: those of the arguments. For an audit 0 means the recommended ones.
 abbrev pub job_rounds : Method → List Row → ℕ
 job_rounds method rows = if is_set (codes "audit") rows then chosen_rounds method (rounds_of rows) else rounds_of rows
 
--- Lines are numbered from the number of `--first-line`, and by default from 1.
+-- first_line_of rows: the number of the first line: that of `--first-line`, or 1 without it.
 abbrev pub first_line_of : List Row → ℕ
 first_line_of rows = unwrap_or (number_in (codes "first-line") rows) 1
 
--- The salt is the value of `-S` or else the second argument, if one is given.
+-- given_salt rows: the value of `-S`, or else the second argument, if one is given.
 abbrev pub given_salt : List Row → Option Text
 given_salt rows = if is_some (first_of (codes "salt") rows) then first_of (codes "salt") rows else first_of (codes "salt-word") rows
 
--- The number is how many of PASSWORD, `--stdin`, `--batch`, `--check` and `--audit` are given.
+-- mode_count rows: how many of PASSWORD, `--stdin`, `--batch`, `--check` and `--audit` are given.
 abbrev pub mode_count : List Row → ℕ
 mode_count rows = count_by (λ given. given)
     (is_some (first_of (codes "password") rows) ∷ is_set (codes "stdin") rows ∷ is_set (codes "batch") rows ∷ is_set (codes "check") rows
     ∷ is_set (codes "audit") rows ∷ [])
 
--- ---- what the arguments mean
+-- ---- What the arguments mean
 
--- The refusals are in the order of their rules.
+-- The refusals, in the order of their rules.
 abbrev pub usage_faults : List UsageFault
 usage_faults = UnknownMethod ∷ TwoSalts ∷ TwoModes ∷ map Make make_faults
 
--- The arguments break the rule of this refusal. `Parse` and `OutOfMemory` have no rule here.
+-- BreaksUsage rows fault: the arguments break the rule of this refusal. `Parse` and `OutOfMemory` have no rule here.
 --   UnknownMethod  TYPE names no method
 --   TwoSalts       the salt is given in both ways
 --   TwoModes       more than one mode is given
@@ -109,13 +110,13 @@ BreaksUsage rows (Make fault) =
     (method : Method) × (method_named (type_of rows) ≡ Some method) × BreaksMake method (job_rounds method rows) (given_salt rows) fault
 BreaksUsage rows fault = ⊥
 
--- The maker of settings has the method, the rounds and the salt.
+-- IsMaker rows maker: the maker of settings has the method, the rounds and the salt of the arguments.
 abbrev pub IsMaker : List Row → Recipe → Type 0
 IsMaker rows maker = (method : Method) × (method_named (type_of rows) ≡ Some method)
     × (maker ≡ record { scheme = made_scheme method (job_rounds method rows); salt = given_salt rows })
 
--- The arguments ask for this job. `--rehash` asks for rehashes and `--work` for counts. The budget is the number of `--budget`,
--- and by default there is none.
+-- IsJob rows job: the arguments ask for this job. `--rehash` asks for rehashes and `--work` for the counts of the work.
+-- The budget is the number of `--budget`; without it there is none.
 pub record IsJob (rows : List Row) (job : Job) : Type 0 where
   pub maker : IsMaker rows job.maker
   pub rehash : job.rehash ≡ is_set (codes "rehash") rows
@@ -123,8 +124,8 @@ pub record IsJob (rows : List Row) (job : Job) : Type 0 where
   pub budget : job.budget ≡ number_in (codes "budget") rows
   pub first_line : job.first_line ≡ first_line_of rows
 
--- The arguments ask for this plan: its job, in the mode that is given. The password is PASSWORD or the first line of
--- the input, or there are lines to hash, to check or to audit. Without a mode the password is in the input.
+-- IsPlan rows plan: the arguments ask for this plan: its job, in the mode that is given. The password is PASSWORD or
+-- the first line of the input, or there are lines to hash, check or audit. Without a mode the password is in the input.
 abbrev pub IsPlan : List Row → Plan → Type 0
 IsPlan rows (One job (Word word)) = IsJob rows job × (first_of (codes "password") rows ≡ Some word.items)
 IsPlan rows (One job Input) = IsJob rows job × ((is_set (codes "stdin") rows ≡ true) ⊎ (mode_count rows ≡ 0))
@@ -133,21 +134,22 @@ IsPlan rows (Check job) = IsJob rows job × (is_set (codes "check") rows ≡ tru
 IsPlan rows (Audit job) = IsJob rows job × (is_set (codes "audit") rows ≡ true)
 IsPlan rows Methods = ⊥
 
--- TYPE `help` asks for the list of the methods, whatever else is given. Otherwise the arguments mean the refusal of the
--- first rule that they break, or a plan if they break none.
+-- Means rows planned: what the arguments mean. TYPE `help` asks for the list of the methods, whatever else is given.
+-- Otherwise they mean the refusal of the first rule that they break, or a plan if they break none.
 abbrev pub Means : List Row → Result Plan UsageFault → Type 0
 Means rows (Ok Methods) = type_of rows ≡ codes "help"
 Means rows (Ok plan) = (type_of rows ≢ codes "help") × ((fault : UsageFault) → ¬ BreaksUsage rows fault) × IsPlan rows plan
 Means rows (Err fault) = (type_of rows ≢ codes "help") × IsFirstBroken usage_faults (BreaksUsage rows) fault
 
--- The command refuses the arguments. They call for an error of this kind, or for help or the version.
+-- Refuses arguments error: `clap` refuses the arguments with this error, which they call for; or they ask for help or
+-- the version.
 pub record Refuses (arguments : List Text) (error : Error) : Type 0 where
   pub called_for : IsAmong (kind_of error) (fault_of command arguments)
   pub not_taken : takes command arguments ≢ true
   pub not_memory : kind_of error ≢ kind.OutOfMemory
 
--- `plan` may return this result. The command refuses the arguments, or it accepts them and they mean this. An
--- allocation may fail for any arguments.
+-- Plans arguments planned: `plan` may return this result: `clap` refuses the arguments, or it accepts them and they
+-- mean this. An allocation may fail for any arguments.
 abbrev pub Plans : List Text → Result Plan UsageFault → Type 0
 Plans arguments (Err (Parse error)) = Refuses arguments error
 Plans arguments (Err OutOfMemory) = ⊤

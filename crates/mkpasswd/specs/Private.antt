@@ -1,3 +1,4 @@
--- Definitions that only contracts of private functions cite. A reader of the public clauses needs none of them.
+-- Definitions that only the contracts of private functions cite. To read the contracts of the public functions you need
+-- none of them.
 pub mod Commands
 pub mod Options

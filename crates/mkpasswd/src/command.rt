@@ -1,4 +1,4 @@
-//! The whole command: it plans the arguments, runs the plan, and reports errors.
+//! The whole command: it makes a plan from the arguments, runs the plan, and reports errors.
 ghost use Rattle.std.specs.Prelude.{◌≡◌, ℕ, ◌<◌, ◌≤◌, false, List, Option, Some, None, is_some, map, string_bytes};
 ghost use Rattle.crypt_core.specs.Methods.{method_named};
 ghost use Rattle.crypt_core.specs.declared.method.Method.{Method};
@@ -24,36 +24,37 @@ use run_core::transfer::show;
 use std::alloc::{AllocError, Global};
 use std::io::{Read, Write};
 
-// The capacity for the line of an error, of which the longest has 35 bytes.
+// The capacity for the line of an error. The longest such line has 35 bytes.
 const FAULT_LINE_ROOM: usize = 80;
 
 /// Runs the command with the arguments after the program's name, and returns the exit status.
 ///
 /// - 0: everything was done, or help or the version was printed.
-/// - 1: a line was refused or got the verdict `no`, or an audited account needs care.
+/// - 1: a line was refused or got the answer `no`, or an audited account needs care.
 /// - 2: the arguments or the password are invalid.
 /// - 3: a system error occurred, an allocation failed, or the run needs too many I/O calls.
 ///
-/// [`plan`] plans the arguments, and [`run_methods`], [`run_one`], [`run_batch`], [`run_check`] or [`run_audit`] runs
-/// the plan. After an error `faults` gets `mkpasswd: MESSAGE` and a line feed. If `clap` refuses the arguments, `faults`
-/// gets `clap`'s message instead, without a tip to pass an option as a value. Help and the version go to `out`.
+/// [`plan`] makes a plan from the arguments, and [`run_methods`], [`run_one`], [`run_batch`], [`run_check`] or
+/// [`run_audit`] runs it. After an error the command writes `mkpasswd: MESSAGE` and a line feed to `faults`. If `clap`
+/// refuses the arguments, it writes `clap`'s message instead, without a tip to pass an option as a value. Help and the
+/// version go to `out`.
 ///
-/// If the plan hashes or checks passwords, the command calls `make` once, and `generator` gets what that returns. If it is
-/// `None`, the plan is not run, and the message is `start fault`. For audits, the list of the methods, help, the version
-/// and invalid arguments it makes no generator. If the message about an error cannot be written, the status alone reports
-/// the error. If help or the version cannot be written in full, that is an error with status 3.
+/// If the plan hashes or checks passwords, the command calls `make` once and stores the result in `generator`. If that
+/// is `None`, the command does not run the plan, and the message is `start fault`. Audits, the list of the methods,
+/// help, the version and invalid arguments need no generator, so the command does not call `make` for them. Both stay
+/// with the caller, so that the clauses can say how the command used them.
 ///
-/// The run, or `clap`'s message, takes at most `turns` I/O calls. The line of an error is not among them, and takes at
-/// most as many calls as it has bytes.
+/// If the message of an error cannot be written, only the exit status reports the error. If help or the version cannot
+/// be written in full, that is an error with status 3.
 ///
-/// `make` is called at most once, and only for arguments that ask to hash or to check. The generator stays in `generator`,
-/// and `make` with the caller, so that the clauses can say how both were used.
+/// The run, or `clap`'s message, takes at most `turns` I/O calls. The line of an error comes on top, with at most as
+/// many calls as it has bytes.
 ///
 /// For example, the arguments `-m md5crypt -S xxxxxxxx password` write `$1$xxxxxxxx$UYCIxa628.9qXjpQCjM4a.` and a line
 /// feed to `out`, and the status is 0.
 ///
-/// Preconditions: `generator` is `None`, `make` can be called, `turns` is at most 2^40, each count of the meter at most
-/// 2^100, and each count of the devices at most 2^62.
+/// Preconditions: `generator` is `None`, `make` can be called, `turns` is at most 2^40, each count of the meter is at
+/// most 2^100, and each count of the devices is at most 2^62.
 pub fn run_command<I: Read, O: Write, E: Write, R: Rng + Drop, M: FnMut() -> Option<R>>(
     alloc: Global,
     arguments: &[String],
@@ -92,7 +93,7 @@ pub fn run_command<I: Read, O: Write, E: Write, R: Rng + Drop, M: FnMut() -> Opt
     }
 }
 
-// Makes the generator for a plan, if that wants one.
+// Makes the generator if the plan needs one.
 fn generator_for<R: Rng, M: FnMut() -> Option<R>>(plan: &Plan, make: &mut M) -> Option<R>
     requires { M.pre make.old }
     ensures { IsAsked (M.step make.old result make.new) ((make.new ≡ make.old) × (result ≡ None)) (wants_generator plan.now) }
@@ -103,7 +104,7 @@ fn generator_for<R: Rng, M: FnMut() -> Option<R>>(plan: &Plan, make: &mut M) -> 
     }
 }
 
-// Runs a plan. If it wants a generator and there is none, the error is `Start`, and nothing is done.
+// Runs a plan. If the plan needs a generator and there is none, it does nothing and the error is `Start`.
 fn run_plan<I: Read, O: Write, E: Write, R: Rng>(
     alloc: Global,
     plan: &Plan,
@@ -137,7 +138,7 @@ fn run_plan<I: Read, O: Write, E: Write, R: Rng>(
     }
 }
 
-// Reports why the arguments have no plan, with `clap`'s message or the line of the error, and returns the exit status.
+// Reports why the arguments make no plan, with `clap`'s message or the line of the error, and returns the exit status.
 fn show_refusal<O: Write, E: Write>(
     alloc: Global,
     fault: UsageFault,
@@ -156,7 +157,7 @@ fn show_refusal<O: Write, E: Write>(
     }
 }
 
-// Writes the message of `clap`'s error to the output that `clap` names for it, and returns the exit status.
+// Writes the message of `clap`'s error to the output that `clap` intends for it, and returns the exit status.
 fn show_error<O: Write, E: Write>(
     alloc: Global,
     error: &clap::Error,
@@ -184,8 +185,8 @@ fn show_error<O: Write, E: Write>(
     }
 }
 
-// Returns the message of `clap`'s error. It has no tip to pass an unknown option as a value, since that value would be
-// the password.
+// Returns the message of `clap`'s error, without the tip to pass an unknown option as a value: that value would be the
+// password.
 fn text_of(alloc: Global, error: &clap::Error) -> Result<String, AllocError> {
     let text = format!(in alloc; "{error}")?;
     match text.as_str().split_once("\n  tip: to pass ") {
@@ -202,10 +203,10 @@ fn text_of(alloc: Global, error: &clap::Error) -> Result<String, AllocError> {
 
 /// Writes the line of an error, `mkpasswd: MESSAGE`, to `faults`, flushes it, and returns the error's exit status.
 ///
-/// It makes at most as many writes as the line has bytes. If one of them fails, the status alone reports the error.
-/// After `Parse` MESSAGE is empty, because `clap` has the message.
+/// It makes at most as many writes as the line has bytes. If one of them fails, only the status reports the error. For
+/// `Parse` MESSAGE is empty, because `clap` has the message.
 ///
-/// Precondition: the counts of `faults` are within the limits that a run leaves.
+/// Precondition: the counts of `faults` are within the limits that a run keeps to.
 pub fn report_fault<E: Write>(fault: &Fault, faults: &mut Output<E>) -> u8
     requires room { HasRoomWithinRun faults.old }
     ensures told { IsTold fault.now faults.old faults.new }

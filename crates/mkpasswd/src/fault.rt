@@ -1,5 +1,5 @@
 //! The errors that end the program early, each with its message and exit status. The message does not include the
-//! program's name. A request for help or the version is an error with status 0.
+//! program's name. A request for help or the version counts as an error with status 0.
 ghost use Rattle.std.specs.Prelude.{◌≡◌, ◌≢◌};
 ghost use Rattle.std.specs.IoError.{error_kind};
 ghost use Rattle.clap.specs.Words.{kind_of};
@@ -12,7 +12,7 @@ use std::alloc::AllocError;
 use std::io;
 use thiserror::Error;
 
-/// The reason why the arguments after the program's name have no plan.
+/// Why the arguments after the program's name make no plan.
 #[derive(Debug, Drop, Error)]
 #[error("{}", self.text())]
 pub enum UsageFault {
@@ -99,11 +99,9 @@ impl From<AllocError> for UsageFault {
 /// The error that ends the program early.
 #[derive(Debug, Drop)]
 pub enum Fault {
-    /// The arguments cannot be read as text, or a plan that hashes has no generator.
-    ///
-    /// The system returned no seed for the generator.
+    /// The arguments cannot be read as text, or the system returned no seed for the generator that the plan needs.
     Start,
-    /// The arguments have no plan, or an allocation failed.
+    /// The arguments make no plan, or an allocation failed.
     Usage(UsageFault),
     /// The run ended with an error.
     Run(RunFault),

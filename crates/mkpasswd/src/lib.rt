@@ -1,5 +1,5 @@
-//! mkpasswd hashes passwords with the schemes of crypt(5), one at a time or line by line, and checks lines with stored
-//! hashes. It plans its arguments, and runs the plan over any devices, generator and meter.
+//! mkpasswd hashes passwords with the schemes of crypt(5), one at a time or line by line, and checks and audits lines
+//! with stored hashes. It makes a plan from the arguments and runs it with any devices, generator and meter.
 #![tactic(auto)]
 
 pub mod command;

@@ -1,5 +1,5 @@
 //! The arguments after the program's name: the command with which `clap` parses them, and the plan that they ask for.
-//! The refusals have one order. Only `OutOfMemory` has no place in it: it occurs at the allocation that failed.
+//! Refusals are reported in a fixed order. Only `OutOfMemory` has no place in it: it occurs where an allocation fails.
 ghost use Rattle.std.specs.Prelude.{◌^◌, ◌≡◌, ◌≢◌, List, [], None, Some, codes, map, string_bytes, IfErr, IfOk};
 ghost use Rattle.clap.specs.Words.{app_of, fault_of, first_of, kind_of, matches_of, rule_of};
 ghost use Rattle.run_core.specs.Makers.{bytes_of};
@@ -17,10 +17,10 @@ use crypt_core::version::VERSION;
 use std::alloc::{AllocError, Global};
 use std::marker::Model;
 
-// The TYPE of arguments without `-m`.
+// TYPE if `-m` is not given.
 const DEFAULT_TYPE: &str = "sha512crypt";
 
-// The texts of help: its first line, those of each argument, and its last line.
+// The texts of help: its first line, one text for each argument, and its last line.
 const ABOUT: &str =
     "Prints a password's crypt(5) hash, and hashes, checks or audits lines of a file";
 
@@ -59,7 +59,7 @@ const SALT_WORD_HELP: &str = "The salt, in place of --salt";
 
 const AFTER_HELP: &str = "Pass a password that begins with '-' by --stdin.";
 
-// What `clap` finds in the arguments. Clauses see its rows, one for each argument that is given.
+// What `clap` found in the arguments. Clauses see it as a list of rows, one for each argument that is given.
 #[derive(Drop)]
 struct Arguments<'a> {
     matches: ArgMatches<'a>,
@@ -78,21 +78,22 @@ impl<'a> Model for Arguments<'a> {
 }
 
 impl<'a> Arguments<'a> {
-    // Returns the value of an option or argument.
+    // Returns the value of an option or an operand.
     fn text(&self, id: &str) -> Option<&'a str>
         ensures { bytes_of result ≡ first_of id.now self.now }
     {
         self.matches.get_str(id)
     }
 
-    // Returns whether the flag is given. The contract of `get_flag` does not cover a value that is not a `bool`.
+    // Returns whether the flag is given. It does not use `get_flag`, whose contract covers only values that are a
+    // `bool`.
     fn has(&self, id: &str) -> bool
         ensures { result ≡ is_set id.now self.now }
     {
         self.matches.get_one(id).unwrap_or(false)
     }
 
-    // Returns the number of an option that takes only numbers below 2^32.
+    // Returns the number of an option that only accepts numbers below 2^32.
     fn number32(&self, id: &str) -> Option<u32>
         requires { IsNumber (2 ^ 32) id.now }
         ensures { result ≡ number_in id.now self.now }
@@ -100,7 +101,7 @@ impl<'a> Arguments<'a> {
         self.matches.get_one(id)
     }
 
-    // Returns the number of an option that takes only numbers below 2^64.
+    // Returns the number of an option that only accepts numbers below 2^64.
     fn number64(&self, id: &str) -> Option<u64>
         requires { IsNumber (2 ^ 64) id.now }
         ensures { result ≡ number_in id.now self.now }
@@ -118,12 +119,12 @@ impl<'a> Arguments<'a> {
 
 /// Returns the plan that the arguments after the program's name ask for.
 ///
-/// TYPE `help` asks for the list of the methods, whatever else is given. For example, `-m help` plans `Plan::Methods`,
-/// and `--check --work` plans `Plan::Check` with the default method.
+/// TYPE `help` asks for the list of the methods, whatever else is given. For example, `-m help` makes the plan
+/// `Plan::Methods`, and `--check --work` makes `Plan::Check` with the default method.
 ///
 /// # Errors
 ///
-/// The first rule that the arguments break:
+/// The error is that of the first rule that the arguments break:
 ///
 /// - `Parse`: `clap` refuses the arguments, or they ask for help or the version.
 /// - `Method`: TYPE names no method, and is not `help`.
@@ -131,7 +132,7 @@ impl<'a> Arguments<'a> {
 /// - `TwoModes`: more than one of PASSWORD, `-s`, `--batch`, `--check` and `--audit` is given.
 /// - `Make`: [`Maker::new`] refuses the method, the rounds and the salt.
 ///
-/// If an allocation fails, the error is `OutOfMemory` instead of any later check.
+/// If an allocation fails, the error is `OutOfMemory`, and later rules are not checked.
 pub fn plan(alloc: Global, words: &[String]) -> Result<Plan, UsageFault>
     ensures { Plans (map string_bytes words.now) result }
 {
@@ -146,7 +147,7 @@ pub fn plan(alloc: Global, words: &[String]) -> Result<Plan, UsageFault>
     Ok(planned(alloc, &given, maker)?)
 }
 
-// Parses the arguments with the command. The error is `clap`'s own. If an allocation failed, its kind is `OutOfMemory`.
+// Parses the arguments. The error is `clap`'s own; its kind is `OutOfMemory` if an allocation failed.
 fn parse<'a>(alloc: Global, arguments: &'a [String]) -> Result<Arguments<'a>, clap::Error>
     ensures ok { IfOk result (λ given. (fault_of command (map string_bytes arguments.entry.now) ≡ [])
         × (given ≡ matches_of command (map string_bytes arguments.entry.now))) }
@@ -165,7 +166,7 @@ fn known_method(given: &Arguments<'_>) -> Result<Method, UsageFault>
     Method::named(given.type_name().as_bytes()).ok_or(UsageFault::Method)
 }
 
-// Returns the salt, which may be given in at most one of the two ways.
+// Returns the salt, which can be given with `-S` or as an argument, but not both.
 fn one_salt<'a>(given: &Arguments<'a>) -> Result<Option<&'a [u8]>, UsageFault>
     ensures once { IfOk result (λ salt. bytes_of salt ≡ given_salt given.now) }
     ensures rule { ChecksRule given.now UsageFault.TwoSalts result }
@@ -192,7 +193,7 @@ fn one_mode(given: &Arguments<'_>) -> Result<(), UsageFault>
     Ok(())
 }
 
-// Returns the rounds of the job. An audit without `-R`, or with 0, judges by the recommended rounds.
+// Returns the rounds of the job. An audit without `-R`, or with `-R 0`, compares with the recommended rounds.
 fn job_rounds(given: &Arguments<'_>, method: Method) -> u32
     ensures { result ≡ job_rounds method given.now }
 {
@@ -231,7 +232,7 @@ fn planned(alloc: Global, given: &Arguments<'_>, maker: Maker) -> Result<Plan, A
     Ok(Plan::One(job, PasswordFrom::Input))
 }
 
-// Returns the command with which the arguments are parsed, with its help.
+// Returns the command with which `clap` parses the arguments, with its help.
 fn command<'a>(alloc: Global) -> Result<Command<'a>, AllocError>
     ensures { IfOk result (λ made. app_of made ≡ command) }
 {
@@ -261,7 +262,7 @@ fn command<'a>(alloc: Global) -> Result<Command<'a>, AllocError>
         .args(arguments)
 }
 
-// Returns a flag, whose long name is its id.
+// Returns a flag whose long name is its id.
 fn flag<'a>(alloc: Global, id: &'a str, letter: Option<char>, help: &'a str) -> Arg<'a>
     ensures { HasRule result (flag_rule id.entry.now letter) }
 {
@@ -272,7 +273,7 @@ fn flag<'a>(alloc: Global, id: &'a str, letter: Option<char>, help: &'a str) -> 
     lettered(arg, letter)
 }
 
-// Returns an option with one value, whose long name is its id.
+// Returns an option with one value whose long name is its id.
 fn option<'a>(
     alloc: Global,
     id: &'a str,
@@ -298,7 +299,7 @@ fn number<'a>(
     option(alloc, id, letter, "NUMBER", help).value_parser(parser)
 }
 
-// Returns the argument with this short name, if there is one.
+// Returns the argument with this short name, or unchanged if there is none.
 fn lettered<'a>(arg: Arg<'a>, letter: Option<char>) -> Arg<'a>
     requires { (rule_of arg).short ≡ None }
     ensures rule { rule_of result ≡ record (rule_of arg.entry) { short = letter } }
@@ -310,7 +311,7 @@ fn lettered<'a>(arg: Arg<'a>, letter: Option<char>) -> Arg<'a>
     }
 }
 
-// Returns an argument that is one value.
+// Returns an argument that consists of one value.
 fn operand<'a>(alloc: Global, id: &'a str, value_name: &'a str, help: &'a str) -> Arg<'a>
     ensures { HasRule result (value_rule id.entry.now) }
 {

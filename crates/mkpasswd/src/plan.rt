@@ -1,4 +1,4 @@
-//! The plan that the arguments ask for, with the job of its run.
+//! The plan that the arguments ask for, with the job that it runs.
 
 pub use run_core::job::{Job, Maker, PasswordFrom};
 

@@ -1,5 +1,5 @@
-//! The program mkpasswd: what only a process has, which is its arguments, the standard devices, the system's seed and
-//! an exit status. Everything else is in the library.
+//! The program mkpasswd. Here is what only a process has: its arguments, the standard devices, a seed from the system,
+//! and an exit status. Everything else is in the library.
 #![tactic(auto)]
 
 use mkpasswd::command::{report_fault, run_command};
@@ -16,7 +16,7 @@ const TURNS: u64 = 1 << 40;
 
 fn main(rt: HostRuntime) -> ExitCode {
     let mut faults = Output::new(rt.stderr());
-    // The arguments after the program's name.
+    // The first argument is the program's name.
     let arguments: Result<Vec<String>, Fault> = match env::args(&rt) {
         Ok(mut given) => {
             let _ = given.next();

@@ -1,4 +1,4 @@
--- The effect of the command's steps on its devices.
+-- What the command's steps do to its devices.
 use Rattle.std.specs.Prelude.{◌≡◌, ℕ, ◌&&◌, Bool, true, false, not, List, [], Result, Ok, Err}
 use Rattle.clap.specs.Words.{kind_of}
 use Rattle.clap.specs.declared.error.Error.{Error}
@@ -16,23 +16,25 @@ use Rattle.mkpasswd.specs.declared.fault.UsageFault.{UsageFault}
 use Rattle.mkpasswd.specs.declared.fault.UsageFault.TheVariants.{Parse, OutOfMemory}
 use Rattle.mkpasswd.specs.declared.plan.Plan.{Plan}
 
--- The plan needs a generator, and there is none.
+-- lacks_generator generates plan: the plan needs a generator, and there is none.
 abbrev pub lacks_generator : Bool → Plan → Bool
 lacks_generator generates plan = wants_generator plan && not generates
 
 module _ {I O E : Type 0} where
-  -- The run of the plan ended with this result; or the plan lacks a generator, and the command did nothing.
+  -- RunsOrLacks turns generates plan old new result: the run of the plan ended with this result; or the plan needs a
+  -- generator, there is none, and the command did nothing.
   abbrev pub RunsOrLacks : ℕ → Bool → Plan → RunState I O E → RunState I O E → Result Tally Fault → Type 0
   RunsOrLacks turns generates plan old new (Ok tally) = (lacks_generator generates plan ≡ false) × Ends turns plan old new (Ok tally)
   RunsOrLacks turns generates plan old new (Err (Run fault)) = (lacks_generator generates plan ≡ false) × Ends turns plan old new (Err fault)
   RunsOrLacks turns generates plan old new (Err Start) = (lacks_generator generates plan ≡ true) × (new ≡ old)
   RunsOrLacks turns generates plan old new (Err (Usage fault)) = ⊥
 
--- The command reported an error of `clap` in one of these ways.
+-- ErrorShown error turns out faults new_out new_faults status: the command reported an error of `clap` in one of these
+-- ways.
 --   mistake  it wrote the message about the arguments to `faults`
 --   help     it wrote help or the version to `out`
---   front    it wrote a prefix of help or the version to `out`, and reported that error
---   no_text  an allocation failed for the message, and it reported that
+--   front    it wrote only a prefix of help or the version to `out`, and reported that error
+--   no_text  an allocation for the message failed, and it reported that
 pub data ErrorShown {O E : Type 0} (error : Error) (turns : ℕ) (out : Device O) (faults : Device E) (new_out : Device O)
     (new_faults : Device E) (status : ℕ) : Type 0 where
   mistake : (text : List ℕ) → (result : Result Tally RunFault) → parse_status (kind_of error) ≡ 2
@@ -47,7 +49,7 @@ pub data ErrorShown {O E : Type 0} (error : Error) (turns : ℕ) (out : Device O
   no_text : IsTold (Usage OutOfMemory) faults new_faults → new_out ≡ out → status ≡ (fault_row (Usage OutOfMemory)).0
       → ErrorShown error turns out faults new_out new_faults status
 
--- The command reported the refusal of the arguments.
+-- RefusalShown fault turns out faults new_out new_faults status: the command reported the refusal of the arguments.
 abbrev pub RefusalShown : {O E : Type 0} → UsageFault → ℕ → Device O → Device E → Device O → Device E → ℕ → Type 0
 RefusalShown (Parse error) turns out faults new_out new_faults status = ErrorShown error turns out faults new_out new_faults status
 RefusalShown fault turns out faults new_out new_faults status =

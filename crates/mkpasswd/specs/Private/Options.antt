@@ -1,4 +1,4 @@
--- The arguments that the code gives to `clap`, and the checks of the rows that `clap` finds.
+-- The arguments that the code passes to `clap`, and its checks of the rows that `clap` finds.
 use Rattle.std.specs.Prelude.{◌≡◌, ℕ, pos, nat_lt, Bool, true, false, if◌then◌else◌, List, [], ◌∷◌, Option, Some, None, Result, Ok, Err}
 use Rattle.std.specs.Option.{option_map_or}
 use Rattle.std.specs.Str.{bytes_eq}
@@ -11,39 +11,39 @@ use Rattle.clap.specs.declared.parser.matches.ArgMatches.{ArgMatches}
 use Rattle.mkpasswd.specs.Options.{BreaksUsage, command_rules}
 use Rattle.mkpasswd.specs.declared.fault.UsageFault.{UsageFault}
 
--- The argument has this rule. It is one of the command alone, and not of subcommands.
+-- HasRule arg rule: the argument has this rule, and belongs to the command alone, not to subcommands.
 abbrev pub HasRule : Arg → Rule → Type 0
 HasRule arg rule = (rule_of arg ≡ rule) × (arg.global ≡ false)
 
--- ---- numbers
+-- ---- Numbers
 
--- The value is one that the parser takes, as it is read.
+-- HasPassed parser text: the text is what `clap` reads from a value that the parser accepts.
 abbrev pub HasPassed : ValueParser → Text → Type 0
 HasPassed parser text = (value : Text) × (ignore_case : Bool) × (text ≡ read_as (reading_of parser) value) × Accepts ignore_case parser value
 
--- The parser is that of the rule with this id.
+-- parser_by_id id rules: the parser of the rule with this id.
 abbrev pub parser_by_id : Text → List Rule → Option ValueParser
 parser_by_id id [] = None
 parser_by_id id (rule ∷ rules) = if bytes_eq rule.id id then rule.parser else parser_by_id id rules
 
--- Each value that `clap` finds is one that the parser of its option takes.
+-- HavePassed matches: the parser of its option accepts each value that `clap` found.
 abbrev pub HavePassed : ArgMatches → Type 0
 HavePassed matches = (id : Text) (parser : ValueParser) → parser_by_id id command_rules ≡ Some parser
     → (text : Text) → one_text (found_of matches) id ≡ Some text → HasPassed parser text
 
--- The parser takes nothing but numbers below the limit.
+-- takes_below limit parser: the parser accepts only numbers below the limit.
 abbrev pub takes_below : ℕ → ValueParser → Bool
 takes_below limit (Signed (pos low) (pos high)) = nat_lt high limit
 takes_below limit (Unsigned low high) = nat_lt high limit
 takes_below limit parser = false
 
--- The option takes nothing but numbers below the limit.
+-- IsNumber limit id: the option with this id accepts only numbers below the limit.
 abbrev pub IsNumber : ℕ → Text → Type 0
 IsNumber limit id = option_map_or (takes_below limit) (parser_by_id id command_rules) false ≡ true
 
--- ---- checks
+-- ---- Checks
 
--- The check of a rule passes, or the result is the refusal by that rule.
+-- ChecksRule rows fault result: the arguments do not break the rule of `fault`, or the result is that refusal.
 abbrev pub ChecksRule : {A : Type 0} → List Row → UsageFault → Result A UsageFault → Type 0
 ChecksRule rows fault (Ok value) = ¬ BreaksUsage rows fault
 ChecksRule rows fault (Err refusal) = (refusal ≡ fault) × BreaksUsage rows fault
