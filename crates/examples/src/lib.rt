@@ -1,5 +1,4 @@
-//! How to call the library: examples of its public calls, as tests alone. Their values come from the standards and from
-//! other programs.
+//! Examples of how to call the library, as tests. The expected values come from the standards and from other programs.
 #![tactic(auto)]
 
 #[cfg(test)]

@@ -1,4 +1,4 @@
-//! Examples by topic, from the alphabet up to whole commands, and what they have in common.
+//! The examples by topic, from the alphabet up to whole commands, and helpers that they share.
 
 mod alphabet;
 mod commands;
@@ -17,12 +17,12 @@ use std::alloc::{AllocError, Global};
 use std::fmt::Debug;
 use std::process::Abort;
 
-// Asserts that a call told what was wanted, in the case that `what` names.
+// Asserts that a call returned the expected value; `what` names the case.
 fn want<T: Debug + Drop + PartialEq>(rt: &impl Abort, told: T, wanted: T, what: &str) {
     assert_eq!(rt; told, wanted, "{what}");
 }
 
-// Returns the five counts of a meter: digests, bytes, mixings, bytes of the table and of scratch memory.
+// Returns the five counts of a meter: digests, bytes digested, mixings, and bytes of table and scratch memory.
 fn counts(meter: &Meter) -> [u128; 5] {
     [
         meter.digests(),
@@ -33,7 +33,7 @@ fn counts(meter: &Meter) -> [u128; 5] {
     ]
 }
 
-// Returns a text with so many letters in its middle.
+// Returns `front`, then `letter` `count` times, then `back`.
 fn padded(
     alloc: Global,
     front: &[u8],

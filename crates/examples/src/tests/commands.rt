@@ -1,4 +1,4 @@
-//! Whole commands, over memory.
+//! Whole commands, with their input and output in memory.
 
 ghost use Rattle.std.specs.Prelude.{◌^◌, ◌≤◌};
 
@@ -14,7 +14,7 @@ use std::alloc::Global;
 use std::process::Abort;
 use std::test::Fail;
 
-// What a command leaves: its exit status, its output and its messages, and whether it hashed anything.
+// What a command left: its exit status, its output and messages, and whether it hashed nothing.
 #[derive(Drop)]
 pub struct Left {
     status: u8,
@@ -23,7 +23,7 @@ pub struct Left {
     is_free: bool,
 }
 
-// Runs a command within so many I/O calls.
+// Runs a command within `turns` I/O calls.
 fn left_within(alloc: Global, words: &[&str], input: &[u8], turns: u64) -> Result<Left, Fail>
     requires { turns ≤ 2 ^ 40 }
 {
@@ -55,19 +55,19 @@ fn left_within(alloc: Global, words: &[&str], input: &[u8], turns: u64) -> Resul
     })
 }
 
-/// Runs a command within the most I/O calls.
+/// Runs a command within the greatest limit on I/O calls.
 pub fn left_by(alloc: Global, words: &[&str], input: &[u8]) -> Result<Left, Fail> {
     left_within(alloc, words, input, 1 << 40)
 }
 
 impl Left {
-    /// Asserts the status and what both outputs have.
+    /// Asserts the status, the output and the messages.
     pub fn want(&self, rt: &impl Abort, what: &str, status: u8, out: &str, faults: &str) {
         let told = (self.status, self.out.as_slice(), self.faults.as_slice());
         want(rt, told, (status, out.as_bytes(), faults.as_bytes()), what);
     }
 
-    /// Asserts that the first line was refused with this message, and nothing else was done.
+    /// Asserts that the first line was refused with this message, and that the command did nothing else.
     pub fn want_refused(&self, rt: &impl Abort, alloc: Global, message: &str) -> Result<(), Fail> {
         let faults = format!(in alloc; "mkpasswd: line 1: {message}\n")?;
         self.want(rt, message, 1, "", faults.as_str());
@@ -75,10 +75,10 @@ impl Left {
     }
 }
 
-// The arguments of a command and its input, and then the status, the output and the messages that it leaves.
+// The arguments and the input of a command, and the status, the output and the messages that it should leave.
 type Row<'a> = (&'a [&'a str], &'a str, u8, &'a str, &'a str);
 
-// Asserts what each row's command leaves.
+// Asserts what the command of each row leaves.
 fn want_all(rt: &impl Abort, alloc: Global, rows: &[Row]) -> Result<(), Fail> {
     for &(words, input, status, out, faults) in rows {
         let left = left_by(alloc, words, input.as_bytes())?;
@@ -89,7 +89,7 @@ fn want_all(rt: &impl Abort, alloc: Global, rows: &[Row]) -> Result<(), Fail> {
 
 const BATCH: &[&str] = &["--batch", "-m", "md5crypt", "-S", "xxxxxxxx"];
 
-// The hash of "password" from openssl-passwd(1), and its lines.
+// The hash of "password" from openssl-passwd(1), and lines with it.
 const HASH: &str = "$1$xxxxxxxx$UYCIxa628.9qXjpQCjM4a.\n";
 
 const ANN: &str = "ann:$1$xxxxxxxx$UYCIxa628.9qXjpQCjM4a.\n";
@@ -97,7 +97,7 @@ const ANN: &str = "ann:$1$xxxxxxxx$UYCIxa628.9qXjpQCjM4a.\n";
 const HASHES: &str =
     "ann:$1$xxxxxxxx$UYCIxa628.9qXjpQCjM4a.\nbob:$1$xxxxxxxx$UYCIxa628.9qXjpQCjM4a.\n";
 
-// The other hashes are Drepper's and libxcrypt's.
+// The other hashes come from Drepper's specification and libxcrypt.
 #[test]
 fn one_password(rt: HostRuntime) -> Result<(), Fail> {
     let rows: &[(&[&str], &str, &str)] = &[
@@ -392,7 +392,7 @@ fn long_inputs(rt: HostRuntime) -> Result<(), Fail> {
     Ok(())
 }
 
-// The salt is new, so only the form of the hash is known.
+// The salt is random, so only the form of the hash is known.
 #[test]
 fn a_long_password(rt: HostRuntime) -> Result<(), Fail> {
     for count in [512, 1024] {

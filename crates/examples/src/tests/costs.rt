@@ -1,4 +1,4 @@
-//! What a hash can cost, known before it is made.
+//! The greatest cost and work of a hash, which are known before it is made.
 
 use super::want;
 use crypt_core::setting::Setting;
@@ -53,7 +53,7 @@ fn bounds(rt: HostRuntime) -> Result<(), Fail> {
     Ok(())
 }
 
-// However long the password is.
+// The number of digests does not depend on the length of the password.
 #[test]
 fn digests_of_many_rounds(rt: HostRuntime) -> Result<(), Fail> {
     let setting = Setting::read(b"$5$rounds=123456789012$ab")?;

@@ -1,4 +1,4 @@
-//! HMAC, PBKDF2 and scrypt, each with its work.
+//! HMAC, PBKDF2 and scrypt, with the work of each.
 
 use super::{counts, want};
 use kdf_core::hmac::HmacKey;
@@ -49,7 +49,7 @@ const TAGS: &[(&[u8], &[u8], &str)] = &[
     ),
 ];
 
-// Returns a key, and asserts the work that it took.
+// Returns a key, and asserts the work of making it.
 fn want_key(rt: &impl Abort, key: &[u8], digests: u128, bytes: u128) -> HmacKey {
     assert!(rt; key.len() <= 131);
     let mut meter = Meter::new();
@@ -58,7 +58,7 @@ fn want_key(rt: &impl Abort, key: &[u8], digests: u128, bytes: u128) -> HmacKey 
     hmac
 }
 
-// Asserts the tag of two pieces, and its work.
+// Asserts the tag of a text in two pieces, and its work.
 fn want_tag(
     rt: &impl Abort,
     alloc: Global,
@@ -75,7 +75,7 @@ fn want_tag(
     Ok(())
 }
 
-// However the text is cut, and as often as one key is used.
+// The tag does not depend on where the text is cut, and one key makes several tags.
 #[test]
 fn tags(rt: HostRuntime) -> Result<(), Fail> {
     for (key, text, wanted) in TAGS {
@@ -103,7 +103,7 @@ fn a_tag_in_two_pieces(rt: HostRuntime) -> Result<(), Fail> {
     Ok(())
 }
 
-// The bytes of a block are not digested before; one more is.
+// A key of up to 64 bytes is used as it is; a longer one is digested first (RFC 2104, section 2).
 #[test]
 fn keys_of_a_block(rt: HostRuntime) {
     let _ = want_key(&rt, &[b'k'; 64], 0, 0);
@@ -119,9 +119,9 @@ struct Derivation {
     wanted: &'static str,
 }
 
-// The first vector is from RFC 7914, section 11. The other vector of that section has 80000 rounds, too many for a
-// test. The next ones have the inputs of RFC 6070, except the one with 16777216 rounds, and then one has a block that is
-// cut, and one no bytes. RFC 6070 has outputs for SHA-1, so theirs are from Python's `hashlib`.
+// The first vector is from RFC 7914, section 11. The other vector there has 80000 rounds, too many for a test. The next
+// five have the inputs of RFC 6070, except the one with 16777216 rounds; RFC 6070 has the outputs for SHA-1, so theirs
+// come from Python's `hashlib`. Of the last two, one ends in a cut block, and one derives no bytes.
 const DERIVATIONS: &[Derivation] = &[
     Derivation {
         password: b"passwd",
@@ -214,7 +214,7 @@ fn bytes_from_a_password(rt: HostRuntime) -> Result<(), Fail> {
     Ok(())
 }
 
-// The corners of the range and of the ceiling.
+// The limits of each range and of the ceiling.
 #[test]
 fn parameters(rt: HostRuntime) {
     for &(log_n, r, p, wanted) in &[
@@ -246,14 +246,14 @@ struct Row {
     log_n: u8,
     r: u32,
     p: u32,
-    // Digests, bytes, mixings, bytes of the table and of the scratch.
+    // Digests, bytes digested, mixings, and bytes of table and scratch memory.
     work: [u64; 5],
     wanted: &'static str,
 }
 
-// The first three are of RFC 7914, section 12, whose fourth asks for a table of 1 GiB, too much for a
-// test. The fourth is the first one, cut. The others are from Python's `hashlib`: a password at the end
-// of a block and one past it, three parts of more than one block, N of 2, a last block that is cut, no bytes, many parts,
+// The first three are from RFC 7914, section 12, whose fourth needs a table of 1 GiB, too much for a test. The fourth
+// is the first one, cut. The others come from Python's `hashlib`: a password that ends with a block and one that is a
+// byte longer, both with three parts of more than one block; N of 2; a last block that is cut; no bytes; many parts;
 // and a part of many blocks.
 const ROWS: &[Row] = &[
     Row {
@@ -357,7 +357,7 @@ const ROWS: &[Row] = &[
     },
 ];
 
-// Asserts a row's bytes, and its work, known before and counted.
+// Asserts the bytes of a row, and that its work is the same when computed beforehand and when counted.
 fn want_bytes(rt: &impl Abort, alloc: Global, row: &Row) -> Result<(), Fail> {
     let (log_n, r, p, count) = (row.log_n, row.r, row.p, row.wanted.len() / 2);
     assert!(rt; count <= 128 && row.password.len() <= 65 && row.salt.len() <= 70);
@@ -394,7 +394,7 @@ fn bytes_by_scrypt(rt: HostRuntime) -> Result<(), Fail> {
     Ok(())
 }
 
-// Asserts what scrypt answers of a row in lent memory, and what it counts and leaves in the bytes.
+// Asserts what scrypt returns for a row in lent memory, what it counts, and what is in the bytes afterwards.
 fn want_lent(
     rt: &impl Abort,
     alloc: Global,
@@ -429,7 +429,7 @@ fn want_lent(
     Ok(())
 }
 
-// The same rows in exactly the memory that is needed, which is not zeros, and in a word or a byte less.
+// The same rows in exactly the memory that they need, which does not hold zeros, and in a word or a byte less.
 #[test]
 fn bytes_by_scrypt_in_lent_memory(rt: HostRuntime) -> Result<(), Fail> {
     let alloc = rt.alloc();

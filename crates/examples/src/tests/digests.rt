@@ -1,4 +1,4 @@
-//! Digests that a meter counts.
+//! Digests, which a meter counts.
 
 use super::{counts, want};
 use prims_core::counted::{Counted, CountedMd5, CountedSha256, CountedSha512};
@@ -12,7 +12,7 @@ fn a_new_meter(rt: HostRuntime) {
     want(&rt, counts(&Meter::new()), [0; 5], "a new meter");
 }
 
-// Asserts the digest of two pieces, and that it is counted.
+// Asserts the digest of a message that is fed in two pieces, and that the meter counts it.
 fn want_digest<C: Counted>(
     rt: &impl Abort,
     alloc: Global,
@@ -46,7 +46,7 @@ fn digests_of_the_standards(rt: HostRuntime) -> Result<(), Fail> {
     want_digest::<CountedSha512>(&rt, alloc, (b"abc", b""), sha512)
 }
 
-// A meter adds up, and tells what came after a reading.
+// A meter adds up all work, and can say how much of it came after a reading.
 #[test]
 fn work_since_a_reading(rt: HostRuntime) {
     let mut meter = Meter::new();

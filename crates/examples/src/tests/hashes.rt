@@ -1,5 +1,5 @@
-//! Hashes, with the counts of their work: digests, their bytes, mixings, and bytes of the table and of scratch memory, as the
-//! standards' steps take them.
+//! Hashes, with the counts of their work as the steps of the standards require it: digests, bytes digested, mixings,
+//! and bytes of table and scratch memory.
 
 use super::{counts, want};
 use crypt_core::hash::{HashFault, hash};
@@ -17,7 +17,7 @@ use prims_core::meter::Meter;
 use std::process::Abort;
 use std::test::Fail;
 
-// Digests of rising bytes and of zeros. The characters in between are those of a Python program.
+// The digests are the bytes 0, 1, 2 and so on, and zeros. The expected characters come from a Python program.
 #[test]
 fn packed_digests(rt: HostRuntime) -> Result<(), Fail> {
     for &(method, length, step, wanted) in &[
@@ -60,8 +60,8 @@ fn packed_digests(rt: HostRuntime) -> Result<(), Fail> {
     Ok(())
 }
 
-// The hashes are those of openssl-passwd(1), of Drepper's specification and of RFC 7914's vectors. Those of the work of
-// SHA-crypt that depend on a digest are of a Python program.
+// The hashes come from openssl-passwd(1), Drepper's specification and RFC 7914's vectors. The counts of SHA-crypt's
+// work that depend on a digest come from a Python program.
 #[test]
 fn hashes(rt: HostRuntime) -> Result<(), Fail> {
     for &(setting, password, wanted, work) in &[
@@ -130,7 +130,7 @@ fn hashes(rt: HostRuntime) -> Result<(), Fail> {
     Ok(())
 }
 
-// Some of these hashes, in exactly the memory that is needed, which is not zeros, and in a word or a byte less.
+// Some of these hashes in exactly the memory that they need, which does not hold zeros, and in a word or a byte less.
 #[test]
 fn hashes_in_lent_memory(rt: HostRuntime) -> Result<(), Fail> {
     let alloc = rt.alloc();
@@ -189,7 +189,7 @@ fn hashes_in_lent_memory(rt: HostRuntime) -> Result<(), Fail> {
     Ok(())
 }
 
-// Asserts a digest's text, which a hash above has too, and its work.
+// Asserts the text of a digest, which is part of a hash above, and its work.
 fn want_packed(rt: &impl Abort, text: &[u8], meter: &Meter, wanted: &str, work: [u128; 5]) {
     want(rt, text, wanted.as_bytes(), wanted);
     want(rt, counts(meter), work, wanted);

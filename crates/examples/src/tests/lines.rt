@@ -1,4 +1,4 @@
-//! The rules that a line can break, in their order.
+//! The rules that a line can break, in the order in which they are checked.
 
 use super::commands::left_by;
 use super::{padded, want};
@@ -7,7 +7,8 @@ use std::alloc::Global;
 use std::process::Abort;
 use std::test::Fail;
 
-// Asserts the rule that a line breaks: what `inspect` finds is the message of a run. A line that breaks none is locked.
+// Asserts which rule a line breaks: `inspect` finds it, and a run prints the same message. A line that breaks none has
+// a locked account.
 fn want_rule(
     rt: &impl Abort,
     alloc: Global,

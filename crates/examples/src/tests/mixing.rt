@@ -1,4 +1,4 @@
-//! Salsa20/8 and scrypt's mixing of blocks, and the memory that scrypt works in.
+//! Salsa20/8, scrypt's mixing of blocks, and the memory that scrypt works in.
 ghost use Rattle.std.specs.Prelude.{◌≡◌, ◌+◌, ◌*◌, ◌≤◌, length, vec_capacity, IfOk};
 ghost use Rattle.prims_core.specs.Memory.{HasShape};
 
@@ -23,7 +23,7 @@ const BLOCK: [u8; 64] = [
     0x76, 0x02, 0x1d, 0x29, 0x09, 0xc7, 0x48, 0x29, 0xed, 0xeb, 0xc6, 0x8d, 0xb8, 0xb8, 0xc2, 0x5e,
 ];
 
-// Returns a block after Salsa20/8.
+// Returns the block after Salsa20/8.
 fn salsa8_of(block: &[u8; 64]) -> [u8; 64] {
     let mut words = [0; 16];
     load_words(block, &mut words);
@@ -43,7 +43,7 @@ fn a_block(rt: HostRuntime) -> Result<(), Fail> {
     Ok(())
 }
 
-// 64 blocks, each the plain form's result for the one before, from the words 0 to 15 on.
+// The lanes give what the plain form gives for 64 blocks: first the words 0 to 15, and then each result in turn.
 #[test]
 fn lanes_as_word_by_word(rt: HostRuntime) {
     let mut block = [0, 1, 2, 3, 4, 5, 6, 7, 8, 9, 10, 11, 12, 13, 14, 15];
@@ -101,7 +101,7 @@ const BLOCKS: [u8; 128] = [
     0x7f, 0x4d, 0x1c, 0xad, 0x6a, 0x52, 0x3c, 0xda, 0x77, 0x0e, 0x67, 0xbc, 0xea, 0xaf, 0x7e, 0x89,
 ];
 
-// Its output.
+// The output for this input.
 const MIXED: [u8; 128] = [
     0xa4, 0x1f, 0x85, 0x9c, 0x66, 0x08, 0xcc, 0x99, 0x3b, 0x81, 0xca, 0xcb, 0x02, 0x0c, 0xef, 0x05,
     0x04, 0x4b, 0x21, 0x81, 0xa2, 0xfd, 0x33, 0x7d, 0xfd, 0x7b, 0x1c, 0x63, 0x96, 0x68, 0x2f, 0x29,
@@ -113,7 +113,7 @@ const MIXED: [u8; 128] = [
     0x5d, 0x2a, 0x22, 0x58, 0x77, 0xd5, 0xed, 0xf5, 0x84, 0x2c, 0xb9, 0xf1, 0x4e, 0xef, 0xe4, 0x25,
 ];
 
-// Mixes two blocks.
+// Returns two blocks after one mixing.
 fn mixed(blocks: &[u8; 128], meter: &mut Meter) -> [u8; 128]
     requires { meter.old.mixes ≡ 0 }
 {
@@ -135,7 +135,7 @@ fn blocks(rt: HostRuntime) {
     want(&rt, counts(&meter), [0, 0, 1, 0, 0], "a mixing");
 }
 
-// Returns the SHA-256 of words, lowest byte first.
+// Returns the SHA-256 of words, each with its lowest byte first.
 fn digest_of(alloc: Global, words: &[u32]) -> Result<String, Fail> {
     let mut bytes = Vec::new(alloc);
     for word in words {
@@ -147,7 +147,7 @@ fn digest_of(alloc: Global, words: &[u32]) -> Result<String, Fail> {
     Ok(hex::encode(alloc, running.finish(&mut meter).as_slice())?)
 }
 
-// Returns the words of 2r blocks of the bytes 3, 10, 17 and so on.
+// Returns the words of 2r blocks with the bytes 3, 10, 17 and so on.
 fn rising_blocks(alloc: Global, r: usize) -> Result<Vec<u32>, AllocError>
     requires { r ≤ 6 }
     ensures { IfOk result (λ words. length words.items ≡ 32 * r) }
@@ -171,7 +171,7 @@ fn want_mixed(rt: &impl Abort, alloc: Global, r: usize, wanted: &str) -> Result<
     want_xor_mixed(rt, alloc, r, wanted)
 }
 
-// Replaces words by their XOR with others, which go to `row`.
+// Splits words into two parts whose XOR they are: `words` keeps one, and the other goes to `row`.
 fn split(words: &mut [u32], row: &mut [u32])
     requires { length words.old ≡ length row.old }
 {
@@ -183,7 +183,7 @@ fn split(words: &mut [u32], row: &mut [u32])
     }
 }
 
-// Asserts the same mixing of two pieces whose XOR the blocks are, by diagonals.
+// Asserts the same mixing by diagonals, of two parts whose XOR the blocks are.
 fn want_xor_mixed(rt: &impl Abort, alloc: Global, r: usize, wanted: &str) -> Result<(), Fail>
     requires { (1 ≤ r) × (r ≤ 6) }
 {
@@ -201,7 +201,7 @@ fn want_xor_mixed(rt: &impl Abort, alloc: Global, r: usize, wanted: &str) -> Res
     Ok(())
 }
 
-// The SHA-256 of what a Python program mixes, which gives the vector above too.
+// The SHA-256 of the blocks that a Python program mixes; the program also gives the vector above.
 #[test]
 fn more_blocks(rt: HostRuntime) -> Result<(), Fail> {
     for &(r, wanted) in &[
@@ -223,7 +223,7 @@ fn more_blocks(rt: HostRuntime) -> Result<(), Fail> {
     Ok(())
 }
 
-// The words 0 to 15 are their own numbers: the matrix's diagonals as Salsa20 lists them.
+// Each word is its own place, so the diagonals of the matrix are listed as Salsa20 orders them.
 #[test]
 fn a_block_by_its_diagonals(rt: HostRuntime) {
     let rows = [0, 1, 2, 3, 4, 5, 6, 7, 8, 9, 10, 11, 12, 13, 14, 15];
@@ -265,7 +265,7 @@ fn a_table_of_long_rows(rt: HostRuntime) -> Result<(), Fail> {
     Ok(())
 }
 
-// Returns the words of two blocks, diagonal by diagonal.
+// Returns the words of two blocks in the order of their diagonals.
 fn on_diagonals(blocks: &[u8; 128]) -> [u32; 32] {
     let mut words = [0; 32];
     load_words(blocks, &mut words);
@@ -273,7 +273,7 @@ fn on_diagonals(blocks: &[u8; 128]) -> [u32; 32] {
     words
 }
 
-// Fills two rows, and returns the blocks after them.
+// Fills two rows, and returns the blocks that follow them.
 fn fill<R: Rows>(rows: &mut R, blocks: &[u32; 32], meter: &mut Meter) -> [u32; 32]
     requires fits { 64 ≤ R.room rows.old }
     requires room { meter.old.mixes ≤ 2 }
@@ -286,7 +286,7 @@ fn fill<R: Rows>(rows: &mut R, blocks: &[u32; 32], meter: &mut Meter) -> [u32; 3
     x
 }
 
-// Asserts two rows.
+// Asserts the two rows.
 fn want_rows<R: Rows>(
     rt: &impl Abort,
     rows: &R,
@@ -300,7 +300,8 @@ fn want_rows<R: Rows>(
     want(rt, rows.words(), both.as_slice(), what);
 }
 
-// Asserts what the first loop of scryptROMix does, twice in the same memory. The blocks are those of RFC 7914, section 9.
+// Asserts what the first loop of scryptROMix does, twice in the same memory. The blocks are those of RFC 7914, section
+// 9.
 fn want_filled<R: Rows>(rt: &impl Abort, rows: &mut R)
     requires { 64 ≤ R.room rows.old }
 {
@@ -315,7 +316,7 @@ fn want_filled<R: Rows>(rt: &impl Abort, rows: &mut R)
     want(rt, counts(&meter), [0, 0, 4, 0, 0], "work");
 }
 
-// Returns the memory of a table of two rows.
+// Returns the memory of a table with two rows.
 fn memory_of(table: Table) -> Vec<u32>
     requires shape { HasShape table 2 32 }
     ensures { 64 ≤ vec_capacity result }
@@ -349,7 +350,7 @@ fn memory_that_is_counted(rt: HostRuntime) -> Result<(), Fail> {
     Ok(())
 }
 
-// Asserts that bytes of scratch memory are zeros, and keep what is written.
+// Asserts that the bytes of scratch memory are zeros, and keep what is written.
 fn want_bytes(rt: &impl Abort, bytes: &mut ByteScratch)
     requires { length bytes.old ≡ 128 }
 {

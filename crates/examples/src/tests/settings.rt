@@ -1,4 +1,4 @@
-//! Methods, passwords and settings: what is read, what is made, and what replaces what.
+//! Methods, passwords and settings: how they are read and made, and which setting replaces which.
 
 use super::{padded, want};
 use arrayvec::ArrayVec;
@@ -223,7 +223,7 @@ fn salts_from_random_numbers(rt: HostRuntime) {
     }
 }
 
-// Asserts whether a maker draws, and its setting.
+// Asserts whether a maker draws a salt, and its setting or the message of the error.
 fn want_maker(
     rt: &impl Abort,
     method: Method,
@@ -257,14 +257,14 @@ fn makers(rt: HostRuntime) {
     want_maker(&rt, Method::Md5crypt, 0, Some(b""), false, "salt length");
 }
 
-// Returns whether a setting is replaced by another.
+// Returns whether the setting `new` replaces `old`.
 fn is_replaced(old: &str, new: &str) -> Result<bool, Fail> {
     let setting = Setting::read(old.as_bytes())?;
     let other = Setting::read(new.as_bytes())?;
     Ok(setting.replaced_by(&other))
 }
 
-// Rounds or the product of scrypt's numbers decide, not salts or how the rounds are written.
+// The rounds or scrypt's `N * r * p` decide, not the salt or whether the rounds are written.
 #[test]
 fn settings_that_replace_others(rt: HostRuntime) -> Result<(), Fail> {
     for &(old, new, wanted) in &[

@@ -9,8 +9,8 @@ use std::alloc::Global;
 use std::process::Abort;
 use std::test::Fail;
 
-// Asserts whether a password matches a stored hash, or the message of the error, and the digests that it takes. A field
-// that is refused costs nothing.
+// Asserts whether a password matches a stored hash, or the message of the error, and how many digests that takes. A
+// field that is refused costs nothing.
 fn want_fit(
     rt: &impl Abort,
     alloc: Global,
@@ -28,7 +28,7 @@ fn want_fit(
     Ok(())
 }
 
-// The hashes are those of openssl-passwd(1), Drepper's specification and RFC 7914.
+// The hashes come from openssl-passwd(1), Drepper's specification and RFC 7914.
 #[test]
 fn passwords_that_match(rt: HostRuntime) -> Result<(), Fail> {
     let (md5crypt, scrypt) = (

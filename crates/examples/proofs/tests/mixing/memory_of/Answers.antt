@@ -1,3 +1,4 @@
+-- The memory of a table of two rows of 32 words has room for 64 words, as `into_words` promises for its shape.
 use Rattle.examples.proofs.tests.mixing.memory_of.Goals as goal
 
 pub returns : goal.returns
