@@ -1,4 +1,6 @@
--- What the command is in the sense of `clap`, and what it makes of some arguments.
+-- Properties of the command that `clap`'s clauses require, for `parse`: it is simple, its arguments have no rule on one
+-- another, and their ids differ. Each is computed from the definition of the command. The second part computes what
+-- `clap` makes of some arguments, so that a reader can check the definition.
 use Rattle.std.proofs.Common.{◌≡◌, true, false, refl, List, [], ◌∷◌, codes, Some, None}
 use Rattle.std.specs.List.{list_all}
 use Rattle.clap.specs.Simple.{is_ready, is_ready_leaf}
@@ -9,7 +11,7 @@ use Rattle.mkpasswd.specs.Options.{command, command_rules, rounds_of, given_salt
 use Rattle.mkpasswd.specs.Private.Options.{parser_by_id}
 use Rattle.mkpasswd.proofs.PassedValues.{all_free, have_own_ids}
 
--- ---- a simple command, without exclusions
+-- ---- A simple command, without exclusions
 
 pub simple : is_simple command ≡ true
 unfolding command
@@ -39,7 +41,7 @@ pub own_ids : have_own_ids command.top.rules ≡ true
 unfolding command
 own_ids = refl
 
--- ---- what it makes of some arguments
+-- ---- What it makes of some arguments
 
 abbrev arguments : List Text
 arguments =
@@ -53,7 +55,7 @@ no_fault : fault_of command arguments ≡ []
 unfolding command clap_on_literals
 no_fault = refl
 
--- what they give
+-- the rows of these arguments
 abbrev HasArguments : List Row → Type 0
 HasArguments rows =
     (type_of rows ≡ codes "md5") × (given_salt rows ≡ Some (codes "ab")) × (rounds_of rows ≡ 7) × (number_in (codes "budget") rows ≡ Some 36)
@@ -68,7 +70,7 @@ no_words_taken : fault_of command [] ≡ []
 unfolding command clap_on_literals
 no_words_taken = refl
 
--- and what no arguments give
+-- and the rows of no arguments
 abbrev HasNoWords : List Row → Type 0
 HasNoWords rows =
     (type_of rows ≡ codes "sha512crypt") × (given_salt rows ≡ None) × (rounds_of rows ≡ 0) × (number_in (codes "budget") rows ≡ None)

@@ -1,4 +1,8 @@
--- The arguments `-m TYPE -S SALT PASSWORD`, for any texts that are no options.
+-- What `clap` makes of the arguments `-m TYPE -S SALT PASSWORD`, for any texts that are no options: it takes them, and
+-- finds the three texts and nothing else. PrintedHash needs this for the clause `prints` of `run_command`.
+--
+-- The argument walks over the five words as `clap` does. Each word takes the walk from one known state to the next
+-- without an error, whatever the text is, because `clap`'s tests for options fail on it.
 use Rattle.std.proofs.Common.{◌≡◌, ◌==◌, ℕ, false, refl, ap, List, [], ◌∷◌, codes, Some, None, inl, inr}
 use Rattle.std.proofs.lemmas.Bool.{ne_eqb}
 use Rattle.std.specs.List.{fold}
@@ -12,7 +16,7 @@ use Rattle.clap.proofs.OnLiterals.{clap_on_literals}
 use Rattle.mkpasswd.specs.Corollaries.{IsNoOption, hash_arguments}
 use Rattle.mkpasswd.specs.Options.{command, rounds_of, given_salt, is_set, mode_count, option_rule, type_of}
 
--- ---- a word that is no option
+-- ---- A word that is no option
 
 -- the tests by which `clap` tells options from other arguments
 record IsPlain (word : Text) : Type 0 where
@@ -20,6 +24,7 @@ record IsPlain (word : Text) : Type 0 where
   pub no_long : long_of word ≡ None
   pub no_short : short_of word ≡ None
 
+-- fail on a word that is no option
 no_option-plain : (word : Text) → IsNoOption word → IsPlain word
 no_option-plain word (inl hyphen) = rw hyphen (record { no_end = refl; no_long = refl; no_short = refl })
 no_option-plain [] (inr none) = record { no_end = refl; no_long = refl; no_short = refl }
@@ -27,34 +32,36 @@ no_option-plain (b ∷ bs) (inr none) =
     let other : (b == 45) ≡ false = ne_eqb b 45 (λ same. none (bs, ap (λ n. n ∷ bs) same)) in
     record { no_end = rw other; no_long = rw other; no_short = rw other }
 
--- ---- one word after another
+-- ---- One word after another
 
 -- the command as `clap` builds it
 shape : Shape
 shape = (built command).top
 
--- a word is taken without a fault
+-- a word takes the walk from one state to another, without an error
 record Goes (w : Walk) (word : Text) (v : Walk) : Type 0 where
   pub goes : walked shape.rules [] w word ≡ v
   pub faultless : turn_fault shape [] w word ≡ []
 
--- and so are some
+-- and so does a list of words
 data GoesOn : Walk → List Text → Walk → Type 0 where
   stays : {w : Walk} → GoesOn w [] w
   first : {w v u : Walk} {word : Text} {rest : List Text} → Goes w word v → GoesOn v rest u → GoesOn w (word ∷ rest) u
 
+-- the walk over the words ends in the last state
 goes-fold : (w u : Walk) (arguments : List Text) → GoesOn w arguments u → fold (walked shape.rules []) w arguments ≡ u
 goes-fold w u arguments stays = refl
 goes-fold w u arguments (first one others) = rw one.goes (goes-fold _ u _ others)
 
+-- without an error
 goes-faultless : (w u : Walk) (arguments : List Text) → GoesOn w arguments u → walk_fault shape [] w arguments ≡ []
 unfolding walk_fault
 goes-faultless w u arguments stays = refl
 goes-faultless w u arguments (first one others) = rw (one.faultless, one.goes) (goes-faultless _ u _ others)
 
--- ---- the arguments
+-- ---- The five arguments
 
--- where the walk is between two of them: these values of the argument have been read, and are to be used
+-- the state of the walk between two words: it has read these values of the argument `id`, and not used them yet
 abbrev at : List Row → Text → List Text → Waiting → ℕ → Walk
 at rows id values waiting position = record {
   held = record { rows = rows; pending = Some (id, values); skip = 0 };
@@ -125,8 +132,9 @@ all_words name salt password n s p =
     (first (word_4 name salt (no_option-plain salt s))
     (first (word_5 name salt password (no_option-plain password p)) stays))))
 
--- ---- what the command makes of them
+-- ---- What the command makes of them
 
+-- `clap` takes the arguments
 pub given_fault : (name salt password : Text) → IsNoOption name → IsNoOption salt → IsNoOption password
     → fault_of command (hash_arguments name salt password) ≡ []
 unfolding shape command defaults_fault
@@ -134,7 +142,7 @@ given_fault name salt password n s p =
     let on = all_words name salt password n s p in
     rw (goes-faultless _ _ _ on, goes-fold _ _ _ on)
 
--- the three texts are found, and nothing else was given
+-- it finds the three texts, and nothing else is given
 pub record IsGiven (name salt password : Text) (rows : List Row) : Type 0 where
   pub type : type_of rows ≡ name
   pub salt_is : given_salt rows ≡ Some salt
@@ -154,12 +162,14 @@ finds : (name salt password : Text) → IsGiven name salt password (rows_behind 
 unfolding shape command
 finds name salt password = record { type = refl; salt_is = refl; rounds = refl; word = refl; stdin = refl; batch = refl; check = refl; audit = refl; work = refl; modes = refl }
 
+-- the rows that it finds are those of the last state
 given_rows : (name salt password : Text) → IsNoOption name → IsNoOption salt → IsNoOption password
     → matches_of command (hash_arguments name salt password) ≡ rows_behind name salt password
 unfolding shape command
 given_rows name salt password n s p =
     ap (λ (w : Walk). finished shape.rules w.held) (goes-fold _ _ _ (all_words name salt password n s p))
 
+-- so the three texts are in the rows that it finds
 pub is_given : (name salt password : Text) (arguments : List Text) → arguments ≡ hash_arguments name salt password
     → IsNoOption name → IsNoOption salt → IsNoOption password → IsGiven name salt password (matches_of command arguments)
 is_given name salt password arguments are n s p =

@@ -1,5 +1,9 @@
--- Where a command has no rule of one argument on another, a value that is read of an argument has
--- passed that argument's parser.
+-- Each value that `clap` finds for an option is one that the option's parser accepts. `parse` needs this for the
+-- invariant of `Arguments`, from which `number32` and `number64` know that their numbers are below their limits.
+--
+-- `clap` promises it for a command whose arguments have no rule on one another. The key step: no two arguments have the
+-- same id, and building the command adds no argument with one of these ids, so a value under an id passed the parser of
+-- the one argument with that id.
 use Rattle.std.proofs.Common.{◌≡◌, ◌∙◌, ◌<◌, ◌⊎◌, ◌&&◌, ℕ, Bool, not, true, false, true≢false, Option, Some, None, zero, suc, sym, ap, refl, subst, arith, List, [], ◌∷◌, map, length, codes, inl, inr}
 use Rattle.std.specs.Borrow.{Bor}
 use Rattle.std.specs.List.{All, list_all, slice_index_or}
@@ -26,16 +30,18 @@ use Rattle.clap.proofs.CallerLemmas.{entry_by_id, same_rules_by_id}
 use Rattle.clap.proofs.SimpleLemmas.{is_false, is_nil, ready_simple, simple_groups}
 use Rattle.mkpasswd.specs.Private.Options.{HasPassed, parser_by_id}
 
--- ---- a command whose arguments have no rule on one another
+-- ---- A command whose arguments have no rule on one another
 
 abbrev pub all_free : List Rule → Bool
 all_free = list_all (λ rule. rule.is_free)
 
+-- if all rules are free, so is each argument
 each_free : (xs : List Arg) → all_free (map rule_of xs) ≡ true → All (λ a. is_free_arg a ≡ true) xs
 each_free [] e k d lt = absurd (omega arith)
 each_free (x ∷ xs) e zero d lt = (and_parts _ _ e).0
 each_free (x ∷ xs) e (suc k) d lt = each_free xs (and_parts _ _ e).1 k d (omega arith)
 
+-- such a command has no exclusions, conflicts, overrides or groups
 excludes_nothing : (c : Command) → is_ready (shape_of c) ≡ true → HasReadyLeaves c → all_free (shape_of c).rules ≡ true → IsPlain c
 excludes_nothing c ready leaves free =
     let simple = ready_simple c ready leaves in
@@ -47,9 +53,9 @@ excludes_nothing c ready leaves free =
       simple.groups,
     )
 
--- ---- a value of an argument
+-- ---- A value of an argument
 
--- the argument at place k has this id and parser, no other has its id, and building adds none that has
+-- the argument at place k has this id and parser, no other has its id, and building the command adds none with it
 record IsOnly (c : Command) (k : ℕ) (id : Text) (q : ValueParser) : Type 0 where
   within : k < length (args_of c)
   called : (d : Arg) → (slice_index_or (args_of c) k d).id.now ≡ id
@@ -58,7 +64,7 @@ record IsOnly (c : Command) (k : ℕ) (id : Text) (q : ValueParser) : Type 0 whe
   named : id ≡ [] → ⊥
   own : (id ≡ codes "help") ⊎ (id ≡ codes "version") → ⊥
 
--- each argument with the id that the built command has takes what the parser takes
+-- each argument of the built command with this id has this parser
 same_parser : (c : Command) (m : ArgMatches) (p : IsParsedFrom c m) (k : ℕ) (id : Text) (q : ValueParser) → IsOnly c k id q
     → (j : ℕ) (x : Arg) → j < length (args_of p.built) → slice_index_or (args_of p.built) j x ≡ x → bytes_eq x.id.now id ≡ true
     → parser_of x ≡ q
@@ -70,6 +76,7 @@ same_parser c m p k id q is j x low at same =
     j x low at (subst (λ (t : Text). bytes_eq x.id.now t ≡ true) (sym called) same) in
     ap parser_of_value (rules.parser q (is.parser x))
 
+-- the text of the first value is what is read of a value of which `P` holds
 first_passed : (P : Bor Text → Type 0) (how : Reading) (values : List (Bor Text)) (text : Text) → All P values
     → option_map (λ s. read_as how s.now) (slice_get values 0) ≡ Some text → (v : Bor Text) × (text ≡ read_as how v.now) × P v
 first_passed P how [] text all is = cc
@@ -77,6 +84,7 @@ first_passed P how (v ∷ vs) text all is =
     let same : text ≡ read_as how v.now = cc in
     (v, same, All-get_or P (v ∷ vs) 0 v (omega arith) all)
 
+-- so the text of an entry with this id is a value that the parser accepts
 value_passed : (c : Command) (m : ArgMatches) (p : IsParsedFrom c m) (k : ℕ) (id : Text) (q : ValueParser) → IsOnly c k id q → groups_of p.built ≡ []
     → (e : Entry) → e.0.now ≡ id → EntryPasses p.built e
     → (text : Text) → option_map (λ s. read_as e.1.reading s.now) (slice_get e.1.vals.items 0) ≡ Some text → HasPassed q text
@@ -102,7 +110,7 @@ value_passed c m p k id q is no_groups e key pass text read =
       subst (λ (w : ValueParser). Accepts any.1.ignore_case w first.0.now) (own_parser any.0 any.1 any.2 any.3 any.4.0) any.4.1,
     )
 
--- the rule at place k of these is r, with this parser, and no other has its id
+-- the rule at place k is r, with this parser, and no other has its id
 pub record IsOnlyRule (rules : List Rule) (k : ℕ) (r : Rule) (q : ValueParser) : Type 0 where
   pub within : k < length rules
   pub place : (z : Rule) → slice_index_or rules k z ≡ r
@@ -111,6 +119,7 @@ pub record IsOnlyRule (rules : List Rule) (k : ℕ) (r : Rule) (q : ValueParser)
   pub named : r.id ≡ [] → ⊥
   pub own : (r.id ≡ codes "help") ⊎ (r.id ≡ codes "version") → ⊥
 
+-- then the argument at place k is the only one with its id
 is_only : (c : Command) (k : ℕ) (r : Rule) (q : ValueParser) → IsOnlyRule (shape_of c).rules k r q → IsOnly c k r.id q
 is_only c k r q rule =
     let count : length (map rule_of (args_of c)) ≡ length (args_of c) = length-map (args_of c) rule_of in
@@ -126,7 +135,7 @@ is_only c k r q rule =
       own = rule.own;
     }
 
--- ---- the rule with an id, where no two have the same
+-- ---- The rule with an id, if no two have the same
 
 -- no rule has this id
 abbrev lacks : Text → List Rule → Bool
@@ -147,11 +156,11 @@ lacks_each id [] all j z lt same = absurd (omega arith)
 lacks_each id (rule ∷ rules) all zero z lt same = true≢false (sym same ∙ not-true (bytes_eq rule.id id) (and_parts _ _ all).0)
 lacks_each id (rule ∷ rules) all (suc j) z lt same = lacks_each id rules (and_parts _ _ all).1 j z (omega arith) same
 
--- one of these rules alone has this id, and it has this parser
+-- exactly one of these rules has this id, and it has this parser
 abbrev HaveOne : List Rule → Text → ValueParser → Type 0
 HaveOne rules id q = (k : ℕ) × (r : Rule) × (r.id ≡ id) × IsOnlyRule rules k r q
 
--- so the parser of an id is that of one rule
+-- the parser of an id is that of one rule, by induction over the rules
 pub only_rule : (rules : List Rule) → have_own_ids rules ≡ true → (id : Text) (q : ValueParser) → parser_by_id id rules ≡ Some q → HaveOne rules id q
 only_rule [] own id q is = absurd cc
 only_rule (rule ∷ rules) own id q is = go (bytes_eq rule.id id) refl (λ others. only_rule rules others id q) is
@@ -200,7 +209,7 @@ only_rule (rule ∷ rules) own id q is = go (bytes_eq rule.id id) refl (λ other
         let found = behind differs_from.1.1.1 parser in
         (suc found.0, found.1, found.2, later found.0 found.1 found.2 differs found.3)
 
--- the text that is read of an argument is a value that passed its parser
+-- the text that `clap` found for an argument is a value that its parser accepts
 pub passed : (c : Command) (m : ArgMatches) (k : ℕ) (r : Rule) (q : ValueParser) → IsParsedFrom c m
     → is_ready (shape_of c) ≡ true → HasReadyLeaves c → all_free (shape_of c).rules ≡ true → IsOnlyRule (shape_of c).rules k r q
     → (text : Text) → one_text (found_of m) r.id ≡ Some text → HasPassed q text

@@ -1,4 +1,7 @@
--- From what the steps of `plan` find to what the arguments mean.
+-- From what the steps of `plan` find to what the arguments mean (`Means`), for the clause of `plan` if `Maker::new`
+-- refuses. The rules on the method, the rounds and the salt come last in the order of the arguments' rules. The method
+-- of the rows is the one that `plan` found, so a rule that is broken for one is broken for the other, by induction over
+-- the rules.
 use Rattle.std.proofs.Common.{◌≡◌, List, [], ◌∷◌, map, Some, ap, subst, inl, inr}
 use Rattle.clap.specs.Words.{Row}
 use Rattle.crypt_core.specs.MadeSettings.{BreaksMake, IsMakeRefused, make_faults}
@@ -9,15 +12,16 @@ use Rattle.crypt_core.specs.declared.setting.fault.MakeFault.{MakeFault}
 use Rattle.mkpasswd.specs.Options.{BreaksUsage, given_salt, job_rounds, type_of}
 use Rattle.mkpasswd.specs.declared.fault.UsageFault.TheVariants.{Make}
 
--- ---- the rules of the arguments, in their order
+-- ---- The rules of the arguments, in their order
 
 module _ (rows : List Row) (method : Method) (named : method_named (type_of rows) ≡ Some method) where
+  -- a rule that the method, the rounds and the salt do not break, the arguments do not break
   unbroken_make : (fault : MakeFault) → ¬ BreaksMake method (job_rounds method rows) (given_salt rows) fault → ¬ BreaksUsage rows (Make fault)
   unbroken_make fault whole (own, own_named, breaks) =
       let same : own ≡ method = cc in
       whole (subst (λ (m : Method). BreaksMake m (job_rounds m rows) (given_salt rows) fault) same breaks)
 
-  -- the first rule that the method, the cost and the salt break
+  -- the first rule that the method, the rounds and the salt break is the first of these that the arguments break
   pub refused_make : (fault : MakeFault) → IsMakeRefused method (job_rounds method rows) (given_salt rows) fault
       → IsFirstBroken (map Make make_faults) (BreaksUsage rows) (Make fault)
   unfolding IsMakeRefused

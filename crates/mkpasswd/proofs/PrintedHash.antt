@@ -1,4 +1,6 @@
--- One hash by arguments that are written out.
+-- The arguments `-m TYPE -S SALT PASSWORD` print the hash of the password, for the clause `prints` of `run_command`.
+-- With status 0 the command ended whole (WholeCommands), and `clap` found exactly the three texts (GivenArguments). So
+-- the plan is to hash the given password with the given salt: every other plan contradicts what was found.
 use Rattle.std.proofs.Common.{◌≡◌, Bool, List, Some, true, false, true≢false, codes, ap, subst, sym, ◌∙◌, inl, inr, append-nil, arith}
 use Rattle.std.proofs.lemmas.Option.{none-some}
 use Rattle.clap.specs.Words.{Row, Text, matches_of}
@@ -18,7 +20,7 @@ use Rattle.run_core.specs.declared.job.PasswordFrom.TheVariants.{Word, Input}
 use Rattle.mkpasswd.specs.declared.plan.Plan.TheVariants.{Methods, One, Batch, Check, Audit}
 use Rattle.mkpasswd.proofs.GivenArguments.{IsGiven, given_fault, is_given}
 
--- ---- a name is no option
+-- ---- The name of a method is no option
 
 module _ (name : Text) (method : Method) (named : method_named name ≡ Some method) where
   no_hyphen : ¬ BeginsWith name (codes "-")
@@ -27,9 +29,9 @@ module _ (name : Text) (method : Method) (named : method_named name ≡ Some met
   not_help : ¬ (name ≡ codes "help")
   not_help is = none-some method (subst (λ (text : Text). method_named text ≡ Some method) is named)
 
--- ---- what they mean
+-- ---- What the arguments mean
 
--- the answer of their job is the hash alone
+-- the answer of this job is the hash alone
 text_by : (method : Method) (salt password : Text) (job : Job) (bytes : Text) (stream : Stream)
     → job.maker ≡ record { scheme = made_scheme method 0; salt = Some salt } → job.work ≡ false → bytes ≡ password
     → (password_answer job bytes stream).text ≡ as_line (crypt password (record { scheme = made_scheme method 0; salt = salt }))
@@ -38,6 +40,7 @@ text_by method salt password job bytes stream maker_is work_is bytes_is =
 
 module _ (name salt password : Text) (method : Method) (named : method_named name ≡ Some method)
     (salt_is : IsNoOption salt) (password_is : IsNoOption password) where
+  -- the name is no option, because no method's name begins with a hyphen
   name_is : IsNoOption name
   name_is = inr (no_hyphen name method named)
 
@@ -47,6 +50,7 @@ module _ (name salt password : Text) (method : Method) (named : method_named nam
   same_method : (own : Method) → method_named name ≡ Some own → own ≡ method
   same_method own own_named = let own_here = own_named in let named_here = named in cc
 
+  -- a job of the rows that were found prints this hash
   prints_job : (rows : List Row) (job : Job) (bytes : Text) (stream : Stream) → IsGiven name salt password rows → IsJob rows job
       → bytes ≡ password → (password_answer job bytes stream).text ≡ as_line (crypt password (record { scheme = made_scheme method 0; salt = salt }))
   prints_job rows job bytes stream found is_job bytes_is =
@@ -56,6 +60,7 @@ module _ (name salt password : Text) (method : Method) (named : method_named nam
   not_set : {set : Bool} → set ≡ false → set ≡ true → ⊥
   not_set off on = true≢false (sym on ∙ off)
 
+  -- so the command prints it, whatever its plan: the other plans are not those of the arguments
   pub prints_hash : {I O E : Type 0} (Made IsKept : Type 0) (arguments : List Text) (old new : RunState I O E) → arguments ≡ hash_arguments name salt password
       → EndsWhole Made IsKept arguments old new → PrintsHash method salt password old.out new.out
   prints_hash Made IsKept arguments old new are (inr (asked, (error, refuses, by, text, gives))) =

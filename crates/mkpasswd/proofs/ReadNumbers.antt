@@ -1,4 +1,6 @@
--- A number that passed the parser of its option is read as its digits say.
+-- The number of an option, for the clauses of `number32` and `number64`: if the option's parser accepts only numbers
+-- below 2^32 or 2^64, `get_one` reads each value that passed the parser as the number that its digits say. The argument
+-- goes by the two kinds of parser, of signed and of unsigned numbers.
 use Rattle.std.proofs.Common.{◌≡◌, ◌∙◌, ◌^◌, ℕ, Option, Some, None, Result, true, false, ap, refl, subst, sym, arith}
 use Rattle.std.specs.Option.{option_map, option_map_or}
 use Rattle.std.specs.Prelude.{pos}
@@ -13,14 +15,15 @@ use Rattle.clap.proofs.CallerReads.{signed_reads}
 use Rattle.mkpasswd.specs.Options.{command_rules}
 use Rattle.mkpasswd.specs.Private.Options.{HasPassed, HavePassed, IsNumber, parser_by_id, takes_below}
 
--- what `parse` says of an unsigned number of so many bits
+-- what `parse` promises for an unsigned number of so many bits
 abbrev pub Parses : ℕ → Text → Result ℕ ParseIntError → Type 0
 Parses bits text read = ParsesUnsigned bits 10 text read × ExplainsUnsignedError 10 text read × HasUnsignedDigitsIfOk text read
 
--- the number that a text is
+-- the number that the digits of a text say
 abbrev pub number_of : Text → ℕ
 number_of text = digits_value 10 (without_leading_plus text)
 
+-- a text that passed the parser is read as its number
 read_of_text : (bits : ℕ) (parser : ValueParser) → takes_below (2 ^ bits) parser ≡ true → (text : Text) → HasPassed parser text
     → (read : Option ℕ) → ReadsOne (Parses bits) text read → read ≡ Some (number_of text)
 read_of_text bits (Signed (pos low) (pos high)) below text passed read reads =
@@ -34,12 +37,13 @@ read_of_text bits (Unsigned low high) below text passed None reads =
     absurd (reads.1.0 (accepted.0, omega (arith, accepted.3, ltb-true high (2 ^ bits) below)))
 read_of_text bits parser below text passed read reads = absurd cc
 
+-- and so is a value that may be missing
 read_of_value : (bits : ℕ) (parser : ValueParser) → takes_below (2 ^ bits) parser ≡ true → (value : Option Text) → ((text : Text) → value ≡ Some text → HasPassed parser text)
     → (read : Option ℕ) → (value ≡ None → read ≡ None) → ((text : Text) → value ≡ Some text → ReadsOne (Parses bits) text read) → read ≡ option_map number_of value
 read_of_value bits parser below None passed read none some = none refl
 read_of_value bits parser below (Some text) passed read none some = read_of_text bits parser below text (passed text refl) read (some text refl)
 
--- the number of an option, where its values have passed
+-- so the number of an option is read from its value
 pub number_read : (bits : ℕ) (matches : ArgMatches) (id : Text) → IsNumber (2 ^ bits) id → HavePassed matches
     → (read : Option ℕ) → (one_text (found_of matches) id ≡ None → read ≡ None)
     → ((text : Text) → one_text (found_of matches) id ≡ Some text → ReadsOne (Parses bits) text read)

@@ -1,4 +1,6 @@
--- The command: from what its steps leave to what it leaves.
+-- From what the steps of `run_command` promise to its clause `serves`, and the clauses of `report_fault`, `show_error`
+-- and `show_refusal`. A text was written to an output, and the lemmas say which part of the command that was: the line
+-- of an error, `clap`'s message, or a run with its tally. The argument goes case by case; nothing is computed.
 use Rattle.std.proofs.Common.{◌≡◌, ◌≢◌, ◌⊎◌, ℕ, List, [], length, Bool, false, Result, Ok, Err, ap, refl, inl, inr}
 use Rattle.clap.specs.Words.{Text}
 use Rattle.clap.specs.declared.error.kind.ErrorKind.{ErrorKind}
@@ -21,10 +23,10 @@ use Rattle.run_core.proofs.SentTexts.{as_tally, shows-tally}
 use Rattle.mkpasswd.specs.declared.plan.Plan.{Plan}
 use Rattle.run_core.specs.declared.tally.Tally.{Tally}
 
--- ---- a text that was shown
+-- ---- A text that was written
 
 module _ {T : Type 0} where
-  -- the line of a fault was shown, in as many calls as it has bytes at most
+  -- the line of an error was written, in at most as many calls as it has bytes
   pub is_told : {A : Type 0} (fault : Fault) (old new : Device T) (line : List ℕ) (turns : ℕ) (result : Result A RunFault)
       → line ≡ fault_line fault → turns ≡ length line → Shows turns old new line result → IsTold fault old new
   is_told {A} fault old new line turns result line_is turns_is shows =
@@ -32,9 +34,9 @@ module _ {T : Type 0} where
       let shown : Shows (length line) old new line (as_tally result) = rw turns_is at tallied in
       (as_tally result, rw line_is at shown)
 
--- ---- `clap`'s text
+-- ---- `clap`'s message
 
--- the kinds whose text goes to the output are those of status 0
+-- an error of `clap` has status 0 if it is help or the version, and otherwise 2
 pub status_by_kind : (which : ErrorKind)
     → ((which ≢ kind.DisplayHelp) × (which ≢ kind.DisplayVersion) × (parse_status which ≡ 2))
     ⊎ ((¬ ((which ≢ kind.DisplayHelp) × (which ≢ kind.DisplayVersion))) × (parse_status which ≡ 0))
@@ -42,13 +44,14 @@ status_by_kind kind.DisplayHelp = inr ((λ others. others.0 refl), refl)
 status_by_kind kind.DisplayVersion = inr ((λ others. others.1 refl), refl)
 status_by_kind which = inl ((λ help. cc), (λ version. cc), refl)
 
--- `clap` says which errors are help or the version
+-- help and the version have status 0
 pub status_of_help : (which : ErrorKind) → ¬ ((which ≢ kind.DisplayHelp) × (which ≢ kind.DisplayVersion)) → parse_status which ≡ 0
 status_of_help which asked = elim (status_by_kind which) [
   | inl other ↦ absurd (asked (other.0, other.1))
   | inr own ↦ own.1
 ]
 
+-- any other error has status 2
 pub status_of_mistake : (which : ErrorKind) → (which ≢ kind.DisplayHelp) × (which ≢ kind.DisplayVersion) → parse_status which ≡ 2
 status_of_mistake which other = elim (status_by_kind which) [
   | inl own ↦ own.2
@@ -63,26 +66,29 @@ module _ {O E : Type 0} where
   refusal_shown (Parse error) turns out faults new_faults status other told status_is = absurd (other error refl)
   refusal_shown fault turns out faults new_faults status other told status_is = (told, refl, status_is)
 
--- ---- the command
+-- ---- The command
 
 module _ {I O E : Type 0} where
-  -- with other outputs
+  -- the state with other outputs
   abbrev pub with_faults : RunState I O E → Device E → RunState I O E
   with_faults old faults = record old { faults = faults }
 
   abbrev pub with_outs : RunState I O E → Device O → Device E → RunState I O E
   with_outs old out faults = record old { out = out; faults = faults }
 
+  -- a run ended with a tally
   pub serves_run : (turns : ℕ) (Made IsKept : Type 0) (generates : Bool) (arguments : List Text) (plan : Plan) (old new : RunState I O E) (tally : Tally) (status : ℕ)
       → Plans arguments (Ok plan) → IsAsked Made IsKept (wants_generator plan) → RunsOrLacks turns generates plan old new (Ok tally) → status ≡ tally_status tally
       → Serves turns Made IsKept generates arguments old new status
   serves_run turns Made IsKept generates arguments plan old new tally status planned asks runs status_is =
       (Ok plan, planned, asks, rw runs.0 (new, Ok tally, runs.1, (refl, status_is)))
 
+  -- the line of an error changes only `faults`
   tells : (fault : Fault) (old : RunState I O E) (faults : Device E) (status : ℕ) → IsTold fault old.faults faults → status ≡ (fault_row fault).0
       → Tells fault old (with_faults old faults) status
   tells fault old faults status (result, shows) status_is = (result, shows, refl, status_is)
 
+  -- a run ended with an error, or there was no generator for it
   pub serves_fault : (turns : ℕ) (Made IsKept : Type 0) (generates : Bool) (arguments : List Text) (plan : Plan) (old mid : RunState I O E) (faults : Device E) (fault : Fault) (status : ℕ)
       → Plans arguments (Ok plan) → IsAsked Made IsKept (wants_generator plan) → RunsOrLacks turns generates plan old mid (Err fault) → IsTold fault mid.faults faults
       → status ≡ (fault_row fault).0 → Serves turns Made IsKept generates arguments old (with_faults mid faults) status
@@ -92,6 +98,7 @@ module _ {I O E : Type 0} where
       (Ok plan, planned, asks, rw runs.0 (mid, Err fault, runs.1, tells (Run fault) mid faults status is_told status_is))
   serves_fault turns Made IsKept generates arguments plan old mid faults (Usage fault) status planned asks runs is_told status_is = absurd runs
 
+  -- `clap` refused the arguments, or they asked for help or the version
   pub serves_error : (turns : ℕ) (Made IsKept : Type 0) (generates : Bool) (arguments : List Text) (error : Error) (old : RunState I O E) (out : Device O) (faults : Device E) (status : ℕ)
       → Plans arguments (Err (Parse error)) → IsAsked Made IsKept false → ErrorShown error turns old.out old.faults out faults status
       → Serves turns Made IsKept generates arguments old (with_outs old out faults) status
@@ -124,6 +131,7 @@ module _ {I O E : Type 0} where
   serves_error turns Made IsKept generates arguments error old out faults status planned asks (no_text told same status_is) =
       (Err NoMemory, tt, asks, rw same (tells (Usage NoMemory) old faults status told status_is))
 
+  -- the arguments were refused
   pub serves_refusal : (turns : ℕ) (Made IsKept : Type 0) (generates : Bool) (arguments : List Text) (fault : UsageFault) (old : RunState I O E) (out : Device O) (faults : Device E) (status : ℕ)
       → Plans arguments (Err fault) → IsAsked Made IsKept false → RefusalShown fault turns old.out old.faults out faults status
       → Serves turns Made IsKept generates arguments old (with_outs old out faults) status

@@ -1,4 +1,7 @@
--- Status 0: all that the arguments ask for was done, and told nowhere else.
+-- What status 0 means, for the clause `whole` of `run_command`: everything that the arguments ask for was done, or help
+-- or the version was printed in full. The argument goes through the cases of `Serves`. An error of a run, a missing
+-- generator and refused arguments have another status, so a run ended with a tally, whose clauses say that all answers
+-- were written.
 use Rattle.std.proofs.Common.{◌≡◌, ℕ, Bool, true, false, not, ◌&&◌, Result, List, [], Option, Some, None, Ok, Err, refl, zero, suc, inl, inr, subst, sym, ◌∙◌, arith}
 use Rattle.std.specs.Prelude.{MatchBool}
 use Rattle.std.specs.Io.KnownBytes.{Consumes}
@@ -27,7 +30,7 @@ use Rattle.run_core.specs.declared.line.Kind.{Kind}
 use Rattle.run_core.specs.declared.line.Kind.TheVariants as kinds
 use Rattle.run_core.specs.declared.tally.Tally.{Tally}
 
--- ---- no fault has the status 0
+-- ---- No error of a run has status 0
 
 fault_of_run : (fault : RunFault) → (run_row fault).0 ≡ 0 → ⊥
 fault_of_run Read is = absurd (omega (arith, is))
@@ -41,8 +44,9 @@ reads_nothing : {I : Type 0} (input : Device I) → Reads input input []
 reads_nothing input = record { shown = consumes_nothing input.shown; counted = omega arith }
 
 module _ {I O E : Type 0} where
-  -- ---- a plan whose run has a tally of status 0
+  -- ---- A plan whose run has a tally of status 0
 
+  -- a run with a tally of status 0 wrote all its answers
   succeeds : (answers : List Answer) (read : List ℕ) (old new : RunState I O E) (tally : Tally) → tally_status tally ≡ 0
       → Reads old.input new.input read → Finishes answers old new (Ok tally)
       → Succeeds read answers old new
@@ -52,6 +56,7 @@ module _ {I O E : Type 0} where
     status = rw is at well;
   }
 
+  -- the run of one password
   one_is_done : (turns : ℕ) (job : Job) (from : PasswordFrom) (old new : RunState I O E) (tally : Tally) → tally_status tally ≡ 0
       → EndsOne turns job from old new (Ok tally) → IsDone (One job from) old new
   one_is_done turns job (Word password) old new tally well (same, (answers, (known, is_password, are), finishes)) = (
@@ -66,11 +71,13 @@ module _ {I O E : Type 0} where
     succeeds _ bytes old new tally well reads (subst (λ (a : List Answer). Finishes a old new (Ok tally)) are finishes),
   )
 
+  -- a run over lines
   by_lines : (turns : ℕ) (kind : Kind) (job : Job) (old new : RunState I O E) (tally : Tally) → tally_status tally ≡ 0
       → EndsLines turns kind job old new (Ok tally) → SucceedsByLines kind job old new
   by_lines turns kind job old new tally well (bytes, reads, (answers, (read_out, are), finishes)) =
       (bytes, answers, read_out, are, succeeds answers bytes old new tally well reads finishes)
 
+  -- the run of any plan
   is_done : (turns : ℕ) (plan : Plan) (old new : RunState I O E) (tally : Tally) → tally_status tally ≡ 0
       → Ends turns plan old new (Ok tally) → IsDone plan old new
   is_done turns Methods old new tally well (shows, same, is) =
@@ -80,6 +87,7 @@ module _ {I O E : Type 0} where
   is_done turns (Check job) old new tally well runs = by_lines turns kinds.Check job old new tally well runs.ends
   is_done turns (Audit job) old new tally well runs = by_lines turns kinds.Audit job old new tally well runs.ends
 
+  -- so with status 0 a plan was run, and all of it was done
   of_plan : (lacks : Bool) (turns : ℕ) (Made IsKept : Type 0) (plan : Plan) (arguments : List Text) (old new : RunState I O E) (status : ℕ) → status ≡ 0 → Plans arguments (Ok plan)
       → IsAsked Made IsKept (wants_generator plan)
       → MatchBool lacks (Tells Start old new status)
@@ -91,8 +99,9 @@ module _ {I O E : Type 0} where
   of_plan false turns Made IsKept plan arguments old new status well planned asks (mid, Err fault, ends, (result, shows, same, is)) =
       absurd (fault_of_run fault (sym is ∙ well))
 
-  -- ---- arguments that are refused
+  -- ---- Arguments that are refused
 
+  -- with status 0 an error of `clap` is help or the version, printed in full
   of_error : (kept : ℕ) (turns : ℕ) (Made IsKept : Type 0) (arguments : List Text) (error : Error) (old new : RunState I O E) (status : ℕ) → status ≡ 0
       → Plans arguments (Err (Parse error)) → IsAsked Made IsKept false → parse_status (kind_of error) ≡ kept
       → ShowsError kept turns old new status → EndsWhole Made IsKept arguments old new
@@ -103,6 +112,7 @@ module _ {I O E : Type 0} where
   of_error (suc n) turns Made IsKept arguments error old new status well planned asks by (text, result, shows, same, is) =
       absurd (omega (arith, is, well))
 
+  -- so status 0 means that the command ended whole
   pub is_whole : (turns : ℕ) (Made IsKept : Type 0) (generates : Bool) (arguments : List Text) (old new : RunState I O E) (status : ℕ) → status ≡ 0
       → Serves turns Made IsKept generates arguments old new status → EndsWhole Made IsKept arguments old new
   is_whole turns Made IsKept generates arguments old new status well (Ok plan, planned, asks, follows) =

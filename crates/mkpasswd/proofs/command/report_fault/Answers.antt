@@ -1,3 +1,4 @@
+-- `report_fault` writes the line of the error, in at most as many calls as it has bytes (`told`).
 use Rattle.std.proofs.Common.{◌∙◌, ap, length, sym}
 use Rattle.mkpasswd.proofs.ServedCommands.{is_told}
 use Rattle.mkpasswd.proofs.command.report_fault.Goals as goal

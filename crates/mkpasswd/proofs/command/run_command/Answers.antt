@@ -1,10 +1,13 @@
+-- The clauses of `run_command`: `serves` from what its steps promise (ServedCommands), `whole` from `serves`
+-- (WholeCommands), and `prints` from `whole` (PrintedHash). Each has three ways out: a run with a tally, an error of a
+-- plan or its run, and refused arguments.
 use Rattle.std.proofs.Common.{None, false, refl}
 use Rattle.mkpasswd.proofs.PrintedHash.{prints_hash}
 use Rattle.mkpasswd.proofs.ServedCommands.{serves_fault, serves_refusal, serves_run}
 use Rattle.mkpasswd.proofs.WholeCommands.{is_whole}
 use Rattle.mkpasswd.proofs.command.run_command.Goals as goal
 
--- ---- a plan was run
+-- ---- The arguments made a plan
 
 pub returns-in-Ok-run_plan-clause-serves : goal.returns-in-Ok-run_plan-clause-serves
 returns-in-Ok-run_plan-clause-serves g c = (
@@ -20,7 +23,7 @@ returns-in-Ok-clause-serves g c = (
       c.in-Ok.ensures c.generator_for.ensures c.in-Err-run_plan.ensures.runs c.report_fault.ensures.told c.report_fault.ensures.status,
 )
 
--- ---- the arguments were refused
+-- ---- The arguments were refused
 
 pub returns-clause-serves : goal.returns-clause-serves
 returns-clause-serves g c = (
@@ -29,7 +32,7 @@ returns-clause-serves g c = (
       c.in-Err.ensures (refl, refl) c.show_refusal.ensures),
 )
 
--- ---- what follows
+-- ---- What follows from `serves`
 
 pub returns-in-Ok-run_plan-clause-whole : goal.returns-in-Ok-run_plan-clause-whole
 returns-in-Ok-run_plan-clause-whole g c well =

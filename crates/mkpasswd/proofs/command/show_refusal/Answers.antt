@@ -1,3 +1,5 @@
+-- The clause of `show_refusal`: `clap`'s error is shown as `show_error` promises, and any other refusal as
+-- `report_fault` does.
 use Rattle.mkpasswd.proofs.ServedCommands.{refusal_shown}
 use Rattle.mkpasswd.proofs.command.show_refusal.Goals as goal
 

@@ -1,5 +1,6 @@
--- The command is put together as its definition is: by its settings, and then by one argument after
--- another.
+-- `command` returns the command of the definition. Its calls of `clap` set one field after another, and then add one
+-- argument after another; each argument has the rule that its function promises, so the result is the fold over the
+-- rules, by induction over the arguments.
 use Rattle.std.proofs.Common.{◌≡◌, ◌∙◌, List, [], ◌∷◌, true, fold, ap, sym}
 use Rattle.std.specs.Prelude.{⊤}
 use Rattle.std.proofs.lemmas.Result.{IfOk-weaker}
@@ -12,13 +13,15 @@ use Rattle.mkpasswd.specs.Options.{command, command_rules}
 use Rattle.mkpasswd.specs.Private.Options.{HasRule}
 use Rattle.mkpasswd.proofs.options.command.Goals as goal
 
--- ---- all arguments
+-- ---- All arguments
 
+-- the arguments have these rules, one by one
 abbrev HaveRules : List Arg → List Rule → Type 0
 HaveRules [] [] = ⊤
 HaveRules (arg ∷ args) (rule ∷ rules) = HasRule arg rule × HaveRules args rules
 HaveRules args rules = ⊥
 
+-- adding them adds these rules to the command
 with_args : (before after : Command) (args : List Arg) (rules : List Rule) → AddsInTurn AddsArg before args after → HaveRules args rules
     → app_of after ≡ fold with_rule (app_of before) rules
 with_args before after [] [] same have = ap app_of (sym same)
@@ -28,7 +31,7 @@ with_args before after (arg ∷ args) (rule ∷ rules) (mid, adds, others) (has,
 with_args before after [] (rule ∷ rules) adds have = absurd have
 with_args before after (arg ∷ args) [] adds have = absurd have
 
--- pairs, one after another
+-- a pair, written between its parts
 infixr 35 ◌&◌
 ◌&◌ : {A B : Type 0} → A → B → A × B
 first & others = (first, others)

@@ -1,4 +1,5 @@
--- `clap`'s clauses at the command: what it gives where it takes the arguments, and why it refuses them.
+-- The clauses `ok` and `err` of `parse`, and the invariant of its result, from `clap`'s clauses for this command.
+-- CommandFacts has the properties of the command that those require.
 use Rattle.std.proofs.Common.{◌≡◌, ◌≢◌, ◌∙◌, List, [], true, map, string_bytes, ap, subst, sym, inl, inr}
 use Rattle.std.specs.List.{list_all}
 use Rattle.std.proofs.lemmas.Result.{err_from_is_err_and}
@@ -15,9 +16,9 @@ use Rattle.mkpasswd.specs.Private.Options.{HavePassed}
 use Rattle.mkpasswd.proofs.PassedValues.{IsOnlyRule, all_free, only_rule, passed}
 use Rattle.mkpasswd.proofs.options.parse.Goals as goal
 
--- ---- refusals
+-- ---- Refusals
 
--- an error that is not want of memory is one that the arguments call for
+-- an error that is not a failed allocation is one that the arguments call for
 refused : (a : App) (arguments : List Text) (e : Error) → a ≡ command → (takes a arguments ≡ true → kind_of e ≡ kind.OutOfMemory)
     → (is_simple_and_free a ≡ true → HasKind (fault_of a arguments) e) → kind_of e ≢ kind.OutOfMemory → Refuses arguments e
 refused a arguments e is passes kinds other = record {
@@ -33,13 +34,13 @@ returns-in_err-matches-clause-err c =
     let p = err_from_is_err_and c.from_residual-in_err-matches.result c.from_residual-in_err-matches.ensures.1 in
     rw (p.1, p.2) (refused _ _ error c.in_ok-command.ensures clauses.passes clauses.kinds)
 
--- ---- values
+-- ---- Values
 
--- the rows of the matches are those that the arguments give
+-- the rows of the matches are those of the arguments
 rows_read : (a : App) (arguments : List Text) (m : ArgMatches) → a ≡ command → HasMatchesOf a arguments m → rows_of (found_of m) ≡ matches_of command arguments
 rows_read a arguments m is matches = (subst (λ (x : App). HasMatchesOf x arguments m) is matches facts.simple).0
 
--- and each value is one that the parser of its option takes
+-- and the parser of its option accepts each value
 have_passed : (c : Command) (m : ArgMatches) → app_of c ≡ command → IsParsedFrom c m → HavePassed m
 have_passed c m is parsed id parser parser_is text read =
     let rule = only_rule command.top.rules facts.own_ids id parser (facts.rules_are id parser parser_is) in

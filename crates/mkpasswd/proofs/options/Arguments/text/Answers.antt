@@ -1,3 +1,4 @@
+-- `text` returns the value in the rows, because the rows have the same texts as the matches, which `get_str` reads.
 use Rattle.std.proofs.Common.{◌∙◌, ap}
 use Rattle.clap.specs.Words.{first_of, found_of}
 use Rattle.clap.proofs.WalkLemmas.{first_value-rows}
