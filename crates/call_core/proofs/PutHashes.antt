@@ -33,13 +33,13 @@ puts_at password text kept lock old made report new (Ok most) (inr (told, e, lac
     inr (rw left.0 lacks, (refl, left.1))
 puts_at password text kept lock old made report new (Err refusal) e put = rw e at put
 
--- a hash with a setting that is made and written is the effect `PutsHash`
+-- making a hash with a setting and writing it has the effect `PutsHash`
 pub puts : (password : List ℕ) (kept : SettingValue) (budget : ℕ) (lock old : List ℕ) (made : Result (List ℕ × Report) Report) (report : Report) (new : List ℕ)
     → MakesHash password kept budget (length old) made → IsPut made lock old report new → PutsHash password kept budget lock old report new
 puts password kept budget lock old made report new makes put =
     puts_at password (crypt password kept) kept lock old made report new (admission budget (length old) password kept) makes put
 
--- with the setting in a text, or after the refusal of an argument, it is the effect `Hashes`
+-- with the setting in a text it has the effect `Hashes`, also if an argument is refused
 pub puts_hash : (password text : List ℕ) (budget : ℕ) (old : List ℕ) (made : Result (List ℕ × Report) Report) (report : Report) (new : List ℕ)
     → MakesHashOf password text budget (length old) made → IsPut made (token text) old report new → Hashes password text budget old report new
 puts_hash password text budget old made report new (inr (fault, is, e)) put = inr (fault, is, rw e at put)

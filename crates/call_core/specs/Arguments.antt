@@ -86,7 +86,7 @@ IsSchemeReading Takes number rounds (Err reason) =
     ((reason ≡ UnknownMethod) × (chosen_method number ≡ None))
     ⊎ ((reason ≡ Rounds) × ((method : Method) × (chosen_method number ≡ Some method) × (¬ Takes method rounds)))
 
--- BreaksGiven method rounds salt fault: with this method, rounds of a new hash and a given salt break the rule of
+-- BreaksGiven method rounds salt fault: the method, the rounds of a new hash and a given salt break the rule of
 -- `fault`.
 abbrev pub BreaksGiven : Method → ℕ → List ℕ → MakeFault → Type 0
 BreaksGiven method rounds salt making.Cost = ¬ TakesNewRounds method rounds

@@ -15,8 +15,8 @@ use Rattle.call_core.specs.declared.reason.Reason.{Reason}
 use Rattle.call_core.specs.declared.reason.Reason.TheVariants.{OverBudget, WrongPassword}
 use Rattle.call_core.specs.declared.report.Report.{Report}
 
--- Opens password stored budget: the password opens the stored hash: that spells a setting, the hash of the password
--- with this setting is the stored hash, and it costs at most the budget.
+-- Opens password stored budget: the password opens the stored hash: the password is valid, the stored hash spells a
+-- setting and is the password's hash with this setting, and the cost of that hash is at most the budget.
 abbrev pub Opens : List ℕ → List ℕ → ℕ → Type 0
 Opens password stored budget =
     IsPassword password × ((kept : SettingValue) × Spells stored kept × (crypt password kept ≡ stored)

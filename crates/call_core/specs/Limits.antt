@@ -68,7 +68,7 @@ abbrev pub limit_bytes : Limit → Scheme → ℕ
 limit_bytes Policy scheme = policy_limit scheme
 limit_bytes (Bytes budget) scheme = budget
 
--- ---- what a policy admits
+-- ---- What a policy admits
 
 -- limit_report scheme limit longest: the report of a limit, with the length of the longest password and the rounds; or
 -- OverBudget if no new hash is within the limit.

@@ -31,7 +31,7 @@ abbrev pub decoy : Scheme → SettingValue
 decoy scheme = salted scheme (0 ∷ 0 ∷ 0 ∷ [])
 
 -- IsHashWork password kept budget done: the work of a hash with this setting, or of scrypt's allocations before one
--- failed. It is none if the hash can cost more than the budget.
+-- failed. There is none if the hash can cost more than the budget.
 abbrev pub IsHashWork : List ℕ → SettingValue → ℕ → Work → Type 0
 IsHashWork password kept budget done =
     MatchBool (nat_lt budget (cost kept (length password)))
@@ -55,12 +55,12 @@ Declines password kept budget refusal report =
 abbrev pub IsMiss : List ℕ → SettingValue → Reason → Type 0
 IsMiss field kept reason = ((reason ≡ WrongPassword) × IsWhole field kept) ⊎ ((reason ≡ Dead) × ¬ IsWhole field kept)
 
--- LogsIn password field number rounds budget report: the report of mkpasswd_login.
+-- LogsIn password field number rounds budget report: the report of mkpasswd_login and web_login.
 --   a refused password, method or rounds  the reason, without work
---   a stored hash that can't be checked   the report of mkpasswd_verify with the work of the decoy, or OutOfMemory if scrypt
---                                         lacked memory for the decoy
---   otherwise                             the report of mkpasswd_verify; after a match with whether the scheme replaces the
---                                         setting, and with Dead in place of WrongPassword if the hash is not whole
+--   a stored hash that can't be checked   the report of mkpasswd_verify with the work of the decoy, or OutOfMemory if
+--                                         scrypt lacked memory for the decoy
+--   otherwise                             the report of mkpasswd_verify; after a match it says whether the scheme
+--                                         replaces the setting, and Dead replaces WrongPassword if the hash is not whole
 abbrev pub LogsIn : List ℕ → List ℕ → ℕ → ℕ → ℕ → Report → Type 0
 LogsIn password field number rounds budget report =
     OnPassword password (Refuses report) (OnScheme TakesNewRounds number rounds (Refuses report) (λ scheme.
@@ -129,7 +129,7 @@ pub record JudgesStoredHash (password field : List ℕ) (number rounds budget : 
 -- all that it can't check, both for C and for web pages. Its limit is `limit_of`. With scrypt the decoy may end at an
 -- allocation.
 --   one_hash      the work is that of at most one hash, within the limit
---   decoy_lacks   if the limit admits the decoy, it is made, or the error is OutOfMemory because scrypt lacked memory for it
+--   decoy_lacks   if the limit admits the decoy, it is made, or the error is OutOfMemory since scrypt lacked memory for it
 --   decoy_made    under the policy's limit, if that admits a new hash, a field that can't be checked costs the decoy
 --   decoy         under any other limit too, if it admits the decoy; otherwise such a field costs nothing
 --   alike         an invalid password is refused with the same report for each field

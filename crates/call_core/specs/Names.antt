@@ -19,7 +19,7 @@ PutsSchemeName number old result new =
 
 -- PutsMessage number old result new: the effect of mkpasswd_message and web_message.
 --   known    they write the message for the reason with this number
---   unknown  if there is none, they write `unknown reason`
+--   unknown  if no reason has it, they write `unknown reason`
 pub record PutsMessage (number : ℕ) (old : List ℕ) (result : ℤ) (new : List ℕ) : Type 0 where
   pub known : (reason : Reason) → number ≡ (reason_row reason).0 → PutsWhole (reason_row reason).1 old result new
   pub unknown : ((reason : Reason) → number ≢ (reason_row reason).0) → (new ≡ put (codes "unknown reason") old) × (result ≡ pos 0)

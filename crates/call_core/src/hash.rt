@@ -59,8 +59,8 @@ pub(crate) fn put_hashed(
     }
 }
 
-// Hashes the password with the setting in `text`, if the hash fits into `room` bytes, and returns the hash and the
-// report.
+// Hashes the password with the setting in `text`, and returns the hash and the report. The hash and a zero byte have to
+// fit into `room` bytes.
 fn hash_of<M: Memory>(
     memory: &mut M,
     password: &[u8],
@@ -82,7 +82,8 @@ fn hash_of<M: Memory>(
     hash_within(memory, &password, &setting, budget, room, meter)
 }
 
-/// Hashes the password if the budget allows it and then `room` bytes do, and returns the hash and the report.
+/// Hashes the password, and returns the hash and the report. The budget has to allow the hash, and then the hash and a
+/// zero byte have to fit into `room` bytes.
 pub(crate) fn hash_within<M: Memory>(
     memory: &mut M,
     password: &Password,

@@ -48,7 +48,8 @@ impl Limit {
     }
 
     /// Returns the most that a hash of a password of `password_len` bytes may cost, for a policy whose new hashes have
-    /// this scheme. Under the policy's own limit it is 0, which admits no hash, if the new hash itself would cost more.
+    /// this scheme. If the limit is the policy's and a new hash of such a password would cost more, this is 0, which
+    /// admits no hash.
     ///
     /// Precondition: `password_len` is at most [`PASSWORD_LIMIT`].
     pub(crate) fn allowance(self, scheme: &Scheme, password_len: usize) -> u64

@@ -1,5 +1,5 @@
 //! A login: it checks a password against a stored hash, which may be outdated. If the stored hash can't be checked, it
-//! hashes the password as for a new hash, so that the call takes as long.
+//! hashes the password as for a new hash, so that such a name is not faster.
 ghost use Rattle.std.specs.Prelude.{◌≡◌, ◌≤◌, ◌⊎◌, ◌≢◌, length};
 ghost use Rattle.prims_core.specs.Work.{no_work};
 ghost use Rattle.crypt_core.specs.Needs.{AreEnough};

@@ -54,7 +54,8 @@ pub fn put_new_hash<M: Memory>(
     put_hashed(hashed, token(b""), out)
 }
 
-// Hashes the password with a new setting, if the hash fits into `room` bytes, and returns the hash and the report.
+// Hashes the password with a new setting, and returns the hash and the report. The hash and a zero byte have to fit
+// into `room` bytes.
 fn new_hash_of<M: Memory>(
     memory: &mut M,
     password: &[u8],

@@ -1,5 +1,5 @@
 //! The reasons why a call did not do what its name says, with their numbers and messages. This is the only such list:
-//! `c/mkpasswd.h`, and what is generated from that, follow it (tools/reasons).
+//! tools/reasons checks that `c/mkpasswd.h` has the same one, and prints it for other languages.
 ghost use Rattle.std.specs.Prelude.{◌≡◌, IfSome};
 ghost use Rattle.call_core.specs.Reasons.{reason_numbered, reason_row};
 

@@ -230,8 +230,8 @@ pub extern "C" fn mkpasswd_needs_rehash_bytes(
     tell_outdated(report, report_rehash(stored, method, rounds))
 }
 
-/// Audits the stored hash in a field. Returns 1 if it is current: some digest makes it, no hash with its setting costs
-/// more than the budget, and a new hash with the method and the rounds would not replace it.
+/// Audits the stored hash in a field. Returns 1 if it is current: it is whole, no hash with its setting costs more than
+/// the budget, and a new hash with the method and the rounds would not replace it.
 ///
 /// Rounds of 0 are the recommended ones: 656000, and 7 for scrypt. A budget of 0 is the greatest cost of a hash with
 /// the method and the rounds, and at least that of sha512crypt with 656000 rounds; a hash is then also over budget if a
@@ -249,7 +249,7 @@ pub extern "C" fn mkpasswd_needs_rehash_bytes(
 ///   like another scheme of crypt(5).
 /// - `NoScheme`: any other field has the form of no scheme: it is a password, say, or a damaged hash.
 /// - `OverBudget`: a hash with its setting can cost more than the budget.
-/// - `Dead`: no password matches the hash, because it is not whole.
+/// - `Dead`: no password matches the hash, because it is not whole: no digest gives it, since it was cut or changed.
 ///
 /// If a new hash would replace it and nothing else is wrong, the error is 0 and the report's `outdated` is 1.
 #[unsafe(no_mangle)]
@@ -272,9 +272,9 @@ pub extern "C" fn mkpasswd_audit_bytes(
 /// Reports the limit on the cost of a login and of a new hash for a method, rounds and a budget, and the length of the
 /// longest password whose new hash is within it.
 ///
-/// The cost in the report is the limit: the budget, or for 0 the limit of the policy. Passwords of up to the reported
-/// length are within it, and all longer ones are not. The rounds in the report are those of new hashes; for 0 they are
-/// the recommended ones.
+/// The cost in the report is the limit: the budget, or for 0 the limit of the policy. New hashes of passwords of up to
+/// the reported length are within it, and those of longer ones are not. The rounds in the report are those of new
+/// hashes; for 0 they are the recommended ones.
 ///
 /// # Errors
 ///
@@ -426,7 +426,7 @@ pub extern "C" fn mkpasswd_scheme_name_bytes(scheme: u32, out: &mut [u8]) -> i32
     put_scheme_name(scheme, out)
 }
 
-/// Returns the version: 10000 times its first number, plus 100 times its second, plus its third.
+/// Returns the version as the number `10000 * major + 100 * minor + patch`.
 #[unsafe(no_mangle)]
 pub extern "C" fn mkpasswd_version() -> u32
     ensures { result ≡ VERSION_NUMBER }

@@ -281,9 +281,8 @@ pub extern "C" fn web_setting(
     )
 }
 
-/// Audits the stored hash in a field, as `mkpasswd_audit` does for C. Returns 1 if it is current: some digest makes it,
-/// no hash with its setting costs more than the budget, and a new hash with the method and the rounds would not replace
-/// it.
+/// Audits the stored hash in a field, as `mkpasswd_audit` does for C. Returns 1 if it is current: it is whole, no hash
+/// with its setting costs more than the budget, and a new hash with the method and the rounds would not replace it.
 ///
 /// Rounds of 0 are the recommended ones: 656000, and 7 for scrypt. A budget of 0 is the greatest cost of a hash with
 /// the method and the rounds, and at least that of sha512crypt with 656000 rounds; a hash is then also over budget if a
@@ -301,7 +300,7 @@ pub extern "C" fn web_setting(
 ///   like another scheme of crypt(5).
 /// - `NoScheme`: any other field has the form of no scheme: it is a password, say, or a damaged hash.
 /// - `OverBudget`: a hash with its setting can cost more than the budget.
-/// - `Dead`: no password matches the hash, because it is not whole.
+/// - `Dead`: no password matches the hash, because it is not whole: no digest gives it, since it was cut or changed.
 ///
 /// If a new hash would replace it and nothing else is wrong, the error is 0 and the report's `outdated` is 1.
 #[unsafe(no_mangle)]
@@ -324,9 +323,9 @@ pub extern "C" fn web_audit(
 /// Reports the limit on the cost of a login and of a new hash for a method, rounds and a budget, and the length of the
 /// longest password whose new hash is within it, as `mkpasswd_limit` does for C.
 ///
-/// The cost in the report is the limit: the budget, or for 0 the limit of the policy. Passwords of up to the reported
-/// length are within it, and all longer ones are not. The rounds in the report are those of new hashes; for 0 they are
-/// the recommended ones.
+/// The cost in the report is the limit: the budget, or for 0 the limit of the policy. New hashes of passwords of up to
+/// the reported length are within it, and those of longer ones are not. The rounds in the report are those of new
+/// hashes; for 0 they are the recommended ones.
 ///
 /// # Errors
 ///

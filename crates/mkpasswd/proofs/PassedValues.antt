@@ -76,7 +76,7 @@ same_parser c m p k id q is j x low at same =
     j x low at (subst (λ (t : Text). bytes_eq x.id.now t ≡ true) (sym called) same) in
     ap parser_of_value (rules.parser q (is.parser x))
 
--- the text of the first value is what is read of a value of which `P` holds
+-- if `P` holds of all values, the first text is read from a value of which `P` holds
 first_passed : (P : Bor Text → Type 0) (how : Reading) (values : List (Bor Text)) (text : Text) → All P values
     → option_map (λ s. read_as how s.now) (slice_get values 0) ≡ Some text → (v : Bor Text) × (text ≡ read_as how v.now) × P v
 first_passed P how [] text all is = cc

@@ -41,8 +41,8 @@ const FAULT_LINE_ROOM: usize = 80;
 ///
 /// If the plan hashes or checks passwords, the command calls `make` once and stores the result in `generator`. If that
 /// is `None`, the command does not run the plan, and the message is `start fault`. Audits, the list of the methods,
-/// help, the version and invalid arguments need no generator, so the command does not call `make` for them. Both stay
-/// with the caller, so that the clauses can say how the command used them.
+/// help, the version and invalid arguments need no generator, so the command does not call `make` for them. `generator`
+/// and `make` stay with the caller, so that the clauses can say how the command used them.
 ///
 /// If the message of an error cannot be written, only the exit status reports the error. If help or the version cannot
 /// be written in full, that is an error with status 3.
@@ -206,7 +206,7 @@ fn text_of(alloc: Global, error: &clap::Error) -> Result<String, AllocError> {
 /// It makes at most as many writes as the line has bytes. If one of them fails, only the status reports the error. For
 /// `Parse` MESSAGE is empty, because `clap` has the message.
 ///
-/// Precondition: the counts of `faults` are within the limits that a run keeps to.
+/// Precondition: the counts of `faults` are no higher than a run leaves them.
 pub fn report_fault<E: Write>(fault: &Fault, faults: &mut Output<E>) -> u8
     requires room { HasRoomWithinRun faults.old }
     ensures told { IsTold fault.now faults.old faults.new }

@@ -299,7 +299,7 @@ fn number<'a>(
     option(alloc, id, letter, "NUMBER", help).value_parser(parser)
 }
 
-// Returns the argument with this short name, or unchanged if there is none.
+// Returns the argument, with this short name if there is one.
 fn lettered<'a>(arg: Arg<'a>, letter: Option<char>) -> Arg<'a>
     requires { (rule_of arg).short ≡ None }
     ensures rule { rule_of result ≡ record (rule_of arg.entry) { short = letter } }

@@ -1,4 +1,4 @@
--- What the steps of a call that checks a password promise to it.
+-- What the steps promise that check a password.
 use Rattle.std.specs.Prelude.{◌≡◌, ◌⊎◌, ◌<◌, ℕ, List, length}
 use Rattle.crypt_core.specs.Settings.{SettingValue, Spells}
 use Rattle.crypt_core.specs.Work.{cost}

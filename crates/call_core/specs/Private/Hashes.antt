@@ -1,5 +1,5 @@
--- What the steps of a call that hashes promise to it. `made` is the result of a step: a hash and its report, or the
--- report of a refusal.
+-- What the steps promise that hash a password. `made` is the result of a step: a hash and its report, or the report of
+-- a refusal.
 use Rattle.std.specs.Prelude.{◌≡◌, ◌≢◌, ◌⊎◌, ◌<◌, ◌≤◌, ◌==◌, ℕ, List, [], ◌∷◌, length, MatchBool, MatchResult, Result, Ok, Err}
 use Rattle.prims_core.specs.declared.meter.Work.{Work}
 use Rattle.crypt_core.specs.Crypt.{crypt}

@@ -1,6 +1,6 @@
 -- The clause of `given_setting` on each way out: a rule that `Setting::make` finds broken, rounds that were clamped, or
--- the setting. GivenSettings has the argument; here the rounds that the method chose are put in place of those of the
--- call.
+-- the setting. GivenSettings has the argument; here the rounds that the code's `chosen_rounds` returned are rewritten
+-- as those of the definition.
 use Rattle.std.proofs.Common.{◌≡◌, ◌∙◌, ℕ, List, Ok, Err, Some, inr, refl, subst, sym, ap, true≢false}
 use Rattle.std.specs.Prelude.{IsErrAnd, Result}
 use Rattle.crypt_core.specs.MadeSettings.{BreaksMake, IsMakeRefused, made_scheme}
@@ -16,7 +16,7 @@ use Rattle.call_core.specs.declared.reason.Reason.{Reason}
 use Rattle.call_core.proofs.GivenSettings.{clamped_refused, made_refused, unbroken}
 use Rattle.call_core.proofs.reading.given_setting.Goals as goal
 
--- an error that is the reason of the first broken rule is a reading of the arguments
+-- an error with the reason for the first broken rule is what `IsGivenReading` asks for
 refused_as : (number rounds : ℕ) (salt : List ℕ) (method : Method) (fault : MakeFault) (result : Result SettingValue Reason)
     → chosen_method number ≡ Some method → IsGivenRefused method rounds salt fault → IsErrAnd result (λ reason. reason ≡ make_reason fault)
     → IsGivenReading number rounds salt result
@@ -33,7 +33,7 @@ returns-in_err-setting c =
     refused_as c.args.number c.args.rounds salt method fault c.from_residual.result (sym c.in-Some.ensures)
     (made_refused method c.args.rounds salt fault first) c.from_residual.ensures.1
 
--- the made setting, and that it breaks no rule, by the rounds of the call
+-- the setting that was made, and that it breaks no rule, by the definition's rounds
 made_of : (method : Method) (chosen rounds : ℕ) (salt : List ℕ) (kept : SettingValue) → chosen ≡ chosen_rounds method rounds
     → kept ≡ record { scheme = made_scheme method chosen; salt = salt }
     → kept ≡ record { scheme = made_scheme method (chosen_rounds method rounds); salt = salt }
