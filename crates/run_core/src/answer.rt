@@ -1,5 +1,5 @@
-//! Outcomes of passwords and lines, and the output line of each. An outcome is a value; its line is rendered once,
-//! after all work is done.
+//! Decides the outcome of a password or a line, and renders it as an output line. A line is rendered once, after all
+//! its hashes have been computed.
 ghost use Rattle.std.specs.Prelude.{◌≡◌, ℕ, List, decimal, ◌+◌, ◌*◌, ◌<◌, ◌≤◌, ◌++◌, [], length, Some, None, Ok, IfOk, OnOk, OnErr};
 ghost use Rattle.arrayvec.specs.ArrayVec.{array_vec_len};
 ghost use Rattle.crypt_core.specs.Crypt.{IsAfterRefusedGrowth};
@@ -33,13 +33,13 @@ use prims_core::meter::{Meter, Work};
 use rand_core::Rng;
 use std::alloc::Global;
 
-// The most bytes of one count: a colon and the digits of a 64-bit number.
+// The maximum length of one count: a colon and the digits of a 64-bit number.
 const COUNT_LIMIT: usize = 21;
 
-// The most bytes of an output line: a name, `:ok:`, a hash, four counts and a line feed.
+// The maximum length of an output line: a name, `:ok:`, a hash, four counts and a line feed.
 const ANSWER_LIMIT: usize = NAME_LIMIT + 4 + HASH_LIMIT + 4 * COUNT_LIMIT + 1;
 
-// The counts of an answer without a hash.
+// The work of an answer without a hash.
 const NO_WORK: Work = Work {
     digests: 0,
     bytes: 0,
@@ -48,7 +48,7 @@ const NO_WORK: Work = Work {
     scratch: 0,
 };
 
-/// The bytes of an output line.
+/// The buffer for an output line.
 pub(crate) type Text = ArrayVec<u8, ANSWER_LIMIT>;
 
 /// The outcome of a password or a line.
@@ -58,7 +58,7 @@ pub(crate) enum Outcome {
     Hashed(Hashed),
     /// The password matches its stored hash.
     Match,
-    /// The password matches, and this is its new hash, because the stored setting is out of date.
+    /// The password matches, but the stored setting is out of date. This is the new hash.
     Rehashed(Hashed),
     /// The password does not match its stored hash.
     Misfit,
@@ -66,7 +66,7 @@ pub(crate) enum Outcome {
     NoHash,
     /// The field is locked: it begins with `!` or `*`.
     Locked,
-    /// What an audit finds in the field.
+    /// What the audit found in the field.
     Audited(Finding),
 }
 
@@ -86,7 +86,7 @@ impl Outcome {
         }
     }
 
-    // Returns whether the answer shows counts: they are wanted, and the outcome is not a finding.
+    // Returns whether the output line shows counts: they are wanted, and the outcome is not the finding of an audit.
     fn shows_work(&self, wanted: bool) -> bool
         ensures { result ≡ shows_work self.now wanted }
     {
@@ -94,7 +94,7 @@ impl Outcome {
     }
 }
 
-/// The answer to a line as a value: its name, its outcome, and the work of its hashes.
+/// The answer to a line before it is rendered: the name, the outcome, and the work of the line's hashes.
 #[derive(Drop)]
 pub(crate) struct Answered<'a> {
     pub(crate) name: &'a [u8],
@@ -102,15 +102,15 @@ pub(crate) struct Answered<'a> {
     pub(crate) work: Work,
 }
 
-/// Decides the answer to a line, or the reason for its refusal.
+/// Returns the answer to a line, or the reason why the line is refused.
 ///
-/// It refuses a line that breaks a rule ([`inspect`]), or that can cost more than the budget, before it hashes anything.
-/// It draws three random numbers for a salt that it makes; for a rehash it draws them after the verdict. An audit hashes
-/// and draws nothing, and refuses no line for its cost.
+/// A line that breaks a rule ([`inspect`]), or that can cost more than the budget, is refused before anything is
+/// hashed. A new salt takes three random numbers; for a rehash they are drawn after the password has matched. An audit
+/// hashes and draws nothing, and refuses no line for its cost.
 ///
 /// # Errors
 ///
-/// - `OutOfMemory`: scrypt could not allocate for one of the line's hashes ([`hash`]).
+/// - `OutOfMemory`: scrypt could not allocate memory for one of the line's hashes ([`hash`]).
 pub(crate) fn answer_line<'a, R: Rng>(
     alloc: Global,
     kind: Kind,
@@ -132,7 +132,7 @@ pub(crate) fn answer_line<'a, R: Rng>(
     if let Some(fault) = inspect(kind, bytes) {
         return Ok(Err(fault));
     }
-    // A line that breaks no rule has its parts.
+    // `inspect` found no broken rule, so the line has all its parts.
     let parts = Parts::of(kind, bytes).unwrap();
     let before = meter.reading();
     let outcome = match outcome_of(alloc, kind, job, &parts, rng, meter)? {
@@ -146,7 +146,8 @@ pub(crate) fn answer_line<'a, R: Rng>(
     }))
 }
 
-// Returns the outcome of a line that breaks no rule, or refuses it for its cost. Its password and its field are valid.
+// Returns the outcome of a line that breaks no rule, or `OverBudget` if it can cost too much. Since the line breaks no
+// rule, its password and its field are valid.
 fn outcome_of<R: Rng>(
     alloc: Global,
     kind: Kind,
@@ -179,7 +180,7 @@ fn outcome_of<R: Rng>(
     }
 }
 
-// Hashes the password, unless that can cost more than the budget.
+// Hashes the password, or returns `OverBudget` if that can cost more than the budget.
 fn hash_within_budget<R: Rng>(
     alloc: Global,
     job: &Job,
@@ -198,8 +199,8 @@ fn hash_within_budget<R: Rng>(
     Ok(Ok(Outcome::Hashed(make_hash(alloc, job, password, rng, meter)?)))
 }
 
-// Compares the password with its stored hash, and rehashes a matching one if the setting is out of date. It does neither
-// if both can cost more than the budget.
+// Checks the password against its stored hash, and hashes a matching password again if the setting is out of date.
+// Returns `OverBudget` and hashes nothing if all of that can cost more than the budget.
 fn check_within_budget<R: Rng>(
     alloc: Global,
     job: &Job,
@@ -233,13 +234,13 @@ fn check_within_budget<R: Rng>(
     Ok(Ok(Outcome::Rehashed(make_hash(alloc, job, password, rng, meter)?)))
 }
 
-/// Hashes a password with the next setting of the job.
+/// Hashes a password with the next setting of the job's maker.
 ///
-/// It draws three random numbers if it makes the salt, and otherwise none.
+/// A new salt takes three random numbers. With a given salt none is drawn.
 ///
 /// # Errors
 ///
-/// - `OutOfMemory`: scrypt could not allocate ([`hash`]). The random numbers are drawn.
+/// - `OutOfMemory`: scrypt could not allocate memory ([`hash`]). The random numbers have been drawn by then.
 pub(crate) fn make_hash<R: Rng>(
     alloc: Global,
     job: &Job,
@@ -274,7 +275,9 @@ pub(crate) fn render_refusal(number: u64, fault: &LineFault) -> Text
 
 /// Returns the output line of an outcome.
 ///
-/// It has the name and a colon, the outcome, the counts if the outcome shows them, and a line feed.
+/// It consists of the name and a colon (if there is a name), the outcome, the counts of `work` if the job asks for
+/// them, and a line feed. The finding of an audit shows no counts. Precondition: the name has at most [`NAME_LIMIT`]
+/// bytes.
 pub(crate) fn render(job: &Job, name: Option<&[u8]>, outcome: &Outcome, work: &Work) -> Text
     requires { length (front_by (bytes_of name)) ≤ front_limit }
     ensures { result.items ≡ as_line (front_by (bytes_of name.entry) ++ (rendered outcome.now ++ wanted_text (shows_work outcome.now job.now.work) work.now)) }
@@ -337,7 +340,7 @@ fn append_finding(text: &mut Text, finding: &Finding)
     }
 }
 
-// Appends the rounds of a scheme, or N, r and p of scrypt with `/` between them.
+// Appends the number of rounds of a scheme, or `N/r/p` for scrypt.
 fn append_rounds(text: &mut Text, scheme: &Scheme)
     requires { array_vec_len text.old + rounds_limit ≤ answer_limit }
     ensures text { text.new.items ≡ text.old.items ++ rounds_text scheme.now }
@@ -387,7 +390,7 @@ fn append_count(text: &mut Text, count: u64)
     append(text, Buffer::new().format(count).as_bytes());
 }
 
-// Appends bytes that fit into the remaining capacity.
+// Appends bytes, which must fit into the remaining capacity.
 fn append(text: &mut Text, bytes: &[u8])
     requires { array_vec_len text.old + length bytes.now ≤ answer_limit }
     ensures { text.new.items ≡ text.old.items ++ bytes.now }

@@ -1,4 +1,4 @@
-//! Audits of stored fields, without any password.
+//! Audits of stored fields. An audit needs no password and computes no hash.
 ghost use Rattle.std.specs.Prelude.{◌≡◌};
 ghost use Rattle.crypt_core.specs.Findings.{Finds};
 ghost use Rattle.run_core.specs.Audits.{standing_text};
@@ -10,14 +10,16 @@ use crypt_core::finding::Finding;
 use crypt_core::standing::Standing;
 use rand_core::Rng;
 
-/// Returns what an audit finds in a field, by the job's scheme and budget.
+/// Returns what an audit finds in a field, given the job's scheme and budget.
+///
+/// Without a budget it passes 0 on, which stands for the budget of the scheme ([`Finding::of`]).
 pub(crate) fn audit(job: &Job, field: &[u8]) -> Finding
     ensures { Finds job.now.maker.scheme (given_budget job.now) field.now result }
 {
     Finding::of(field, &job.maker.scheme(), job.budget.unwrap_or(0))
 }
 
-/// Returns the text of a standing.
+/// Returns the text that an audit prints for a standing.
 pub(crate) fn standing_text(standing: Standing) -> &'static [u8]
     ensures { result.now ≡ standing_text standing }
 {
@@ -29,7 +31,7 @@ pub(crate) fn standing_text(standing: Standing) -> &'static [u8]
     }
 }
 
-/// The generator of an audit, which draws nothing: it gives zeros.
+/// A generator of zeros, for an audit, which never draws a number.
 #[derive(Drop)]
 pub(crate) struct NoNumbers;
 

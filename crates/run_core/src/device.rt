@@ -1,5 +1,5 @@
-//! Devices that count. A wrapper passes each call on to its reader or writer. It counts the calls, the bytes that they
-//! moved, the idle calls, the flushes and the failures, so that contracts can refer to them.
+//! Wrappers around readers and writers. A wrapper passes each call on to its device and counts calls, bytes, idle
+//! calls, flushes and failures, so that contracts can refer to them.
 ghost use Rattle.std.specs.Prelude.{◌≡◌, ◌+◌, ◌-◌, ◌^◌, ◌<◌, length, OnOk, OnErr};
 ghost use Rattle.std.specs.Result.{is_err};
 ghost use Rattle.std.specs.Io.{ReadsAtMost, WritesAtMost};
@@ -17,7 +17,7 @@ use std::marker::Model;
 /// - `bytes`: bytes that these calls returned.
 /// - `idle`: calls of `fetch` that returned no byte and did not fail.
 ///
-/// A new wrapper has every count at 0. An input is never flushed.
+/// Every count begins at 0. An input is never flushed.
 #[derive(Drop)]
 pub struct Input<I: Read> {
     inner: I,
@@ -55,7 +55,7 @@ impl<I: Read> Input<I> {
         }
     }
 
-    /// Returns the number of calls of the reader that failed. Returning no byte is not a failure.
+    /// Returns the number of failed reads. A read that returns no byte has not failed.
     pub fn failures(&self) -> u64
         ensures { result ≡ self.now.failures }
     {
@@ -70,14 +70,14 @@ impl<I: Read> Input<I> {
         self.inner
     }
 
-    /// Reads once into `buffer` and returns the number of bytes read, which are the first ones of `buffer`.
+    /// Reads once into the front of `buffer` and returns the number of bytes read.
     ///
-    /// The number is 0 at the end of the input and for an empty buffer. Precondition: the counts do not overflow 64
-    /// bits after one more call and as many bytes as `buffer` has.
+    /// It returns 0 at the end of the input, or if `buffer` is empty. Precondition: the 64-bit counts have room for one
+    /// more call, one more failure and as many more bytes as `buffer` has.
     ///
     /// # Errors
     ///
-    /// - The error of the reader's `read`, unchanged.
+    /// - Whatever error the reader's `read` returns, unchanged.
     pub fn fetch(&mut self, buffer: &mut [u8]) -> io::Result<usize>
         requires failures_room { self.old.failures < 2 ^ 64 - 1 }
         requires calls_room { self.old.calls < 2 ^ 64 - 1 }
@@ -102,14 +102,14 @@ impl<I: Read> Input<I> {
 
 /// A writer that counts its calls.
 ///
-/// - `failures`: calls and flushes that failed, and calls of `give` that took no byte of a piece with at least one.
+/// - `failures`: calls and flushes that failed, and calls of `give` that took no byte of a piece that has some.
 /// - `calls`: calls of `give`, including failed ones.
 /// - `bytes`: bytes that these calls took.
 /// - `idle`: calls of `give` with an empty piece that did not fail.
 /// - `flushes`: flushes, including failed ones.
-/// - `flushed`: bytes that were taken before the last flush that succeeded.
+/// - `flushed`: bytes that were taken before the last successful flush.
 ///
-/// A new wrapper has every count at 0.
+/// Every count begins at 0.
 #[derive(Drop)]
 pub struct Output<O: Write> {
     inner: O,
@@ -151,7 +151,7 @@ impl<O: Write> Output<O> {
         }
     }
 
-    /// Returns the number of calls of the writer that failed, or that took no byte of a piece with at least one.
+    /// Returns the number of failed calls and flushes. A call that took no byte of a piece that has some has failed.
     pub fn failures(&self) -> u64
         ensures { result ≡ self.now.failures }
     {
@@ -166,13 +166,14 @@ impl<O: Write> Output<O> {
         self.inner
     }
 
-    /// Writes once from `piece` and returns the number of bytes taken, which are the first ones of `piece`.
+    /// Writes once from the front of `piece` and returns the number of bytes that the writer took.
     ///
-    /// Precondition: the counts do not overflow 64 bits after one more call and as many bytes as `piece` has.
+    /// Precondition: the 64-bit counts have room for one more call, one more failure and as many more bytes as `piece`
+    /// has.
     ///
     /// # Errors
     ///
-    /// - The error of the writer's `write`, unchanged.
+    /// - Whatever error the writer's `write` returns, unchanged.
     pub fn give(&mut self, piece: &[u8]) -> io::Result<usize>
         requires failures_room { self.old.failures < 2 ^ 64 - 1 }
         requires calls_room { self.old.calls < 2 ^ 64 - 1 }
@@ -195,13 +196,13 @@ impl<O: Write> Output<O> {
         answer
     }
 
-    /// Flushes the writer once, which moves no byte.
+    /// Flushes the writer once. This moves no byte.
     ///
-    /// Precondition: the counts do not overflow 64 bits after one more flush.
+    /// Precondition: the 64-bit counts have room for one more flush and one more failure.
     ///
     /// # Errors
     ///
-    /// - The error of the writer's `flush`, unchanged.
+    /// - Whatever error the writer's `flush` returns, unchanged.
     pub fn flush(&mut self) -> io::Result<()>
         requires failures_room { self.old.failures < 2 ^ 64 - 1 }
         requires flushes_room { self.old.flushes < 2 ^ 64 - 1 }

@@ -13,9 +13,9 @@ pub enum RunFault {
     Read,
     /// A write or a flush of an output failed.
     Write,
-    /// scrypt could not allocate.
+    /// scrypt could not allocate memory.
     OutOfMemory,
-    /// The run needs one more I/O call than its limit allows.
+    /// The run needs more I/O calls than its limit allows.
     Turns,
     /// The password is invalid.
     Password(PasswordFault),
@@ -34,7 +34,7 @@ impl RunFault {
         }
     }
 
-    /// Returns the message for users.
+    /// Returns the message to print.
     pub fn text(&self) -> &'static str
         ensures { result.now ≡ (run_row self.now).1 }
     {

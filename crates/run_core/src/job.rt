@@ -1,4 +1,5 @@
-//! The job of a run, and the maker of its settings, whose salt is given once or made from random numbers for each hash.
+//! The options of a run, and the maker of its settings. A maker uses one given salt for all hashes, or makes a new salt
+//! from random numbers for each.
 ghost use Rattle.std.specs.Prelude.{◌≡◌, ◌↔◌, ℕ, ◌^◌, ◌<◌, ◌≤◌, List, Err, IsOk, IfOk, IfErr, IsTrue, is_some, length, not};
 ghost use Rattle.std.specs.Option.{option_map_or};
 ghost use Rattle.crypt_core.specs.declared.setting.fault.MakeFault.{MakeFault as Fault};
@@ -22,18 +23,18 @@ use std::marker::Model;
 /// The options of a run: how it hashes passwords and what it prints.
 #[derive(Drop)]
 pub struct Job {
-    /// The maker of each hash's setting.
+    /// The maker of the setting of each hash.
     pub maker: Maker,
-    /// Whether a check makes a new hash for each password that matches a stored hash which is out of date.
+    /// Whether a check hashes a matching password again if its stored hash is out of date.
     pub rehash: bool,
     /// Whether each output line shows the counts of its work. An audit shows none.
     pub work: bool,
-    /// The most that a line may cost, in bytes digested and mixed ([`cost`](crypt_core::work::cost)).
+    /// The maximum cost of a line, in bytes digested and mixed ([`cost`](crypt_core::work::cost)).
     ///
-    /// A single password has no budget. An audit compares it with the cost of each hash; without one, or with 0, it takes
-    /// [that of its scheme](Scheme::audit_budget).
+    /// It does not limit the hash of a single password. An audit compares it with the cost of each stored hash; if it
+    /// is `None` or 0, the audit uses [the budget of its scheme](Scheme::audit_budget).
     pub budget: Option<u64>,
-    /// The number of the first line, by which the messages about refused lines count.
+    /// The number of the first line. Messages about refused lines count from it.
     pub first_line: u32,
 }
 
@@ -45,9 +46,9 @@ impl Job {
         is_above(self.budget, cost)
     }
 
-    /// Returns whether a stored hash gets a rehash once a password matches it.
+    /// Returns whether a password that matches this stored hash is to be hashed again.
     ///
-    /// The job asks for rehashes, and the stored hash is outdated by its scheme.
+    /// It is if the job asks for rehashes, and its scheme makes the stored hash out of date.
     pub(crate) fn is_outdated(&self, stored: &StoredHash<'_>) -> bool
         ensures { result ≡ is_outdated self.now stored.now.setting }
     {
@@ -59,7 +60,7 @@ impl Job {
 /// The source of a single password.
 #[derive(Drop)]
 pub enum PasswordFrom {
-    /// The bytes of an argument, which may be any bytes.
+    /// An argument, which may have any bytes.
     Word(Vec<u8>),
     /// The first line of the input.
     Input,
@@ -71,12 +72,12 @@ pub struct Maker {
     source: Source,
 }
 
-/// What a maker holds.
+/// What a maker makes settings from.
 #[derive(Drop)]
 pub(crate) enum Source {
-    /// The setting of all hashes.
+    /// One setting for all hashes.
     Setting(Setting),
-    /// The scheme of settings with new salts.
+    /// A scheme. Each setting gets a new salt.
     Scheme(Scheme),
 }
 
@@ -89,14 +90,14 @@ impl Model for Maker {
 }
 
 impl Maker {
-    /// Returns a maker of settings with a method, a cost and optionally a salt.
+    /// Returns a maker of settings with this method and cost, and with this salt if there is one.
     ///
-    /// Without a salt each setting gets a new one. Cost 0 is the method's default. Otherwise the cost is the number of
+    /// Without a salt, each setting gets a new one. Cost 0 is the method's default. Any other cost is the number of
     /// rounds for SHA-crypt, or 6 to 11 for scrypt; md5crypt ignores it.
     ///
     /// # Errors
     ///
-    /// The first rule that is broken, as [`Setting::make`] returns it:
+    /// The first broken rule, as [`Setting::make`] returns it:
     ///
     /// - `SaltLength`: the salt is empty, or has more characters than the method keeps.
     /// - `SaltCharacter`: the salt has a byte outside crypt's alphabet.
@@ -134,14 +135,14 @@ impl Maker {
         }
     }
 
-    /// Returns whether each setting gets a new salt, for which random numbers are drawn.
+    /// Returns whether each setting gets a new salt, which takes random numbers.
     pub fn draws(&self) -> bool
         ensures { result ≡ not (is_some self.now.salt) }
     {
         matches!(self.source, Source::Scheme(_))
     }
 
-    /// Returns a setting with the given salt, or with a new one that `words` make.
+    /// Returns a setting with the given salt, or with a new salt made from the random numbers `words`.
     ///
     /// A new salt has 8 characters for md5crypt, 16 for SHA-crypt and 22 for scrypt.
     pub fn setting(&self, words: [u64; 3]) -> Setting
@@ -153,7 +154,7 @@ impl Maker {
         }
     }
 
-    /// Returns the greatest cost of one hash with a setting of this maker, for any password of `password_len` bytes.
+    /// Returns the maximum cost of hashing a password of `password_len` bytes with a setting of this maker.
     ///
     /// The cost counts bytes digested and mixed, and is below 2^42. The call neither draws nor hashes anything.
     /// Precondition: `password_len` is at most [`PASSWORD_LIMIT`](crypt_core::password::PASSWORD_LIMIT).
@@ -170,7 +171,7 @@ impl Maker {
         scheme.cost(password_len, salt_len)
     }
 
-    /// Returns the setting of the next hash. It draws three random numbers if it makes the salt, and otherwise none.
+    /// Returns the setting of the next hash. A new salt takes three random numbers; with a given salt none is drawn.
     pub(crate) fn next_setting<R: Rng>(&self, rng: &mut R) -> Setting
         ensures setting { result ≡ next_setting self.now (R.stream rng.old) }
         ensures stream { R.stream rng.new ≡ stream_after self.now (R.stream rng.old) }

@@ -1,5 +1,5 @@
-//! The runs of mkpasswd over any devices, generator and meter: hashing one password, hashing, checking or auditing
-//! lines, and listing the methods.
+//! The runs of mkpasswd: hash one password; hash, check or audit the lines of an input; list the methods. A run works
+//! with whatever reader, writers, random number generator and meter its caller passes.
 #![tactic(auto)]
 
 mod answer;

@@ -1,5 +1,5 @@
-//! Lines of an input, `name:password` to hash, `name:field:password` to check or `name:field` to audit, and the first
-//! rule that a line breaks.
+//! The lines of an input: `name:password` to hash, `name:field:password` to check, `name:field` to audit. [`inspect`]
+//! finds the first rule that a line breaks.
 ghost use Rattle.std.specs.Prelude.{◌≡◌, ℕ, List, Some, IfSome, IfNone, MatchOption, IfOk, IfErr, Contains};
 ghost use Rattle.run_core.specs.Lines.{HasParts, IsCut, IsLineRefused, IsSound, Parts as LineParts};
 ghost use Rattle.run_core.specs.Texts.{colon};
@@ -26,11 +26,11 @@ pub enum Kind {
     Batch,
     /// It checks the password of `name:field:password` against the field.
     Check,
-    /// It audits the field of `name:field`, or of `name:field:` and anything.
+    /// It audits the field of `name:field`. A second colon and anything after it are ignored.
     Audit,
 }
 
-/// The first rule that a line breaks, in this order.
+/// The first rule that a line breaks. The rules are in the order in which they are checked.
 #[derive(Clone, Copy, Debug, PartialEq, Eq, Error)]
 #[error("{}", self.text())]
 pub enum LineFault {
@@ -38,13 +38,13 @@ pub enum LineFault {
     LineTooLong,
     /// The line is empty or begins with a colon.
     NoName,
-    /// The name, which ends before the first colon or at the end of the line, has more than [`NAME_LIMIT`] bytes.
+    /// The name, which ends at the first colon or at the end of the line, has more than [`NAME_LIMIT`] bytes.
     NameTooLong,
-    /// The line has no colon, or for a check fewer than two.
+    /// The line has no colon, or only one if it is to be checked.
     NoPassword,
-    /// The password, which follows the first colon, or for a check the second, is invalid.
+    /// The password is invalid. It follows the first colon, or the second in a line to check.
     Password(PasswordFault),
-    /// The field to check is not empty, does not begin with `!` or `*`, and spells no setting.
+    /// The field to check is not empty, does not begin with `!` or `*`, and contains no valid setting.
     Setting(SettingFault),
     /// The line can cost more than the budget of the run.
     OverBudget,
@@ -53,7 +53,7 @@ pub enum LineFault {
 impl LineFault {
     ghost use Rattle.run_core.specs.Faults.{line_fault_text};
 
-    /// Returns the message for users.
+    /// Returns the message to print.
     pub fn text(&self) -> &'static str
         ensures { result.now ≡ line_fault_text self.now }
     {
@@ -91,9 +91,9 @@ impl From<SettingFault> for LineFault {
 
 /// Returns the first rule that a line breaks, or `None` if it breaks none.
 ///
-/// `line` has no line feed. The password is checked before the field. An empty or locked field is valid, whatever else
-/// a locked one contains, and any field is valid in a line to audit. The call ignores budgets, so it never returns
-/// `OverBudget`. It allocates and hashes nothing.
+/// `line` comes without its line feed. The password is checked before the field. An empty field is valid, and so is a
+/// locked one, whatever else it contains; in a line to audit any field is valid. The call knows no budget, so it never
+/// returns `OverBudget`. It allocates and hashes nothing.
 ///
 /// For example, `inspect(Kind::Batch, b"ann:password")` returns `None`, and `inspect(Kind::Batch, b"ann")` returns
 /// `Some(LineFault::NoPassword)`.
@@ -105,7 +105,7 @@ pub fn inspect(kind: Kind, line: &[u8]) -> Option<LineFault>
     check(kind, line).err()
 }
 
-// Checks the rules of a line in their order.
+// Checks the rules of a line in order.
 fn check(kind: Kind, line: &[u8]) -> Result<(), LineFault>
     ensures sound { IfOk result (λ _. IsSound kind line.now) }
     ensures refused { IfErr result (IsLineRefused kind line.now) }
@@ -125,7 +125,7 @@ fn check(kind: Kind, line: &[u8]) -> Result<(), LineFault>
     Ok(())
 }
 
-// Checks the length of a line, and its name.
+// Checks the length of a line and its name.
 fn check_name(line: &[u8]) -> Result<(), LineFault>
     ensures named { IfOk result (λ _. IsNamed line.now) }
     ensures refused { IfErr result (λ fault. (kind : LineKind) → IsLineRefused kind line.now fault) }
@@ -143,19 +143,19 @@ fn check_name(line: &[u8]) -> Result<(), LineFault>
     Ok(())
 }
 
-/// The parts of a line, which colons separate.
+/// The parts of a line, separated by colons.
 #[derive(Drop)]
 pub(crate) struct Parts<'a> {
     pub(crate) name: &'a [u8],
     /// The field to check or to audit. A line to hash has none.
     pub(crate) field: Option<&'a [u8]>,
-    /// The password. That of a line to audit is empty.
+    /// The password. It is empty for a line to audit.
     pub(crate) password: &'a [u8],
 }
 
 impl<'a> Parts<'a> {
-    /// Splits a line at its first colon, and one to check or to audit at its second. Returns `None` if it lacks one,
-    /// but a line to audit may lack the second.
+    /// Splits a line at its first colon, and a line to check or to audit also at its second. Returns `None` if a colon
+    /// is missing, except the second one of a line to audit.
     pub(crate) fn of(kind: Kind, line: &'a [u8]) -> Option<Parts<'a>>
         ensures { MatchOption result ((parts : LineParts) → ¬ HasParts kind line.now parts) (λ parts. HasParts kind line.now (parts_of parts)) }
     {
@@ -186,7 +186,7 @@ impl<'a> Parts<'a> {
     }
 }
 
-// Returns what precedes the first colon, or the whole text without one, and what follows the colon.
+// Returns what comes before the first colon and what comes after it, or the whole text and `None` if there is no colon.
 fn cut_front(text: &[u8]) -> (&[u8], Option<&[u8]>)
     ensures { IsCutOrWhole text.now result.0.now (bytes_of result.1) }
 {
@@ -196,7 +196,7 @@ fn cut_front(text: &[u8]) -> (&[u8], Option<&[u8]>)
     }
 }
 
-// Splits a string at its first colon.
+// Splits a text at its first colon. Returns `None` if there is none.
 fn cut(text: &[u8]) -> Option<(&[u8], &[u8])>
     ensures { MatchOption result (¬ Contains text.now colon) (λ parts. IsCut text.now parts.0.now parts.1.now) }
 {

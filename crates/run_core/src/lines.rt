@@ -1,5 +1,5 @@
-//! The runs over the lines of an input. A run answers each line once it has read the end of that line, and before it
-//! reads more. So it holds one line and one piece of the input at a time, whatever the size of the input.
+//! The runs over the lines of an input. A run answers each line as soon as it has read the end of it, before it reads
+//! more. So it holds one line and one piece of the input at a time, and its memory does not grow with the input.
 ghost use Rattle.std.specs.Prelude.{◌≡◌, ◌≢◌, ℕ, ◌+◌, ◌^◌, ◌<◌, ◌≤◌, length, Err, IfOk, OnOk};
 ghost use Rattle.crypt_core.specs.Passwords.{password_limit};
 ghost use Rattle.crypt_core.specs.Settings.{SettingValue};
@@ -33,16 +33,17 @@ use std::io::{Read, Write};
 
 /// Hashes the password of each line `name:password` of the input and writes `name:HASH` to `out`.
 ///
-/// The password is everything after the first colon. The job's maker makes the setting of each hash; for a new salt the
-/// run draws three random numbers, and only for a line that it hashes. The input is split at its line feeds, and what
+/// The password is everything after the first colon. The job's maker makes the setting of each hash. A new salt takes
+/// three random numbers, which the run draws only for a line that it hashes. The input is split at its line feeds; what
 /// follows the last one is a line if it is not empty. Lines are numbered from the job's `first_line` on.
 ///
-/// If a line breaks a rule, or can cost more than the job's `budget` ([`cost`](crypt_core::work::cost)), `faults` gets
-/// `mkpasswd: line NUMBER: MESSAGE` instead ([`LineFault`]), and the run continues. For such a line it hashes,
-/// allocates and draws nothing. The budget is the last rule, and changes nothing for any other line.
+/// A line is refused if it breaks a rule ([`LineFault`]) or can cost more than the job's `budget`
+/// ([`cost`](crypt_core::work::cost)). The run then writes `mkpasswd: line NUMBER: MESSAGE` to `faults` instead, and
+/// continues. It hashes, allocates and draws nothing for that line. The budget is checked last, and makes no difference
+/// to lines within it.
 ///
-/// With the job's `work` each output line ends with the counts `:digests:bytes:mixes:table` of its own hash. The job's
-/// `rehash` has no effect. The run flushes both outputs once, at the end. The tally counts the lines and the refused
+/// With the job's `work`, each output line ends with the counts `:digests:bytes:mixes:table` of its own hash. The job's
+/// `rehash` has no effect. The run flushes both outputs once, at the end. The tally counts all lines and the refused
 /// ones.
 ///
 /// For example, with md5crypt and the salt `xxxxxxxx`, the line `ann:password` gives
@@ -54,13 +55,14 @@ use std::io::{Read, Write};
 ///
 /// # Errors
 ///
-/// Earlier lines are answered in full. Unless stated, nothing more is written.
+/// All earlier lines have been answered in full. Nothing else has been written, except where stated.
 ///
-/// - `Read`: a read failed. "Earlier" is every line whose line feed was read.
-/// - `OutOfMemory`: scrypt could not allocate for the next line.
-/// - `Write`: a write failed, and a prefix of the next line's output is written; or a flush failed, after all lines.
-/// - `Turns`: the run needs one more read or write than `turns`. If it is a write, a prefix of the next line's output
-///   is written.
+/// - `Read`: a read failed. The earlier lines are those whose line feed was read.
+/// - `OutOfMemory`: scrypt could not allocate memory for the next line.
+/// - `Write`: a write failed, and only a prefix of the next line's output has been written; or a flush failed, after
+///   all lines.
+/// - `Turns`: the run needs more reads and writes than `turns`. If it stopped before a write, a prefix of the next
+///   line's output has been written.
 ///
 /// [`LineFault`]: crate::line::LineFault
 pub fn run_batch<I: Read, O: Write, E: Write, R: Rng>(
@@ -94,22 +96,23 @@ pub fn run_batch<I: Read, O: Write, E: Write, R: Rng>(
     )
 }
 
-/// Checks the password of each line `name:field:password` of the input and writes its verdict to `out`.
+/// Checks the password of each line `name:field:password` of the input and writes the verdict to `out`.
 ///
 /// - `name:ok`: hashing the password with the setting in `field` reproduces `field`.
-/// - `name:ok:NEWHASH`: likewise, with the job's `rehash` and a setting that the job's settings replace
+/// - `name:ok:NEWHASH`: likewise, but the job asks to `rehash`, and its settings replace the one in `field`
 ///   ([`Setting::replaced_by`]).
 /// - `name:no`: hashing the password does not reproduce `field`.
 /// - `name:none`: `field` is empty.
 /// - `name:locked`: `field` begins with `!` or `*`.
 ///
 /// The password is everything after the second colon. `NEWHASH` is the hash of the password with the next setting of
-/// the job's maker. If that needs a new salt, the run draws three random numbers after the verdict. For any other line
-/// it draws none.
+/// the job's maker. If that setting needs a new salt, the run draws three random numbers once the password has matched.
+/// For any other line it draws none.
 ///
-/// A line costs what its hash costs. If its setting is replaced, it costs both hashes, whether or not the password
-/// matches. The verdicts `none` and `locked` cost nothing, so they are never over budget. The counts of `work` are those
-/// of all hashes of the line: two for `NEWHASH`, and none for `none` and `locked`, which show four zeros.
+/// The cost of a line is that of its check. If its setting is to be replaced, the cost of the new hash is added,
+/// whether or not the password matches. The verdicts `none` and `locked` cost nothing, so such a line is never over
+/// budget. With `work`, the counts cover all hashes of the line: two for `NEWHASH`, and none for `none` and `locked`,
+/// which show four zeros.
 ///
 /// The tally also counts the verdicts `no`. Everything else is as for [`run_batch`], including the preconditions.
 ///
@@ -151,31 +154,31 @@ pub fn run_check<I: Read, O: Write, E: Write, R: Rng>(
     )
 }
 
-/// Audits the field of each line `name:field`, or `name:field:` and anything, and writes what it finds to `out`.
+/// Audits the field of each line `name:field`, or `name:field:` and anything, and writes the finding to `out`.
 ///
-/// - `name:METHOD:ROUNDS:COST:over budget`: `field` spells a setting, and its hash is over the job's `budget`
+/// - `name:METHOD:ROUNDS:COST:over budget`: `field` has a valid setting, whose hash is over the job's `budget`
 ///   ([`Standing::OverBudget`]).
-/// - `name:METHOD:ROUNDS:COST:dead`: it spells any other, but no password matches `field`, because it is not
+/// - `name:METHOD:ROUNDS:COST:dead`: it is within the budget, but no password matches `field`, because it is not
 ///   [whole](crypt_core::stored::StoredHash::is_whole).
-/// - `name:METHOD:ROUNDS:COST:outdated`: it is whole, and the job's settings replace its setting
+/// - `name:METHOD:ROUNDS:COST:outdated`: it is within the budget and whole, and the job's settings replace its setting
 ///   ([`Setting::replaced_by`]).
-/// - `name:METHOD:ROUNDS:COST:current`: it is whole, and they don't.
+/// - `name:METHOD:ROUNDS:COST:current`: it is within the budget and whole, and they don't replace it.
 /// - `name:none`: `field` is empty.
 /// - `name:locked`: `field` begins with `!` or `*`.
-/// - `name:malformed:MESSAGE`: `field` begins with `$`, and this is the message of the first rule of a setting that it breaks
-///   ([`SettingFault`]), which is not `UnknownScheme`.
+/// - `name:malformed:MESSAGE`: `field` begins with `$` but breaks a rule of settings, and the first broken rule is not
+///   `UnknownScheme`. MESSAGE is the message about that rule ([`SettingFault`]).
 /// - `name:SCHEME:unknown`: any other `field` that has the form of another scheme of crypt(5), such as `yescrypt`.
 /// - `name:unknown`: any other `field` that begins with `$`.
 /// - `name:no scheme`: any other `field`.
 ///
-/// `field` ends at the second colon, or at the end of the line. METHOD is the name of the setting's method. ROUNDS is its
-/// number of rounds, or N, r and p of scrypt with `/` between them. COST is the cost of hashing a password of 1,024 bytes
-/// with it ([`cost`](crypt_core::work::cost)), and no password costs more. A line that is too long, or has no valid name or
-/// no field, is refused as by [`run_batch`].
+/// `field` ends at the second colon, or at the end of the line. METHOD is the name of the setting's method. ROUNDS is
+/// its number of rounds, or `N/r/p` for scrypt. COST is the cost of hashing a password of 1,024 bytes with it
+/// ([`cost`](crypt_core::work::cost)); no password costs more. A line that is too long, or has no valid name or no
+/// field, is refused as by [`run_batch`].
 ///
-/// The run takes no generator, and hashes and allocates nothing. The job's `rehash` and `work` have no effect. The
-/// tally's `misfits` are the findings `outdated`, `dead`, `over budget`, `none`, `no scheme` and `malformed`. Everything else is
-/// as for [`run_batch`], including the preconditions.
+/// The run needs no generator, and hashes and allocates nothing. The job's `rehash` and `work` have no effect. The
+/// tally's `misfits` counts the findings `outdated`, `dead`, `over budget`, `none`, `no scheme` and `malformed`.
+/// Everything else is as for [`run_batch`], including the preconditions.
 ///
 /// For example, with sha512crypt the line `ann:$1$xxxxxxxx$UYCIxa628.9qXjpQCjM4a.:19000:0` gives
 /// `ann:md5crypt:1000:1927022:outdated`.
@@ -253,7 +256,7 @@ fn answer_lines<I: Read, O: Write, E: Write, R: Rng>(
     Ok(tally)
 }
 
-// Adds a line with this answer to the tally, and writes the answer to `out`, or to `faults` if the line is refused.
+// Counts a line in the tally and writes its answer to `out`, or the message about it to `faults` if it is refused.
 fn count_and_write<O: Write, E: Write>(
     job: &Job,
     answer: &Result<Answered<'_>, LineFault>,

@@ -15,13 +15,13 @@ const METHODS: &str = "Available methods:\nmd5crypt\nsha256crypt\nsha512crypt\ns
 
 /// Writes the list of the methods to `out` and flushes it.
 ///
-/// It makes at most `turns` writes, including failed ones. The flush is not one of them. Preconditions: `turns` is at
-/// most 2^40, and each count of `out` is at most 2^62.
+/// It makes at most `turns` writes, including failed ones. The flush does not count. Preconditions: `turns` is at most
+/// 2^40, and each count of `out` is at most 2^62.
 ///
 /// # Errors
 ///
-/// - `Write`: a write failed, and a prefix of the list is written; or the flush failed, after the whole list.
-/// - `Turns`: the list needs one more write than `turns`, and a prefix of it is written.
+/// - `Write`: a write failed, and only a prefix of the list has been written; or the flush failed, after all of it.
+/// - `Turns`: the list needs more writes than `turns`, and only a prefix of it has been written.
 pub fn run_methods<O: Write>(out: &mut Output<O>, turns: u64) -> Result<Tally, RunFault>
     requires turns { turns ≤ turns_limit }
     requires room { HasRoomBeforeRun out.old }

@@ -23,12 +23,11 @@ use std::io::{Read, Write};
 
 /// Hashes one password with the job's setting and writes the hash and a line feed to `out`.
 ///
-/// The password is the bytes of an argument, or the first line of the input. That line ends before the first line feed
-/// or at the end of the input. The run drops what follows the line feed in the piece that it read. It checks the
-/// password first, then draws three random numbers if it makes the salt, and then hashes. It flushes both outputs at
-/// the end.
+/// The password is an argument or the first line of the input, which ends before the first line feed or at the end of
+/// the input. The run drops whatever it has read after that line feed. It checks the password first, then draws three
+/// random numbers if it needs a new salt, and then hashes. It flushes both outputs at the end.
 ///
-/// With the job's `work` the counts `:digests:bytes:mixes:table` follow the hash. The job's `budget` and `rehash` have
+/// With the job's `work`, the counts `:digests:bytes:mixes:table` follow the hash. The job's `budget` and `rehash` have
 /// no effect. The tally counts one line.
 ///
 /// For example, with md5crypt and the salt `xxxxxxxx`, `password` gives `$1$xxxxxxxx$UYCIxa628.9qXjpQCjM4a.`.
@@ -38,12 +37,14 @@ use std::io::{Read, Write};
 ///
 /// # Errors
 ///
-/// - `Password`: the password is invalid. In the input it is too long once [`PASSWORD_LIMIT`] + 1 bytes without a line
-///   feed were read. Nothing is written, drawn or hashed.
+/// - `Password`: the password is invalid. A password in the input is too long once [`PASSWORD_LIMIT`] + 1 bytes without
+///   a line feed have been read. Nothing is written, drawn or hashed.
 /// - `Read`: a read failed before the end of the password. Nothing is written, drawn or hashed.
-/// - `OutOfMemory`: scrypt could not allocate. Nothing is written, and the random numbers for a salt are drawn.
-/// - `Write`: a write failed, and a prefix of the output is written; or a flush failed, after all of it.
-/// - `Turns`: the run needs one more read or write than `turns`. If it is a write, a prefix of the output is written.
+/// - `OutOfMemory`: scrypt could not allocate memory. Nothing is written, but the random numbers for a new salt have
+///   been drawn.
+/// - `Write`: a write failed, and only a prefix of the output has been written; or a flush failed, after all of it.
+/// - `Turns`: the run needs more reads and writes than `turns`. If it stopped before a write, a prefix of the output
+///   has been written.
 ///
 /// [`PASSWORD_LIMIT`]: crypt_core::password::PASSWORD_LIMIT
 pub fn run_one<I: Read, O: Write, E: Write, R: Rng>(
@@ -78,7 +79,7 @@ pub fn run_one<I: Read, O: Write, E: Write, R: Rng>(
     })
 }
 
-// Returns the password: the bytes of an argument, or the first line of the input.
+// Returns the password, which is an argument or the first line of the input.
 fn obtain<I: Read>(
     from: &PasswordFrom,
     input: &mut Input<I>,

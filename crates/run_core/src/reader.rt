@@ -1,4 +1,4 @@
-//! A reader of lines, from which a run pulls one line after another. It knows nothing of answers.
+//! Splits an input into lines. A run asks for one line after another.
 ghost use Rattle.std.specs.Prelude.{◌≡◌, ℕ, ◌+◌, ◌-◌, ◌<◌, ◌≤◌, [], List, false, length, IfOk, IsTrue, OnOk};
 ghost use Rattle.run_core.specs.Devices.{Device};
 ghost use Rattle.run_core.specs.Input.{Reads};
@@ -15,10 +15,10 @@ use buffer::LineBuffer;
 use std::io::Read;
 use std::marker::Model;
 
-// The most bytes of one read.
+// The number of bytes that one read asks for.
 const PIECE_SIZE: usize = 512;
 
-/// What is unread of the bytes of the last read.
+/// The bytes of the last read that have not been used yet.
 #[derive(Drop)]
 struct Piece {
     bytes: [u8; PIECE_SIZE],
@@ -39,8 +39,8 @@ impl Model for Piece {
 }
 
 impl Piece {
-    // Moves the bytes before the first line feed, or all without one, into the buffer, and drops the line feed. Returns
-    // whether there was one.
+    // Moves the bytes before the first line feed into `buffer` and drops the line feed, or moves all bytes if there is
+    // none. Returns whether there was one.
     fn take_line(&mut self, buffer: &mut LineBuffer) -> bool
         ensures takes { TakesLine self.old self.new buffer.old buffer.new result }
         ensures size { length self.old ≤ piece_size }
@@ -60,7 +60,7 @@ impl Piece {
         }
     }
 
-    // Reads once in place of what was unread. Returns false at the end of the input.
+    // Replaces the piece by what one read returns. Returns false at the end of the input.
     fn fetch<I: Read>(&mut self, input: &mut Input<I>, left: &mut u64) -> Result<bool, RunFault>
         requires room { HasRoomFor piece_size left.old input.old }
         ensures reads { Reads input.old input.new self.new }
@@ -78,11 +78,11 @@ impl Piece {
     }
 }
 
-/// A reader of lines, which gives one line after another.
+/// A reader that returns one line after another.
 #[derive(Drop)]
 pub(crate) struct LineReader {
     piece: Piece,
-    /// The line that was given last.
+    /// The line that was read last.
     pub(crate) buffer: LineBuffer,
     /// Whether a read has found the end of the input.
     at_end: bool,
@@ -105,7 +105,14 @@ impl LineReader {
         }
     }
 
-    /// Reads to the end of the next line. Returns whether there is one; it is then in the buffer.
+    /// Reads the next line into `buffer`. Returns whether there is one.
+    ///
+    /// Each read uses one of the `left` I/O calls.
+    ///
+    /// # Errors
+    ///
+    /// - `Read`: a read failed.
+    /// - `Turns`: another read is needed, and `left` is 0.
     pub(crate) fn next_line<I: Read>(
         &mut self,
         input: &mut Input<I>,

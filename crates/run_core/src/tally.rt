@@ -1,4 +1,4 @@
-//! Tallies: the counts of a run's lines.
+//! The counts of a run's lines, which decide its exit status.
 ghost use Rattle.std.specs.Prelude.{◌≡◌, []};
 
 /// The counts of a run's lines. A single password is one line.
@@ -28,7 +28,7 @@ impl Tally {
 
     /// Returns the exit status of a run that ends with this tally.
     ///
-    /// It is 1 if a line was refused or got the verdict `no`, or an audited account needs care, otherwise 0.
+    /// It is 1 if a line was refused or got the verdict `no`, or if an audited account needs care. Otherwise it is 0.
     pub fn status(&self) -> u8
         ensures { result ≡ tally_status self.now }
     {

@@ -1,4 +1,4 @@
-//! Devices over memory, and a generator of known numbers, for tests. A device exposes its contents to contracts, records
+//! Devices in memory and a generator of known numbers, for tests. A device exposes its contents to contracts, records
 //! its calls, and can fail at one of them.
 ghost use Rattle.std.specs.Prelude.{◌≡◌, ◌<◌, Some, None, drop, slice_index};
 ghost use Rattle.rand_core.specs.Steps.{stream_of, steps_u64_low};
@@ -10,22 +10,22 @@ use std::io;
 use std::io::{ErrorKind, Read, Write};
 use std::marker::Model;
 
-/// The error of a call that the test makes fail, which nothing may try again.
+/// The error of a call that the test makes fail. A run must not retry such a call, though others often do.
 pub const FAILURE: ErrorKind = ErrorKind::Interrupted;
 
-/// More bytes than any call moves.
+/// A limit on the bytes of a call that no call reaches.
 pub const ALL: usize = usize::MAX;
 
 /// A call of a device.
 #[derive(Clone, Copy, Debug, PartialEq, Eq)]
 pub enum Call {
-    /// A read or a write: the bytes that it was for, and those that it moved.
+    /// A read or a write: the length of its buffer, and the number of bytes that it moved.
     Moved(usize, usize),
     Flushed,
     Failed,
 }
 
-// Records a call, or an error in its place if it is the one that fails, counted from 1.
+// Records a call. If it is the one that fails, counted from 1, records and returns a failure instead.
 fn record(calls: &mut Vec<Call>, fails_at: usize, call: Call) -> io::Result<()> {
     if calls.len().saturating_add(1) == fails_at {
         calls.push(Call::Failed)?;
@@ -61,7 +61,7 @@ impl MemoryWriter {
         self
     }
 
-    /// Returns the bytes that it has taken.
+    /// Returns the bytes that the writer has taken.
     pub fn taken(&self) -> &[u8] {
         self.taken.as_slice()
     }
@@ -91,9 +91,9 @@ impl Write for MemoryWriter {
     }
 }
 
-/// A reader of given bytes, which returns at most a given number of them a call, and may fail at one call.
+/// A reader of given bytes. It returns at most a given number of them a call, and may fail at one call.
 ///
-/// Contracts see the bytes that it has left, or `None` if it repeats them for ever.
+/// Contracts see the bytes that are left, or `None` if the reader repeats them forever.
 #[derive(Drop)]
 pub struct MemoryReader<'a> {
     bytes: &'a [u8],
@@ -115,7 +115,9 @@ impl<'a> Model for MemoryReader<'a> {
 }
 
 impl<'a> MemoryReader<'a> {
-    /// Returns a reader of these bytes, which gives at most `most` a call; with 0 it would be at its end.
+    /// Returns a reader of these bytes that returns at most `most` of them a call.
+    ///
+    /// Precondition: `most` is not 0, since a read of no byte means the end of the input.
     pub fn new(alloc: Global, bytes: &'a [u8], most: usize) -> MemoryReader<'a>
         requires { 0 < most }
         ensures { result ≡ Some bytes.now }
@@ -130,7 +132,7 @@ impl<'a> MemoryReader<'a> {
         }
     }
 
-    /// Makes the reader begin again after the last byte, for ever.
+    /// Makes the reader start again after the last byte, forever.
     pub fn repeated(mut self) -> MemoryReader<'a>
         ensures { result ≡ None }
     {
@@ -167,7 +169,7 @@ impl Read for MemoryReader<'_> {
     }
 }
 
-/// A generator that returns given numbers in order, and 0 after the last. Contracts see the numbers that it has left.
+/// A generator that returns given numbers in order, and 0 after the last. Contracts see the numbers that are left.
 #[derive(Drop)]
 pub struct ListedWords<'a> {
     left: &'a [u64],

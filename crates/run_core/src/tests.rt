@@ -1,5 +1,5 @@
-//! Runs over devices in memory: what they ask of each device, what is left after each failure and at the end of the I/O
-//! calls, and what they draw and count. What the built program shows too is in the suite of the repository.
+//! Tests runs on devices in memory: which calls they make, what they leave after each failure or when no I/O call is
+//! left, and what they draw and count. Whatever the built program shows as well is tested in the repository's suite.
 ghost use Rattle.std.specs.Prelude.{◌≡◌, ℕ, ◌^◌, ◌≤◌, List, ◌++◌, Some, OnOk};
 ghost use Rattle.prims_core.specs.Work.{IsAtMost};
 ghost use Rattle.run_core.specs.Answers.{Answer, fault_texts, texts};
@@ -28,7 +28,7 @@ use std::mem::size_of;
 use std::process::Abort;
 use std::test::Fail;
 
-// A run holds one line, in a buffer only slightly larger than the longest.
+// A run holds one line, in a buffer only slightly larger than the longest line.
 const _: () = prove!(size_of::<LineBuffer>() <= LINE_LIMIT + 16);
 
 const _: () = prove!(LINE_LIMIT == 2048);
@@ -113,7 +113,7 @@ struct Given<'a> {
     turns: u64,
 }
 
-// Returns devices that move at most so many bytes a read and a write.
+// Returns devices that move at most `reads` bytes a read and `writes` bytes a write.
 fn devices<'a>(
     rt: &impl Abort,
     alloc: Global,
@@ -137,8 +137,8 @@ type Ran<'a> = (
     MemoryReader<'a>,
 );
 
-// Runs on devices that expose their contents. After a tally the outputs have gained exactly the answers to all lines of
-// the input. That follows from the clauses of `run_batch` alone.
+// Calls `run_batch` on devices that expose their contents. If it returns a tally, the outputs have gained exactly the
+// answers to all lines of the input. The prover derives that from the clauses of `run_batch` alone.
 fn run_batch_on<'a, R: Rng>(
     alloc: Global,
     job: &Job,
@@ -209,7 +209,7 @@ fn run_on<'a>(
     ))
 }
 
-// What a run leaves: its outcome, its devices, the next random number and the meter.
+// What is left after a run: its outcome, its devices, the next random number and the meter.
 #[derive(Drop)]
 struct Left<'a> {
     outcome: Outcome,
@@ -258,7 +258,7 @@ fn left_by<'a>(
 }
 
 impl Left<'_> {
-    // Asserts the outcome, and what both outputs have.
+    // Asserts the outcome and the contents of both outputs.
     fn want(&self, rt: &impl Abort, what: &str, outcome: Outcome, out: &[u8], faults: &[u8]) {
         assert_eq!(rt;
             (self.outcome, self.out.taken(), self.faults.taken()),
@@ -284,8 +284,8 @@ fn within(asked: Asked<'_>, budget: u64) -> Asked<'_> {
     }
 }
 
-// Only a line or a password that is hashed draws and counts anything. The hashes are those of Drepper's specification and
-// of libxcrypt.
+// Random numbers are drawn and work is counted only for a password that is hashed. The expected hashes come from
+// Drepper's specification and from libxcrypt.
 #[test]
 fn draws_and_counts(rt: HostRuntime) -> Result<(), Fail> {
     let rehash = Asked {
@@ -306,7 +306,8 @@ fn draws_and_counts(rt: HostRuntime) -> Result<(), Fail> {
         ..within(salting(CHECK), 1927021)
     };
     let over = "mkpasswd: line 1: over budget\n";
-    // The run, its input and outcome, both outputs, the next random number, and the digests: without any, all counts are 0.
+    // The run, its input and outcome, both outputs, the next random number, and the number of digests. If that is 0, so
+    // are all other counts.
     let rows: [(Asked<'_>, &str, Outcome, &str, &str, u64, u128); 10] = [
         (
             salting(BATCH),

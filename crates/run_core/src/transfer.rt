@@ -1,5 +1,5 @@
-//! The device calls of every run: it reads pieces and finds line feeds in them, writes whole strings, and flushes both
-//! outputs at the end. Each read or write uses one of the I/O calls that are left.
+//! The device calls that all runs share: read a piece and find its line feed, write a whole text, flush both outputs at
+//! the end. Each read or write uses one of the I/O calls that the run has left.
 ghost use Rattle.std.specs.Prelude.{◌≡◌, ◌+◌, ◌-◌, ◌^◌, ◌<◌, ◌≤◌, ◌==◌, length, position, OnOk};
 ghost use Rattle.run_core.specs.Devices.{HasRoomWithinRun, MovesBytes, turns_limit};
 ghost use Rattle.run_core.specs.Output.{Shows};
@@ -11,7 +11,7 @@ use crate::device::{Input, Output};
 use crate::fault::RunFault;
 use std::io::{Read, Write};
 
-/// Reads once into `buffer` and returns the number of bytes read: 0 at the end.
+/// Reads once into `buffer` and returns the number of bytes read, 0 at the end of the input.
 ///
 /// It uses one of the `left` I/O calls.
 ///
@@ -43,7 +43,7 @@ pub(crate) fn fetch_piece<I: Read>(
     }
 }
 
-/// Returns the position of the first line feed.
+/// Returns the position of the first line feed, or `None` if there is none.
 pub(crate) fn line_feed_at(bytes: &[u8]) -> Option<usize>
     ensures { result ≡ position (λ b. b == line_feed) bytes.now }
 {
@@ -54,7 +54,7 @@ pub(crate) fn line_feed_at(bytes: &[u8]) -> Option<usize>
 ///
 /// # Errors
 ///
-/// A prefix of `text` is written.
+/// Only a prefix of `text` has been written.
 ///
 /// - `Write`: a write failed.
 /// - `Turns`: another write is needed, and `left` is 0.
@@ -91,13 +91,13 @@ pub(crate) fn send<O: Write>(
 
 /// Writes all of `text` in at most `turns` writes, and flushes the output.
 ///
-/// Preconditions: `turns` is at most 2^40, `text` has fewer than 2^63 bytes, and the counts of the output are within
-/// the limits that a run leaves.
+/// Preconditions: `turns` is at most 2^40, `text` has fewer than 2^63 bytes, and each count of the output is at most
+/// 2^63, or 2^63 + 2^40 for its calls. Each run leaves its `faults` within these limits.
 ///
 /// # Errors
 ///
-/// - `Write`: a write failed, and a prefix of `text` is written; or the flush failed, after all of `text`.
-/// - `Turns`: one more write than `turns` is needed, and a prefix of `text` is written.
+/// - `Write`: a write failed, and only a prefix of `text` has been written; or the flush failed, after all of `text`.
+/// - `Turns`: `text` needs more writes than `turns`, and only a prefix of it has been written.
 pub fn show<O: Write>(out: &mut Output<O>, text: &[u8], turns: u64) -> Result<(), RunFault>
     requires turns { turns ≤ turns_limit }
     requires room { HasRoomWithinRun out.old }
@@ -112,11 +112,11 @@ pub fn show<O: Write>(out: &mut Output<O>, text: &[u8], turns: u64) -> Result<()
     Ok(())
 }
 
-/// Flushes both outputs at the end of a run, `out` first. The flushes move no byte and use no I/O call of the limit.
+/// Flushes both outputs at the end of a run, `out` first. Flushes move no byte, and do not count as I/O calls.
 ///
 /// # Errors
 ///
-/// - `Write`: a flush failed. If it is that of `out`, `faults` is not flushed.
+/// - `Write`: a flush failed. If the flush of `out` failed, `faults` is not flushed.
 pub(crate) fn finish_both<O: Write, E: Write>(
     out: &mut Output<O>,
     faults: &mut Output<E>,

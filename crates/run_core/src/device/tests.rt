@@ -7,7 +7,7 @@ fn told(answer: io::Result<usize>) -> Result<usize, ErrorKind> {
     answer.map_err(|error| error.kind())
 }
 
-// Each call of the wrapper is one call of the device, with the whole buffer, and returns what that returned.
+// Each call of the wrapper makes one call of the device, with the whole buffer, and returns the same result.
 #[test]
 fn hands_on_each_read(rt: HostRuntime) {
     let reader = MemoryReader::new(rt.alloc(), b"abcd", 3).failing_at(2);
@@ -50,7 +50,7 @@ fn hands_on_each_write(rt: HostRuntime) {
     );
 }
 
-// A piece of which no byte is taken is a failure, unless it is empty; to read nothing is none.
+// It is a failure if no byte of a piece is taken, unless the piece is empty. A read that returns nothing is none.
 #[test]
 fn counts_failures(rt: HostRuntime) {
     let mut input = Input::new(MemoryReader::new(rt.alloc(), b"abcd", 3));

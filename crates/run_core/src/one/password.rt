@@ -1,5 +1,5 @@
-//! The password in an input: its first line, without the line feed. It is read into a buffer of fixed size, so nothing
-//! is allocated.
+//! Reads a password from an input: the first line, without its line feed. The buffer has a fixed size, so nothing is
+//! allocated.
 ghost use Rattle.std.specs.Prelude.{◌≡◌, ℕ, ◌+◌, ◌-◌, ◌^◌, ◌<◌, ◌≤◌, List, drop, length, take};
 ghost use Rattle.run_core.specs.Devices.{HasRoomBeforeRun, MovesBytes, turns_limit};
 ghost use Rattle.run_core.specs.Input.{Reads};
@@ -11,17 +11,17 @@ use crate::transfer::{fetch_piece, line_feed_at};
 use crypt_core::password::{PASSWORD_LIMIT, Password};
 use std::io::Read;
 
-// With this many bytes and no line feed among them, a password is too long.
+// A password is too long once this many bytes without a line feed have been read.
 const BUFFER_SIZE: usize = PASSWORD_LIMIT + 1;
 
 /// Reads the first line of the input as a password.
 ///
-/// Each read uses one of the `left` I/O calls. What follows the line feed in the piece that was read is dropped.
+/// Each read uses one of the `left` I/O calls. Bytes that were read after the line feed are dropped.
 ///
 /// # Errors
 ///
-/// - `Password`: the line is an invalid password. It is too long once more bytes than a password may have were read
-///   without a line feed.
+/// - `Password`: the line is an invalid password. It is too long once more than [`PASSWORD_LIMIT`] bytes without a line
+///   feed have been read.
 /// - `Read`: a read failed before the end of the line.
 /// - `Turns`: another read is needed, and `left` is 0.
 pub(crate) fn read_password<I: Read>(
@@ -41,7 +41,7 @@ pub(crate) fn read_password<I: Read>(
     Ok(Password::new(&buffer[..end])?)
 }
 
-// Reads until the first line is complete, and returns the number of its bytes.
+// Reads until the first line is complete or fills `buffer`, and returns its length.
 fn read_first_line<I: Read>(
     input: &mut Input<I>,
     buffer: &mut [u8],
@@ -70,7 +70,7 @@ fn read_first_line<I: Read>(
     Ok(filled)
 }
 
-// Reads once into `buffer` after its first `filled` bytes, and returns the number of bytes read: 0 at the end.
+// Reads once into `buffer`, after its first `filled` bytes. Returns the number of bytes read, 0 at the end.
 fn fetch_after<I: Read>(
     input: &mut Input<I>,
     buffer: &mut [u8],

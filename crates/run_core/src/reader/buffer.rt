@@ -5,24 +5,24 @@ ghost use Rattle.run_core.specs.Private.Lines.{Represents};
 use crate::line::LINE_LIMIT;
 use arrayvec::ArrayVec;
 
-/// The part of a line that has been read, in memory of a fixed size.
+/// The bytes of a line that have been read so far, in memory of a fixed size.
 #[derive(Drop)]
 pub(crate) enum LineBuffer {
     /// The bytes, at most [`LINE_LIMIT`].
     Bytes(ArrayVec<u8, LINE_LIMIT>),
-    /// More than [`LINE_LIMIT`] bytes, which are dropped.
+    /// The line has more than [`LINE_LIMIT`] bytes. They are dropped.
     TooLong,
 }
 
 impl LineBuffer {
-    /// Returns a buffer for a line of which nothing has been read.
+    /// Returns an empty buffer.
     pub(crate) fn new() -> LineBuffer
         ensures { Represents result [] }
     {
         LineBuffer::Bytes(ArrayVec::new())
     }
 
-    /// Empties the buffer for the next line. Of the bytes of the last one, none is read again.
+    /// Empties the buffer for the next line. The bytes of the last line are never read again.
     pub(crate) fn clear(&mut self)
         ensures { Represents self.new [] }
     {
@@ -32,6 +32,7 @@ impl LineBuffer {
         }
     }
 
+    /// Returns whether no byte of the line has been read yet.
     pub(crate) fn is_empty(&self) -> bool
         ensures { (line : List ℕ) → Represents self.now line → IsTrue result ↔ (line ≡ []) }
     {
@@ -41,6 +42,7 @@ impl LineBuffer {
         }
     }
 
+    /// Adds bytes to the line. A line with more than [`LINE_LIMIT`] bytes becomes `TooLong`.
     pub(crate) fn append(&mut self, piece: &[u8])
         ensures { (line : List ℕ) → Represents self.old line → Represents self.new (line ++ piece.now) }
     {

@@ -1,4 +1,4 @@
-//! Each device call of a run, with its bytes, and that no call follows a failed one.
+//! Tests each device call of a run with its number of bytes, and that a run makes no call after a failed one.
 
 use super::*;
 use crate::test_devices::Call;
@@ -42,7 +42,7 @@ const FLUSH: Step = (Device::Output, Call::Flushed);
 
 const FLUSH_FAULTS: Step = (Device::Faults, Call::Flushed);
 
-// Returns the calls of one device if the step after the first `whole` fails, or none if there is no such step.
+// Returns the calls of one device if the step after the first `whole` steps fails. Without such a step no call fails.
 fn calls_of(
     alloc: Global,
     steps: &[Step],
@@ -58,7 +58,7 @@ fn calls_of(
     Ok(calls)
 }
 
-// Returns as many bytes of the text as these calls took.
+// Returns the front of the text, as many bytes as these calls took.
 fn taken_of<'a>(text: &'a str, calls: &[Call]) -> &'a [u8] {
     let mut taken = 0usize;
     for call in calls {
@@ -69,7 +69,7 @@ fn taken_of<'a>(text: &'a str, calls: &[Call]) -> &'a [u8] {
     text.as_bytes().get(..taken).unwrap_or(text.as_bytes())
 }
 
-// Asserts the run with each of its steps failing in turn, and the whole run.
+// Asserts what the run does if each of its steps in turn fails, and if none fails.
 fn want_steps(rt: &impl Abort, alloc: Global, what: &str, listed: Listed<'_>) -> Result<(), Fail> {
     let steps = listed.steps;
     for whole in 0..steps.len() + 1 {

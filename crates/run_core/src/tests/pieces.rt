@@ -2,7 +2,7 @@
 
 use super::*;
 
-// However the input comes, the outputs are the same.
+// The outputs are the same in whatever pieces the input comes.
 #[test]
 fn answers_any_pieces_alike(rt: HostRuntime) -> Result<(), Fail> {
     let counted = Asked {
@@ -33,14 +33,15 @@ fn answers_any_pieces_alike(rt: HostRuntime) -> Result<(), Fail> {
     Ok(())
 }
 
-// Each limit, and one byte more. A line follows a short one, so that pieces end anywhere in it.
+// Tests each limit, and one byte more. The long line follows a short one, so that pieces end anywhere in it.
 #[test]
 fn measures_any_pieces_alike(rt: HostRuntime) -> Result<(), Fail> {
     let name = "mkpasswd: line 1: no password field\nmkpasswd: line 2: name too long\n";
     let line = "mkpasswd: line 1: no password field\nmkpasswd: line 2: line too long\n";
     let first = "mkpasswd: line 1: line too long\n";
     let hash = "$1$xxxxxxxx$K/D5CvaOI4iV5zX0cnQoW0\n";
-    // The first bytes, so many letters, the last bytes, the outcome, and both outputs. The hash is passlib's.
+    // The first bytes, the number of letters after them, the last bytes, the outcome, and both outputs. The hash is
+    // passlib's.
     let rows: [(Asked<'_>, &[u8], usize, &[u8], Outcome, &str, &str); 6] = [
         (BATCH, b"b\n", 2048, b"", Ok((2, 2, 0)), "", name),
         (BATCH, b"b\n", 2049, b"\n", Ok((2, 2, 0)), "", line),
@@ -72,7 +73,7 @@ fn measures_any_pieces_alike(rt: HostRuntime) -> Result<(), Fail> {
     Ok(())
 }
 
-// With the turns that a run needs it ends, and with one fewer it says so. An input that never ends takes them all.
+// A run finishes with as many turns as it needs, and returns `Turns` with one fewer. An endless input uses them all.
 #[test]
 fn stops_with_its_turns(rt: HostRuntime) -> Result<(), Fail> {
     let begun = "Available methods:\nmd5crypt\nsha256crypt\nsha512cryp";
@@ -82,8 +83,8 @@ fn stops_with_its_turns(rt: HostRuntime) -> Result<(), Fail> {
         ..BATCH
     };
     let line = "ann:password\n";
-    // The input, whether it is repeated for ever, the most bytes of a read and a write, the turns, the outcome, and a
-    // text with the number of times that the output has it.
+    // The input, whether it is repeated forever, the most bytes of a read and of a write, the turns, the outcome, and a
+    // text with the number of times that it is in the output.
     let rows: [(Asked<'_>, &str, bool, [usize; 2], u64, Outcome, &str, usize); 15] = [
         (BATCH, "", false, [ALL, ALL], 0, TURNS, "", 0),
         (BATCH, "", false, [ALL, ALL], 1, Ok((0, 0, 0)), "", 0),
