@@ -12,14 +12,14 @@ use Rattle.run_core.specs.Texts.{colon, slash}
 use Rattle.crypt_core.specs.declared.finding.Finding.{Finding}
 use Rattle.crypt_core.specs.declared.finding.Finding.TheVariants.{Hash, NoHash, Locked, Other, Unknown, NoScheme, Malformed}
 
--- standing_text standing is the last part of the finding of a hash.
+-- standing_text standing is the standing as it is printed, at the end of the finding of a hash.
 abbrev pub standing_text : Standing → List ℕ
 standing_text Current = codes "current"
 standing_text Outdated = codes "outdated"
 standing_text Dead = codes "dead"
 standing_text OverBudget = codes "over budget"
 
--- rounds_text scheme is its rounds in decimal; of scrypt they are N, r and p, with `/` between them.
+-- rounds_text scheme is the number of rounds in decimal, or `N/r/p` for scrypt.
 abbrev pub rounds_text : Scheme → List ℕ
 rounds_text Md5crypt = codes "1000"
 rounds_text (Shacrypt sha rounds) = decimal rounds.count

@@ -1,9 +1,9 @@
--- The effect of single device calls. Of the public clauses only those of the wrappers cite these definitions.
+-- The effect of a single call of a device. Of the public clauses, only those of the wrappers cite these definitions.
 use Rattle.std.specs.Prelude.{◌≡◌, ℕ, ◌+◌, ◌==◌, ◌&&◌, Bool, true, false, nat_lt, List, length, Option, Result, Ok, Err, refl, if◌then◌else◌}
 use Rattle.std.specs.Coded.{Coded, code_by, coded×, coded_ℕ, coded_list, coded_option}
 use Rattle.run_core.specs.Devices.{Device}
 
--- device_code code encodes a device as its parts.
+-- device_code code encodes a device as the tuple of its fields.
 abbrev pub device_code : {T : Type 0} → Coded T → Coded (Device T)
 device_code {T} code =
     code_by (T × (Option (List ℕ) × (ℕ × (ℕ × (ℕ × (ℕ × (ℕ × ℕ)))))))
@@ -20,7 +20,7 @@ device_code {T} code =
       flushed = p.1.1.1.1.1.1.1;
     }) (λ _. refl)
 
--- new_device inner shown is the device `inner` with the contents `shown`, before any call.
+-- new_device inner shown is the device `inner` with the contents `shown` before any call.
 abbrev pub new_device : {T : Type 0} → T → Option (List ℕ) → Device T
 new_device inner shown = record { inner = inner; shown = shown; failures = 0; calls = 0; bytes = 0; idle = 0; flushes = 0; flushed = 0 }
 
@@ -28,8 +28,8 @@ new_device inner shown = record { inner = inner; shown = shown; failures = 0; ca
 abbrev pub as_count : Bool → ℕ
 as_count seen = if seen then 1 else 0
 
--- is_failed_give result piece is true if a `give` of `piece` fails: its call fails, or it takes no byte of a piece with
--- at least one.
+-- is_failed_give result piece is true if a `give` of `piece` fails: the writer returns an error, or takes no byte of a
+-- piece that has some.
 abbrev pub is_failed_give : {E : Type 0} → Result ℕ E → List ℕ → Bool
 is_failed_give (Ok count) piece = count == 0 && nat_lt 0 (length piece)
 is_failed_give (Err e) piece = true
@@ -49,18 +49,18 @@ abbrev pub moved_by : {E : Type 0} → Result ℕ E → ℕ
 moved_by (Ok count) = count
 moved_by (Err e) = 0
 
--- IsUnflushed old new: no flush was tried.
+-- IsUnflushed old new: the device was not flushed.
 pub record IsUnflushed {T : Type 0} (old new : Device T) : Type 0 where
   pub flushes : new.flushes ≡ old.flushes
   pub flushed : new.flushed ≡ old.flushed
 
--- IsFlushed old new: one flush was tried after all bytes had been moved, and it is recorded as successful. Whether it
--- succeeded shows in `failures`.
+-- IsFlushed old new: the device was flushed once, after all bytes had been moved, and this is recorded as a success.
+-- Whether it did succeed shows in `failures`.
 pub record IsFlushed {T : Type 0} (old new : Device T) : Type 0 where
   pub flushes : new.flushes ≡ old.flushes + 1
   pub flushed : new.flushed ≡ new.bytes
 
--- FailsToFlush old new: one flush was tried, and it is not recorded as successful.
+-- FailsToFlush old new: one flush was tried, and it is not recorded as a success.
 pub record FailsToFlush {T : Type 0} (old new : Device T) : Type 0 where
   pub flushes : new.flushes ≡ old.flushes + 1
   pub flushed : new.flushed ≡ old.flushed

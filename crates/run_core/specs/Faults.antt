@@ -1,4 +1,4 @@
--- The messages about refused lines, and those of the errors that end a run, with their exit statuses.
+-- The messages about refused lines, and the messages and exit statuses of the errors that end a run.
 use Rattle.std.specs.Prelude.{ℕ, List, codes}
 use Rattle.crypt_core.specs.Faults.{password_fault_text, setting_fault_text}
 use Rattle.run_core.specs.declared.fault.RunFault.{RunFault}

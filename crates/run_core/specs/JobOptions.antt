@@ -1,5 +1,5 @@
--- The options of a job: a budget, which limits the cost of a line, and rehashes of passwords whose stored hash is out
--- of date.
+-- Two options of a job: a budget, which limits the cost of a line, and rehashes, which replace stored hashes that are
+-- out of date.
 use Rattle.std.specs.Prelude.{ℕ, ◌+◌, ◌&&◌, Bool, false, None, if◌then◌else◌, unwrap_or}
 use Rattle.crypt_core.specs.OutdatedSchemes.{is_outdated_by}
 use Rattle.crypt_core.specs.Settings.{SettingValue}
@@ -11,17 +11,18 @@ use Rattle.run_core.specs.declared.job.Job.{Job}
 abbrev pub without_budget : Job → Job
 without_budget job = record job { budget = None }
 
--- given_budget job is the budget that an audit is given: that of the job, or 0, which stands for the audit's own, if it has none.
+-- given_budget job is the budget that an audit is given. It is the budget of the job, or 0 if the job has none. A
+-- budget of 0 stands for the audit's own.
 abbrev pub given_budget : Job → ℕ
 given_budget job = unwrap_or job.budget 0
 
--- is_outdated job kept is true if the job asks for rehashes, and its scheme replaces that of the setting.
+-- is_outdated job kept is true if the job asks for rehashes, and its scheme replaces the one of the setting `kept`.
 abbrev pub is_outdated : Job → SettingValue → Bool
 is_outdated job kept = job.rehash && is_outdated_by kept.scheme job.maker.scheme
 
--- check_cost job kept password_length is the greatest cost of the check of a password with this length. It is the cost
--- of its hash with the stored setting. If that is out of date, the cost of the new hash is added, whether or not the
--- password matches.
+-- check_cost job kept password_length is the maximum cost of checking a password of this length against a hash with the
+-- stored setting `kept`. It is the cost of the hash with that setting. If the setting is out of date, the cost of the
+-- new hash is added, whether or not the password matches.
 abbrev pub check_cost : Job → SettingValue → ℕ → ℕ
 check_cost job kept password_length =
     cost kept password_length + (if is_outdated job kept then made_cost_by job.maker password_length else 0)

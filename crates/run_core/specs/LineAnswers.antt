@@ -1,4 +1,4 @@
--- The outcome of a line, depending on its parts, and the answers to the lines of an input.
+-- The outcome of a line, which follows from its parts, and the answers to the lines of an input.
 use Rattle.std.specs.Prelude.{◌≡◌, ◌≢◌, ℕ, ◌+◌, ◌⊎◌, ⊤, List, [], ◌∷◌, ◌++◌, length, codes, decimal, true, false, Some, None, Ok, Err}
 use Rattle.rand_core.specs.Stream.{Stream}
 use Rattle.crypt_core.specs.Crypt.{crypt}
@@ -23,16 +23,16 @@ use Rattle.run_core.specs.declared.line.LineFault.TheVariants.{OverBudget}
 
 -- ---- the outcome of a line
 
--- HasCost job parts number: the greatest cost of these parts is `number`. Without a field it is the cost of hashing the
--- password with a setting that the job makes. Otherwise it is the cost of the check with the setting that the field
--- spells.
+-- HasCost job parts number: a line with these parts costs at most `number`. Without a field, that is the cost of
+-- hashing the password with a setting that the job makes. With a field, it is the cost of the check with the setting
+-- that the field spells.
 abbrev pub HasCost : Job → Parts → ℕ → Type 0
 HasCost job parts number =
     ((parts.field ≡ None) × (number ≡ made_cost_by job.maker (length parts.password)))
     ⊎ ((field : List ℕ) × (kept : SettingValue) × (parts.field ≡ Some field) × Spells field kept
     × (number ≡ check_cost job kept (length parts.password)))
 
--- IsCostly kind job line: the line, which is to be hashed or checked, breaks no rule, and can cost more than the budget.
+-- IsCostly kind job line: the line, which is to be hashed or checked, breaks no rule but can cost more than the budget.
 pub record IsCostly (kind : Kind) (job : Job) (line : List ℕ) : Type 0 where
   pub parts : Parts
   pub sound : IsSound kind line
@@ -41,16 +41,16 @@ pub record IsCostly (kind : Kind) (job : Job) (line : List ℕ) : Type 0 where
   pub cost : HasCost job parts number
   pub above : IsAbove job.budget number
 
--- HasSetting parts field kept: the parts have this field, and it spells this setting.
+-- HasSetting parts field kept: the line with these parts has this field, which spells the setting `kept`.
 abbrev pub HasSetting : Parts → List ℕ → SettingValue → Type 0
 HasSetting parts field kept = (parts.field ≡ Some field) × Spells field kept
 
--- ComesTo job parts stream outcome made: a line to hash or to check with these parts has this outcome. The hashes `made`
--- are made for it, in order.
+-- ComesTo job parts stream outcome made: a line to hash or to check with these parts has this outcome, for which the
+-- hashes `made` are computed in order.
 --   Hashed    there is no field, and the password is hashed with a setting that the job makes
 --   NoHash    the field is empty
 --   Locked    the field begins with `!` or `*`
---   Match     hashing the password with the setting in the field reproduces the field, which is not out of date
+--   Match     hashing the password with the setting in the field reproduces the field, and it is not out of date
 --   Rehashed  likewise, but the setting is out of date, so the password is hashed again
 --   Misfit    hashing the password with the setting in the field does not reproduce the field
 abbrev pub ComesTo : Job → Parts → Stream → Outcome → List Hashing → Type 0
@@ -69,8 +69,8 @@ ComesTo job parts stream (Audited finding) made = ⊥
 
 -- ---- answers
 
--- answer_of job name outcome made is the answer to a line with this name and this outcome, for which these hashes are
--- made: the name, the outcome, and the counts of the hashes' work if the outcome shows them.
+-- answer_of job name outcome made is the answer to a line with this name and this outcome, for which the hashes `made`
+-- are computed. Its text is the name, the outcome, and the counts of the hashes' work if they are shown.
 abbrev pub answer_of : Job → List ℕ → Outcome → List Hashing → Answer
 answer_of job name outcome made = record {
   text = as_line (name ++ colon ∷ rendered outcome ++ counts_text (shows_work outcome job.work) made);
@@ -78,7 +78,7 @@ answer_of job name outcome made = record {
   hashings = made;
 }
 
--- refusal number fault is the answer to a refused line with this number. It draws no random number and makes no hash.
+-- refusal number fault is the answer to the line with this number if it is refused for `fault`. No hash is computed.
 abbrev pub refusal : ℕ → LineFault → Answer
 refusal number fault = record {
   text = as_line (codes "mkpasswd: line " ++ decimal number ++ codes ": " ++ line_fault_text fault);
@@ -87,8 +87,8 @@ refusal number fault = record {
 }
 
 -- IsPasswordAnswer kind job number line stream answer: this is the answer to the line with this number, which is to be
--- hashed or checked. If the line breaks a rule, it is the refusal for the first one. If the line breaks none but can
--- cost more than the budget, it is the refusal for that. Otherwise it is the name and the outcome of the line.
+-- hashed or checked. If the line breaks a rule, it is refused for the first one that it breaks. If it breaks none but
+-- can cost more than the budget, it is refused for that. Otherwise the answer is its name and its outcome.
 abbrev pub IsPasswordAnswer : Kind → Job → ℕ → List ℕ → Stream → Answer → Type 0
 IsPasswordAnswer kind job number line stream answer =
     ((fault : LineFault) × IsLineRefused kind line fault × (answer ≡ refusal number fault))
@@ -98,8 +98,8 @@ IsPasswordAnswer kind job number line stream answer =
     × (answer ≡ answer_of job parts.name outcome answer.hashings)))
 
 -- IsAuditAnswer job number line answer: this is the answer to the line with this number, which is to be audited. If the
--- line breaks a rule, it is the refusal for the first one. Otherwise it is the name and what an audit finds in the
--- field. It makes no hash.
+-- line breaks a rule, it is refused for the first one that it breaks. Otherwise the answer is its name and what an
+-- audit finds in its field. No hash is computed.
 abbrev pub IsAuditAnswer : Job → ℕ → List ℕ → Answer → Type 0
 IsAuditAnswer job number line answer =
     ((fault : LineFault) × IsLineRefused Audit line fault × (answer ≡ refusal number fault))
@@ -107,13 +107,13 @@ IsAuditAnswer job number line answer =
     × (finding : Finding) × Finds job.maker.scheme (given_budget job) field finding × (answer ≡ answer_of job parts.name (Audited finding) []))
 
 -- IsAnswer kind job number line stream answer: this is the answer to the line with this number.
---   stream  the random numbers that are left for it
+--   stream  the random numbers that are left before it
 abbrev pub IsAnswer : Kind → Job → ℕ → List ℕ → Stream → Answer → Type 0
 IsAnswer Audit job number line stream answer = IsAuditAnswer job number line answer
 IsAnswer kind job number line stream answer = IsPasswordAnswer kind job number line stream answer
 
--- AreAnswers kind job number lines stream answers: these are the answers to lines that are numbered from `number` on.
--- Each begins with the random numbers that the one before it left.
+-- AreAnswers kind job number lines stream answers: these are the answers to these lines, which are numbered from
+-- `number` on. Each answer begins with the random numbers that the one before it left.
 abbrev pub AreAnswers : Kind → Job → ℕ → List (List ℕ) → Stream → List Answer → Type 0
 AreAnswers kind job number [] stream [] = ⊤
 AreAnswers kind job number (line ∷ lines) stream (answer ∷ answers) =

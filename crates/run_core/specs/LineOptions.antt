@@ -1,5 +1,5 @@
--- What a budget and rehashes change in the answers to lines, and what they leave unchanged; and what an audit says of
--- later checks.
+-- What a budget and rehashes change in the answers to lines, and what they leave unchanged; and what an audit says
+-- about later checks.
 use Rattle.std.specs.Prelude.{◌≡◌, ◌≢◌, ◌≤◌, ℕ, ◌⊎◌, ◌↔◌, List, true, Some, Ok}
 use Rattle.rand_core.specs.Stream.{Stream}
 use Rattle.crypt_core.specs.Crypt.{crypt}
@@ -25,7 +25,7 @@ use Rattle.run_core.specs.declared.line.LineFault.TheVariants.{OverBudget}
 -- ---- a budget
 
 -- OnlyRefuses kind job: a budget changes only the answers to costly lines.
---   costly    a costly line gets the refusal `OverBudget`
+--   costly    a costly line is refused as `OverBudget`
 --   others    every other line gets the answer that it gets without a budget
 --   unhashed  a line whose field is empty or locked is not costly
 pub record OnlyRefuses (kind : Kind) (job : Job) : Type 0 where
@@ -38,8 +38,8 @@ pub record OnlyRefuses (kind : Kind) (job : Job) : Type 0 where
 
 -- ---- rehashes
 
--- IsRenewable kind job line: the line is to be checked, breaks no rule, and its field spells a setting that is out of
--- date. Its password matches, or the line is costly.
+-- IsRenewable kind job line: rehashes can change the answer to this line. It breaks no rule, its field spells a setting
+-- that is out of date, and its password matches or the line is costly.
 pub record IsRenewable (kind : Kind) (job : Job) (line : List ℕ) : Type 0 where
   pub parts : Parts
   pub field : List ℕ
@@ -62,8 +62,8 @@ RenewsNone kind job = (number : ℕ) → (line : List ℕ) → (stream : Stream)
 
 -- ---- audits
 
--- Foresees job: if an audit finds that a field is a hash within its budget, then no line with this field is over the same
--- budget in a check without rehashes, whatever its password is.
+-- Foresees job: if an audit finds that a field is a hash within its budget, then no line with this field is over the
+-- same budget in a check without rehashes, whatever its password is.
 abbrev pub Foresees : Job → Type 0
 Foresees job = (field : List ℕ) → (scheme : Scheme) → (most : ℕ) → (standing : Standing)
     → Finds job.maker.scheme (given_budget job) field (Hash scheme most standing) → standing ≢ OverBudget
@@ -71,15 +71,15 @@ Foresees job = (field : List ℕ) → (scheme : Scheme) → (most : ℕ) → (st
     → (line : List ℕ) → (parts : Parts) → HasParts Check line parts → parts.field ≡ Some field
     → ¬ IsCostly Check (without_rehash checking) line
 
--- HeedsLimit job: if an audit by its own budget finds that a field is a hash within it, then a login whose new hashes have
--- the job's scheme can check this hash within the limit of the policy, at least with the empty password.
+-- HeedsLimit job: if an audit by its own budget finds that a field is a hash within it, then a login whose new hashes
+-- have the job's scheme can check this hash within the limit of the policy, at least for the empty password.
 abbrev pub HeedsLimit : Job → Type 0
 HeedsLimit job = (field : List ℕ) → (scheme : Scheme) → (most : ℕ) → (standing : Standing)
     → Finds job.maker.scheme (given_budget job) field (Hash scheme most standing) → standing ≢ OverBudget → given_budget job ≡ 0
     → (kept : SettingValue) × Spells field kept × (cost kept 0 ≤ policy_limit job.maker.scheme)
 
--- Refutes job: if an audit finds that a field is a dead hash, then every line with this field that breaks no rule and is
--- not costly gets the verdict `no` in any check, whatever its password is.
+-- Refutes job: if an audit finds that a field is a dead hash, then in any check every line with this field that breaks
+-- no rule and is not costly gets the verdict `no`, whatever its password is.
 abbrev pub Refutes : Job → Type 0
 Refutes job = (field : List ℕ) → (scheme : Scheme) → (most : ℕ) → Finds job.maker.scheme (given_budget job) field (Hash scheme most Dead)
     → (checking : Job) → (line : List ℕ) → (parts : Parts) → HasParts Check line parts → parts.field ≡ Some field

@@ -1,4 +1,4 @@
--- Lines of an input: their parts, and the rules that a line can break.
+-- The parts of a line of an input, and the rules that a line can break.
 use Rattle.std.specs.Prelude.{◌≡◌, ◌≢◌, ℕ, ◌<◌, ◌⊎◌, List, [], ◌∷◌, ◌++◌, length, map, Contains, Option, Some, None}
 use Rattle.crypt_core.specs.Passwords.{IsPasswordRefused, password_faults}
 use Rattle.crypt_core.specs.Refusals.{IsRefused, setting_faults}
@@ -16,19 +16,19 @@ use Rattle.run_core.specs.declared.line.LineFault.TheVariants.{LineTooLong, NoNa
 abbrev pub IsCut : List ℕ → List ℕ → List ℕ → Type 0
 IsCut text front back = (text ≡ front ++ colon ∷ back) × ¬ Contains front colon
 
--- HasFront text front: `front` is everything before the first colon of the text, or all of a text without one.
+-- HasFront text front: `front` is everything before the first colon of the text, or all of the text if it has none.
 abbrev pub HasFront : List ℕ → List ℕ → Type 0
 HasFront text front = ((back : List ℕ) × IsCut text front back) ⊎ ((text ≡ front) × ¬ Contains front colon)
 
--- A `Parts` holds the parts of a line, which colons separate. A line to hash has no field. A line to audit has no
--- password: that part is empty.
+-- A `Parts` holds the parts of a line, which are separated by colons. A line to hash has no field. The password of a
+-- line to audit is empty.
 pub record Parts : Type 0 where
   pub name : List ℕ
   pub field : Option (List ℕ)
   pub password : List ℕ
 
--- HasParts kind line parts: the line is `name:password`, or `name:field:password` to check. A password may have colons.
--- A line to audit is `name:field`, or `name:field:` and anything.
+-- HasParts kind line parts: these are the parts of the line. It is `name:password` to hash, `name:field:password` to
+-- check, and `name:field` or `name:field:` and anything to audit. A password may contain colons.
 abbrev pub HasParts : Kind → List ℕ → Parts → Type 0
 HasParts Batch line parts = IsCut line parts.name parts.password × (parts.field ≡ None)
 HasParts Check line parts =
@@ -38,20 +38,21 @@ HasParts Audit line parts =
 
 -- ---- the rules
 
--- line_limit is the greatest number of bytes of a line, without its line feed.
+-- line_limit is the maximum number of bytes of a line, without its line feed.
 abbrev pub line_limit : ℕ
 line_limit = 2048
 
--- name_limit is the greatest number of bytes of a name.
+-- name_limit is the maximum number of bytes of a name.
 abbrev pub name_limit : ℕ
 name_limit = 64
 
--- The refusals in the order of their rules. `OverBudget` is none of a line's rules.
+-- line_faults is the list of the refusals of a line, in the order in which their rules are checked. `OverBudget` is not
+-- among them, since it depends on the job.
 abbrev pub line_faults : List LineFault
 line_faults = LineTooLong ∷ NoName ∷ NameTooLong ∷ NoPassword ∷ map Password password_faults ++ map Setting setting_faults
 
--- BreaksLine kind fault line: the line breaks the rule of this refusal. The cost of a hash is no rule of the line
--- alone, and a line to audit breaks no rule of a setting: what is wrong with its field is its answer.
+-- BreaksLine kind fault line: the line breaks the rule of this refusal. The line alone never breaks `OverBudget`. A
+-- line to audit never breaks a rule of settings, since whatever is wrong with its field becomes its answer.
 abbrev pub BreaksLine : Kind → LineFault → List ℕ → Type 0
 BreaksLine kind LineTooLong line = line_limit < length line
 BreaksLine kind NoName line = HasFront line []
@@ -62,7 +63,7 @@ BreaksLine kind (Setting fault) line = (kind ≢ Audit)
     × (parts : Parts) × (field : List ℕ) × HasParts kind line parts × (parts.field ≡ Some field) × IsStored field × IsRefused field fault
 BreaksLine kind OverBudget line = ⊥
 
--- IsLineRefused kind line fault: this is the refusal of the first rule that the line breaks.
+-- IsLineRefused kind line fault: `fault` is the first rule that the line breaks.
 unfoldable pub IsLineRefused : Kind → List ℕ → LineFault → Type 0
 IsLineRefused kind line = IsFirstBroken line_faults (λ fault. BreaksLine kind fault line)
 

@@ -1,4 +1,4 @@
--- The run for one password, depending on the source of the password.
+-- How the run for one password ends, depending on where the password comes from.
 use Rattle.std.specs.Prelude.{◌≡◌, ℕ, ◌≤◌, List, [], ◌∷◌, length, ⊤, Result}
 use Rattle.crypt_core.specs.Passwords.{IsPassword, IsPasswordRefused, password_limit}
 use Rattle.run_core.specs.Answers.{password_answer}
@@ -14,8 +14,8 @@ use Rattle.run_core.specs.declared.tally.Tally.{Tally}
 
 -- EndsPassword Decided Undecided turns job password old new result: the run for this password ends with this result. It
 -- checks the password before it draws a random number.
---   Undecided  what is true if the run stops while it reads
---   Decided    what is true otherwise
+--   Decided    what holds if the run has read the whole password
+--   Undecided  what holds if the run stops while it reads
 abbrev pub EndsPassword : {I O E : Type 0} → (Decided Undecided : Type 0) → ℕ → Job → List ℕ → RunState I O E → RunState I O E → Result Tally RunFault → Type 0
 EndsPassword Decided Undecided turns job password old new = EndsBy
     (λ answers. Decided × IsPassword password × (answers ≡ password_answer job password old.stream ∷ []))
@@ -24,15 +24,15 @@ EndsPassword Decided Undecided turns job password old new = EndsBy
     (λ fault. Decided × IsPasswordRefused password fault) turns old new
 
 -- EndsOne turns job from old new result: the run for the password from this source ends with this result.
---   Word   the argument is the password, and the input is unchanged
---   Input  the first line is the password. If the run stops before that is known, the bytes that it read have no line
---          feed and are not too many for a password
+--   Word   the password is the argument, and the input is unchanged
+--   Input  the password is the first line of the input. If the run stops before that line is known, the bytes that it
+--          has read contain no line feed and are not too many for a password
 abbrev pub EndsOne : {I O E : Type 0} → ℕ → Job → PasswordFrom → RunState I O E → RunState I O E → Result Tally RunFault → Type 0
 EndsOne turns job (Word word) old new result = (new.input ≡ old.input) × EndsPassword ⊤ ⊥ turns job word.items old new result
 EndsOne turns job Input old new result = (bytes : List ℕ) × Reads old.input new.input bytes
     × EndsPassword (IsDecided new.input bytes) (HasNoLineFeed bytes × (length bytes ≤ password_limit)) turns job (first_line bytes) old new result
 
--- RunsOne turns job from old new result: the run for one password ends with this result, and within `turns` I/O calls. A
+-- RunsOne turns job from old new result: the run for one password ends with this result, within `turns` I/O calls. A
 -- budget and rehashes make no difference.
 pub record RunsOne {I O E : Type 0} (turns : ℕ) (job : Job) (from : PasswordFrom) (old new : RunState I O E) (result : Result Tally RunFault) : Type 0 where
   pub ends : EndsOne turns job from old new result

@@ -1,4 +1,4 @@
--- Definitions that only contracts of private functions cite. A reader of the public clauses needs none of them.
+-- Definitions that only the contracts of private functions cite. A reader of the public clauses can skip them.
 pub mod Answers
 pub mod Deliveries
 pub mod Fetching

@@ -1,5 +1,5 @@
--- The effect of a run on its three devices, the random numbers of its generator and its meter. The answers are
--- arguments: those that the run wrote in full, and the one at which it stopped.
+-- The effect of a run on its three devices, on the random numbers of its generator and on its meter. The definitions
+-- take answers as arguments: those that the run wrote in full, and the one at which it stopped.
 use Rattle.std.specs.Prelude.{◌≡◌, ℕ, ◌+◌, ◌^◌, ◌≤◌, ◌⊎◌, List, [], ◌∷◌, ◌++◌, replicate, MatchBool, Result, Ok, Err}
 use Rattle.rand_core.specs.Stream.{Stream}
 use Rattle.prims_core.specs.Work.{IsAtMost}
@@ -12,8 +12,8 @@ use Rattle.run_core.specs.declared.fault.RunFault.{RunFault}
 use Rattle.run_core.specs.declared.fault.RunFault.TheVariants.{Read, Write, OutOfMemory, Turns, Password}
 use Rattle.run_core.specs.declared.tally.Tally.{Tally}
 
--- A `RunState` is what a run works on: its input, its output, its output for messages about refused lines, the random
--- numbers that are left, and the counts of the meter.
+-- A `RunState` is what a run works on: its input, its output, its second output for messages about refused lines, the
+-- random numbers that are left, and the counts of the meter.
 pub record RunState (I O E : Type 0) : Type 0 where
   pub input : Device I
   pub out : Device O
@@ -21,7 +21,7 @@ pub record RunState (I O E : Type 0) : Type 0 where
   pub stream : Stream
   pub counts : Work
 
--- no_numbers is the stream of a run without a generator: zeros, of which it draws none.
+-- no_numbers is the stream of a run without a generator. It consists of zeros, and the run draws none of them.
 abbrev pub no_numbers : Stream
 no_numbers = record { u32_after = λ calls. 0; u64_after = λ calls. 0; bytes_after = λ calls count. replicate count 0 }
 
@@ -29,15 +29,16 @@ no_numbers = record { u32_after = λ calls. 0; u64_after = λ calls. 0; bytes_af
 abbrev pub run_state : {I O E : Type 0} → Device I → Device O → Device E → Stream → Work → RunState I O E
 run_state input out faults stream counts = record { input = input; out = out; faults = faults; stream = stream; counts = counts }
 
--- IsReady turns input out faults counts: a run can begin. It may make this number of I/O calls, and the counts of its
--- devices and of its meter have room for it.
+-- IsReady turns input out faults counts: a run can begin. `turns` is within the limit on I/O calls, and the counts of
+-- the devices and of the meter have room for the run.
 pub record IsReady {I O E : Type 0} (turns : ℕ) (input : Device I) (out : Device O) (faults : Device E) (counts : Work) : Type 0 where
   pub limit : turns ≤ turns_limit
   pub devices : HasRoomBeforeRun input × HasRoomBeforeRun out × HasRoomBeforeRun faults
   pub meter : IsAtMost counts (2 ^ 100)
 
--- TakeInPart failures done next out faults new_out new_faults: the outputs have taken the answers `done`, and one of
--- them has then taken a proper prefix of `next`. Exactly `failures` calls of that output failed, and none of the other.
+-- TakeInPart failures done next out faults new_out new_faults: the outputs have taken the answers `done`, and the
+-- output of `next` has then taken a proper prefix of it. Exactly `failures` calls of that output failed, and none of
+-- the other.
 abbrev pub TakeInPart : {O E : Type 0} → ℕ → List Answer → Answer → Device O → Device E → Device O → Device E → Type 0
 TakeInPart failures done next out faults new_out new_faults = MatchBool (is_refusal next.outcome)
     (Takes 0 0 out new_out (texts done) × TakesFront failures faults new_faults (fault_texts done) next.text)
@@ -46,12 +47,12 @@ TakeInPart failures done next out faults new_out new_faults = MatchBool (is_refu
 module _ {I O E : Type 0} where
   -- ---- I/O calls
 
-  -- calls_of state is the number of calls that move bytes.
+  -- calls_of state is the number of I/O calls, which are the calls that move bytes.
   abbrev pub calls_of : RunState I O E → ℕ
   calls_of state = state.input.calls + state.out.calls + state.faults.calls
 
-  -- IsWithinTurns turns old new: the run made at most `turns` such calls, and at most two more than it moved bytes.
-  -- Each call moved a byte or failed, except one read that finds the end of the input.
+  -- IsWithinTurns turns old new: the run made at most `turns` I/O calls, and at most two more of them than it moved
+  -- bytes. Each call moved a byte or failed, except one read that finds the end of the input.
   pub record IsWithinTurns (turns : ℕ) (old new : RunState I O E) : Type 0 where
     pub at_most_turns : calls_of new ≤ calls_of old + turns
     pub at_most_bytes : calls_of new + old.input.bytes + old.out.bytes + old.faults.bytes ≤ calls_of old + new.input.bytes + new.out.bytes + new.faults.bytes + 2
@@ -69,7 +70,7 @@ module _ {I O E : Type 0} where
     pub text : Takes out out_flushes old.out new.out (texts answers)
     pub fault_text : Takes faults fault_flushes old.faults new.faults (fault_texts answers)
 
-  -- IsAfter made old new: exactly these hashes were made, and exactly the random numbers for them were drawn.
+  -- IsAfter made old new: exactly the hashes `made` were computed, and exactly the random numbers for them were drawn.
   pub record IsAfter (made : List Hashing) (old new : RunState I O E) : Type 0 where
     pub stream : new.stream ≡ stream_left old.stream made
     pub counts : new.counts ≡ after_work old.counts made
@@ -78,16 +79,16 @@ module _ {I O E : Type 0} where
 
   -- Finishes answers old new result: the run has written all its answers. The numbers after `TakeAll` are the failed
   -- calls of `input`, `out` and `faults`, and the flushes of `out` and `faults`.
-  --   Ok     both outputs are flushed, and no call failed
-  --   Write  one of these two flushes failed: that of `out`, and then `faults` was not flushed; or that of `faults`
+  --   Ok     both outputs were flushed, and no call failed
+  --   Write  a flush failed: the one of `out`, after which `faults` was not flushed, or the one of `faults`
   abbrev pub Finishes : List Answer → RunState I O E → RunState I O E → Result Tally RunFault → Type 0
   Finishes answers old new (Ok tally) =
       (tally ≡ tally_of answers) × TakeAll 0 0 0 1 1 answers old new × IsAfter (hashings_of answers) old new
   Finishes answers old new (Err fault) =
       (fault ≡ Write) × (TakeAll 0 1 0 1 0 answers old new ⊎ TakeAll 0 0 1 1 1 answers old new) × IsAfter (hashings_of answers) old new
 
-  -- StopsReading turns done old new fault: the run stopped while it read, and flushed nothing. It has written the
-  -- answers `done`. Each `fetch` that did not fail returned a byte, so the end of the input was not found.
+  -- StopsReading turns done old new fault: the run stopped while it read, and flushed nothing. It had written the
+  -- answers `done`. Each `fetch` returned a byte or failed, so the run did not find the end of the input.
   --   Read   one read failed
   --   Turns  `turns` calls were made, and none failed
   abbrev pub StopsReading : ℕ → List Answer → RunState I O E → RunState I O E → RunFault → Type 0
@@ -95,17 +96,17 @@ module _ {I O E : Type 0} where
       × (((fault ≡ Read) × TakeAll 1 0 0 0 0 done old new)
       ⊎ ((fault ≡ Turns) × TakeAll 0 0 0 0 0 done old new × (calls_of new ≡ calls_of old + turns)))
 
-  -- IsCutShort failures done next old new: the outputs have taken the answers `done` and a proper prefix of `next`, whose
-  -- hashes were made. Exactly `failures` calls failed, all of the output of `next`.
+  -- IsCutShort failures done next old new: the outputs have taken the answers `done` and a proper prefix of `next`. The
+  -- hashes for `next` were computed too. Exactly `failures` calls failed, all of them on the output of `next`.
   abbrev pub IsCutShort : ℕ → List Answer → Answer → RunState I O E → RunState I O E → Type 0
   IsCutShort failures done next old new = (new.input.failures ≡ old.input.failures)
       × TakeInPart failures done next old.out old.faults new.out new.faults × IsAfter (hashings_of (done ++ next ∷ [])) old new
 
-  -- StopsAt turns done next old new fault: the run stopped at the answer `next`, and flushed nothing. It has written
+  -- StopsAt turns done next old new fault: the run stopped at the answer `next`, and flushed nothing. It had written
   -- the answers `done` in full.
   --   Write        one call of the output of `next` failed
   --   Turns        `turns` calls were made, and none failed
-  --   OutOfMemory  scrypt could not allocate for a hash of `next`, and nothing of `next` is written
+  --   OutOfMemory  scrypt could not allocate memory for a hash of `next`, and nothing of `next` was written
   abbrev pub StopsAt : ℕ → List Answer → Answer → RunState I O E → RunState I O E → RunFault → Type 0
   StopsAt turns done next old new fault =
       ((fault ≡ Write) × IsCutShort 1 done next old new)
@@ -113,12 +114,12 @@ module _ {I O E : Type 0} where
       ⊎ ((fault ≡ OutOfMemory) × TakeAll 0 0 0 0 0 done old new
       × IsRefusedAmong (after_work old.counts (hashings_of done)) next.hashings new.counts new.stream))
 
-  -- EndsBy AreAll AreBefore AreUpTo IsBad turns old new result: the run ends with this result. The first arguments say
-  -- which answers it has made.
-  --   AreAll     all answers, after which the run finishes
-  --   AreBefore  the answers before the run stops while it reads
-  --   AreUpTo    the answers up to the one at which the run stops
-  --   IsBad      the rule that the password breaks; then nothing is written, drawn or hashed
+  -- EndsBy AreAll AreBefore AreUpTo IsBad turns old new result: the run ends with this result. The first four arguments
+  -- are statements about the answers, or about the password.
+  --   AreAll     these are all the answers; the run has finished
+  --   AreBefore  these are the answers before the run stopped while it read
+  --   AreUpTo    these are the answers up to the one at which the run stopped
+  --   IsBad      this is the rule that the password breaks; nothing was written, drawn or hashed
   abbrev pub EndsBy : (List Answer → Type 0) → (List Answer → Type 0) → (List Answer → Type 0) → (PasswordFault → Type 0)
       → ℕ → RunState I O E → RunState I O E → Result Tally RunFault → Type 0
   EndsBy AreAll AreBefore AreUpTo IsBad turns old new (Ok tally) =

@@ -1,11 +1,11 @@
--- The bytes that separate parts and lines.
+-- The bytes that separate parts and end lines.
 use Rattle.std.specs.Prelude.{ℕ, List, [], ◌∷◌, ◌++◌, Contains}
 
 -- line_feed is the byte that ends a line.
 abbrev pub line_feed : ℕ
 line_feed = 10
 
--- HasNoLineFeed bytes: none of the bytes is a line feed, as in a single line.
+-- HasNoLineFeed bytes: none of the bytes is a line feed.
 abbrev pub HasNoLineFeed : List ℕ → Type 0
 HasNoLineFeed bytes = ¬ Contains bytes line_feed
 
@@ -13,10 +13,10 @@ HasNoLineFeed bytes = ¬ Contains bytes line_feed
 abbrev pub colon : ℕ
 colon = 58
 
--- slash is the byte between the numbers of scrypt in an audit.
+-- slash is the byte between the numbers N, r and p of scrypt in the output of an audit.
 abbrev pub slash : ℕ
 slash = 47
 
--- as_line text is the text and a line feed.
+-- as_line text is the text with a line feed after it.
 abbrev pub as_line : List ℕ → List ℕ
 as_line text = text ++ line_feed ∷ []

@@ -1,4 +1,4 @@
--- The results of the steps that decide an answer.
+-- What the steps that decide and render an answer return.
 use Rattle.std.specs.Prelude.{◌≡◌, ◌≢◌, Bool, ℕ, ◌+◌, ◌<◌, true, false, List, [], ◌∷◌, ◌++◌, decimal, length, if◌then◌else◌, Option, Some, None, Result, Ok, Err}
 use Rattle.rand_core.specs.Stream.{Stream}
 use Rattle.prims_core.specs.Work.{no_work}
@@ -24,7 +24,7 @@ use Rattle.crypt_core.specs.Standings.{IsAbove}
 use Rattle.run_core.specs.declared.tally.Tally.{Tally}
 use Rattle.run_core.specs.Texts.{colon}
 
--- IsRaisedBelow limit before after: each count has risen by less than `limit`.
+-- IsRaisedBelow limit before after: each count has grown by less than `limit`.
 pub record IsRaisedBelow (limit : ℕ) (before after : Work) : Type 0 where
   pub digests : after.digests < before.digests + limit
   pub bytes : after.bytes < before.bytes + limit
@@ -32,15 +32,16 @@ pub record IsRaisedBelow (limit : ℕ) (before after : Work) : Type 0 where
   pub table : after.table < before.table + limit
   pub scratch : after.scratch < before.scratch + limit
 
--- field_cost job field password_length is the greatest cost of the hashes for a password with this length and this
--- field.
+-- field_cost job field password_length is the maximum cost of the hashes for a line with this field and a password of
+-- this length.
 abbrev pub field_cost : Job → Option StoredField → ℕ → ℕ
 field_cost job None password_length = made_cost_by job.maker password_length
 field_cost job (Some (fields.Hash stored)) password_length = check_cost job stored.setting password_length
 field_cost job (Some other) password_length = 0
 
--- IsChecked job password stored stream hashings outcome: comparing the password with its stored hash has this outcome,
--- and takes these hashes. If scrypt could not allocate, the outcome is what it would have been.
+-- IsChecked job password stored stream hashings outcome: checking the password against its stored hash has this
+-- outcome, and takes these hashes. This also states what the outcome would have been if scrypt could not allocate
+-- memory.
 abbrev pub IsChecked : Job → List ℕ → StoredHash → Stream → List Hashing → Outcome → Type 0
 IsChecked job password stored stream hashings Misfit =
     (crypt password stored.setting ≢ stored.text) × (hashings ≡ hashing password stored.setting stream ∷ [])
@@ -52,8 +53,8 @@ IsChecked job password stored stream hashings (Rehashed hash) =
     × (hashings ≡ hashing password stored.setting stream ∷ new_hashing job password stream ∷ [])
 IsChecked job password stored stream hashings outcome = ⊥
 
--- IsSettled job password field stream hashings outcome: the password with this field has this outcome, and takes these
--- hashes.
+-- IsSettled job password field stream hashings outcome: a line with this password and this field has this outcome, and
+-- takes these hashes.
 abbrev pub IsSettled : Job → List ℕ → Option StoredField → Stream → List Hashing → Outcome → Type 0
 IsSettled job password None stream hashings outcome =
     (outcome ≡ Hashed (new_hash job password stream)) × (hashings ≡ new_hashing job password stream ∷ [])
@@ -61,9 +62,9 @@ IsSettled job password (Some fields.Empty) stream hashings outcome = (outcome �
 IsSettled job password (Some fields.Locked) stream hashings outcome = (outcome ≡ Locked) × (hashings ≡ [])
 IsSettled job password (Some (fields.Hash stored)) stream hashings outcome = IsChecked job password stored stream hashings outcome
 
--- Settles job password field stream before after new_stream result: the step for a password with this field ended with
--- this result. It was refused for its cost, or it has this outcome. If scrypt could not allocate, `outcome` is the one
--- that it would have had.
+-- Settles job password field stream before after new_stream result: the step for a line with this password and this
+-- field returned this result: an outcome, or a refusal for its cost, or an error because scrypt could not allocate
+-- memory. In the last case, `outcome` is what the outcome would have been.
 abbrev pub Settles : Job → List ℕ → Option StoredField → Stream → Work → Work → Stream → Result (Result Outcome LineFault) HashFault → Type 0
 Settles job password field stream before after new_stream (Ok (Ok outcome)) =
     (¬ IsAbove job.budget (field_cost job field (length password)))
@@ -77,7 +78,7 @@ Settles job password field stream before after new_stream (Err fault) =
     × IsRefusedAmong before hashings after new_stream
 
 -- Concludes kind job line name stream before after new_stream result: the step for a line with this name, which breaks
--- no rule, ended with this result, whatever the line's number is.
+-- no rule, returned this result, which is right for any number of the line.
 abbrev pub Concludes : Kind → Job → List ℕ → List ℕ → Stream → Work → Work → Stream → Result (Result Outcome LineFault) HashFault → Type 0
 Concludes kind job line name stream before after new_stream (Ok (Ok outcome)) =
     (hashings : List Hashing) × ((number : ℕ) → IsAnswer kind job number line stream (answer_of job name outcome hashings))
@@ -88,15 +89,15 @@ Concludes kind job line name stream before after new_stream (Err fault) =
     (outcome : Outcome) × (hashings : List Hashing) × ((number : ℕ) → IsAnswer kind job number line stream (answer_of job name outcome hashings))
     × IsRefusedAmong before hashings after new_stream
 
--- Renders job number answer next: `next` is the answer with this number that the value stands for. The counts of the
--- value are those of its hashes.
+-- Renders job number answer next: `next` is the answer to the line with this number whose parts the value holds. The
+-- work in the value is that of the answer's hashes.
 abbrev pub Renders : Job → ℕ → Result Answered LineFault → Answer → Type 0
 Renders job number (Ok answered) next = (next ≡ answer_of job answered.name.now answered.outcome next.hashings)
     × (after_work no_work next.hashings ≡ answered.work)
 Renders job number (Err fault) next = next ≡ refusal number fault
 
--- Decides kind job line stream before after new_stream result: the step for a line ended with this result, whatever the
--- line's number is. If scrypt could not allocate, `next` is the answer that the line would have got.
+-- Decides kind job line stream before after new_stream result: the step for a line returned this result, which is right
+-- for any number of the line. If scrypt could not allocate memory, `next` is what the answer would have been.
 abbrev pub Decides : Kind → Job → List ℕ → Stream → Work → Work → Stream → Result (Result Answered LineFault) HashFault → Type 0
 Decides kind job line stream before after new_stream (Ok answer) = (number : ℕ) → (next : Answer)
     × IsAnswer kind job number line stream next × Renders job number answer next
@@ -106,7 +107,7 @@ Decides kind job line stream before after new_stream (Err fault) = (number : ℕ
 
 -- ---- texts
 
--- front_by name is the name and a colon. It is empty for a single password, which has no name.
+-- front_by name is the name and a colon, or nothing for a single password, which has no name.
 abbrev pub front_by : Option (List ℕ) → List ℕ
 front_by None = []
 front_by (Some name) = name ++ colon ∷ []
@@ -115,7 +116,7 @@ front_by (Some name) = name ++ colon ∷ []
 abbrev pub count_text : ℕ → List ℕ
 count_text count = colon ∷ decimal count
 
--- wanted_text wanted work is the text of this work if `wanted` is true, else empty.
+-- wanted_text wanted work is the `work_text` of this work if `wanted` is true, else empty.
 abbrev pub wanted_text : Bool → Work → List ℕ
 wanted_text wanted work = if wanted then work_text work else []
 
@@ -129,7 +130,7 @@ counted tally outcome = record {
   misfits = tally.misfits + as_count (is_misfit outcome);
 }
 
--- outcome_of answer is the outcome of a value, or the reason for its refusal.
+-- outcome_of answer is the outcome in the value, or the reason why the line is refused.
 abbrev pub outcome_of : Result Answered LineFault → Result Outcome LineFault
 outcome_of (Ok answered) = Ok answered.outcome
 outcome_of (Err fault) = Err fault

@@ -1,4 +1,4 @@
--- The results of writing a text to one output, and of flushing both outputs.
+-- What writing a text to one output, and flushing both outputs, does and returns.
 use Rattle.std.specs.Prelude.{◌≡◌, ℕ, ◌+◌, ◌⊎◌, List, [], ◌∷◌, Result, Ok, Err}
 use Rattle.std.specs.Io.KnownBytes.{Keeps}
 use Rattle.run_core.specs.Answers.{Answer, fault_texts, texts}
@@ -21,13 +21,13 @@ module _ {T : Type 0} where
   -- Delivers turns old new text result: writing `text` ended with this result.
   --   Ok     all of it was taken
   --   Write  a proper prefix of it was taken, and one call failed
-  --   Turns  a proper prefix of it was taken, and all `turns` calls were made
+  --   Turns  a proper prefix of it was taken, `turns` calls were made, and none failed
   abbrev pub Delivers : ℕ → Device T → Device T → List ℕ → {A : Type 0} → Result A RunFault → Type 0
   Delivers turns old new text (Ok answer) = Takes 0 0 old new text
   Delivers turns old new text (Err fault) = ((fault ≡ Write) × TakesFront 1 old new [] text)
       ⊎ ((fault ≡ Turns) × TakesFront 0 old new [] text × (new.calls ≡ old.calls + turns))
 
-  -- IsKept old new: a flush changes neither the contents nor the counts, except those of flushes and failures.
+  -- IsKept old new: the contents and the counts are unchanged, except the counts of flushes and failures.
   pub record IsKept (old new : Device T) : Type 0 where
     pub shown : Keeps old.shown new.shown
     pub calls : new.calls ≡ old.calls
@@ -53,8 +53,8 @@ module _ {O E : Type 0} where
   FinishesBoth out faults new_out new_faults (Err fault) = (fault ≡ Write)
       × ((IsUnfinished out new_out × (new_faults ≡ faults)) ⊎ (IsFinished out new_out × IsUnfinished faults new_faults))
 
-  -- Sends left answer out faults new_out new_faults result: the answer was written, in full or in part. In part, a call
-  -- failed, or no I/O call was left.
+  -- Sends left answer out faults new_out new_faults result: the answer was written in full, or in part because a call
+  -- failed or no I/O call was left.
   abbrev pub Sends : ℕ → Answer → Device O → Device E → Device O → Device E → {A : Type 0} → Result A RunFault → Type 0
   Sends left answer out faults new_out new_faults (Ok done) =
       Takes 0 0 out new_out (texts (answer ∷ [])) × Takes 0 0 faults new_faults (fault_texts (answer ∷ []))

@@ -1,4 +1,4 @@
--- The parts of a line, as the steps that read it find them.
+-- The parts of a line as the steps that read it return them.
 use Rattle.std.specs.Prelude.{◌≡◌, ◌≢◌, ℕ, ◌<◌, ◌≤◌, List, [], length, Contains, Option, Some, None, Ok}
 use Rattle.crypt_core.specs.Readings.{IsFieldReading, IsReadOneWay}
 use Rattle.crypt_core.specs.declared.stored.StoredField.{StoredField}
@@ -11,11 +11,12 @@ use Rattle.run_core.specs.declared.line.Parts.{Parts as Found}
 use Rattle.run_core.specs.declared.reader.buffer.LineBuffer.{LineBuffer}
 use Rattle.run_core.specs.declared.reader.buffer.LineBuffer.TheVariants.{Bytes, TooLong}
 
--- IsTooLong line: the line has more bytes than a line may have.
+-- IsTooLong line: the line has more than `line_limit` bytes.
 abbrev pub IsTooLong : List ℕ → Type 0
 IsTooLong line = line_limit < length line
 
--- Represents buffer line: the buffer holds this part of a line. It has the same bytes, or both are too long.
+-- Represents buffer line: the buffer stands for this line, or the part of it that was read. It has the same bytes, or
+-- it is `TooLong` and so is the line.
 abbrev pub Represents : LineBuffer → List ℕ → Type 0
 Represents (Bytes bytes) line = bytes.items ≡ line
 Represents TooLong line = IsTooLong line
@@ -30,8 +31,8 @@ pub record IsGoodName (name : List ℕ) : Type 0 where
   pub some : name ≢ []
   pub short : length name ≤ name_limit
 
--- IsCutOrWhole text front back: `front` precedes the first colon of the text, and `back` follows it. A text without a
--- colon is all front.
+-- IsCutOrWhole text front back: `front` precedes the first colon of the text, and `back` follows it. Without a colon,
+-- `front` is the whole text and `back` is `None`.
 abbrev pub IsCutOrWhole : List ℕ → List ℕ → Option (List ℕ) → Type 0
 IsCutOrWhole text front (Some back) = IsCut text front back
 IsCutOrWhole text front None = (text ≡ front) × ¬ Contains front colon
@@ -43,7 +44,7 @@ pub record IsNamed (line : List ℕ) : Type 0 where
   pub front : HasFront line name
   pub good : IsGoodName name
 
--- parts_of found is the parts that these references lead to.
+-- parts_of found is the parts of a line that these references lead to.
 abbrev pub parts_of : Found → Parts
 parts_of found = record { name = found.name.now; field = bytes_of found.field; password = found.password.now }
 
@@ -51,15 +52,15 @@ parts_of found = record { name = found.name.now; field = bytes_of found.field; p
 abbrev pub AreSound : Kind → Parts → Type 0
 AreSound kind parts = (line : List ℕ) × HasSoundParts kind line parts
 
--- IsFieldOf field stored: the field is read as `stored`, if there is one.
+-- IsFieldOf field stored: there is no field, or the field is read as `stored`.
 abbrev pub IsFieldOf : Option (List ℕ) → Option StoredField → Type 0
 IsFieldOf None None = Unit {0}
 IsFieldOf (Some field) (Some stored) = IsFieldReading field (Ok stored) × IsReadOneWay field
 IsFieldOf None (Some stored) = ⊥
 IsFieldOf (Some field) None = ⊥
 
--- IsLine kind line name password stored: the line, which is not to be audited, breaks no rule, and these are its name,
--- its password and its field.
+-- IsLine kind line name password stored: the line, which is to be hashed or checked, breaks no rule, and these are its
+-- name, its password and its field as it is read.
 pub record IsLine (kind : Kind) (line name password : List ℕ) (stored : Option StoredField) : Type 0 where
   pub unaudited : kind ≢ Audit
   pub field : Option (List ℕ)

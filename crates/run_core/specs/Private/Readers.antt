@@ -1,4 +1,4 @@
--- What a reader of lines reads and gives.
+-- What a reader of lines has read, and which lines it has returned.
 use Rattle.std.specs.Prelude.{◌≡◌, ℕ, ◌<◌, Bool, true, false, List, [], ◌∷◌, ◌++◌, length, Result, Ok, Err}
 use Rattle.std.specs.Io.KnownBytes.{IsAtEnd}
 use Rattle.run_core.specs.DeviceCalls.{as_count}
@@ -16,14 +16,14 @@ use Rattle.run_core.specs.declared.reader.buffer.LineBuffer.{LineBuffer}
 -- ---- one read
 
 -- TakesLine old new buffer new_buffer found: the bytes before the first line feed were moved into the buffer, or all
--- without one.
+-- bytes if there is none.
 abbrev pub TakesLine : List ℕ → List ℕ → LineBuffer → LineBuffer → Bool → Type 0
 TakesLine old new buffer new_buffer true = (front : List ℕ) × (old ≡ front ++ line_feed ∷ new) × HasNoLineFeed front
     × ((part : List ℕ) → Represents buffer part → Represents new_buffer (part ++ front))
 TakesLine old new buffer new_buffer false = (new ≡ []) × HasNoLineFeed old
     × ((part : List ℕ) → Represents buffer part → Represents new_buffer (part ++ old))
 
--- FetchesPiece left old new piece result: one `fetch` gave this piece and ended with this result.
+-- FetchesPiece left old new piece result: one `fetch` read this piece and returned this result.
 --   true   the piece has bytes
 --   false  the input is at its end
 --   Err    nothing was read
@@ -35,13 +35,13 @@ FetchesPiece left old new piece (Err fault) = (piece ≡ []) × StopsFetching le
 -- ---- lines
 
 module _ {I : Type 0} where
-  -- IsAt now piece at_end lines bytes: of these bytes, the lines were given up to one whose line feed is among the last
-  -- `piece_size` bytes; or the input is at its end, and all lines were given.
+  -- IsAt now piece at_end lines bytes: the bytes are these lines, each with its line feed, and then `piece`, which has
+  -- fewer than `piece_size` bytes. Or the input is at its end, and these are all lines of the bytes.
   abbrev pub IsAt : Device I → List ℕ → Bool → List (List ℕ) → List ℕ → Type 0
   IsAt now piece false lines bytes = HasLines bytes lines piece × (length piece < piece_size)
   IsAt now piece true lines bytes = IsAtEnd now.shown × (lines ≡ lines_of bytes)
 
-  -- HasGiven start now reader lines: the reader has given these lines, and no call failed.
+  -- HasGiven start now reader lines: the reader has returned these lines, and no call failed.
   pub record HasGiven (start now : Device I) (reader : LineReader) (lines : List (List ℕ)) : Type 0 where
     pub bytes : List ℕ
     pub reads : Reads start now bytes
@@ -49,7 +49,7 @@ module _ {I : Type 0} where
     pub moves : MovesBytes (as_count reader.at_end) start now
     pub at : IsAt now reader.piece reader.at_end lines bytes
 
-  -- HasStopped left start now lines fault: reading stopped behind these lines and a part of one.
+  -- HasStopped left start now lines fault: reading stopped after these lines and a part of the next one.
   pub record HasStopped (left : ℕ) (start now : Device I) (lines : List (List ℕ)) (fault : RunFault) : Type 0 where
     pub bytes : List ℕ
     pub rest : List ℕ
@@ -58,7 +58,8 @@ module _ {I : Type 0} where
     pub no_feed : HasNoLineFeed rest
     pub stops : StopsFetching left start now fault
 
-  -- GivesNext left start now reader lines result: the next line was given, or there is none, or reading stopped.
+  -- GivesNext left start now reader lines result: the reader returned the next line, or there is none, or reading
+  -- stopped.
   abbrev pub GivesNext : ℕ → Device I → Device I → LineReader → List (List ℕ) → Result Bool RunFault → Type 0
   GivesNext left start now reader lines (Ok true) =
       (line : List ℕ) × Represents reader.buffer line × HasGiven start now reader (lines ++ line ∷ [])
