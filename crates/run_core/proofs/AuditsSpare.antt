@@ -1,4 +1,7 @@
--- A run of audits makes no hash, so it counts nothing and lacks no memory.
+-- Serves the clauses `hashes_none` and `allocates_none` of `run_audit`. No answer of an audit has a hash, so by
+-- induction over the lines neither has the whole run. Then `spares` goes through the ways in which a run over lines can
+-- end (`EndsLines`): in each of them the meter has counted exactly the hashes of the answers, hence nothing. It can't
+-- end with `OutOfMemory`, since that needs a hash for which scrypt could not allocate memory.
 use Rattle.std.specs.Prelude.{◌≢◌}
 use Rattle.std.proofs.Common.{◌≡◌, ℕ, ◌+◌, List, [], ◌∷◌, ◌++◌, Result, Ok, Err, inl, inr, refl, sym, ap, ◌∙◌}
 use Rattle.std.proofs.lemmas.List.Concat.{flat_map-append}
@@ -30,7 +33,7 @@ unhashed job number (line ∷ lines) stream (answer ∷ answers) are =
 unhashed job number [] stream (answer ∷ answers) are = absurd are
 unhashed job number (line ∷ lines) stream [] are = absurd are
 
--- so none can be refused memory
+-- a list of no hashes has no hash for which scrypt could not allocate memory (`none_refused`)
 both_empty : (front back : List Hashing) → front ++ back ≡ [] → (front ≡ []) × (back ≡ [])
 both_empty [] back is = (refl, is)
 both_empty (made ∷ front) back is = absurd cc
@@ -48,6 +51,7 @@ none_refused before after hashings stream none (made, next, others, are, growth,
 -- ---- how the run ends
 
 module _ {I O E : Type 0} where
+  -- what both clauses of `run_audit` state
   pub record Spares (old new : RunState I O E) (result : Result Tally RunFault) : Type 0 where
     pub hashes_none : new.counts ≡ old.counts
     pub allocates_none : result ≢ Err OutOfMemory
@@ -59,6 +63,9 @@ module _ {I O E : Type 0} where
     allocates_none = other;
   }
 
+  -- The cases are those of `EndsBy`, in order: all lines are answered, reading stopped (a failed read, no I/O call
+  -- left), an answer was cut short (a failed write, no I/O call left, no memory), or a password was refused, which a
+  -- run over lines never does.
   pub spares : (turns : ℕ) (job : Job) (old new : RunState I O E) (result : Result Tally RunFault) → EndsLines turns Audit job old new result → Spares old new result
   spares turns job old new (Ok tally) (bytes, reads, (answers, (at_end, are), (is, takes, after))) =
       spares_by _ old new (Ok tally) (unhashed job job.first_line _ old.stream answers are) after (λ same. cc)

@@ -1,4 +1,7 @@
--- How far the reading of a first line has come.
+-- Serves the clause `read` of `read_first_line` (one/password.rt). `IsReading` is the invariant of its loop: the front
+-- of the buffer holds what was read, without a line feed. One lemma shows how a `fetch` keeps it (`reading-more`), and
+-- one for each exit of the loop shows what is known there: a line feed was found, the input ended, reading stopped, or
+-- the buffer is full. `Reads-trans` and `stops-later`, which join two steps of reading, serve `LineReading` too.
 use Rattle.std.proofs.Common.{◌≡◌, ◌≢◌, ℕ, ◌+◌, ◌-◌, ◌≤◌, ◌<◌, List, [], ◌++◌, length, take, drop, eqb, Some, None, Ok, Err, sym, ap, subst, ◌∙◌, append-nil, arith, inl, inr}
 use Rattle.std.specs.List.{position, slice_range}
 use Rattle.std.proofs.KnownBytes.{Consumes-trans}
@@ -16,8 +19,8 @@ piece_is : (next : List ℕ) (filled count : ℕ) → slice_range next filled (f
 piece_is next filled count = ap (λ n. take n (drop filled next)) (omega arith)
 
 module _ {I : Type 0} where
-  -- the front of the buffer was read and has no line feed, in calls that did not fail and that each gave a
-  -- byte
+  -- the loop's invariant: the first `filled` bytes of the buffer were read and contain no line feed; no call failed,
+  -- and each returned a byte
   pub record IsReading (old new : Device I) (buffer : List ℕ) (filled turns left : ℕ) : Type 0 where
     pub size : length buffer ≡ buffer_size
     pub within : filled ≤ buffer_size
@@ -38,7 +41,7 @@ module _ {I : Type 0} where
         counted = omega (arith, length-append front piece, counted, more_counted);
       }
 
-  -- what a fetch gave behind the front
+  -- a `fetch` put `count` bytes after the first `filled` ones
   pub record HasFetched (old mid new : Device I) (buffer next : List ℕ) (filled count turns left : ℕ) : Type 0 where
     pub before : IsReading old mid buffer filled turns left
     pub room : filled < buffer_size
@@ -46,7 +49,7 @@ module _ {I : Type 0} where
     pub kept : take filled next ≡ take filled buffer
     pub fetched : Fetches left mid new (drop filled next) (Ok count)
 
-  -- all that was read by then
+  -- after that `fetch`, the first `filled + count` bytes of the buffer are all that was read
   read_so_far : (old mid new : Device I) (buffer next : List ℕ) (filled count turns left : ℕ)
       → HasFetched old mid new buffer next filled count turns left
       → (filled + count ≤ buffer_size)
@@ -71,7 +74,7 @@ module _ {I : Type 0} where
         subst (Reads old new) (sym parts) (Reads-trans old mid new _ piece front_reads h.fetched.2),
       )
 
-  -- a line feed is in the piece
+  -- exit: the new bytes contain a line feed, which ends the first line
   pub reading-found : (old mid new : Device I) (buffer next : List ℕ) (filled count turns left left_new at : ℕ)
       → HasFetched old mid new buffer next filled count turns left
       → position (λ b. eqb b 10) (slice_range next filled (filled + count)) ≡ Some at
@@ -95,7 +98,7 @@ module _ {I : Type 0} where
         ),
       )
 
-  -- no line feed is in the piece
+  -- without a line feed in the new bytes, there is none in all that was read
   still_none : (old mid new : Device I) (buffer next : List ℕ) (filled count turns left : ℕ)
       → HasFetched old mid new buffer next filled count turns left
       → position (λ b. eqb b 10) (slice_range next filled (filled + count)) ≡ None
@@ -106,7 +109,7 @@ module _ {I : Type 0} where
       let in_piece = position-none piece (rw piece_is at none) in
       ap feed_at so_far.1 ∙ feed_at-append (take filled next) piece (so_far.4 ∙ sym so_far.2) ∙ omega (arith, so_far.2, so_far.3, in_piece)
 
-  -- nothing is left to read
+  -- exit: no byte was read, so the input is at its end, and all that was read is the first line
   pub reading-end : (old mid new : Device I) (buffer next : List ℕ) (filled count turns left left_new : ℕ)
       → HasFetched old mid new buffer next filled count turns left
       → position (λ b. eqb b 10) (slice_range next filled (filled + count)) ≡ None → count ≡ 0
@@ -127,7 +130,7 @@ module _ {I : Type 0} where
         ),
       )
 
-  -- a piece without a line feed
+  -- the invariant is kept: some bytes were read, and they contain no line feed
   pub reading-more : (old mid new : Device I) (buffer next : List ℕ) (filled count turns left left_new : ℕ)
       → HasFetched old mid new buffer next filled count turns left
       → position (λ b. eqb b 10) (slice_range next filled (filled + count)) ≡ None → count ≢ 0
@@ -154,7 +157,7 @@ module _ {I : Type 0} where
       let size : length (take filled buffer) ≡ filled = length-take-le filled buffer (omega (arith, long, room)) in
       (lacks_feed _ (before.no_line_feed ∙ sym size), omega (arith, size, room))
 
-  -- a fetch failed, or no turn was left for it
+  -- if reading stops after steps that did not fail, it stops as seen from the start too
   pub stops-later : (old mid new : Device I) (left left_new : ℕ) (fault : RunFault) → IsUnfailed old mid → MovesBytes 0 old mid
       → StopsFetching left mid new fault → left_new ≡ left - 1 → StopsFetching left_new old new fault
   stops-later old mid new left left_new fault unfailed moves stops took = (
@@ -165,6 +168,7 @@ module _ {I : Type 0} where
     ],
   )
 
+  -- exit: a `fetch` failed, or no I/O call was left for it
   pub reading-cut : (old mid new : Device I) (buffer next : List ℕ) (filled turns left left_new : ℕ) (fault : RunFault)
       → IsReading old mid buffer filled turns left → filled < buffer_size
       → Fetches left mid new (drop filled next) (Err fault) → left_new ≡ left - 1
@@ -178,7 +182,7 @@ module _ {I : Type 0} where
     ),
   )
 
-  -- the buffer is full
+  -- exit: the buffer is full, so the first line is too long for a password
   pub reading-full : (old mid : Device I) (buffer : List ℕ) (filled turns left : ℕ)
       → IsReading old mid buffer filled turns left → buffer_size ≤ filled
       → (bytes : List ℕ) × Reads old mid bytes × FindsLine old mid bytes left buffer (Ok filled)

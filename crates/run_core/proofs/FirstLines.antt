@@ -1,4 +1,8 @@
--- The first line of all that an input had, once the bytes that were read tell it.
+-- What `read_password` returns, in terms of the whole input instead of the bytes that were read: `taken_line` and
+-- `refused_line` say that the password, or the refused line, is the first line of all that the input had. Once the
+-- bytes that were read decide the password (`IsDecided`), the rest of the input can't change their first line, or that
+-- line is too long either way (`HasLine`). No contract uses these lemmas; the clauses speak of the bytes that were
+-- read.
 use Rattle.std.proofs.Common.{◌≡◌, ℕ, ◌<◌, ◌⊎◌, List, ◌++◌, length, Contains, Option, Some, None, IfSome, Result, Ok, Err, IfOk, IsErrOf, inl, inr, sym, ap, subst, ◌∙◌, append-nil, arith}
 use Rattle.std.specs.Io.KnownBytes.{Consumes, IsAtEnd}
 use Rattle.std.proofs.lemmas.Bool.{cases_lt}
@@ -13,7 +17,8 @@ use Rattle.run_core.specs.declared.fault.RunFault.{RunFault}
 use Rattle.run_core.specs.declared.fault.RunFault.TheVariants.{Password}
 use Rattle.run_core.proofs.LineFeeds.{feed_at, feed_at-append, feed_at-le, first_line-more, lacks_feed, length-first_line}
 
--- the first line of all is that of the bytes, or both are too long for a password
+-- the whole input and the bytes that were read have the same first line, or both first lines are too long for a
+-- password
 abbrev HasLine : List ℕ → List ℕ → Type 0
 HasLine all bytes =
     (first_line all ≡ first_line bytes) ⊎ ((password_limit < length (first_line bytes)) × (password_limit < length (first_line all)))
@@ -46,7 +51,7 @@ decided (Some all) (Some rest) bytes shown told = subst (λ xs. HasLine xs bytes
   ]
 ])
 
--- what is true of each list with that line
+-- what follows from `HasLine` holds for the whole input, if the device exposes it
 each : (a : Option (List ℕ)) (bytes : List ℕ) (P : List ℕ → Type 0) → IfSome a (λ all. HasLine all bytes)
     → ((all : List ℕ) → HasLine all bytes → P all) → IfSome a P
 each None bytes P line holds = tt

@@ -1,4 +1,7 @@
--- The flushes at the end of a run, which change nothing of what was taken.
+-- Serves the clauses `runs` of `run_one` and of `answer_lines`, at their ends: once all answers are written, and
+-- `finish_both` has flushed both outputs or failed to, the run has finished (`Finishes`). A flush keeps the contents of
+-- an output and its count of bytes, so what the output has taken stays the same, and only its flushes and failures
+-- change (`takes-flushed`, `takes-unflushed`).
 use Rattle.std.proofs.Common.{◌≡◌, ℕ, List, Option, Some, None, Ok, Err, ◌∙◌, arith, inl, inr}
 use Rattle.std.specs.Io.KnownBytes.{Appends, Keeps}
 use Rattle.run_core.specs.Answers.{Answer, fault_texts, hashings_of, tally_of, texts}
@@ -47,15 +50,16 @@ module _ {T : Type 0} where
 -- ---- both outputs
 
 module _ {I O E : Type 0} where
-  -- all answers are given, and nothing failed
+  -- all answers were written, and no call failed
   pub record HasAnswered (answers : List Answer) (old mid : RunState I O E) : Type 0 where
     pub takes : TakeAll 0 0 0 0 0 answers old mid
     pub after : IsAfter (hashings_of answers) old mid
 
-  -- the hands after the flushes
+  -- the state of the run after the flushes
   abbrev pub flushed : RunState I O E → Device O → Device E → RunState I O E
   flushed mid out faults = run_state mid.input out faults mid.stream mid.counts
 
+  -- both flushes succeeded
   pub finishes : (answers : List Answer) (old mid : RunState I O E) (out : Device O) (faults : Device E) (tally : Tally) {A : Type 0} (done : A)
       → HasAnswered answers old mid → tally ≡ tally_of answers
       → FinishesBoth mid.out mid.faults out faults (Ok done)
@@ -70,6 +74,7 @@ module _ {I O E : Type 0} where
     record { stream = answered.after.stream; counts = answered.after.counts },
   )
 
+  -- a flush failed
   pub finishes-with_fault : (answers : List Answer) (old mid : RunState I O E) (out : Device O) (faults : Device E) (A : Type 0) (fault : RunFault)
       → HasAnswered answers old mid
       → FinishesBoth mid.out mid.faults out faults {A = A} (Err fault)

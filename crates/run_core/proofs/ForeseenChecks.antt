@@ -1,5 +1,8 @@
--- What an audit foresees of later checks: which lines are within the budget, and which are refused by every password; and which
--- hashes a login checks.
+-- Serves the clauses `foresees`, `checked` and `refutes` of `run_audit`, which say what an audit tells about later
+-- checks. `foresees`: a check of the longest password costs what the audit says, and shorter ones cost no more, so a
+-- field within the budget makes no line costly. `heeds_limit`: an audit by its own budget also compares the cost for
+-- the empty password with the limit of the policy. `refutes`: a field that is not whole is the hash of no password, so
+-- the only outcome that its line can have is `Misfit`.
 use Rattle.std.proofs.Common.{◌≡◌, ◌≤◌, ◌<◌, ℕ, List, [], Ok, inl, inr, refl, sym, ap, subst, ◌∙◌, arith, length, Some}
 use Rattle.std.proofs.lemmas.Option.{none-some}
 use Rattle.rand_core.specs.Stream.{Stream}
@@ -30,7 +33,7 @@ use Rattle.run_core.proofs.LineOutcomes.{one_setting, spelled-stored}
 use Rattle.run_core.proofs.LineRules.{sound_not_refused, sound_short}
 use Rattle.run_core.proofs.LineOptions.{still_above}
 
--- a check without new hashes costs no more than the audit says
+-- a check without rehashes costs no more than the maximum cost of the stored hash, so it is within the budget
 foreseen : (job : Job) (field : List ℕ) (kept : SettingValue) (line : List ℕ) (parts : Parts) → Spells field kept → IsReadOneWay field
     → ¬ IsAbove job.budget (greatest_cost kept) → HasParts Check line parts → parts.field ≡ Some field → ¬ IsCostly Check (without_rehash job) line
 foreseen job field kept line parts spells once within has is costly =
@@ -50,7 +53,7 @@ foresees job field scheme most OverBudget finds other checking same line parts h
 foresees job field scheme most standing (kept, spells, is_scheme, is_number, stands) other checking same line parts has is =
     foreseen checking field kept line parts spells (one_reading field) (rw same (λ above. stands.0 (inl above))) has is
 
--- a hash within the audit's own budget is within the limit of the policy, if the password is empty
+-- a hash within the audit's own budget is within the limit of the policy for the empty password
 limited : (new : Scheme) (budget : ℕ) (kept : SettingValue) → ¬ IsOverBudget new budget kept → budget ≡ 0 → cost kept 0 ≤ policy_limit new
 limited new budget kept within default =
     let never : ¬ (policy_limit new < cost kept 0) = λ above. within (inr (default, above)) in
@@ -61,7 +64,7 @@ heeds_limit job field scheme most OverBudget finds other default = absurd (other
 heeds_limit job field scheme most standing (kept, spells, is_scheme, is_number, stands) other default =
     (kept, spells, limited job.maker.scheme (given_budget job) kept stands.0 default)
 
--- a field that is not whole is no match
+-- a line whose field spells a setting but is not whole comes to `Misfit`
 misfits : (job : Job) (stream : Stream) (parts : Parts) (field : List ℕ) (kept : SettingValue) (outcome : Outcome) (made : List Hashing)
     → parts.field ≡ Some field → Spells field kept → ¬ IsWhole field kept → ComesTo job parts stream outcome made → outcome ≡ Misfit
 misfits job stream parts field kept (Hashed hash) made is spells dead comes = absurd (none-some field (sym comes.0 ∙ is))
@@ -80,6 +83,7 @@ misfits job stream parts field kept (Rehashed hash) made is spells dead (found, 
 misfits job stream parts field kept Misfit made is spells dead comes = refl
 misfits job stream parts field kept (Audited finding) made is spells dead comes = absurd comes
 
+-- so its answer is the verdict `no`, unless the line is refused
 refuted : (job : Job) (field : List ℕ) (kept : SettingValue) (line : List ℕ) (parts : Parts) → Spells field kept → ¬ IsWhole field kept
     → HasParts Check line parts → parts.field ≡ Some field → IsSound Check line → ¬ IsCostly Check job line
     → (number : ℕ) (stream : Stream) (answer : Answer) → IsPasswordAnswer Check job number line stream answer → answer.outcome ≡ Ok Misfit

@@ -1,4 +1,8 @@
--- The answers to the lines of an input, one after another.
+-- Serves the clause `runs` of `answer_lines`: what changes when one more line is answered. For each fold over a list of
+-- answers (texts, hashes, random numbers left, counts, tally) a `-push` lemma says what one answer at the end adds;
+-- these follow from the lemmas on appended lists. `AreAnswers-push` shows by induction over the lines that the answers
+-- stay right for the longer list of lines, since the new line has the next number and begins with the random numbers
+-- that the others left.
 use Rattle.std.proofs.Common.{◌≡◌, Bool, ℕ, suc, ◌+◌, List, [], ◌∷◌, ◌++◌, length, count_by, refl, ap, ◌∙◌, append-nil, add-zero, zero-add, arith}
 use Rattle.std.proofs.lemmas.List.{length-append}
 use Rattle.std.proofs.lemmas.List.Concat.{flat_map-append}
@@ -46,14 +50,14 @@ same_tally : (a b c d e f : ℕ) → a ≡ d → b ≡ e → c ≡ f
     → ◌≡◌ {A = Tally} (record { lines = a; refused = b; misfits = c }) (record { lines = d; refused = e; misfits = f })
 same_tally a b c d e f one two three = cc
 
--- the tally counts it
+-- the tally counts one more line
 pub tally-push : (answers : List Answer) (next : Answer) → tally_of (answers ++ next ∷ []) ≡ counted (tally_of answers) next.outcome
 tally-push answers next = same_tally _ _ _ _ _ _ (length-append answers (next ∷ []))
     (count-push (λ (answer : Answer). is_refusal answer.outcome) answers next) (count-push (λ (answer : Answer). is_misfit answer.outcome) answers next)
 
 -- ---- the answers to lines
 
--- each line has one
+-- each line has one answer
 pub same-length : (kind : Kind) (job : Job) (number : ℕ) (lines : List (List ℕ)) (stream : Stream) (answers : List Answer)
     → AreAnswers kind job number lines stream answers → length answers ≡ length lines
 same-length kind job number [] stream [] are = refl
@@ -62,7 +66,7 @@ same-length kind job number (line ∷ lines) stream (answer ∷ answers) are =
 same-length kind job number [] stream (answer ∷ answers) are = absurd are
 same-length kind job number (line ∷ lines) stream [] are = absurd are
 
--- and one more line
+-- answers to lines, and the answer to the next line, are the answers to all of them
 pub AreAnswers-push : (kind : Kind) (job : Job) (number : ℕ) (lines : List (List ℕ)) (line : List ℕ) (stream : Stream) (answers : List Answer) (next : Answer)
     → AreAnswers kind job number lines stream answers
     → IsAnswer kind job (number + length lines) line (stream_left stream (hashings_of answers)) next

@@ -1,4 +1,8 @@
--- Where the first line feed of a list stands, and the first line before it.
+-- Where the first line feed of a list is, and the first line, which ends there. The clause `read` of `read_first_line`
+-- needs these facts (`FirstLineReading`), and so does the clause `gives` of `LineReader::next_line` (`LinesOf`).
+-- `feed_at` is the position of the first line feed, or the length of a list without one. `position-feed` and
+-- `position-none` derive it from what `line_feed_at` returns. The other proofs apply the standard library's lemmas on
+-- the first item of a list that passes a test.
 use Rattle.std.proofs.Common.{◌≡◌, ℕ, ◌+◌, ◌<◌, ◌≤◌, Bool, true, false, cond, eqb, not, List, ◌++◌, length, take, Contains, Some, None, refl, sym, ap, ◌∙◌, arith}
 use Rattle.std.specs.List.{position, position_or_len}
 use Rattle.std.proofs.lemmas.Bool.{eqb-true, eqb-false, ltb-false, ltb-true}
@@ -8,7 +12,7 @@ use Rattle.std.proofs.lemmas.List.Folds.{prefix_len-append}
 use Rattle.std.proofs.lemmas.List.Sums.{fails_before_first, passes_at_first, prefix_len-le-length}
 use Rattle.run_core.specs.Input.{first_line}
 
--- where the first line feed stands, or the length where there is none
+-- the position of the first line feed, or the length of a list without one
 abbrev pub feed_at : List ℕ → ℕ
 feed_at xs = position_or_len (λ b. eqb b 10) xs
 
@@ -21,7 +25,7 @@ has_feed xs some = (feed_at xs, some, eqb-true _ _ (passes_at_first (λ b. eqb b
 pub feed_at-le : (xs : List ℕ) → feed_at xs ≤ length xs
 feed_at-le xs = prefix_len-le-length _ xs
 
--- behind a list without one
+-- after a list without a line feed, the first line feed is that of what follows the list
 pub feed_at-append : (xs ys : List ℕ) → feed_at xs ≡ length xs → feed_at (xs ++ ys) ≡ length xs + feed_at ys
 feed_at-append xs ys none = grind (arith, nat_tests, prefix_len-append (λ b. not (eqb b 10)) xs ys)
 
@@ -41,7 +45,7 @@ position-none xs e =
     let above : length xs ≤ feed_at xs = ltb-false _ _ (from_none _ _ e) in
     omega (arith, feed_at-le xs)
 
--- the first line of a list without a line feed
+-- a list without a line feed is its own first line
 pub first_line-whole : (xs : List ℕ) → feed_at xs ≡ length xs → first_line xs ≡ xs
 unfolding first_line
 first_line-whole xs none = ap (λ n. take n xs) none ∙ take_all (length xs) xs (omega arith)
@@ -53,7 +57,7 @@ first_line-is xs = refl
 pub length-first_line : (xs : List ℕ) → length (first_line xs) ≡ feed_at xs
 length-first_line xs = ap length (first_line-is xs) ∙ length-take-le (feed_at xs) xs (feed_at-le xs)
 
--- bytes behind a line feed leave the first line as it is
+-- bytes after a line feed don't change the first line
 pub first_line-more : (xs ys : List ℕ) → feed_at xs < length xs → first_line (xs ++ ys) ≡ first_line xs
 first_line-more xs ys some =
     let same : feed_at (xs ++ ys) ≡ feed_at xs = grind (arith, nat_tests, prefix_len-append (λ b. not (eqb b 10)) xs ys) in

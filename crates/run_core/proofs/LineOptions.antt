@@ -1,5 +1,9 @@
--- What a budget and new hashes change of the answers to lines, that they change nothing for a single password, and what an
--- audit says of later checks.
+-- Serves the clauses `budget` and `rehash` of `run_batch` and `run_check`, and `options` of `RunsOne` in the clause
+-- `runs` of `run_one`. A budget occurs in an answer only where a line is costly; for any other line, an answer with the
+-- budget is one without it, case by case, and the other way round (`only_refuses`). A rehash changes a cost or an
+-- outcome only if the setting in the field is out of date, and the password matches or the line is costly; then the
+-- line is renewable, so for any other line the answers with and without rehashes are the same (`only_renews`). The run
+-- for a single password mentions neither option.
 use Rattle.std.proofs.Common.{◌≡◌, ◌↔◌, ℕ, List, Result, inl, inr, refl, sym, ◌∙◌, arith, ◌≤◌, ◌⊎◌, Bool, true, false, true≢false, length, Option, None, Some}
 use Rattle.std.specs.Prelude.{◌≢◌}
 use Rattle.std.proofs.lemmas.Option.{none-some}
@@ -34,28 +38,28 @@ use Rattle.run_core.proofs.LineRules.{sound_not_refused}
 free : (kind : Kind) (job : Job) (line : List ℕ) → ¬ IsCostly kind (without_budget job) line
 free kind job line costly = costly.above
 
--- a budget changes nothing of what parts come to
+-- a budget does not change what a line with these parts comes to
 comes-budgeted : (job : Job) (parts : Parts) (stream : Stream) (outcome : Outcome) (made : List Hashing)
     → ComesTo job parts stream outcome made ↔ ComesTo (without_budget job) parts stream outcome made
 comes-budgeted job parts stream (Hashed hash) made = ((λ comes. comes), λ comes. comes)
 comes-budgeted job parts stream outcome made = ((λ comes. comes), λ comes. comes)
 
 module _ (kind : Kind) (job : Job) (number : ℕ) (line : List ℕ) (stream : Stream) (answer : Answer) where
-  -- so another answer stands
+  -- an answer to a line that is not costly is an answer without the budget
   answer-without : ¬ IsCostly kind job line → IsPasswordAnswer kind job number line stream answer → IsPasswordAnswer kind (without_budget job) number line stream answer
   answer-without cheap (inl refused) = inl refused
   answer-without cheap (inr (inl (costly, is))) = absurd (cheap costly)
   answer-without cheap (inr (inr (sound, within, parts, cut, outcome, comes, is))) =
       inr (inr (sound, free kind job line, parts, cut, outcome, (comes-budgeted job parts stream outcome answer.hashings).0 comes, is))
 
-  -- and the other way round
+  -- an answer without the budget to a line that is not costly is an answer with it
   answer-within : ¬ IsCostly kind job line → IsPasswordAnswer kind (without_budget job) number line stream answer → IsPasswordAnswer kind job number line stream answer
   answer-within cheap (inl refused) = inl refused
   answer-within cheap (inr (inl (costly, is))) = absurd costly.above
   answer-within cheap (inr (inr (sound, within, parts, cut, outcome, comes, is))) =
       inr (inr (sound, cheap, parts, cut, outcome, (comes-budgeted job parts stream outcome answer.hashings).1 comes, is))
 
-  -- what breaks no rule and costs too much is refused
+  -- a costly line is refused for its cost
   costly-refused : IsCostly kind job line → IsPasswordAnswer kind job number line stream answer → answer ≡ refusal number OverBudget
   costly-refused costly (inl (fault, refused, is)) = absurd (sound_not_refused kind line fault costly.sound refused)
   costly-refused costly (inr (inl (other, is))) = is
@@ -72,7 +76,7 @@ only_refuses kind job unaudited = record {
 
 -- ---- a single password
 
--- its run ends as without what only lines have
+-- the run ends as it does without a budget and without rehashes
 unoptioned : {I O E : Type 0} (turns : ℕ) (job : Job) (from : PasswordFrom) (old new : RunState I O E) (result : Result Tally RunFault)
     → EndsOne turns job from old new result → EndsOne turns (without_rehash (without_budget job)) from old new result
 unoptioned turns job (Word word) old new result ends = ends
@@ -86,20 +90,20 @@ runs_one turns job from old new result ends within = record {
   within_turns = within;
 }
 
--- ---- new hashes
+-- ---- rehashes
 
--- a check costs no less with new hashes
+-- a check with rehashes costs at least as much as one without
 same_or_more : (job : Job) (kept : SettingValue) (password : ℕ)
     → check_cost (without_rehash job) kept password ≤ check_cost job kept password
 same_or_more job kept password = omega arith
 
--- what is above a budget is above it with more
+-- a higher cost is above a budget if a lower one is
 pub still_above : (budget : Option ℕ) (number more : ℕ) → number ≤ more → IsAbove budget number → IsAbove budget more
 still_above None number more at_most above = above
 still_above (Some budget) number more at_most above = omega (arith, at_most, above)
 
 module _ (kind : Kind) (job : Job) (line : List ℕ) (stream : Stream) where
-  -- so what is too much without them is too much with them
+  -- a line that is costly without rehashes is costly with them
   costly-renewed : IsCostly kind (without_rehash job) line → IsCostly kind job line
   costly-renewed costly = elim costly.cost [
     | inl made ↦ record { parts = costly.parts; sound = costly.sound; cut = costly.cut; number = costly.number; cost = inl made; above = costly.above }
@@ -114,7 +118,8 @@ module _ (kind : Kind) (job : Job) (line : List ℕ) (stream : Stream) where
   ]
 
   module _ (still : ¬ IsRenewable kind job line) where
-    -- where the password fits, or the line is costly, no setting of the field is out of date
+    -- if the line is not renewable, but its password matches or it is costly, then the setting in its field is not out
+    -- of date
     recent : (parts : Parts) (field : List ℕ) (kept : SettingValue) → IsSound kind line → HasParts kind line parts → HasSetting parts field kept
         → (crypt parts.password kept ≡ field) ⊎ IsCostly kind job line → is_outdated job kept ≡ false
     recent parts field kept sound cut spelled why = go (is_outdated job kept) refl
@@ -132,11 +137,12 @@ module _ (kind : Kind) (job : Job) (line : List ℕ) (stream : Stream) where
         }))
         go false is = is
 
-    -- so it costs the same
+    -- the check of a hash that is not out of date costs the same with and without rehashes
     same_check_cost : (kept : SettingValue) (password : ℕ) → is_outdated job kept ≡ false
         → check_cost job kept password ≡ check_cost (without_rehash job) kept password
     same_check_cost kept password is = rw is refl
 
+    -- a line that is costly with rehashes, but not renewable, is costly without them
     costly-unrenewed : IsCostly kind job line → IsCostly kind (without_rehash job) line
     costly-unrenewed costly = record {
       parts = costly.parts;
@@ -151,6 +157,7 @@ module _ (kind : Kind) (job : Job) (line : List ℕ) (stream : Stream) where
       above = costly.above;
     }
 
+    -- it comes to the same outcome, which is never `Rehashed`
     comes-renewed : (parts : Parts) (outcome : Outcome) (made : List Hashing) → IsSound kind line → HasParts kind line parts
         → ComesTo job parts stream outcome made ↔ ComesTo (without_rehash job) parts stream outcome made
     comes-renewed parts (Hashed hash) made sound cut = ((λ comes. comes), λ comes. comes)
@@ -184,7 +191,7 @@ only_renews Audit job unaudited = absurd (unaudited refl)
 only_renews kind job unaudited = λ number line stream answer still.
     (answer-unrenewed kind job line stream still number answer, answer-renewed kind job line stream still number answer)
 
--- a line of a batch has no field
+-- a line to hash has no field, so it is never renewable
 batch-still : (job : Job) (line : List ℕ) → ¬ IsRenewable Batch job line
 batch-still job line renewable = none-some renewable.field (sym renewable.cut.1 ∙ renewable.spelled.0)
 

@@ -1,4 +1,9 @@
--- What a line comes to, by its parts and its field.
+-- Serves the clause `settles` of `outcome_of`, and through it `decides` of `answer_line`. The clauses of the functions
+-- that hash speak of a password and of a field as it was read (`Settles`); the public ones speak of the line
+-- (`IsAnswer`), its cost (`IsCostly`) and its outcome (`ComesTo`). `concludes` leads from the first to the second. The
+-- key step is that the parts of a line are unique and that a field spells at most one setting, so the cost that was
+-- compared with the budget is the line's only cost. `would_check` gives the outcome that a check would have had, for
+-- the clause `settles` of `check_within_budget` if scrypt could not allocate memory.
 use Rattle.std.proofs.Common.{◌≡◌, ℕ, Bool, true, false, List, [], ◌∷◌, ◌++◌, codes, slice_index, length, Option, Some, None, inl, inr, refl, sym, ap, subst, ◌∙◌, true≢false, arith}
 use Rattle.std.specs.Prelude.{◌≢◌, Result, Ok, Err}
 use Rattle.std.specs.Bool.{Decides}
@@ -47,7 +52,7 @@ above_none (Some budget) above = omega arith
 abbrev parts_with : List ℕ → List ℕ → Option (List ℕ) → Parts
 parts_with name password field = record { name = name; field = field; password = password }
 
--- a line whose price is above the budget
+-- a line whose cost is above the budget is costly
 costly_by : (kind : Kind) (job : Job) (line name password : List ℕ) (field : Option (List ℕ)) (stored : Option StoredField)
     → HasSoundParts kind line (parts_with name password field) → IsFieldOf field stored
     → IsAbove job.budget (field_cost job stored (length password)) → IsCostly kind job line
@@ -76,14 +81,14 @@ costly : (kind : Kind) (job : Job) (line name password : List ℕ) (stored : Opt
     → IsAbove job.budget (field_cost job stored (length password)) → IsCostly kind job line
 costly kind job line name password stored is above = costly_by kind job line name password is.field stored is.taken is.field_of above
 
--- a text spells one setting
+-- a field spells at most one setting
 pub one_setting : (field : List ℕ) (one other : SettingValue) → IsReadOneWay field → Spells field one → Spells field other → one ≡ other
 unfolding IsReadOneWay
 one_setting field one other once spells spells_other =
     let both : Ok one ≡ Ok other = once (Ok one) (Ok other) spells spells_other in
     cc
 
--- and lines whose price isn't
+-- a line without a field whose cost is not above the budget is not costly
 cheap_unfielded : (kind : Kind) (job : Job) (line name password : List ℕ) → HasSoundParts kind line (parts_with name password None)
     → ¬ IsAbove job.budget (made_cost_by job.maker (length password)) → ¬ IsCostly kind job line
 cheap_unfielded kind job line name password taken within costly =
@@ -94,6 +99,7 @@ cheap_unfielded kind job line name password taken within costly =
       | inr spelled ↦ absurd (none-some spelled.0 (sym (ap (λ (p : Parts). p.field) same) ∙ spelled.2))
     ]
 
+-- nor is a line with a stored hash, if the cost of its check is not above the budget
 cheap_stored : (kind : Kind) (job : Job) (line name password field : List ℕ) (stored : StoredHash)
     → HasSoundParts kind line (parts_with name password (Some field)) → Spells field stored.setting → IsReadOneWay field
     → ¬ IsAbove job.budget (check_cost job stored.setting (length password)) → ¬ IsCostly kind job line
@@ -111,7 +117,7 @@ cheap_stored kind job line name password field stored taken spells once within c
 
 -- ---- a field that spells no setting
 
--- a text that spells a setting begins with a `$`
+-- a field that spells a setting begins with `$`, so it is neither empty nor locked (`spelled-stored`)
 first_of_prefix : (method : Method) (rest : List ℕ) → slice_index (prefix method ++ rest) 0 ≡ 36
 first_of_prefix Md5crypt rest = refl
 first_of_prefix method rest = refl
@@ -133,7 +139,7 @@ spelled-stored field kept spells =
       ],
     )
 
--- and a field that spells none has no cost
+-- a line whose field is empty or locked costs nothing
 pub unstored-cheap : (kind : Kind) (job : Job) (line : List ℕ) (parts : Parts) (field : List ℕ) → HasParts kind line parts
     → parts.field ≡ Some field → ¬ IsStored field → ¬ IsCostly kind job line
 unstored-cheap kind job line parts field has is unstored costly =
@@ -158,7 +164,7 @@ comes-stored job stream name password field stored hashings (Rehashed hash) is s
     (field, stored.setting, (refl, spells), checked.0 ∙ is, checked.1, checked.2, checked.3)
 comes-stored job stream name password field stored hashings outcome is spells checked = absurd checked
 
--- what the parts come to, and that they don't cost too much
+-- a line within the budget is not costly, and comes to the outcome that was settled for its password and its field
 settled_by : (kind : Kind) (job : Job) (line : List ℕ) (stream : Stream) (name password : List ℕ) (field : Option (List ℕ)) (stored : Option StoredField)
     (hashings : List Hashing) (outcome : Outcome) → HasSoundParts kind line (parts_with name password field) → IsFieldOf field stored
     → ¬ IsAbove job.budget (field_cost job stored (length password))
@@ -185,19 +191,19 @@ settled_by kind job line stream name password (Some field) None hashings outcome
 
 -- ---- the answer
 
--- what is refused gets its refusal, whatever is asked for
+-- a line that breaks a rule is answered with its refusal, for each kind of run
 pub refused_answer : (kind : Kind) (job : Job) (number : ℕ) (line : List ℕ) (stream : Stream) (fault : LineFault) → IsLineRefused kind line fault
     → IsAnswer kind job number line stream (refusal number fault)
 refused_answer Audit job number line stream fault refused = inl (fault, refused, refl)
 refused_answer kind job number line stream fault refused = inl (fault, refused, refl)
 
--- a line that is not to be audited gets the answer for its password
+-- a line that is not to be audited has the answer for its password
 password_answer : (kind : Kind) (job : Job) (number : ℕ) (line : List ℕ) (stream : Stream) (answer : Answer) → kind ≢ Audit
     → IsPasswordAnswer kind job number line stream answer → IsAnswer kind job number line stream answer
 password_answer Audit job number line stream answer other is = absurd (other refl)
 password_answer kind job number line stream answer other is = is
 
--- one that is gets the finding of its field
+-- a line to audit is answered with what the audit finds in its field
 pub audit_answer : (kind : Kind) (job : Job) (number : ℕ) (line : List ℕ) (stream : Stream) (parts : Parts) (field : List ℕ) (finding : Finding) → kind ≡ Audit
     → HasSoundParts kind line parts → parts.field ≡ Some field → Finds job.maker.scheme (given_budget job) field finding
     → IsAnswer kind job number line stream (answer_of job parts.name (Audited finding) [])
@@ -206,6 +212,7 @@ audit_answer Audit job number line stream parts field finding is taken fielded f
 audit_answer Batch job number line stream parts field finding is taken fielded finds = absurd cc
 audit_answer Check job number line stream parts field finding is taken fielded finds = absurd cc
 
+-- a line within the budget is answered with the outcome that was settled for it
 decided : (kind : Kind) (job : Job) (number : ℕ) (line : List ℕ) (stream : Stream) (name password : List ℕ) (stored : Option StoredField)
     (hashings : List Hashing) (outcome : Outcome) → IsLine kind line name password stored
     → ¬ IsAbove job.budget (field_cost job stored (length password))
@@ -214,7 +221,7 @@ decided kind job number line stream name password stored hashings outcome is wit
     let comes = settled_by kind job line stream name password is.field stored hashings outcome is.taken is.field_of within settled in
     inr (inr (is.taken.sound, comes.0, parts_with name password is.field, is.taken.cut, outcome, comes.1, refl))
 
--- the step for a line with this field concludes as that for its password settles
+-- what the step for a password and a field returned is right for the line
 pub concludes : (kind : Kind) (job : Job) (line name password : List ℕ) (stored : Option StoredField) (stream : Stream) (before after : Work) (new_stream : Stream)
     (result : Result (Result Outcome LineFault) HashFault) → IsLine kind line name password stored
     → Settles job password stored stream before after new_stream result → Concludes kind job line name stream before after new_stream result
@@ -246,20 +253,20 @@ pub line_of : (kind : Kind) (line : List ℕ) (parts : Parts) (stored : Option S
     → IsFieldOf parts.field stored → IsLine kind line parts.name parts.password stored
 line_of kind line parts stored taken unaudited field_of = record { unaudited = unaudited; field = parts.field; taken = taken; field_of = field_of }
 
--- a line without a field is not to be audited
+-- a line to audit has a field
 pub unfielded : (kind : Kind) (line : List ℕ) (parts : Parts) → HasParts kind line parts → parts.field ≡ None → kind ≢ Audit
 unfielded Audit line parts has none same = none-some has.0 (sym none ∙ has.4)
 unfielded Batch line parts has none same = absurd cc
 unfielded Check line parts has none same = absurd cc
 
--- a field that was read
+-- a field that was read as `found` is `IsFieldOf` the same
 pub read_as : (field : List ℕ) (fielded : Option (List ℕ)) (result : Result StoredField SettingFault) (found stored : StoredField) → result ≡ Ok found
     → found ≡ stored → IsFieldReading field result → IsReadOneWay field → fielded ≡ Some field → IsFieldOf fielded (Some stored)
 read_as field fielded result found stored ok is reading once some =
     let same : result ≡ Ok stored = cc in
     subst (λ (f : Option (List ℕ)). IsFieldOf f (Some stored)) (sym some) (subst (IsFieldReading field) same reading, once)
 
--- ---- what a check would come to, if its memory were not refused
+-- ---- what a check would come to, if scrypt could allocate memory
 
 pub record WouldCheck (job : Job) (password : List ℕ) (stored : StoredHash) (stream : Stream) : Type 0 where
   pub outcome : Outcome

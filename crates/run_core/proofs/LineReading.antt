@@ -1,4 +1,9 @@
--- How far a reader of lines has come.
+-- Serves the clauses `takes` of `Piece::take_line` and `gives` of `LineReader::next_line`. The invariant of the loop in
+-- `next_line` is `IsNexting`: from any start at which some lines had been returned, the reader is now seeking the next
+-- one (`IsSeeking`), that is, all bytes read are those lines, then a part of a line that is in the buffer, then the
+-- piece. A lemma for each step and exit moves bytes from the piece to the buffer and shows that this stays true, or
+-- that the next line is complete. At the end of the input, the lines that were returned are all lines, by the lemmas of
+-- `LinesOf`.
 use Rattle.std.proofs.Common.{◌≡◌, ◌≢◌, ℕ, ◌+◌, ◌-◌, ◌<◌, ◌≤◌, Bool, true, false, eqb, not, Some, None, take, drop, List, [], ◌∷◌, ◌++◌, length, Ok, Err, refl, sym, ap, subst, ◌∙◌, append_assoc, append-nil, arith}
 use Rattle.std.proofs.KnownBytes.{Consumes-nil}
 use Rattle.std.specs.List.{position, slice_range}
@@ -21,13 +26,14 @@ use Rattle.run_core.proofs.FirstLineReading.{Reads-trans, stops-later}
 
 -- ---- a piece
 
--- a range without its first bytes
+-- a range without its first `k` items
 range-rest : (xs : List ℕ) (start end k : ℕ) → start + k ≤ end → slice_range xs (start + k) end ≡ drop k (slice_range xs start end)
 range-rest xs start end k within =
     ap (λ ys. take (end - (start + k)) ys) (sym (drop-drop k start xs))
     ∙ (sym (drop-take k (end - (start + k)) (drop start xs))
     ∙ ap (λ n. drop k (take n (drop start xs))) (omega arith))
 
+-- `take_line` found a line feed
 pub takes-to_feed : (bytes : List ℕ) (start end at : ℕ) (unread : List ℕ) (buffer new_buffer : LineBuffer)
     → start ≤ end → slice_range bytes start end ≡ unread → position (λ b. eqb b 10) unread ≡ Some at
     → ((part : List ℕ) → Represents buffer part → Represents new_buffer (part ++ take at unread))
@@ -43,6 +49,7 @@ takes-to_feed bytes start end at unread buffer new_buffer within is found holds 
       holds,
     )
 
+-- `take_line` found none
 pub takes-all : (bytes : List ℕ) (end : ℕ) (unread : List ℕ) (buffer new_buffer : LineBuffer) → position (λ b. eqb b 10) unread ≡ None
     → ((part : List ℕ) → Represents buffer part → Represents new_buffer (part ++ unread))
     → TakesLine unread (slice_range bytes end end) buffer new_buffer false
@@ -62,7 +69,7 @@ module _ {I : Type 0} where
     at = rw (more, unread) ((refl, tt), omega arith);
   }
 
-  -- these lines were given, and behind them a part of a line is in the buffer
+  -- these lines were returned, and the buffer holds a part of the next one
   pub record IsSeeking (start now : Device I) (piece : List ℕ) (buffer : LineBuffer) (lines : List (List ℕ)) : Type 0 where
     pub bytes : List ℕ
     pub part : List ℕ
@@ -86,7 +93,7 @@ module _ {I : Type 0} where
     held = cleared;
   }
 
-  -- all was moved into the buffer, and more was read
+  -- all of the piece was moved into the buffer, and a new piece was read
   seeking-read : (start now new : Device I) (piece next fetched : List ℕ) (buffer new_buffer : LineBuffer) (lines : List (List ℕ))
       → IsSeeking start now piece buffer lines → TakesLine piece next buffer new_buffer false → Reads now new fetched
       → IsUnfailed now new → MovesBytes 0 now new → IsSeeking start new fetched new_buffer lines
@@ -108,7 +115,7 @@ module _ {I : Type 0} where
       seeking-read start now new piece next fetched buffer new_buffer lines before moved reads got.0 got.1
   seeking-more start now new piece next fetched buffer new_buffer lines left false some moved reads got before = absurd (cc)
 
-  -- the line is complete
+  -- exit: the piece had a line feed, so the line is complete
   pub seeking-found : (start now : Device I) (piece : List ℕ) (buffer : LineBuffer) (next : LineReader) (lines : List (List ℕ)) (left : ℕ)
       → next.at_end ≡ false → TakesLine piece next.piece buffer next.buffer true → length piece ≤ piece_size
       → IsSeeking start now piece buffer lines → GivesNext left start now next lines (Ok true)
@@ -134,7 +141,7 @@ module _ {I : Type 0} where
         },
       )
 
-  -- the input is at its end
+  -- exit: the input is at its end, and the buffer holds the last line, or nothing
   pub seeking-end : (start now new : Device I) (piece moved_piece : List ℕ) (buffer : LineBuffer) (next : LineReader) (lines : List (List ℕ)) (left new_left : ℕ) (found is_empty : Bool) → found ≡ false
       → next.at_end ≡ true → TakesLine piece moved_piece buffer next.buffer false → Reads now new next.piece → FetchesPiece left now new next.piece (Ok found)
       → ((part : List ℕ) → Represents next.buffer part → (is_empty ≡ true → part ≡ []) × (part ≡ [] → is_empty ≡ true))
@@ -168,7 +175,7 @@ module _ {I : Type 0} where
           let some : line ≢ [] = λ none. let both = tells.1 none in absurd (cc) in
           (line, moved.2 is.part is.held, given (lines ++ line ∷ []) (sym (lines_are ∙ ap (λ others. lines ++ others) (lines_of-last line no_feed some))))
 
-  -- a read failed, or no I/O call was left for it
+  -- exit: a read failed, or no I/O call was left for it
   pub seeking-failed : (start now new : Device I) (piece next fetched : List ℕ) (buffer new_buffer : LineBuffer) (lines : List (List ℕ)) (left new_left : ℕ) (fault : RunFault)
       → TakesLine piece next buffer new_buffer false → Reads now new fetched → FetchesPiece left now new fetched (Err fault) → new_left ≡ left - 1
       → IsSeeking start now piece buffer lines → HasStopped new_left start new lines fault
@@ -183,6 +190,8 @@ module _ {I : Type 0} where
 
   -- ---- the loop
 
+  -- the loop's invariant: `seeking` serves the clause `gives`, and the fields after it serve the clauses on I/O calls
+  -- and room
   pub record IsNexting (old_reader : LineReader) (old now : Device I) (reader : LineReader) (old_left left : ℕ) : Type 0 where
     pub more : reader.at_end ≡ false
     pub seeking : (start : Device I) (lines : List (List ℕ)) → HasGiven start old old_reader lines → IsSeeking start now reader.piece reader.buffer lines
@@ -195,6 +204,7 @@ module _ {I : Type 0} where
   unfailed-fetched now new fetched left true got = got.0
   unfailed-fetched now new fetched left false got = got.0
 
+  -- after a `fetch`, the counts have room for the calls that are left
   pub room-fetched : (now new : Device I) (fetched : List ℕ) (left new_left : ℕ) (found : Bool) → HasRoomFor piece_size left now → Reads now new fetched
       → FetchesPiece left now new fetched (Ok found) → length fetched ≤ piece_size → 0 < left → new_left ≡ left - 1 → new.calls + new_left ≡ now.calls + left
       → HasRoomFor piece_size new_left new

@@ -1,4 +1,9 @@
--- Which rule is the first that a line breaks.
+-- Serves the clause `refused` of `check_name`, `sound` and `refused` of `check`, `each_refusal` of `inspect`, and the
+-- clause of `Parts::of`. `IsLineRefused` names the first rule that a line breaks, in the order of `line_faults`. So to
+-- show a refusal, a lemma shows that the line breaks none of the rules before it. The lemmas follow that order: length
+-- and name (`refused_after_name` skips these rules), the parts, the password, the field. They rest on `OneCut`: a line
+-- has only one name and one list of parts, so what was checked of the parts that were found holds of any parts. The
+-- last sections say what holds of a line that breaks no rule, for `outcome_of` and `answer_line`.
 use Rattle.std.proofs.Common.{◌≡◌, ℕ, ◌≤◌, ◌<◌, List, [], ◌∷◌, ◌++◌, length, map, Contains, Option, Some, None, inl, inr, refl, sym, ap, subst, ◌∙◌, arith}
 use Rattle.std.proofs.lemmas.Bool.{cases_order}
 use Rattle.std.proofs.lemmas.List.{nil_from_length}
@@ -34,7 +39,7 @@ name_of_parts Batch line parts cut = inl (parts.password, cut.0)
 name_of_parts kind line parts cut = inl (cut.1, cut.2)
 
 module _ (kind : Kind) (line name : List ℕ) (short : length line ≤ line_limit) (good : IsGoodName name) (has : HasFront line name) where
-  -- a line with a good name breaks none of the rules on lengths and names
+  -- a line that is not too long and has a good name breaks none of the first three rules
   kept_length : ¬ BreaksLine kind LineTooLong line
   kept_length long = omega (arith, short, long)
 
@@ -44,14 +49,14 @@ module _ (kind : Kind) (line name : List ℕ) (short : length line ≤ line_limi
   kept_name : ¬ BreaksLine kind NameTooLong line
   kept_name long = omega (arith, good.short, long.2, ap length (name_unique line name long.0 has long.1))
 
-  -- so it is refused by the first rule after them that it breaks
+  -- so it is refused for the first of the other rules that it breaks
   refused_after_name : (fault : LineFault)
       → IsFirstBroken (NoPassword ∷ map Password password_faults ++ map Setting setting_faults) (λ broken. BreaksLine kind broken line) fault
       → IsLineRefused kind line fault
   unfolding IsLineRefused
   refused_after_name fault later = inr (kept_length, inr (some_name, inr (kept_name, later)))
 
--- a name that is none, or too long
+-- an empty name, or one that is too long, is refused as such
 pub refused_for_no_name : (kind : Kind) (line name : List ℕ) (back : Option (List ℕ)) → length line ≤ line_limit → IsCutOrWhole line name back
     → length name ≡ 0 → IsLineRefused kind line NoName
 unfolding IsLineRefused
@@ -70,19 +75,19 @@ refused_for_long_name kind line name back short cut long =
 
 -- ---- parts
 
--- a line without a colon has none
+-- a line without a colon has no parts
 pub no_parts_uncut : (kind : Kind) (line : List ℕ) → ¬ Contains line colon → (parts : Parts) → HasParts kind line parts → ⊥
 no_parts_uncut Batch line uncut parts cut = uncut (cut_has_colon line parts.name parts.password cut.0)
 no_parts_uncut kind line uncut parts cut = uncut (cut_has_colon line parts.name cut.1 cut.2)
 
--- nor has a line to check without a second one
+-- nor has a line to check with only one colon
 pub no_parts_cut_once : (line name back : List ℕ) → IsCut line name back → ¬ Contains back colon → (parts : Parts) → HasParts Check line parts → ⊥
 no_parts_cut_once line name back first uncut parts cut =
     uncut (subst (λ (bytes : List ℕ). Contains bytes colon) (sym (cut_unique first cut.2).1) (cut_has_colon cut.1 cut.0 parts.password cut.3))
 
 -- ---- the rules before that of the field
 
--- a line that breaks none of them
+-- the line breaks none of these rules
 pub record IsEntry (kind : Kind) (line : List ℕ) (parts : Parts) : Type 0 where
   pub short : length line ≤ line_limit
   pub good : IsGoodName parts.name
@@ -97,7 +102,7 @@ pub refused_without_parts : (kind : Kind) (line : List ℕ) → IsNamed line →
 refused_without_parts kind line named lacks =
     refused_after_name kind line named.name named.short named.good named.front NoPassword (inl (refl, lacks))
 
--- a password gets one refusal at most, which is that of its first broken rule
+-- the refusal of a password is for the first rule that it breaks
 first_of_password : (bytes : List ℕ) (fault : PasswordFault) → IsPasswordRefused bytes fault → IsFirstBroken password_faults (IsPasswordRefused bytes) fault
 first_of_password bytes TooLong refused = inl (refl, refused)
 first_of_password bytes HasNul refused = inr ((λ long. omega (arith, long, refused.0)), inl (refl, refused))
@@ -133,14 +138,14 @@ keeps_password kind line parts entry fault breaks =
 
 -- ---- the field
 
--- it is refused as a setting, where the last rule is broken
+-- if the line breaks the rule of a setting, then its field is refused for that rule
 field_of_breaks : (kind : Kind) (line : List ℕ) (parts : Parts) → HasParts kind line parts
     → (fault : SettingFault) → BreaksLine kind (Setting fault) line → (field : List ℕ) × (parts.field ≡ Some field) × IsFieldRefused field fault
 field_of_breaks kind line parts has fault breaks =
     let same = parts_unique kind line breaks.1 parts breaks.3 has in
     (breaks.2, sym (ap (λ (p : Parts). p.field) same) ∙ breaks.4, (breaks.5, breaks.6))
 
--- an entry whose field is right, or is to be audited, breaks no rule
+-- a line breaks no rule if it breaks none of those before the field's, and its field is not refused or is to be audited
 sound_entry : (kind : Kind) (line : List ℕ) (parts : Parts) → IsEntry kind line parts
     → ((fault : SettingFault) (field : List ℕ) → kind ≢ Audit → parts.field ≡ Some field → IsFieldRefused field fault → ⊥) → IsSound kind line
 sound_entry kind line parts entry right fault breaks = go fault breaks
@@ -162,7 +167,7 @@ sound_entry kind line parts entry right fault breaks = go fault breaks
 pub sound_without_field : (kind : Kind) (line : List ℕ) (parts : Parts) → IsEntry kind line parts → parts.field ≡ None → IsSound kind line
 sound_without_field kind line parts entry none = sound_entry kind line parts entry (λ fault field unaudited some refused. cc)
 
--- a field that was read is not refused
+-- a field that can be read is not refused
 read_field : (field : List ℕ) (stored : StoredField) → IsReadOneWay field → IsFieldReading field (Ok stored) → (fault : SettingFault) → IsFieldRefused field fault → ⊥
 unfolding IsReadOneWay
 read_field field Empty one read fault refused = refused.0.0 read
@@ -177,7 +182,7 @@ sound_with_field kind line parts field stored entry is one read = sound_entry ki
     let same : other ≡ field = cc in
     read_field field stored one read fault (subst IsStored same refused.0, subst (λ (bytes : List ℕ). IsRefused bytes fault) same refused.1))
 
--- a line to audit has no password, and its field breaks no rule of the line
+-- a line to audit breaks no rule once it has a good name and its parts: its password is empty, and its field is free
 pub sound_to_audit : (kind : Kind) (line : List ℕ) (parts : Parts) → kind ≡ Audit → IsNamed line → HasParts kind line parts → IsSound kind line
 sound_to_audit Audit line parts audited named cut =
     let is_password = subst IsPassword (sym cut.5) (omega arith, λ some. omega (arith, some.1)) in
@@ -185,7 +190,7 @@ sound_to_audit Audit line parts audited named cut =
 sound_to_audit Batch line parts audited named cut = absurd cc
 sound_to_audit Check line parts audited named cut = absurd cc
 
--- the first rule that its field breaks as a setting is the first that an entry breaks
+-- a line that breaks none of the rules before the field's is refused for the first rule that its field breaks
 pub refused_field : (kind : Kind) (line : List ℕ) (parts : Parts) (field : List ℕ) (fault : SettingFault) → kind ≢ Audit → IsEntry kind line parts
     → parts.field ≡ Some field → IsFieldRefused field fault → IsLineRefused kind line (Setting fault)
 unfolding IsRefused
@@ -208,26 +213,26 @@ refused_field kind line parts field fault unaudited entry is (stored, refused) =
       go others broken,
     )
 
--- a line gets one refusal at most
+-- a line is refused for only one rule
 pub refusal_unique : (kind : Kind) (line : List ℕ) (a b : LineFault) → IsLineRefused kind line a → IsLineRefused kind line b → a ≡ b
 unfolding IsLineRefused
 refusal_unique kind line = first_unique line_faults (λ broken. BreaksLine kind broken line)
 
--- a line that breaks no rule gets no refusal
+-- a line that breaks no rule is not refused
 pub sound_not_refused : (kind : Kind) (line : List ℕ) (fault : LineFault) → IsSound kind line → IsLineRefused kind line fault → ⊥
 unfolding IsLineRefused
 sound_not_refused kind line fault sound refused = sound fault (first_breaks line_faults (λ broken. BreaksLine kind broken line) fault refused)
 
 -- ---- a line that is too long
 
--- it is refused, whatever its bytes are
+-- a line that is too long is refused as such, whatever its bytes are
 pub too_long-refused : (kind : Kind) (line : List ℕ) → IsTooLong line → IsLineRefused kind line LineTooLong
 unfolding IsLineRefused
 too_long-refused kind line long = inl (refl, long)
 
 -- ---- a line that breaks no rule
 
--- its password and its field are right
+-- its password and its field are not refused
 pub sound_password : (kind : Kind) (line : List ℕ) (parts : Parts) (fault : PasswordFault) → HasSoundParts kind line parts
     → ¬ IsPasswordRefused parts.password fault
 sound_password kind line parts fault taken refused = taken.sound (Password fault) (parts, taken.cut, refused)
@@ -237,7 +242,7 @@ pub sound_field : (kind : Kind) (line : List ℕ) (parts : Parts) (field : List 
 sound_field kind line parts field fault taken unaudited is refused =
     taken.sound (Setting fault) (unaudited, parts, field, taken.cut, is, refused.0, refused.1)
 
--- its password is short
+-- its password is not too long
 pub sound_short : (kind : Kind) (line : List ℕ) (parts : Parts) → IsSound kind line → HasParts kind line parts → length parts.password ≤ password_limit
 sound_short kind line parts sound has = elim (cases_order (length parts.password) password_limit) [
   | inl same ↦ omega (arith, same)
@@ -247,7 +252,7 @@ sound_short kind line parts sound has = elim (cases_order (length parts.password
   ]
 ]
 
--- and so is its name
+-- its name is not too long
 pub sound_name : (kind : Kind) (line : List ℕ) (parts : Parts) → HasSoundParts kind line parts → length parts.name ≤ name_limit
 sound_name kind line parts taken = elim (cases_order (length parts.name) name_limit) [
   | inl same ↦ omega (arith, same)

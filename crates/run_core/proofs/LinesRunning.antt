@@ -1,4 +1,9 @@
--- How far a run over lines has come, and how it ends.
+-- Serves the clause `runs` of `answer_lines`, and with it of `run_batch`, `run_check` and `run_audit`. `IsRunning` is
+-- the invariant of the loop: each line that the reader has returned is answered, these answers are all that the outputs
+-- have taken, and the limits leave room for the rest of the run. `running-start` sets it up, and `running-answered`
+-- keeps it when one more answer is written. For each exit of the loop, an `ends-` lemma turns it into `RunsLines`:
+-- reading stopped, scrypt could not allocate memory, an answer was cut short, or all lines are answered and the outputs
+-- are flushed or not.
 use Rattle.std.proofs.Common.{◌≡◌, ℕ, ◌+◌, ◌*◌, ◌^◌, ◌≤◌, ◌<◌, ◌⊎◌, Bool, true, false, MatchBool, List, [], ◌∷◌, ◌++◌, length, Result, Ok, Err, refl, sym, ap, subst, ◌∙◌, add-zero, append-nil, arith, inl, inr}
 use Rattle.std.specs.Io.KnownBytes.{IsAtEnd}
 use Rattle.std.proofs.Math.Nat.{mul-le-mul_left}
@@ -34,6 +39,7 @@ use Rattle.run_core.proofs.SentTexts.{Takes-trans, TakesFront-behind, takes-noth
 
 -- ---- room
 
+-- fewer I/O calls need less room
 pub room-less : {T : Type 0} (size left fewer : ℕ) (device : Device T) → fewer ≤ left → HasRoomFor size left device → HasRoomFor size fewer device
 room-less size left fewer device less room = record {
   failures = room.failures;
@@ -46,6 +52,7 @@ at_most_one : (seen : Bool) → as_count seen ≤ 1
 at_most_one true = omega arith
 at_most_one false = omega arith
 
+-- the bound on the counts of the meter grows with each line by the limit on its work
 more_counts : (lines : ℕ) (old new : Work) → IsAtMost old (2 ^ 100 + line_work_limit * lines) → IsRaisedBelow line_work_limit old new
     → IsAtMost new (2 ^ 100 + line_work_limit * (lines + 1))
 more_counts lines old new room small = record {
@@ -62,7 +69,8 @@ module _ {I O E : Type 0} where
   abbrev failures_of : RunState I O E → ℕ
   failures_of now = now.input.failures + now.out.failures + now.faults.failures
 
-  -- at most one call failed, with which the run ended
+  -- At most one call failed, since the run ended with it. So the calls are at most two more than the bytes moved: that
+  -- one, and the read that found the end of the input.
   within-turns : (turns left : ℕ) (start new : RunState I O E) → calls_of new + left ≡ calls_of start + turns → failures_of new ≤ failures_of start + 1
       → MovesBytes 1 start.input new.input → MovesBytes 0 start.out new.out → MovesBytes 0 start.faults new.faults → IsWithinTurns turns start new
   within-turns turns left start new calls once input out faults = record {
@@ -94,6 +102,7 @@ finished-moves old new finished = kept-moves old new finished.kept (let unfailed
 unfinished-moves : {T : Type 0} (old new : Device T) → IsUnfinished old new → MovesBytes 0 old new
 unfinished-moves old new unfinished = kept-moves old new unfinished.kept (let failed = unfinished.failed in omega (arith, failed))
 
+-- flushing both outputs makes no I/O call, and at most one flush fails
 flushes-nothing : {O E : Type 0} (out new_out : Device O) (faults new_faults : Device E) {A : Type 0} (result : Result A RunFault)
     → FinishesBoth out faults new_out new_faults result
     → MovesBytes 0 out new_out × MovesBytes 0 faults new_faults × (new_out.calls + new_faults.calls ≡ out.calls + faults.calls)
@@ -117,9 +126,9 @@ flushes-nothing out new_out faults new_faults (Err fault) (is, inr (first, secon
   omega (arith, first.unfailed, second.failed),
 )
 
--- ---- the lines that were given
+-- ---- the lines that were returned
 
--- a line that is being answered: its line feed is among the last bytes, or the input is at its end
+-- the line that is being answered has its line feed among the last bytes, or the input is at its end
 place : {I : Type 0} (now : Device I) (piece : List ℕ) (at_end : Bool) (lines : List (List ℕ)) (bytes : List ℕ) → IsAt now piece at_end lines bytes
     → ((rest : List ℕ) × HasLines bytes lines rest × (length rest < piece_size)) ⊎ (IsAtEnd now.shown × (lines ≡ lines_of bytes))
 place now piece false lines bytes at = inl (piece, at.0, at.1)
@@ -129,7 +138,7 @@ pub renders-outcome : (job : Job) (number : ℕ) (value : Result Answered LineFa
 renders-outcome job number (Ok answered) next renders = ap (λ (a : Answer). a.outcome) renders.0
 renders-outcome job number (Err fault) next renders = ap (λ (a : Answer). a.outcome) renders
 
--- an answer that was written in part, behind those that were written whole
+-- an answer was written in part, after others that were written in full
 front-after : {O E : Type 0} (failures : ℕ) (done : List Answer) (next : Answer) (start old new : Device O) (fault_start faults new_faults : Device E)
     → Takes 0 0 start old (texts done) → Takes 0 0 fault_start faults (fault_texts done)
     → TakeInPart failures [] next old faults new new_faults → TakeInPart failures done next start fault_start new new_faults
@@ -150,7 +159,7 @@ front-after failures done next start old new fault_start faults new_faults text 
   )
 
 module _ {I O E : Type 0} where
-  -- each line that was given is answered
+  -- the loop's invariant: each line that the reader has returned is answered
   pub record IsRunning (turns : ℕ) (kind : Kind) (job : Job) (start now : RunState I O E) (reader : LineReader) (tally : Tally) (left : ℕ) : Type 0 where
     pub lines : List (List ℕ)
     pub answers : List Answer
@@ -192,10 +201,10 @@ module _ {I O E : Type 0} where
     });
   }
 
--- A run that called `next_line`: `input` is left, with this number of I/O calls.
+-- The run has called `next_line`, which left the device `input`, and `mid` I/O calls.
 module _ {I O E : Type 0} {turns : ℕ} {kind : Kind} {job : Job} {start old : RunState I O E} {reader : LineReader} {tally : Tally} {left : ℕ}
     (is : IsRunning turns kind job start old reader tally left) (input : Device I) (mid : ℕ) (read_calls : input.calls + mid ≡ old.input.calls + left) where
-  -- all calls by then, and those of the outputs
+  -- the run ends within its I/O calls: those up to here, and those that the outputs make after it
   ends-within : (new_left : ℕ) (new : RunState I O E) → MovesBytes 1 start.input new.input → MovesBytes 0 old.out new.out → MovesBytes 0 old.faults new.faults
       → failures_of new ≤ failures_of start + 1 → new.input.calls ≡ input.calls
       → new.out.calls + new.faults.calls + new_left ≡ old.out.calls + old.faults.calls + mid → IsWithinTurns turns start new
@@ -204,7 +213,7 @@ module _ {I O E : Type 0} {turns : ℕ} {kind : Kind} {job : Job} {start old : R
       within-turns turns new_left start new (omega (arith, before, read_calls, calls, same)) once read
       (moves-trans 0 start.out old.out new.out is.out_moves out) (moves-trans 0 start.faults old.faults new.faults is.faults_moves faults)
 
-  -- it stopped while it read
+  -- exit: reading stopped
   pub ends-reading : (fault : RunFault) → HasStopped mid start.input input is.lines fault → RunsLines turns kind job start (run_state input old.out old.faults old.stream old.counts) (Err fault)
   ends-reading fault stop =
       let now = run_state input old.out old.faults old.stream old.counts in
@@ -238,7 +247,7 @@ module _ {I O E : Type 0} {turns : ℕ} {kind : Kind} {job : Job} {start old : R
             (omega (arith, once, of_out, of_faults)) refl refl;
       }
 
-  -- all lines are answered
+  -- the reader found the end of the input, so all lines are answered
   all-answered : (next : LineReader) (given : HasGiven start.input input next is.lines) → next.at_end ≡ true
       → (IsAtEnd input.shown × AreAnswers kind job job.first_line (lines_of given.bytes) start.stream is.answers)
       × HasAnswered is.answers start (run_state input old.out old.faults old.stream old.counts)
@@ -261,7 +270,7 @@ module _ {I O E : Type 0} {turns : ℕ} {kind : Kind} {job : Job} {start old : R
       ends-within mid (run_state input out faults old.stream old.counts) (moves-one next.at_end start.input input given.moves) moved.0 moved.1
       (omega (arith, unfailed, of_out, of_faults, moved.3)) refl (omega (arith, moved.2))
 
-  -- and both outputs flushed
+  -- exit: all lines are answered, and both outputs were flushed
   pub ends-flushed : (next : LineReader) (out : Device O) (faults : Device E) {A : Type 0} (done : A) (more : Bool) → more ≡ false
       → GivesNext mid start.input input next is.lines (Ok more)
       → FinishesBoth old.out old.faults out faults (Ok done) → RunsLines turns kind job start (run_state input out faults old.stream old.counts) (Ok tally)
@@ -273,7 +282,7 @@ module _ {I O E : Type 0} {turns : ℕ} {kind : Kind} {job : Job} {start old : R
         within_turns = flushed-within next out faults (Ok done) given flushes;
       }
 
-  -- or a flush failed
+  -- exit: all lines are answered, and a flush failed
   pub ends-unflushed : (next : LineReader) (out : Device O) (faults : Device E) (A : Type 0) (fault : RunFault) (more : Bool) → more ≡ false
       → GivesNext mid start.input input next is.lines (Ok more)
       → FinishesBoth old.out old.faults out faults {A = A} (Err fault) → RunsLines turns kind job start (run_state input out faults old.stream old.counts) (Err fault)
@@ -285,23 +294,25 @@ module _ {I O E : Type 0} {turns : ℕ} {kind : Kind} {job : Job} {start old : R
         within_turns = flushed-within next out faults {A = A} (Err fault) given flushes;
       }
 
--- a line was given
+-- `next_line` returned a line
 pub given-line : {I : Type 0} (left : ℕ) (start now : Device I) (reader : LineReader) (lines : List (List ℕ)) (more : Bool) → more ≡ true
     → GivesNext left start now reader lines (Ok more) → (line : List ℕ) × Represents reader.buffer line × HasGiven start now reader (lines ++ line ∷ [])
 given-line left start now reader lines true some gives = gives
 given-line left start now reader lines false some gives = absurd (cc)
 
--- A line was given, and its answer is `answer`.
+-- `next_line` returned a line, whose answer is `answer`.
 module _ {I O E : Type 0} {turns : ℕ} {kind : Kind} {job : Job} {start old : RunState I O E} {reader : LineReader} {tally : Tally} {left : ℕ}
     (is : IsRunning turns kind job start old reader tally left) (input : Device I) (mid : ℕ) (read_calls : input.calls + mid ≡ old.input.calls + left)
     (next : LineReader) (line : List ℕ) (given : HasGiven start.input input next (is.lines ++ line ∷ []))
     (answer : Answer) (answers : IsAnswer kind job (job.first_line + tally.lines) line old.stream answer) where
+  -- with it, the answers are those to all lines that were returned
   answers-push : AreAnswers kind job job.first_line (is.lines ++ line ∷ []) start.stream (is.answers ++ answer ∷ [])
   answers-push =
       let lengths = same-length kind job job.first_line is.lines start.stream is.answers is.are in
       let number : job.first_line + tally.lines ≡ job.first_line + length is.lines = omega (arith, ap (λ t. t.lines) is.tallied, lengths) in
       AreAnswers-push kind job job.first_line is.lines line start.stream is.answers answer is.are (rw (number, is.answered.after.stream) at answers)
 
+  -- exactly the hashes for these answers were computed
   after-push : (new : RunState I O E) → new.stream ≡ stream_left old.stream answer.hashings → new.counts ≡ after_work old.counts answer.hashings
       → IsAfter (hashings_of (is.answers ++ answer ∷ [])) start new
   after-push new stream counts = record {
@@ -309,7 +320,7 @@ module _ {I O E : Type 0} {turns : ℕ} {kind : Kind} {job : Job} {start old : R
     counts = counts ∙ (ap (λ c. after_work c answer.hashings) is.answered.after.counts ∙ sym (counts-push start.counts is.answers answer));
   }
 
-  -- scrypt could not allocate for it
+  -- exit: scrypt could not allocate memory for one of its hashes
   pub ends-unanswered : (stream : Stream) (counts : Work) → IsRefusedAmong old.counts answer.hashings counts stream
       → RunsLines turns kind job start (run_state input old.out old.faults stream counts) (Err OutOfMemory)
   ends-unanswered stream counts refused =
@@ -335,7 +346,7 @@ module _ {I O E : Type 0} {turns : ℕ} {kind : Kind} {job : Job} {start old : R
             (moves-none old.out) (moves-none old.faults) (omega (arith, unfailed, of_out, of_faults)) refl refl;
       }
 
-  -- it was written in part
+  -- exit: it was written in part
   pub ends-unsent : (out : Device O) (faults : Device E) (stream : Stream) (counts : Work) (new_left : ℕ) (A : Type 0) (fault : RunFault)
       → stream ≡ stream_left old.stream answer.hashings → counts ≡ after_work old.counts answer.hashings
       → Sends new_left answer old.out old.faults out faults {A = A} (Err fault)
@@ -375,7 +386,7 @@ module _ {I O E : Type 0} {turns : ℕ} {kind : Kind} {job : Job} {start old : R
             out_moves faults_moves (omega (arith, unfailed, of_out, of_faults, once)) refl calls;
       }
 
-  -- it was written
+  -- the invariant is kept: it was written in full
   pub running-answered : (out : Device O) (faults : Device E) (stream : Stream) (counts : Work) (new_left : ℕ) (new_tally : Tally) {A : Type 0} (done : A)
       → stream ≡ stream_left old.stream answer.hashings → counts ≡ after_work old.counts answer.hashings
       → Sends new_left answer old.out old.faults out faults (Ok done)

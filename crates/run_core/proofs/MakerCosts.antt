@@ -1,5 +1,7 @@
--- What a method and rounds break without a salt, and what a setting costs before random numbers are drawn for its salt,
--- since those make salts of one length.
+-- Serves the clauses of `Maker::new` if no salt is given, and the clause `each` of `Maker::cost`. Without a
+-- salt, only the cost can be refused, so `IsMakeRefused` reduces to the last rule. The cost of a setting depends on its
+-- salt only through the length, and all salts that a method makes from random numbers have the same length, so the cost
+-- is known before any number is drawn.
 use Rattle.std.specs.Prelude.{◌↔◌}
 use Rattle.std.proofs.Common.{◌≡◌, ℕ, true, false, List, Option, Some, None, inl, inr, refl, sym, ap, subst}
 use Rattle.crypt_core.specs.MadeSettings.{BreaksMake, IsMakeRefused, TakesRounds}
@@ -12,11 +14,12 @@ use Rattle.crypt_core.specs.declared.setting.fault.MakeFault.TheVariants.{Cost}
 use Rattle.crypt_core.proofs.MadeSaltLemmas.{length-made_salt}
 use Rattle.run_core.specs.Makers.{Recipe, made_cost_by, setting_by}
 
--- without a salt, rounds that the method does not take are refused for themselves alone
+-- without a salt, a cost that the method does not take is refused as `Cost`
 pub refused_alone : (m : Method) (rounds : ℕ) → ¬ TakesRounds m rounds → IsMakeRefused m rounds None Cost
 unfolding IsMakeRefused
 refused_alone m rounds bad = inr (λ b. b, inr (λ b. b, inl (refl, bad)))
 
+-- and nothing else is refused
 pub only_cost : (m : Method) (rounds : ℕ) (f : MakeFault) → IsMakeRefused m rounds None f → (f ≡ Cost) × ¬ TakesRounds m rounds
 unfolding IsMakeRefused
 only_cost m rounds f (inl broken) = absurd broken.1
@@ -24,7 +27,7 @@ only_cost m rounds f (inr (_, inl broken)) = absurd broken.1
 only_cost m rounds f (inr (_, inr (_, inl broken))) = broken
 only_cost m rounds f (inr (_, inr (_, inr (_, none)))) = absurd none
 
--- the answers for rounds alone
+-- the clauses `accepted` and `refused` without a salt, from what `Scheme::made` returned
 pub refused_made : (m : Method) (rounds : ℕ) → (false ≡ true ↔ TakesRounds m rounds) → false ≡ true ↔ ((f : MakeFault) → ¬ BreaksMake m rounds None f)
 refused_made m rounds takes = (λ e. absurd (cc e), λ none. absurd (none Cost (λ t. cc (takes.1 t))))
 

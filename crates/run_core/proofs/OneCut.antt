@@ -1,4 +1,6 @@
--- A text is cut at its first colon in one way, so a line has one name and one list of parts.
+-- A text can be cut at its first colon in only one way, so a line has one name and one list of parts. `LineRules`,
+-- `LineOutcomes` and `ForeseenChecks` need this, since their statements say "for some parts". The key lemma is
+-- `same_cut`, by induction over both fronts: if one front ended earlier, the other would contain a colon.
 use Rattle.std.proofs.Common.{◌≡◌, ℕ, List, [], ◌∷◌, ◌++◌, Contains, Option, Some, inl, inr, refl, sym, ap, subst, ◌∙◌, arith}
 use Rattle.std.proofs.lemmas.List.Elements.{Contains-append_right}
 use Rattle.run_core.specs.Lines.{HasFront, HasParts, IsCut, Parts}
@@ -11,6 +13,7 @@ use Rattle.run_core.specs.declared.line.Kind.TheVariants.{Batch, Check, Audit}
 begins_with_colon : (b : ℕ) (bytes : List ℕ) → b ≡ colon → Contains (b ∷ bytes) colon
 begins_with_colon b bytes is = (0, omega arith, is)
 
+-- two fronts without a colon that are followed by one in the same text are the same
 same_cut : (f g b d : List ℕ) → ¬ Contains f colon → ¬ Contains g colon → f ++ colon ∷ b ≡ g ++ colon ∷ d → (f ≡ g) × (b ≡ d)
 same_cut [] [] b d no_f no_g e = (refl, cc)
 same_cut [] (y ∷ g) b d no_f no_g e = absurd (no_g (begins_with_colon y g (cc)))
@@ -40,6 +43,7 @@ name_unique line name other (inr whole) (inr again) = sym whole.0 ∙ again.0
 
 -- ---- parts
 
+-- parts are the same if each of the three is
 same_parts : (p q : Parts) → p.name ≡ q.name → p.field ≡ q.field → p.password ≡ q.password → p ≡ q
 same_parts p q names fields passwords =
     joined p.name q.name p.field q.field p.password q.password names fields passwords

@@ -1,4 +1,7 @@
--- How the run for one password ends, from what its steps leave.
+-- Serves the clause `runs` of `run_one`, which has no loop: each exit of the function has an `ends-` lemma that builds
+-- `EndsOne` from the clauses of the steps before it. In order: there is no password, scrypt could not allocate memory,
+-- writing stopped, both outputs were flushed, a flush failed. `ends-with_password` treats both sources of the password
+-- alike, so the lemmas after it need not know where the password came from.
 use Rattle.std.proofs.Common.{◌≡◌, ℕ, ◌+◌, ◌≤◌, List, [], ◌∷◌, length, Result, Ok, Err, refl, sym, ap, subst, ◌∙◌, add-zero, append-nil, arith, inl, inr}
 use Rattle.std.specs.Prelude.{⊤}
 use Rattle.rand_core.specs.Stream.{Stream}
@@ -25,29 +28,30 @@ use Rattle.run_core.specs.declared.tally.Tally.{Tally}
 use Rattle.run_core.proofs.Flushes.{HasAnswered, finishes, finishes-with_fault}
 use Rattle.run_core.proofs.SentTexts.{takes-nothing}
 
--- the password is known, and was one
+-- a password was obtained, so it is a valid one, and no read failed
 is_password : {I : Type 0} (from : PasswordFrom) (old input : Device I) (left : ℕ) (password : List ℕ)
     → ObtainsFrom from old input left (Ok password) → IsPassword password × (input.failures ≡ old.failures)
 is_password (Word word) old input left password (same, (is, ok)) = (subst IsPassword (sym is) ok, ap (λ d. d.failures) same)
 is_password Input old input left password (bytes, reads, (unfailed, decided, is, ok)) = (ok, unfailed)
 
 module _ {I O E : Type 0} (turns : ℕ) (job : Job) where
-  -- the hands after a step that left the outputs alone
+  -- the state of the run after steps that left the outputs alone
   abbrev before_giving : RunState I O E → Device I → Stream → Work → RunState I O E
   before_giving old input stream counts = run_state input old.out old.faults stream counts
 
-  -- nothing was given
+  -- nothing was written
   takes-none : (old : RunState I O E) (input : Device I) (stream : Stream) (counts : Work) (failed : ℕ)
       → input.failures ≡ old.input.failures + failed → TakeAll failed 0 0 0 0 [] old (before_giving old input stream counts)
   takes-none old input stream counts failed failures =
       record { of_input = failures; text = takes-nothing old.out; fault_text = takes-nothing old.faults }
 
+  -- nothing was hashed or drawn
   still : (old : RunState I O E) (input : Device I) → IsAfter [] old (before_giving old input old.stream old.counts)
   still old input = record { stream = refl; counts = refl }
 
   -- ---- the password
 
-  -- it is refused
+  -- the password is refused
   ends-refused : (Decided Undecided : Type 0) (password : List ℕ) (old : RunState I O E) (input : Device I) (fault : RunFault)
       → Decided → input.failures ≡ old.input.failures → IsPasswordFault fault password
       → EndsPassword Decided Undecided turns job password old (before_giving old input old.stream old.counts) (Err fault)
@@ -59,7 +63,7 @@ module _ {I O E : Type 0} (turns : ℕ) (job : Job) where
     still old input,
   )))
 
-  -- or not known
+  -- reading stopped before the password was known
   ends-undecided : (Decided Undecided : Type 0) (password : List ℕ) (old : RunState I O E) (input : Device I) (left : ℕ) (fault : RunFault)
       → Undecided → StopsFetching left old.input input fault → input.calls + left ≡ old.input.calls + turns
       → EndsPassword Decided Undecided turns job password old (before_giving old input old.stream old.counts) (Err fault)
@@ -76,7 +80,7 @@ module _ {I O E : Type 0} (turns : ℕ) (job : Job) where
     ),
   ))
 
-  -- there is none
+  -- exit: there is no password, since it was refused or reading stopped
   pub ends-without_password : (from : PasswordFrom) (old : RunState I O E) (input : Device I) (left : ℕ) (fault : RunFault)
       → ObtainsFrom from old.input input left (Err fault) → input.calls + left ≡ old.input.calls + turns
       → EndsOne turns job from old (before_giving old input old.stream old.counts) (Err fault)
@@ -87,7 +91,7 @@ module _ {I O E : Type 0} (turns : ℕ) (job : Job) where
   ends-without_password Input old input left fault (bytes, reads, inr (unfailed, decided, refused)) calls =
       (bytes, reads, ends-refused (IsDecided input bytes) _ (first_line bytes) old input fault decided unfailed refused)
 
-  -- the run ends as it does by that password, wherever it comes from
+  -- how the run ends depends on the password alone, not on where it comes from
   ends-with_password : (from : PasswordFrom) (old new : RunState I O E) (left : ℕ) (password : List ℕ) (result : Result Tally RunFault)
       → ObtainsFrom from old.input new.input left (Ok password)
       → ((Decided Undecided : Type 0) → Decided → EndsPassword Decided Undecided turns job password old new result)
@@ -104,7 +108,7 @@ module _ {I O E : Type 0} (turns : ℕ) (job : Job) where
 
   -- ---- the hash
 
-  -- memory for it was refused
+  -- exit: scrypt could not allocate memory for the hash
   pub ends-out_of_memory : (from : PasswordFrom) (password : List ℕ) (old : RunState I O E) (input : Device I) (stream : Stream) (counts : Work) (left : ℕ)
       → ObtainsFrom from old.input input left (Ok password) → stream ≡ stream_after job.maker old.stream
       → IsAfterRefusedGrowth old.counts (next_setting job.maker old.stream).scheme counts
@@ -122,7 +126,7 @@ module _ {I O E : Type 0} (turns : ℕ) (job : Job) where
         )),
       ))))
 
-  -- it is made: the numbers are drawn, and its work is counted
+  -- the hash was computed: its random numbers are drawn, its work is counted, and `line` is its output line
   pub record HasHash (from : PasswordFrom) (password line : List ℕ) (old : RunState I O E) (input : Device I) (stream : Stream) (counts : Work) (left : ℕ) : Type 0 where
     pub obtains : ObtainsFrom from old.input input left (Ok password)
     pub calls : input.calls + left ≡ old.input.calls + turns
@@ -143,9 +147,9 @@ module _ {I O E : Type 0} (turns : ℕ) (job : Job) where
       → IsAfter (hashings_of (password_answer job password old.stream ∷ [])) old (run_state input out faults stream counts)
   after_answer from password line old input out faults stream counts left has = record { stream = has.stream_is; counts = has.counts_are }
 
-  -- ---- the giving
+  -- ---- writing
 
-  -- it was cut short
+  -- exit: only a part of the line was written
   pub ends-sending : (from : PasswordFrom) (password line : List ℕ) (old : RunState I O E) (input : Device I) (out : Device O) (stream : Stream) (counts : Work) (left : ℕ) (fault : RunFault)
       → HasHash from password line old input stream counts left
       → Delivers left old.out out line {A = Unit {0}} (Err fault)
@@ -169,7 +173,7 @@ module _ {I O E : Type 0} (turns : ℕ) (job : Job) where
         ],
       ))))
 
-  -- it is given
+  -- the whole line was written
   answered : (from : PasswordFrom) (password line : List ℕ) (old : RunState I O E) (input : Device I) (out : Device O) (stream : Stream) (counts : Work) (left : ℕ)
       → HasHash from password line old input stream counts left → Takes 0 0 old.out out line
       → HasAnswered (password_answer job password old.stream ∷ []) old (run_state input out old.faults stream counts)
@@ -184,7 +188,7 @@ module _ {I O E : Type 0} (turns : ℕ) (job : Job) where
         after = after_answer from password line old input out old.faults stream counts left has;
       }
 
-  -- and both outputs are flushed
+  -- exit: the line was written, and both outputs were flushed
   pub ends-finished : (from : PasswordFrom) (password line : List ℕ) (old : RunState I O E) (input : Device I) (out new_out : Device O) (faults : Device E) (stream : Stream) (counts : Work) (left : ℕ) {A : Type 0} (done : A)
       → HasHash from password line old input stream counts left → Takes 0 0 old.out out line
       → FinishesBoth out old.faults new_out faults (Ok done)
@@ -200,7 +204,7 @@ module _ {I O E : Type 0} (turns : ℕ) (job : Job) where
             (answered from password line old input out stream counts left has takes) refl flushes,
       ))
 
-  -- or a flush failed
+  -- exit: the line was written, and a flush failed
   pub ends-unfinished : (from : PasswordFrom) (password line : List ℕ) (old : RunState I O E) (input : Device I) (out new_out : Device O) (faults : Device E) (stream : Stream) (counts : Work) (left : ℕ) (A : Type 0) (fault : RunFault)
       → HasHash from password line old input stream counts left → Takes 0 0 old.out out line
       → FinishesBoth out old.faults new_out faults {A = A} (Err fault)

@@ -1,4 +1,7 @@
--- What an output has taken, one text after another, and how far the giving of a text has come.
+-- Serves the clauses of `send`, whose loop has the invariant `IsUnderWay`: a front of the text was taken, no call
+-- failed, and each call took a byte. `under_way-step` shows that one `give` keeps it. `Takes-trans` and
+-- `TakesFront-behind`, which join what an output took in two steps, serve the runs too. `shows-tally` serves the clause
+-- `shows` of `run_methods`.
 use Rattle.std.proofs.Common.{◌≡◌, ℕ, ◌+◌, ◌<◌, ◌≤◌, List, [], ◌++◌, length, take, drop, arith, refl, sym, ◌∙◌, ap, append_assoc, false, nat_eq, Result, Ok, Err, nat_lt, ◌&&◌, ◌-◌, add-zero}
 use Rattle.std.proofs.lemmas.List.{length-append, length-take-le, take-append-drop}
 use Rattle.std.specs.Io.KnownBytes.{Appends}
@@ -35,7 +38,7 @@ module _ {T : Type 0} where
         flushed = more.flushed ∙ before.flushed;
       }
 
-  -- the first bytes of a text, behind what was taken before
+  -- the first bytes of a text were taken, after all that was taken before
   pub TakesFront-behind : {failures : ℕ} (old mid new : Device T) (whole text : List ℕ) → Takes 0 0 old mid whole → TakesFront failures mid new [] text
       → TakesFront failures old new whole text
   TakesFront-behind old mid new whole text before front = (
@@ -46,9 +49,9 @@ module _ {T : Type 0} where
     Takes-trans old mid new whole front.0 before front.4,
   )
 
-  -- ---- the giving of a text
+  -- ---- writing a text
 
-  -- the front of the text was taken, in calls that did not fail and that each took a byte
+  -- the loop's invariant: `rest` is what is left of the text; no call failed, and each took a byte
   pub record IsUnderWay (old new : Device T) (text rest : List ℕ) (turns left : ℕ) : Type 0 where
     pub sent : List ℕ
     pub split : sent ++ rest ≡ text
@@ -58,7 +61,7 @@ module _ {T : Type 0} where
     pub untried : left ≡ turns → rest ≡ text
     pub moves : MovesBytes 0 old new
 
-  -- a `give` that took some bytes of the rest
+  -- the invariant is kept: a `give` took `count` bytes of the rest
   pub under_way-step : (old mid new : Device T) (text rest next : List ℕ) (turns left count : ℕ)
       → IsUnderWay old mid text rest turns left → 0 < left → 0 < count → count ≤ length rest
       → Appends mid.shown new.shown (take count rest)
@@ -104,9 +107,9 @@ module _ {T : Type 0} where
     moves = moves-none old;
   }
 
--- ---- a text that was shown, by its outcome
+-- ---- the result of a text that was written and flushed
 
--- the same outcome with a tally
+-- the same result with an empty tally
 abbrev pub as_tally : {A : Type 0} → Result A RunFault → Result Tally RunFault
 as_tally (Ok done) = Ok (tally_of [])
 as_tally (Err fault) = Err fault

@@ -1,4 +1,7 @@
--- How the counts of an answer are told from a meter, and written.
+-- Serves the clause `decides` of `answer_line` and the clause `runs` of `run_one`, where an answer shows the work
+-- between two readings of the meter. `after_hashings` shows by induction over the hashes that the counts after them are
+-- the counts before plus the sum of their work, so the difference is the work of these hashes. `small_rise` shows that
+-- it fits into 64 bits, as `work_since` requires.
 use Rattle.std.proofs.Common.{◌≡◌, ℕ, ◌<◌, ◌^◌, List, [], ◌∷◌, ap, sym, ◌∙◌, add_assoc, zero-add, arith, rules}
 use Rattle.prims_core.specs.Work.{no_work, raised_by, work_between, IsBelow}
 use Rattle.prims_core.specs.declared.meter.Work.{Work}
@@ -6,7 +9,7 @@ use Rattle.crypt_core.specs.Work.{work}
 use Rattle.run_core.specs.Answers.{Hashing, after_work}
 use Rattle.run_core.specs.Private.Answers.{IsRaisedBelow}
 
--- counts that are raised by nothing
+-- adding no work changes no count
 raised_by_none : (counts : Work) → counts ≡ raised_by counts no_work
 raised_by_none counts = search rules
 
@@ -16,7 +19,7 @@ raised_twice counts one other = simp add_assoc
 raised_from_none : (own : Work) → raised_by no_work own ≡ own
 raised_from_none own = simp zero-add
 
--- the counts after hashes are raised by the sum of their work
+-- the counts after some hashes are the counts before plus the sum of their work
 pub after_hashings : (counts : Work) (hashings : List Hashing) → after_work counts hashings ≡ raised_by counts (after_work no_work hashings)
 after_hashings counts [] = raised_by_none counts
 after_hashings counts (next ∷ others) =
@@ -25,7 +28,7 @@ after_hashings counts (next ∷ others) =
     sym (after_hashings own others) ∙ ap (λ (w : Work). after_work w others) (sym (raised_from_none own)) in
     after_hashings (raised_by counts own) others ∙ raised_twice counts own (after_work no_work others) ∙ ap (raised_by counts) sum
 
--- a rise of less than a line's
+-- if each count has grown by less than a limit below 2^64, the difference has 64-bit counts
 pub small_rise : (limit : ℕ) (before after : Work) → limit < 2 ^ 64 → IsRaisedBelow limit before after → IsBelow (work_between before after) (2 ^ 64)
 small_rise limit before after few small = record {
   digests = (let raised = small.digests in omega arith);
