@@ -1,7 +1,7 @@
 -- Serves the clauses of `send`, whose loop has the invariant `IsUnderWay`: a front of the text was taken, no call
 -- failed, and each call took a byte. `under_way-step` shows that one `give` keeps it. `Takes-trans` and
 -- `TakesFront-behind`, which join what an output took in two steps, serve the runs too. `shows-tally` serves the clause
--- `shows` of `run_methods`.
+-- `shows` of `run_methods`, and the crate mkpasswd where it shows an error.
 use Rattle.std.proofs.Common.{◌≡◌, ℕ, ◌+◌, ◌<◌, ◌≤◌, List, [], ◌++◌, length, take, drop, arith, refl, sym, ◌∙◌, ap, append_assoc, false, nat_eq, Result, Ok, Err, nat_lt, ◌&&◌, ◌-◌, add-zero}
 use Rattle.std.proofs.lemmas.List.{length-append, length-take-le, take-append-drop}
 use Rattle.std.specs.Io.KnownBytes.{Appends}

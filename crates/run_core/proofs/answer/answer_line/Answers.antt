@@ -1,3 +1,7 @@
+-- Answers the goals of `answer_line`: its clause `decides` at each return, the clause `short`, and the precondition of
+-- `unwrap`. A line that is too long is refused as such. Any other line that `inspect` accepts has its parts, to which
+-- the clause `settles` of `outcome_of` applies. The work in the answer is the difference of two readings of the meter,
+-- which is the work of the hashes (`told_work`).
 use Rattle.std.proofs.Common.{◌≡◌, ℕ, List, ap, sym, subst, ◌∙◌, refl, rules, Option, Some, None}
 use Rattle.std.specs.Prelude.{Result, Ok, MatchOption}
 use Rattle.std.specs.Option.{IsSome}
@@ -29,7 +33,7 @@ returns-in_default-clause-decides g c = λ text stands number.
       refl,
     )
 
--- a line that does not lack its parts has some
+-- a result is `Some` if what `None` would mean is false
 has_some : {A : Type 0} (result : Option A) (Lacks : Type 0) (Has : A → Type 0) → MatchOption result Lacks Has → ¬ Lacks → IsSome result
 has_some (Some found) Lacks Has has never = search rules
 has_some None Lacks Has lacks never = absurd (never lacks)
@@ -49,7 +53,7 @@ returns-in_err-outcome-clause-decides g c = λ text stands.
     let ends = c.in_err-outcome.ensures.settles text (subst (λ (t : List ℕ). HasSoundParts c.args.kind t parts) (c.as_slice-bytes.ensures.value ∙ is) taken) in
     rw p.1 (λ number. (answer_of c.args.job.now parts.name ends.0 ends.1, ends.2 number, ends.3))
 
--- the work that is told is that of the hashes
+-- the work since the first reading of the meter is that of the hashes
 told_work : (before after reading told : Work) (hashings : List Hashing) → after ≡ after_work before hashings → reading ≡ before
     → ((more : Work) → after ≡ raised_by reading more → told ≡ more) → after_work no_work hashings ≡ told
 told_work before after reading told hashings made read raised =

@@ -1,3 +1,6 @@
+-- Answers the goals of `check_within_budget` where scrypt could not allocate memory; the prover finds the others. If
+-- the hash to compare with was refused, `would_check` gives the outcome that the check would have had. If the new hash
+-- was refused, the password had matched and the setting is out of date, so the outcome would have been `Rehashed`.
 use Rattle.std.proofs.Common.{◌≡◌, [], ◌∷◌, Some, true, length, refl, sym, subst, ◌∙◌, rules}
 use Rattle.std.proofs.lemmas.Result.{err_from_is_err_and}
 use Rattle.prims_core.specs.declared.meter.Work.{Work}

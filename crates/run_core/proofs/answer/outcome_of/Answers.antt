@@ -1,3 +1,7 @@
+-- Answers the goals of `outcome_of`: its clause `settles` at each return, and the preconditions of `unwrap`. Since the
+-- line breaks no rule, neither its password nor its field is refused (`right`, `read_right`). At each return,
+-- `concludes` turns what is known of the password and of the field as it was read into a statement about the line; for
+-- a line to audit, `audit_answer` does.
 use Rattle.std.proofs.Common.{◌≡◌, ℕ, List, [], Option, Some, None, refl, sym, ap, subst, true≢false, rules}
 use Rattle.std.specs.Prelude.{◌≢◌, Result, Ok, Err}
 use Rattle.std.specs.Result.{IfErr, IsOk}
@@ -17,7 +21,7 @@ use Rattle.run_core.proofs.LineOutcomes.{above_none, audit_answer, concludes, li
 use Rattle.run_core.proofs.LineRules.{IsFieldRefused, sound_field, sound_password}
 use Rattle.run_core.proofs.answer.outcome_of.Goals as goal
 
--- what cannot be refused is right
+-- a result is `Ok` if no refusal is possible
 right : {A E : Type 0} (result : Result A E) (Refused : E → Type 0) → IfErr result Refused → ((fault : E) → ¬ Refused fault) → IsOk result
 right (Ok found) Refused refused never = search rules
 right (Err fault) Refused refused never = absurd (never fault refused)

@@ -1,3 +1,6 @@
+-- Answers the goals of `answer_lines`, by the lemmas of `LinesRunning`. `lines-init` and `lines-preserved` set up and
+-- keep the invariant of the loop, `IsRunning`. The other goals are the clause `runs` at each return, and the
+-- preconditions of calls. Each proof names the states and passes on what the calls returned.
 use Rattle.std.proofs.Common.{◌+◌, arith}
 use Rattle.std.proofs.lemmas.Result.{err_from_is_err_and}
 use Rattle.run_core.specs.Runs.{run_state}
@@ -10,7 +13,7 @@ lines-init g c =
     running-start c.args.turns c.args.kind c.args.job.now start c.new-reader.result c.new-tally.result
     c.new-reader.ensures.unread c.new-reader.ensures.no_end c.new-tally.ensures c.requires.limit c.requires.devices c.requires.meter
 
--- ---- reading failed
+-- ---- reading stopped
 
 pub returns-in_err-next_line-clause-runs : goal.returns-in_err-next_line-clause-runs
 returns-in_err-next_line-clause-runs g c =

@@ -1,3 +1,6 @@
+-- Answers the clauses of `run_audit` that follow from `runs`. `AuditsSpare` has those on hashes and memory,
+-- `ForeseenChecks` those on later checks, and `WorkBounds` of crypt_core the one on the maximum cost. `rehash` is
+-- immediate, since the answer to a line to audit does not depend on rehashes.
 use Rattle.run_core.proofs.AuditsSpare.{spares}
 use Rattle.run_core.proofs.ForeseenChecks.{foresees, heeds_limit, refutes}
 use Rattle.crypt_core.proofs.WorkBounds.{longest}

@@ -1,3 +1,6 @@
+-- Answers the clause `runs` of `run_one` at each of its returns, by the `ends-` lemmas of `OneEnds`, and the
+-- precondition of `work_since`. `the_line` shows that the line to write is the text of the answer: the work between the
+-- two readings of the meter is that of the one hash.
 use Rattle.std.proofs.Common.{rules, ◌≡◌, ℕ, List, [], ◌∷◌, ◌++◌, ap, sym, ◌∙◌, arith}
 use Rattle.rand_core.specs.Stream.{Stream}
 use Rattle.prims_core.specs.Work.{no_work}
@@ -16,7 +19,7 @@ use Rattle.run_core.proofs.OneEnds as ending
 use Rattle.run_core.proofs.ToldCounts.{after_hashings, small_rise}
 use Rattle.run_core.proofs.one.run_one.Goals as goal
 
--- the line that is rendered is the one of the hash
+-- the rendered line is the text of the answer
 the_line : (job : Job) (password : List ℕ) (stream : Stream) (hash : List ℕ) (before after reading told : Work) → hash ≡ new_hash job password stream
     → after ≡ raised_by before (work password (next_setting job.maker stream)) → reading ≡ before
     → ((more : Work) → after ≡ raised_by reading more → told ≡ more)

@@ -1,3 +1,5 @@
+-- Answers the clauses `number` and `each` of `Maker::cost`. The result is `made_cost_by`, and by `made_cost` each
+-- setting of the maker has this cost, whatever random numbers its salt is made from.
 use Rattle.std.proofs.Common.{sym, ◌∙◌, rules}
 use Rattle.run_core.proofs.MakerCosts.{made_cost}
 use Rattle.run_core.proofs.job.Maker.cost.Goals as goal

@@ -1,3 +1,5 @@
+-- The invariant of the loop in `read_first_line` is `IsReading`: the buffer holds `filled` bytes, none of them a line
+-- feed. The loop ends since each pass fills more of the buffer.
 use Rattle.std.proofs.Common.{length, ◌-◌}
 use Rattle.run_core.proofs.FirstLineReading.{IsReading}
 use Rattle.run_core.proofs.one.password.read_first_line.Given as goal

@@ -1,3 +1,6 @@
+-- Answers the goals of `LineReader::next_line`. Each exit of the loop, and the pass that keeps its invariant, has a
+-- lemma in `LineReading`, which is applied here to what `take_line` and `fetch` returned. The prover finds the goal for
+-- a reader that was at its end before.
 use Rattle.std.proofs.Common.{true, refl, arith}
 use Rattle.std.proofs.lemmas.Result.{err_from_is_err_and}
 use Rattle.run_core.proofs.LineReading.{room-fetched, seeking-end, seeking-failed, seeking-found, seeking-more}

@@ -1,3 +1,4 @@
+-- The invariant of the loop in `LineReader::next_line` is `IsNexting`. The loop ends since each pass uses an I/O call.
 use Rattle.run_core.proofs.LineReading.{IsNexting}
 use Rattle.run_core.proofs.reader.LineReader.next_line.Given as goal
 

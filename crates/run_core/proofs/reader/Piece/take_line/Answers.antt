@@ -1,3 +1,5 @@
+-- Answers the clause `takes` of `Piece::take_line`, with a line feed in the piece and without one, by the lemmas of
+-- `LineReading` on the range of bytes that is the piece.
 use Rattle.std.proofs.Common.{refl, sym, ◌∙◌}
 use Rattle.run_core.proofs.LineReading.{takes-all, takes-to_feed}
 use Rattle.run_core.proofs.reader.Piece.take_line.Goals as goal
