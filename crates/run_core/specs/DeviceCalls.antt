@@ -29,7 +29,7 @@ abbrev pub as_count : Bool → ℕ
 as_count seen = if seen then 1 else 0
 
 -- is_failed_give result piece is true if a `give` of `piece` fails: the writer returns an error, or takes no byte of a
--- piece that has some.
+-- piece that is not empty.
 abbrev pub is_failed_give : {E : Type 0} → Result ℕ E → List ℕ → Bool
 is_failed_give (Ok count) piece = count == 0 && nat_lt 0 (length piece)
 is_failed_give (Err e) piece = true

@@ -33,7 +33,7 @@ bytes_of = option_map (λ bytes. bytes.now)
 abbrev pub setting_by : Recipe → List ℕ → SettingValue
 setting_by recipe numbers = option_map_or (λ salt. record { scheme = recipe.scheme; salt = salt }) recipe.salt (salted recipe.scheme numbers)
 
--- next_setting recipe stream is the setting of the next hash. If no salt is given, it is made from the next three
+-- next_setting recipe stream is the setting of the next hash. If no salt is given, the salt is made from the next three
 -- random numbers.
 abbrev pub next_setting : Recipe → Stream → SettingValue
 next_setting recipe stream = setting_by recipe (three_words stream).0

@@ -102,7 +102,7 @@ impl<I: Read> Input<I> {
 
 /// A writer that counts its calls.
 ///
-/// - `failures`: calls and flushes that failed, and calls of `give` that took no byte of a piece that has some.
+/// - `failures`: failed calls and flushes, and calls of `give` that took no byte of a piece that is not empty.
 /// - `calls`: calls of `give`, including failed ones.
 /// - `bytes`: bytes that these calls took.
 /// - `idle`: calls of `give` with an empty piece that did not fail.
@@ -151,7 +151,7 @@ impl<O: Write> Output<O> {
         }
     }
 
-    /// Returns the number of failed calls and flushes. A call that took no byte of a piece that has some has failed.
+    /// Returns the number of failed calls and flushes. Taking no byte of a piece that is not empty is a failure.
     pub fn failures(&self) -> u64
         ensures { result ≡ self.now.failures }
     {

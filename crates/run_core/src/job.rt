@@ -60,7 +60,7 @@ impl Job {
 /// The source of a single password.
 #[derive(Drop)]
 pub enum PasswordFrom {
-    /// An argument, which may have any bytes.
+    /// The bytes of an argument, whatever they are.
     Word(Vec<u8>),
     /// The first line of the input.
     Input,

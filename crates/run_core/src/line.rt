@@ -13,10 +13,10 @@ use crypt_core::setting::SettingFault;
 use crypt_core::stored::StoredField;
 use thiserror::Error;
 
-/// The most bytes of a line without its line feed.
+/// The maximum length of a line in bytes, without its line feed.
 pub const LINE_LIMIT: usize = 2048;
 
-/// The most bytes of a name.
+/// The maximum length of a name in bytes.
 pub const NAME_LIMIT: usize = 64;
 
 /// What a run does with each line.
@@ -44,7 +44,7 @@ pub enum LineFault {
     NoPassword,
     /// The password is invalid. It follows the first colon, or the second in a line to check.
     Password(PasswordFault),
-    /// The field to check is not empty, does not begin with `!` or `*`, and contains no valid setting.
+    /// The field to check is not empty, does not begin with `!` or `*`, and has no valid setting.
     Setting(SettingFault),
     /// The line can cost more than the budget of the run.
     OverBudget,

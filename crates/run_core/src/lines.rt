@@ -99,7 +99,7 @@ pub fn run_batch<I: Read, O: Write, E: Write, R: Rng>(
 /// Checks the password of each line `name:field:password` of the input and writes the verdict to `out`.
 ///
 /// - `name:ok`: hashing the password with the setting in `field` reproduces `field`.
-/// - `name:ok:NEWHASH`: likewise, but the job asks to `rehash`, and its settings replace the one in `field`
+/// - `name:ok:NEWHASH`: likewise, but the job asks for a `rehash`, and its settings replace the one in `field`
 ///   ([`Setting::replaced_by`]).
 /// - `name:no`: hashing the password does not reproduce `field`.
 /// - `name:none`: `field` is empty.
