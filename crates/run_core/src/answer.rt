@@ -39,15 +39,6 @@ const COUNT_LIMIT: usize = 21;
 // The maximum length of an output line: a name, `:ok:`, a hash, four counts and a line feed.
 const ANSWER_LIMIT: usize = NAME_LIMIT + 4 + HASH_LIMIT + 4 * COUNT_LIMIT + 1;
 
-// The work of an answer without a hash.
-const NO_WORK: Work = Work {
-    digests: 0,
-    bytes: 0,
-    mixes: 0,
-    table: 0,
-    scratch: 0,
-};
-
 /// The buffer for an output line.
 pub(crate) type Text = ArrayVec<u8, ANSWER_LIMIT>;
 
