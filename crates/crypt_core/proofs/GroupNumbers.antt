@@ -12,20 +12,20 @@ use Rattle.std.proofs.lemmas.List.Sums.{fold-append}
 use Rattle.std.proofs.lemmas.Nat.{mul-pow}
 use Rattle.prims_core.specs.Alphabet.{alphabet, character_of, numerals}
 use Rattle.prims_core.proofs.AlphabetFacts.{value-from_Contains}
-use Rattle.prims_core.proofs.NumeralFacts.{below-more, numerals-more, numerals-none, numerals-step}
+use Rattle.prims_core.proofs.NumeralFacts.{mul-add-lt_pow, numerals-mul-add, numerals-zero, numerals-add_one}
 
 -- ---- the characters of a number
 
 -- Characters of the alphabet are the numerals of some number.
 pub number_of : (text : List ℕ) → All (Contains alphabet) text → (n : ℕ) × (n < 64 ^ length text) × (numerals (length text) n ≡ text)
-number_of [] all = (0, omega arith, numerals-none 0)
+number_of [] all = (0, omega arith, numerals-zero 0)
 number_of (c ∷ text) all =
     let found = value-from_Contains c (All-head (Contains alphabet) c text all) in
     let rest = number_of text (All-tail (Contains alphabet) c text all) in
     let one : suc (length text) ≡ length text + 1 = omega arith in (
       rest.0 * 64 + found.0,
-      rw one (below-more (length text) rest.0 found.0 rest.1 found.1),
-      rw one (numerals-more (length text) rest.0 found.0 c found.1 found.2) ∙ ap (λ (cs : List ℕ). c ∷ cs) rest.2,
+      rw one (mul-add-lt_pow (length text) rest.0 found.0 rest.1 found.1),
+      rw one (numerals-mul-add (length text) rest.0 found.0 c found.1 found.2) ∙ ap (λ (cs : List ℕ). c ∷ cs) rest.2,
     )
 
 -- Takes one factor out of a product.
@@ -36,7 +36,7 @@ factor_out power more base v is = rw is (grind arith)
 highest : (k n : ℕ) → n < 64 ^ (k + 1)
     → (v : ℕ) × (v < 64) × (64 ^ k * v ≤ n) × (n < 64 ^ k * (v + 1)) × (get_or (numerals (k + 1) n) k 0 ≡ character_of v)
 highest zero n small =
-    (n, omega arith, omega arith, omega arith, ap (λ (cs : List ℕ). get_or cs 0 0) (numerals-step 1 0 n refl) ∙ ap character_of (omega arith))
+    (n, omega arith, omega arith, omega arith, ap (λ (cs : List ℕ). get_or cs 0 0) (numerals-add_one 1 0 n refl) ∙ ap character_of (omega arith))
 highest (suc k) n small =
     let power : 64 ^ suc k ≡ 64 ^ k * 64 = pow-suc 64 k in
     let next : suc k + 1 ≡ suc (k + 1) = omega arith in
@@ -48,7 +48,7 @@ highest (suc k) n small =
       rest.1,
       omega (arith, from, rest.2),
       omega (arith, to, rest.3),
-      ap (λ (cs : List ℕ). get_or cs (suc k) 0) (numerals-step (suc k + 1) (k + 1) n (omega arith)) ∙ rest.4,
+      ap (λ (cs : List ℕ). get_or cs (suc k) 0) (numerals-add_one (suc k + 1) (k + 1) n (omega arith)) ∙ rest.4,
     )
 
 -- A number of k + 1 characters has k bytes exactly if the value of its last character is below 4 ^ k.

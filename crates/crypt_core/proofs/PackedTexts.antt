@@ -12,7 +12,7 @@ use Rattle.std.proofs.lemmas.List.Elements.{All-map}
 use Rattle.std.proofs.lemmas.List.FromFn.{get_or-map-range_with_len, length-map-range_with_len}
 use Rattle.std.proofs.lemmas.Nat.{mul-pow}
 use Rattle.prims_core.specs.Alphabet.{alphabet, character_of}
-use Rattle.prims_core.proofs.AlphabetFacts.{character_of-injective, passes_below}
+use Rattle.prims_core.proofs.AlphabetFacts.{character_of-injective, true_below-from_list_all}
 use Rattle.prims_core.proofs.NumeralFacts.{length-numerals}
 use Rattle.crypt_core.specs.declared.method.Method.{Method}
 use Rattle.crypt_core.specs.MethodLimits.{digest_len, packed_len}
@@ -44,7 +44,7 @@ unfolding is_place digest_with
 digest_with_is n places bytes long all same =
     ext_get_or 0 (map (slice_index (digest_with n places bytes)) places) bytes (length-map places _ ∙ sym same) (λ i inside.
     let below : i < n = omega (arith, length-map places (slice_index (digest_with n places bytes))) in
-    let parts = and_parts _ _ (passes_below (is_place n places) n all i below) in
+    let parts = and_parts _ _ (true_below-from_list_all (is_place n places) n all i below) in
     let place = get_or places i 0 in
     let index : index_in places place ≡ i = eqb-true _ _ parts.0 in
     get_or-map (slice_index (digest_with n places bytes)) places i 0 0 (omega arith)

@@ -9,7 +9,7 @@ use Rattle.std.proofs.Math.Seq.{drop-cons}
 use Rattle.prims_core.specs.Diagonals.{block_in_rows, in_rows}
 use Rattle.prims_core.specs.Words.{bytes_of_words, little_number}
 use Rattle.prims_core.proofs.BlockFacts.{length-in_rows, block_at-in_rows}
-use Rattle.prims_core.proofs.WordFacts.{number-from_word}
+use Rattle.prims_core.proofs.WordFacts.{little_number-first_word}
 use Rattle.kdf_core.specs.Scrypt.{integerify}
 
 -- Integerify modulo 2 ^ k is the first word of the last block modulo 2 ^ k.
@@ -21,7 +21,7 @@ integerify-mod words k some most =
     let inside : at < length words = omega arith in
     let word = get_or words at 0 in
     -- The number is the first word of the last block modulo 2 ^ 32, and a multiple of 2 ^ 32.
-    let split = number-from_word 60 word (drop (suc at) words) in
+    let split = little_number-first_word 60 word (drop (suc at) words) in
     let above : ℕ = split.0 in
     let bits : 32 ≡ k + (32 - k) = omega arith in
     let power : 2 ^ 32 ≡ 2 ^ k * 2 ^ (32 - k) = ap (λ e. 2 ^ e) bits ∙ pow-add 2 k (32 - k) in

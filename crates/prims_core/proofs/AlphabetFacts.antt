@@ -1,7 +1,7 @@
 -- The characters of crypt's alphabet, for `value_of`, `read_30` and the packing of digests in crypt_core: the character
 -- of each value below 64, that no two values have the same one, and which bytes are not in the alphabet. The three
--- ranges of characters are found by computing all their values with `passes_below`. The other facts are arithmetic on
--- the three cases of `character_of-ranges`.
+-- ranges of characters are found by computing all their values with `true_below-from_list_all`. The other facts are
+-- arithmetic on the three cases of `character_of-ranges`.
 use Rattle.std.proofs.Common.{◌≡◌, ℕ, ◌+◌, ◌-◌, ◌<◌, ◌≤◌, Bool, true, ◌⊎◌, inl, inr, eqb, length, get_or, refl, sym, ◌∙◌, ap, subst, arith}
 use Rattle.std.specs.Prelude.{Contains}
 use Rattle.std.specs.List.{list_all, range_with_len}
@@ -12,9 +12,9 @@ use Rattle.std.proofs.lemmas.Grind.{get_or_default_zero}
 use Rattle.prims_core.specs.Alphabet.{alphabet, character_of}
 
 -- A test that computes to true for all numbers below n at once is true for each of them.
-pub passes_below : (p : ℕ → Bool) (n : ℕ) → list_all p (range_with_len 0 n) ≡ true
+pub true_below-from_list_all : (p : ℕ → Bool) (n : ℕ) → list_all p (range_with_len 0 n) ≡ true
     → (v : ℕ) → v < n → p v ≡ true
-passes_below p n all v below =
+true_below-from_list_all p n all v below =
     let passes : p (get_or (range_with_len 0 n) v 0) ≡ true =
     AllPass-from_list_all p (range_with_len 0 n) all v 0 (rw length-range_with_len below) in
     let place : get_or (range_with_len 0 n) v 0 ≡ v =
@@ -26,36 +26,36 @@ unfolding alphabet
 length-alphabet = refl
 
 -- The three ranges of characters, as their bytes: `.` to `9`, then `A` to `Z`, then `a` to `z`.
-pub character_of-first : (v : ℕ) → v < 12 → character_of v ≡ v + 46
+pub character_of-dot_to_nine : (v : ℕ) → v < 12 → character_of v ≡ v + 46
 unfolding alphabet
-character_of-first v below =
-    eqb-true _ _ (passes_below (λ w. eqb (character_of w) (w + 46)) 12 refl v below)
+character_of-dot_to_nine v below =
+    eqb-true _ _ (true_below-from_list_all (λ w. eqb (character_of w) (w + 46)) 12 refl v below)
 
-pub character_of-upper : (v : ℕ) → v < 26 → character_of (v + 12) ≡ v + 65
+pub character_of-upper_case : (v : ℕ) → v < 26 → character_of (v + 12) ≡ v + 65
 unfolding alphabet
-character_of-upper v below =
-    eqb-true _ _ (passes_below (λ w. eqb (character_of (w + 12)) (w + 65)) 26 refl v below)
+character_of-upper_case v below =
+    eqb-true _ _ (true_below-from_list_all (λ w. eqb (character_of (w + 12)) (w + 65)) 26 refl v below)
 
-pub character_of-lower : (v : ℕ) → v < 26 → character_of (v + 38) ≡ v + 97
+pub character_of-lower_case : (v : ℕ) → v < 26 → character_of (v + 38) ≡ v + 97
 unfolding alphabet
-character_of-lower v below =
-    eqb-true _ _ (passes_below (λ w. eqb (character_of (w + 38)) (w + 97)) 26 refl v below)
+character_of-lower_case v below =
+    eqb-true _ _ (true_below-from_list_all (λ w. eqb (character_of (w + 38)) (w + 97)) 26 refl v below)
 
 -- Each value below 64 is in one of the three ranges, and its byte follows from that.
 pub character_of-ranges : (v : ℕ) → v < 64
     → ((v < 12) × (character_of v ≡ v + 46))
     ⊎ (((12 ≤ v) × (v < 38) × (character_of v ≡ v + 53)) ⊎ ((38 ≤ v) × (character_of v ≡ v + 59)))
 character_of-ranges v below = elim (cases_lt v 12) [
-  | inl first ↦ inl (first, character_of-first v first)
+  | inl first ↦ inl (first, character_of-dot_to_nine v first)
   | inr past ↦ elim (cases_lt v 38) [
     | inl upper ↦ inr (inl (
       past,
       upper,
-      ap character_of (omega arith) ∙ character_of-upper (v - 12) (omega arith) ∙ omega arith,
+      ap character_of (omega arith) ∙ character_of-upper_case (v - 12) (omega arith) ∙ omega arith,
     ))
     | inr lower ↦ inr (inr (
       lower,
-      ap character_of (omega arith) ∙ character_of-lower (v - 38) (omega arith) ∙ omega arith,
+      ap character_of (omega arith) ∙ character_of-lower_case (v - 38) (omega arith) ∙ omega arith,
     ))
   ]
 ]
@@ -79,11 +79,11 @@ character_of-injective v w vs ws same =
 abbrev pub IsOutside : ℕ → Type 0
 IsOutside c = (c < 46) ⊎ (((57 < c) × (c < 65)) ⊎ (((90 < c) × (c < 97)) ⊎ (122 < c)))
 
-pub no_value : (c : ℕ) → IsOutside c → (v : ℕ) → v < 64 → character_of v ≡ c → ⊥
-no_value c outside v below is = omega (arith, outside, character_of-ranges v below)
+pub character_of-not_outside : (c : ℕ) → IsOutside c → (v : ℕ) → v < 64 → character_of v ≡ c → ⊥
+character_of-not_outside c outside v below is = omega (arith, outside, character_of-ranges v below)
 
 -- So the alphabet doesn't contain it.
-pub outside_alphabet : (c : ℕ) → IsOutside c → Contains alphabet c → ⊥
-outside_alphabet c outside has =
+pub Contains-not_outside : (c : ℕ) → IsOutside c → Contains alphabet c → ⊥
+Contains-not_outside c outside has =
     let found : (v : ℕ) × (v < 64) × (character_of v ≡ c) = value-from_Contains c has in
-    no_value c outside found.0 found.1 found.2
+    character_of-not_outside c outside found.0 found.1 found.2

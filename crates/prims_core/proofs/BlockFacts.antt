@@ -12,34 +12,34 @@ use Rattle.std.proofs.lemmas.List.{take_at, drop_at, drop-drop, drop-take, lengt
 use Rattle.prims_core.specs.BlockMix.{block_at}
 use Rattle.prims_core.specs.Diagonals.{block_in_rows, in_rows}
 use Rattle.prims_core.specs.Words.{chunks_exact}
-use Rattle.prims_core.proofs.ChunkFacts.{joined_from_pieces, concat-chunks_exact, length-chunks_exact, get_or-chunks_exact}
+use Rattle.prims_core.proofs.ChunkFacts.{concat-from_pieces, concat-chunks_exact, length-chunks_exact, get_or-chunks_exact}
 
 pub length-block_in_rows : (block : List ℕ) → length (block_in_rows block) ≡ 16
 unfolding block_in_rows
 length-block_in_rows block = refl
 
 -- A list of pieces, each replaced by a piece of this size, and joined: its length, and each piece of it.
-length-joined : (f : List ℕ → List ℕ) (size : ℕ) → ((piece : List ℕ) → length (f piece) ≡ size) → (pieces : List (List ℕ))
+length-flat_map : (f : List ℕ → List ℕ) (size : ℕ) → ((piece : List ℕ) → length (f piece) ≡ size) → (pieces : List (List ℕ))
     → length (flat_map f pieces) ≡ size * length pieces
-length-joined f size each [] = omega arith
-length-joined f size each (piece ∷ pieces) =
-    omega (arith, length-append (f piece) (flat_map f pieces), each piece, length-joined f size each pieces)
+length-flat_map f size each [] = omega arith
+length-flat_map f size each (piece ∷ pieces) =
+    omega (arith, length-append (f piece) (flat_map f pieces), each piece, length-flat_map f size each pieces)
 
-piece-joined : (f : List ℕ → List ℕ) (size : ℕ) → ((piece : List ℕ) → length (f piece) ≡ size) → (pieces : List (List ℕ))
+take_drop-flat_map : (f : List ℕ → List ℕ) (size : ℕ) → ((piece : List ℕ) → length (f piece) ≡ size) → (pieces : List (List ℕ))
     (i : ℕ) → i < length pieces → take size (drop (size * i) (flat_map f pieces)) ≡ f (get_or pieces i [])
-piece-joined f size each [] i inside = absurd (omega arith)
-piece-joined f size each (piece ∷ pieces) zero inside =
+take_drop-flat_map f size each [] i inside = absurd (omega arith)
+take_drop-flat_map f size each (piece ∷ pieces) zero inside =
     let none : size * 0 ≡ 0 = omega arith in
     rw none (take_at (f piece) (flat_map f pieces) size (each piece))
-piece-joined f size each (piece ∷ pieces) (suc i) inside =
+take_drop-flat_map f size each (piece ∷ pieces) (suc i) inside =
     let place : size * suc i ≡ size + size * i = omega arith in
     rw (place, ← drop-drop (size * i) size (f piece ++ flat_map f pieces), drop_at (f piece) (flat_map f pieces) size (each piece))
-    (piece-joined f size each pieces i (omega arith))
+    (take_drop-flat_map f size each pieces i (omega arith))
 
 pub length-in_rows : (words : List ℕ) → length (in_rows words) ≡ 16 * (length words / 16)
 unfolding in_rows chunks_exact
 length-in_rows words =
-    length-joined block_in_rows 16 length-block_in_rows (chunks_exact words 16)
+    length-flat_map block_in_rows 16 length-block_in_rows (chunks_exact words 16)
     ∙ ap (λ (k : ℕ). 16 * k) (length-map-range_with_len (λ i. take 16 (drop (16 * i) words)) 0 (length words / 16))
 
 pub block_at-in_rows : (words : List ℕ) (i : ℕ) → 16 * i + 16 ≤ length words
@@ -49,48 +49,48 @@ block_at-in_rows words i inside =
     let cut : ℕ → List ℕ = λ k. take 16 (drop (16 * k) words) in
     let n : ℕ = length words / 16 in
     let all : length (chunks_exact words 16) ≡ n = length-map-range_with_len cut 0 n in
-    piece-joined block_in_rows 16 length-block_in_rows (chunks_exact words 16) i (omega (arith, all))
+    take_drop-flat_map block_in_rows 16 length-block_in_rows (chunks_exact words 16) i (omega (arith, all))
     ∙ ap block_in_rows (get_or-map-range_with_len cut 0 n i i [] (omega arith) (omega arith))
 
 -- Two lists that have the same blocks are equal.
-pub same_blocks : (n : ℕ) (xs ys : List ℕ) → length xs ≡ 16 * n → length ys ≡ 16 * n
+pub equal-from_same_blocks : (n : ℕ) (xs ys : List ℕ) → length xs ≡ 16 * n → length ys ≡ 16 * n
     → ((i : ℕ) → i < n → block_at i xs ≡ block_at i ys) → xs ≡ ys
-same_blocks n xs ys whole_xs whole_ys each =
+equal-from_same_blocks n xs ys whole_xs whole_ys each =
     let pieces : length (chunks_exact ys 16) ≡ n = length-chunks_exact ys 16 n (omega arith) whole_ys in
-    joined_from_pieces 16 (chunks_exact ys 16) xs (rw pieces whole_xs) (λ i inside.
+    concat-from_pieces 16 (chunks_exact ys 16) xs (rw pieces whole_xs) (λ i inside.
     get_or-chunks_exact ys 16 n i (omega arith) whole_ys (omega arith) ∙ sym (each i (omega arith)))
     ∙ concat-chunks_exact ys 16 n (omega arith) whole_ys
 
 -- A list after a block is written over block i: block i is the written one, and each other block k is as before.
-pub written_same : (i width : ℕ) (out x : List ℕ) → 16 * i + 16 ≤ length out → length x ≡ 16
+pub block_at-put_mid_same : (i width : ℕ) (out x : List ℕ) → 16 * i + 16 ≤ length out → length x ≡ 16
     → block_at i (put_mid (16 * i) width out x) ≡ x
-written_same i width out x inside whole =
+block_at-put_mid_same i width out x inside whole =
     let length_is : 16 * i + 16 - 16 * i ≡ 16 = omega arith in
     rw length_is at (between-put_mid (16 * i) width out x (16 * i + 16) (omega arith) (omega arith))
 
-pub written_other : (i width k : ℕ) (out x : List ℕ) → 16 * i + 16 ≤ length out → width ≡ 16 → length x ≡ 16
+pub block_at-put_mid_other : (i width k : ℕ) (out x : List ℕ) → 16 * i + 16 ≤ length out → width ≡ 16 → length x ≡ 16
     → (k < i) ⊎ (i < k) → block_at k (put_mid (16 * i) width out x) ≡ block_at k out
-written_other i width k out x inside is whole (inl below) =
+block_at-put_mid_other i width k out x inside is whole (inl below) =
     sym (drop-take (16 * k) 16 (put_mid (16 * i) width out x))
     ∙ ap (drop (16 * k)) (take-put_mid_below (16 * i) width out x (16 * k + 16) (omega arith) (omega arith))
     ∙ drop-take (16 * k) 16 out
-written_other i width k out x inside is whole (inr above) =
+block_at-put_mid_other i width k out x inside is whole (inr above) =
     ap (take 16) (drop-put_mid (16 * i) width out x (16 * k) (omega arith) (omega arith) (omega arith))
 
 -- The loops of `to_diagonals` and `from_diagonals`, one step on: blocks before i have property P and the others are
 -- those of `start`. After a block with P is written over block i, the same holds of i + 1.
-pub rearranged-more : (n i width : ℕ) (P : ℕ → List ℕ → Type 0) (start words block : List ℕ) → length words ≡ 16 * n → i < n
+pub rearranged_blocks-put_mid : (n i width : ℕ) (P : ℕ → List ℕ → Type 0) (start words block : List ℕ) → length words ≡ 16 * n → i < n
     → width ≡ 16 → length block ≡ 16 → P i block
     → ((k : ℕ) → k < i → P k (block_at k words)) → ((k : ℕ) → i ≤ k → block_at k words ≡ block_at k start)
     → ((k : ℕ) → k < i + 1 → P k (block_at k (put_mid (16 * i) width words block)))
     × ((k : ℕ) → i + 1 ≤ k → block_at k (put_mid (16 * i) width words block) ≡ block_at k start)
-rearranged-more n i width P start words block whole inside sixteen long is done rest = (
+rearranged_blocks-put_mid n i width P start words block whole inside sixteen long is done rest = (
   (λ k so_far. elim (cases_lt k i) [
     | inl earlier ↦
-        subst (P k) (sym (written_other i width k words block (omega arith) sixteen long (inl earlier))) (done k earlier)
+        subst (P k) (sym (block_at-put_mid_other i width k words block (omega arith) sixteen long (inl earlier))) (done k earlier)
     | inr now ↦
         let this : k ≡ i = omega arith in
-        rw this (subst (P i) (sym (written_same i width words block (omega arith) long)) is)
+        rw this (subst (P i) (sym (block_at-put_mid_same i width words block (omega arith) long)) is)
   ]),
-  (λ k later. written_other i width k words block (omega arith) sixteen long (inr (omega arith)) ∙ rest k (omega arith)),
+  (λ k later. block_at-put_mid_other i width k words block (omega arith) sixteen long (inr (omega arith)) ∙ rest k (omega arith)),
 )

@@ -1,6 +1,6 @@
 -- A list cut into pieces of one size by `chunks_exact`: their number, each piece, and that joining them gives the list
 -- back, if its length is a multiple of the size. `load_words`, `salsa8_of` and the mixing of blocks need it.
--- `joined_from_pieces` shows the last part, by induction over the pieces.
+-- `concat-from_pieces` shows the last part, by induction over the pieces.
 use Rattle.std.proofs.Common.{◌≡◌, ℕ, suc, ◌+◌, ◌*◌, ◌/◌, ◌<◌, List, [], ◌∷◌, ◌++◌, length, take, drop, get_or, sym, ◌∙◌, ap, ap₂, arith}
 use Rattle.std.specs.List.{concat}
 use Rattle.std.proofs.Math.Nat.{mul-div_cancel_left}
@@ -25,15 +25,15 @@ get_or-chunks_exact items size count i some whole inside =
     get_or-map-range_with_len (λ i. take size (drop (size * i) items)) 0 (length items / size) i i [] (omega arith) (omega arith)
 
 -- A list that consists of these pieces, one after another, is the pieces joined.
-pub joined_from_pieces : (size : ℕ) (pieces : List (List ℕ)) (items : List ℕ) → length items ≡ size * length pieces
+pub concat-from_pieces : (size : ℕ) (pieces : List (List ℕ)) (items : List ℕ) → length items ≡ size * length pieces
     → ((i : ℕ) → i < length pieces → get_or pieces i [] ≡ take size (drop (size * i) items))
     → items ≡ concat pieces
-joined_from_pieces size [] items whole each = nil_from_length items (omega arith)
-joined_from_pieces size (piece ∷ pieces) items whole each =
+concat-from_pieces size [] items whole each = nil_from_length items (omega arith)
+concat-from_pieces size (piece ∷ pieces) items whole each =
     let none : size * 0 ≡ 0 = omega arith in
     let first : piece ≡ take size items = rw none at (each 0 (omega arith)) in
     let rest : drop size items ≡ concat pieces =
-    joined_from_pieces size pieces (drop size items) (omega (arith, length-drop size items)) (λ i inside.
+    concat-from_pieces size pieces (drop size items) (omega (arith, length-drop size items)) (λ i inside.
     let place : size * suc i ≡ size + size * i = omega arith in
     let there = each (suc i) (omega arith) in
     rw (drop-drop, ← place) there) in
@@ -44,5 +44,5 @@ pub concat-chunks_exact : (items : List ℕ) (size count : ℕ) → 0 < size →
     → concat (chunks_exact items size) ≡ items
 concat-chunks_exact items size count some whole =
     let all : length (chunks_exact items size) ≡ count = length-chunks_exact items size count some whole in
-    sym (joined_from_pieces size (chunks_exact items size) items (rw all whole)
+    sym (concat-from_pieces size (chunks_exact items size) items (rw all whole)
     (λ i inside. get_or-chunks_exact items size count i some whole (omega arith)))

@@ -1,6 +1,7 @@
 -- The rows that `fill_by_mixing` has filled so far: row i holds the start after i mixings, for each row there is
--- (`HasMixings`). The loop adds two rows at a time, by `mixings-two_more`. Once all rows are there, `filled-held` is
--- the clause `rows`. `mix_with_rows` and `mix_parts` of kdf_core use the lemmas on iterations and on counted mixings.
+-- (`HasMixings`). The loop adds two rows at a time, by `HasMixings-append_two`. Once all rows are there,
+-- `HoldsMixings-from_HasMixings` is the clause `rows`. `mix_with_rows` and `mix_parts` of kdf_core use the lemmas on
+-- iterations and on counted mixings.
 use Rattle.std.proofs.Common.{◌≡◌, ℕ, zero, suc, ◌+◌, ◌*◌, ◌/◌, ◌<◌, ◌≤◌, List, [], ◌++◌, length, take, drop, refl, sym, ◌∙◌, ap, arith, below_more, length-append, length-drop}
 use Rattle.std.specs.Fn.{iterate}
 use Rattle.std.proofs.Math.Nat.{mul-le-mul_left}
@@ -13,24 +14,24 @@ use Rattle.prims_core.specs.declared.meter.Work.{Work}
 use Rattle.prims_core.proofs.TableFacts.{get_or-rows_of}
 
 -- n + 1 applications are one application after n.
-pub iterate-more : (h : List ℕ → List ℕ) (n : ℕ) (x : List ℕ) → iterate h (n + 1) x ≡ h (iterate h n x)
-iterate-more h zero x = refl
-iterate-more h (suc n) x =
+pub iterate-add_one : (h : List ℕ → List ℕ) (n : ℕ) (x : List ℕ) → iterate h (n + 1) x ≡ h (iterate h n x)
+iterate-add_one h zero x = refl
+iterate-add_one h (suc n) x =
     let next : suc n + 1 ≡ suc (n + 1) = omega arith in
-    ap (λ k. iterate h k x) next ∙ iterate-more h n (h x)
+    ap (λ k. iterate h k x) next ∙ iterate-add_one h n (h x)
 
 -- The same for two more applications, where the values between them are given by equations.
-pub iterate-two_more : (h : List ℕ → List ℕ) (n : ℕ) (x a b c : List ℕ) → a ≡ iterate h (2 * n) x → b ≡ h a → c ≡ h b
+pub iterate-add_two : (h : List ℕ → List ℕ) (n : ℕ) (x a b c : List ℕ) → a ≡ iterate h (2 * n) x → b ≡ h a → c ≡ h b
     → c ≡ iterate h (2 * (n + 1)) x
-iterate-two_more h n x a b c is first second =
+iterate-add_two h n x a b c is first second =
     let all : 2 * n + 1 + 1 ≡ 2 * (n + 1) = omega arith in
-    let once : b ≡ iterate h (2 * n + 1) x = first ∙ (ap h is ∙ sym (iterate-more h (2 * n) x)) in
-    second ∙ (ap h once ∙ (sym (iterate-more h (2 * n + 1) x) ∙ ap (λ k. iterate h k x) all))
+    let once : b ≡ iterate h (2 * n + 1) x = first ∙ (ap h is ∙ sym (iterate-add_one h (2 * n) x)) in
+    second ∙ (ap h once ∙ (sym (iterate-add_one h (2 * n + 1) x) ∙ ap (λ k. iterate h k x) all))
 
 -- A meter that counts m mixings and then n has counted their sum.
-pub mixes-more : (a b c : Work) (m n all : ℕ) → b ≡ record a { mixes = a.mixes + m } → c ≡ record b { mixes = b.mixes + n } → m + n ≡ all
+pub mixes-add : (a b c : Work) (m n all : ℕ) → b ≡ record a { mixes = a.mixes + m } → c ≡ record b { mixes = b.mixes + n } → m + n ≡ all
     → c ≡ record a { mixes = a.mixes + all }
-mixes-more a b c m n all first then sum =
+mixes-add a b c m n all first then sum =
     let whole : a.mixes + m + n ≡ a.mixes + all = omega arith in
     then ∙ (ap (λ (x : Work). record x { mixes = x.mixes + n }) first ∙ ap (λ k. record a { mixes = k }) whole)
 
@@ -41,13 +42,13 @@ pub record HasMixings (items : List ℕ) (w count : ℕ) (start : List ℕ) : Ty
   pub held : (i : ℕ) → i < count → in_rows (take w (drop (i * w) items)) ≡ iterate block_mix i start
 
 -- An empty list has no rows.
-pub mixings-none : (w : ℕ) (start : List ℕ) → HasMixings [] w 0 start
-mixings-none w start = record { long = omega arith; held = λ i none. absurd (omega arith) }
+pub HasMixings-nil : (w : ℕ) (start : List ℕ) → HasMixings [] w 0 start
+HasMixings-nil w start = record { long = omega arith; held = λ i none. absurd (omega arith) }
 
 -- Appending `start` after `count` mixings adds a row.
-pub mixings-more : (items row start : List ℕ) (w count : ℕ) → HasMixings items w count start → length row ≡ w
+pub HasMixings-append : (items row start : List ℕ) (w count : ℕ) → HasMixings items w count start → length row ≡ w
     → in_rows row ≡ iterate block_mix count start → HasMixings (items ++ row) w (count + 1) start
-mixings-more items row start w count before same is =
+HasMixings-append items row start w count before same is =
     record {
       long = length-append items row ∙ omega (arith, before.long, same);
       held = below_more _ _
@@ -62,21 +63,21 @@ mixings-more items row start w count before same is =
 
 -- The same for two rows, x and then y, where y is x mixed once more. This is one iteration of the loop of
 -- `fill_by_mixing`.
-pub mixings-two_more : (items once twice x y start : List ℕ) (w i : ℕ) → HasMixings items w (2 * i) start → length x ≡ w → length y ≡ w
+pub HasMixings-append_two : (items once twice x y start : List ℕ) (w i : ℕ) → HasMixings items w (2 * i) start → length x ≡ w → length y ≡ w
     → in_rows x ≡ iterate block_mix (2 * i) start → in_rows y ≡ block_mix (in_rows x) → once ≡ items ++ x → twice ≡ once ++ y
     → HasMixings twice w (2 * (i + 1)) start
-mixings-two_more items once twice x y start w i before long_x long_y is mixed first second =
+HasMixings-append_two items once twice x y start w i before long_x long_y is mixed first second =
     let all : 2 * i + 1 + 1 ≡ 2 * (i + 1) = omega arith in
-    let one : HasMixings once w (2 * i + 1) start = rw first (mixings-more items x start w (2 * i) before long_x is) in
-    rw (second, ← all) (mixings-more once y start w (2 * i + 1) one long_y
-    (mixed ∙ (ap block_mix is ∙ sym (iterate-more block_mix (2 * i) start))))
+    let one : HasMixings once w (2 * i + 1) start = rw first (HasMixings-append items x start w (2 * i) before long_x is) in
+    rw (second, ← all) (HasMixings-append once y start w (2 * i + 1) one long_y
+    (mixed ∙ (ap block_mix is ∙ sym (iterate-add_one block_mix (2 * i) start))))
 
 -- After i iterations, of two rows each, the memory for n rows still holds two more if i is below n / 2.
-pub room_for_two_rows : (n w i : ℕ) → i < n / 2 → 2 * i * w + w + w ≤ n * w
-room_for_two_rows n w i inside =
+pub two_more_rows-fit : (n w i : ℕ) → i < n / 2 → 2 * i * w + w + w ≤ n * w
+two_more_rows-fit n w i inside =
     let more : 2 * i + 2 ≤ n = omega arith in
     omega (arith, mul-le-mul_left w more)
 
 -- A list with all its rows is a table that holds the mixings.
-pub filled-held : (n w : ℕ) (items start : List ℕ) → HasMixings items w n start → HoldsMixings (rows_of n w items) n start
-filled-held n w items start is = λ i inside. ap in_rows (get_or-rows_of n w items i [] inside) ∙ is.held i inside
+pub HoldsMixings-from_HasMixings : (n w : ℕ) (items start : List ℕ) → HasMixings items w n start → HoldsMixings (rows_of n w items) n start
+HoldsMixings-from_HasMixings n w items start is = λ i inside. ap in_rows (get_or-rows_of n w items i [] inside) ∙ is.held i inside

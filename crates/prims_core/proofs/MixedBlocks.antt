@@ -1,7 +1,7 @@
 -- scryptBlockMix while it goes on, for `put_result`, `mix_blocks` and `mix_and_append`: X from block to block, and the
--- results that are in their places so far. `placed_more` adds a result: its place is free, because no two results have
--- the same place. Once all 2r are there, `in_order` shows that they are the results with even numbers followed by those
--- with odd numbers.
+-- results that are in their places so far. `ArePlaced-put_mid` adds a result: its place is free, because no two results
+-- have the same place. Once all 2r are there, `in_rows-from_ArePlaced` shows that they are the results with even
+-- numbers followed by those with odd numbers.
 use Rattle.std.proofs.Common.{◌≡◌, ℕ, ◌+◌, ◌-◌, ◌*◌, ◌/◌, ◌%◌, ◌<◌, ◌⊎◌, inl, inr, List, [], ◌++◌, length, take, map, refl, sym, ◌∙◌, ap, add-one, arith}
 use borrow.Rule.Slice.PartMut.{put_mid}
 use Rattle.std.specs.List.{concat, range_with_len}
@@ -12,51 +12,51 @@ use Rattle.std.proofs.Math.Seq.{take-add}
 use Rattle.prims_core.specs.Private.Mixing.{mixed_block, place_of, ArePlaced}
 use Rattle.prims_core.specs.BlockMix.{block_at, x_after}
 use Rattle.prims_core.specs.Diagonals.{block_in_rows, in_rows}
-use Rattle.prims_core.proofs.ChunkFacts.{joined_from_pieces}
-use Rattle.prims_core.proofs.BlockFacts.{block_at-in_rows, length-in_rows, written_same, written_other}
+use Rattle.prims_core.proofs.ChunkFacts.{concat-from_pieces}
+use Rattle.prims_core.proofs.BlockFacts.{block_at-in_rows, length-in_rows, block_at-put_mid_same, block_at-put_mid_other}
 
 -- X before the first block, and after one more block.
-pub x_after-none : (r : ℕ) (words : List ℕ) → x_after r words 0 ≡ block_at (2 * r - 1) words
+pub x_after-zero : (r : ℕ) (words : List ℕ) → x_after r words 0 ≡ block_at (2 * r - 1) words
 unfolding x_after
-x_after-none r words = refl
+x_after-zero r words = refl
 
-pub x_after-more : (r : ℕ) (words : List ℕ) (i : ℕ) → x_after r words (i + 1) ≡ mixed_block (x_after r words i) (block_at i words)
+pub x_after-add_one : (r : ℕ) (words : List ℕ) (i : ℕ) → x_after r words (i + 1) ≡ mixed_block (x_after r words i) (block_at i words)
 unfolding x_after
-x_after-more r words i = rw add-one refl
+x_after-add_one r words i = rw add-one refl
 
 -- The place of result i is i / 2 if i is even, and r places later if i is odd.
-pub place_cases : (r i : ℕ)
+pub place_of-even_or_odd : (r i : ℕ)
     → ((i % 2 ≡ 0) × (place_of r i ≡ i / 2)) ⊎ ((i % 2 ≡ 1) × (place_of r i ≡ i / 2 + r))
-place_cases r i = elim (cases_lt (i % 2) 1) [
+place_of-even_or_odd r i = elim (cases_lt (i % 2) 1) [
   | inl even ↦ let is : i % 2 ≡ 0 = omega arith in inl (is, rw is (omega arith))
   | inr odd ↦ let is : i % 2 ≡ 1 = omega arith in inr (is, rw is (omega arith))
 ]
 
 -- Results 0 to i - 1 are in their places; after result i is written to its place, so are results 0 to i.
-pub placed_more : (r i width : ℕ) (y : ℕ → List ℕ) (out x : List ℕ) → length out ≡ 32 * r
+pub ArePlaced-put_mid : (r i width : ℕ) (y : ℕ → List ℕ) (out x : List ℕ) → length out ≡ 32 * r
     → i < 2 * r → width ≡ 16 → length x ≡ 16 → block_in_rows x ≡ y i → ArePlaced y r i out
     → ArePlaced y r (i + 1) (put_mid (16 * place_of r i) width out x)
-placed_more r i width y out x whole inside sixteen block is before = λ k so_far.
+ArePlaced-put_mid r i width y out x whole inside sixteen block is before = λ k so_far.
     let place : ℕ = place_of r i in
     -- A result k other than i has another place, so writing result i leaves it.
     let other : ℕ = place_of r k in
-    let fits : place < 2 * r = omega (arith, place_cases r i) in
+    let fits : place < 2 * r = omega (arith, place_of-even_or_odd r i) in
     elim (cases_lt k i) [
       | inl earlier ↦
           let apart : (other < place) ⊎ (place < other) = elim (cases_lt other place) [
             | inl below ↦ inl below
-            | inr above ↦ inr (omega (arith, place_cases r i, place_cases r k))
+            | inr above ↦ inr (omega (arith, place_of-even_or_odd r i, place_of-even_or_odd r k))
           ] in
-          ap block_in_rows (written_other place width other out x (omega arith) sixteen block apart) ∙ before k earlier
+          ap block_in_rows (block_at-put_mid_other place width other out x (omega arith) sixteen block apart) ∙ before k earlier
       | inr now ↦
           let this : k ≡ i = omega arith in
-          rw this (ap block_in_rows (written_same place width out x (omega arith) block) ∙ is)
+          rw this (ap block_in_rows (block_at-put_mid_same place width out x (omega arith) block) ∙ is)
     ]
 
 -- With all results in their places, the list is the even results and then the odd ones.
-pub in_order : (r : ℕ) (y : ℕ → List ℕ) (out : List ℕ) → length out ≡ 32 * r → ArePlaced y r (2 * r) out
+pub in_rows-from_ArePlaced : (r : ℕ) (y : ℕ → List ℕ) (out : List ℕ) → length out ≡ 32 * r → ArePlaced y r (2 * r) out
     → in_rows out ≡ concat (map (λ i. y (2 * i)) (range_with_len 0 r) ++ map (λ i. y (2 * i + 1)) (range_with_len 0 r))
-in_order r y out whole placed =
+in_rows-from_ArePlaced r y out whole placed =
     let evens = map (λ i. y (2 * i)) (range_with_len 0 r) in
     let odds = map (λ i. y (2 * i + 1)) (range_with_len 0 r) in
     let front_length : length evens ≡ r = length-map-range_with_len (λ i. y (2 * i)) 0 r in
@@ -66,23 +66,23 @@ in_order r y out whole placed =
     let there : (p : ℕ) → p < 2 * r → block_in_rows (block_at p out) ≡ block_at p (in_rows out) =
     λ p inside. sym (block_at-in_rows out p (omega arith)) in
     -- Before place r, block p is result 2p; from there on it is result 2q + 1, where q is p - r.
-    joined_from_pieces 16 (evens ++ odds) (in_rows out) (omega (arith, length-in_rows out)) (λ p inside.
+    concat-from_pieces 16 (evens ++ odds) (in_rows out) (omega (arith, length-in_rows out)) (λ p inside.
     elim (cases_lt p r) [
       | inl front ↦
-          let place : place_of r (2 * p) ≡ p = omega (arith, place_cases r (2 * p)) in
+          let place : place_of r (2 * p) ≡ p = omega (arith, place_of-even_or_odd r (2 * p)) in
           get_or_append_left evens odds [] p (omega arith)
           ∙ get_or-map-range_with_len (λ i. y (2 * i)) 0 r p p [] front (omega arith)
           ∙ sym (rw place at (placed (2 * p) (omega arith))) ∙ there p (omega arith)
       | inr back ↦
           let q = p - r in
-          let place : place_of r (2 * q + 1) ≡ p = omega (arith, place_cases r (2 * q + 1)) in
+          let place : place_of r (2 * q + 1) ≡ p = omega (arith, place_of-even_or_odd r (2 * q + 1)) in
           get_or-append_right evens odds r p [] front_length back
           ∙ get_or-map-range_with_len (λ i. y (2 * i + 1)) 0 r q q [] (omega arith) (omega arith)
           ∙ sym (rw place at (placed (2 * q + 1) (omega arith))) ∙ there p (omega arith)
     ])
 
 -- The first i blocks followed by block i are the first i + 1 blocks.
-pub block_more : (i : ℕ) (src : List ℕ) → take (16 * i) src ++ block_at i src ≡ take (16 * (i + 1)) src
-block_more i src =
+pub take-append-block_at : (i : ℕ) (src : List ℕ) → take (16 * i) src ++ block_at i src ≡ take (16 * (i + 1)) src
+take-append-block_at i src =
     let more : 16 * (i + 1) ≡ 16 * i + 16 = omega arith in
     rw more (sym (take-add (16 * i) 16 src))

@@ -1,6 +1,6 @@
 -- Numbers and their numerals, for `put_group` and `read_30`: each number below 64 ^ n has exactly one numeral of n
 -- characters. `put_group` writes one from its first character on, and `read_30` reads one from its last character on;
--- the lemmas `group_..` and `digits_..` are the first, middle and last steps of their loops. `numerals-injective`, by
+-- the lemmas `.._written` and `.._read` are the first, middle and last steps of their loops. `numerals-injective`, by
 -- induction over n, makes what `read_30` returns the only such number.
 use Rattle.std.proofs.Common.{◌≡◌, ℕ, zero, suc, ◌+◌, ◌-◌, ◌*◌, ◌/◌, ◌%◌, ◌^◌, ◌<◌, ◌≤◌, List, [], ◌∷◌, ◌++◌, length, get_or, refl, sym, ◌∙◌, ap, subst, add-one, append_assoc, append-nil, length-append, arith}
 use Rattle.std.specs.Prelude.{Contains, All}
@@ -11,14 +11,14 @@ use Rattle.prims_core.specs.Alphabet.{alphabet, character_of, numerals}
 use Rattle.prims_core.proofs.AlphabetFacts.{Contains-character_of, character_of-injective}
 
 -- A numeral is the character of the lowest six bits, and then the numeral of the rest.
-pub numerals-step : (n m value : ℕ) → n ≡ m + 1
+pub numerals-add_one : (n m value : ℕ) → n ≡ m + 1
     → numerals n value ≡ character_of (value % 64) ∷ numerals m (value / 64)
 unfolding numerals
-numerals-step n m value is = rw (is, add-one) refl
+numerals-add_one n m value is = rw (is, add-one) refl
 
-pub numerals-none : (value : ℕ) → numerals 0 value ≡ []
+pub numerals-zero : (value : ℕ) → numerals 0 value ≡ []
 unfolding numerals
-numerals-none value = refl
+numerals-zero value = refl
 
 pub length-numerals : (n value : ℕ) → length (numerals n value) ≡ n
 unfolding numerals
@@ -26,34 +26,34 @@ length-numerals zero value = refl
 length-numerals (suc n) value = ap suc (length-numerals n (value / 64))
 
 -- `put_group`, one character on: what is written and what is left are still the whole numeral.
-pub group_more : (out more whole : List ℕ) (character chars count rest : ℕ)
+pub numerals-character_written : (out more whole : List ℕ) (character chars count rest : ℕ)
     → more ≡ out ++ character ∷ [] → character ≡ character_of (rest % 64) → count < chars
     → out ++ numerals (chars - count) rest ≡ whole
     → more ++ numerals (chars - (count + 1)) (rest / 64) ≡ whole
-group_more out more whole character chars count rest written is left so_far =
+numerals-character_written out more whole character chars count rest written is left so_far =
     let step : numerals (chars - count) rest ≡ character ∷ numerals (chars - (count + 1)) (rest / 64) =
-    rw is (numerals-step (chars - count) (chars - (count + 1)) rest (omega arith)) in
+    rw is (numerals-add_one (chars - count) (chars - (count + 1)) rest (omega arith)) in
     rw (written, append_assoc) (ap (λ (xs : List ℕ). out ++ xs) (sym step) ∙ so_far)
 
 -- With all characters written, what is written is the whole numeral.
-pub group_all : (out whole : List ℕ) (chars count rest : ℕ) → chars ≤ count
+pub numerals-all_written : (out whole : List ℕ) (chars count rest : ℕ) → chars ≤ count
     → out ++ numerals (chars - count) rest ≡ whole → out ≡ whole
-group_all out whole chars count rest none so_far =
+numerals-all_written out whole chars count rest none so_far =
     let done : chars - count ≡ 0 = omega arith in
     let last : out ++ [] ≡ whole =
-    subst (λ (xs : List ℕ). out ++ xs ≡ whole) (ap (λ (n : ℕ). numerals n rest) done ∙ numerals-none rest) so_far in
+    subst (λ (xs : List ℕ). out ++ xs ≡ whole) (ap (λ (n : ℕ). numerals n rest) done ∙ numerals-zero rest) so_far in
     sym (append-nil out) ∙ last
 
 -- Putting the value v below a number puts its character in front of the numeral.
-pub numerals-more : (n number v c : ℕ) → v < 64 → character_of v ≡ c
+pub numerals-mul-add : (n number v c : ℕ) → v < 64 → character_of v ≡ c
     → numerals (n + 1) (number * 64 + v) ≡ c ∷ numerals n number
-numerals-more n number v c below is =
-    rw (numerals-step (n + 1) n (number * 64 + v) refl, mod-mul-add number 64 v below, div-mul-add number 64 v below)
+numerals-mul-add n number v c below is =
+    rw (numerals-add_one (n + 1) n (number * 64 + v) refl, mod-mul-add number 64 v below, div-mul-add number 64 v below)
     (ap (λ (d : ℕ). d ∷ numerals n number) is)
 
 -- Such a number stays below the next power of 64.
-pub below-more : (n number v : ℕ) → number < 64 ^ n → v < 64 → number * 64 + v < 64 ^ (n + 1)
-below-more n number v small below =
+pub mul-add-lt_pow : (n number v : ℕ) → number < 64 ^ n → v < 64 → number * 64 + v < 64 ^ (n + 1)
+mul-add-lt_pow n number v small below =
     let power : 64 ^ (n + 1) ≡ 64 ^ n * 64 = rw add-one (pow-suc 64 n) in
     omega arith
 
@@ -83,9 +83,9 @@ numerals-injective (suc n) a b small_a small_b same =
     omega arith
 
 -- A list that has a character outside the alphabet is not all in the alphabet.
-pub not_all_contained : (front back digits : List ℕ) (c : ℕ) → (front ++ c ∷ []) ++ back ≡ digits
+pub not_All-with_outside : (front back digits : List ℕ) (c : ℕ) → (front ++ c ∷ []) ++ back ≡ digits
     → (Contains alphabet c → ⊥) → All (Contains alphabet) digits → ⊥
-not_all_contained front back digits c is strange all =
+not_All-with_outside front back digits c is strange all =
     let whole : front ++ c ∷ back ≡ digits = sym (append_assoc front (c ∷ []) back) ∙ is in
     let at : get_or digits (length front) 0 ≡ c =
     subst (λ (xs : List ℕ). get_or xs (length front) 0 ≡ c) whole (get_or-append_seam front c back 0) in
@@ -94,23 +94,23 @@ not_all_contained front back digits c is strange all =
     strange (subst (Contains alphabet) at (all (length front) 0 inside))
 
 -- `read_30`, from the last digit to the first: before any digit is read, after one more, and at the end.
-pub digits_none : (rest digits : List ℕ) → rest ≡ digits → rest ++ numerals 0 0 ≡ digits
-digits_none rest digits is = rw numerals-none (append-nil rest ∙ is)
+pub numerals-none_read : (rest digits : List ℕ) → rest ≡ digits → rest ++ numerals 0 0 ≡ digits
+numerals-none_read rest digits is = rw numerals-zero (append-nil rest ∙ is)
 
-pub digits_more : (rest fewer digits : List ℕ) (digit v n number : ℕ) → rest ≡ fewer ++ digit ∷ []
+pub numerals-digit_read : (rest fewer digits : List ℕ) (digit v n number : ℕ) → rest ≡ fewer ++ digit ∷ []
     → v < 64 → character_of v ≡ digit → rest ++ numerals n number ≡ digits
     → fewer ++ numerals (n + 1) (number * 64 + v) ≡ digits
-digits_more rest fewer digits digit v n number last below is so_far =
-    rw (numerals-more n number v digit below is)
+numerals-digit_read rest fewer digits digit v n number last below is so_far =
+    rw (numerals-mul-add n number v digit below is)
     (sym (append_assoc fewer (digit ∷ []) (numerals n number))
     ∙ ap (λ (xs : List ℕ). xs ++ numerals n number) (sym last) ∙ so_far)
 
-pub digits_count : (rest digits : List ℕ) (n number : ℕ) → length rest ≡ 0
+pub length-all_read : (rest digits : List ℕ) (n number : ℕ) → length rest ≡ 0
     → rest ++ numerals n number ≡ digits → length digits ≡ n
-digits_count rest digits n number none so_far =
+length-all_read rest digits n number none so_far =
     omega (arith, simp (length-append, length-numerals) at (ap length so_far))
 
-pub digits_all : (rest digits : List ℕ) (n number : ℕ) → length rest ≡ 0
+pub numerals-all_read : (rest digits : List ℕ) (n number : ℕ) → length rest ≡ 0
     → rest ++ numerals n number ≡ digits → numerals n number ≡ digits
-digits_all [] digits n number none so_far = so_far
-digits_all (x ∷ rest) digits n number none so_far = absurd (omega arith)
+numerals-all_read [] digits n number none so_far = so_far
+numerals-all_read (x ∷ rest) digits n number none so_far = absurd (omega arith)

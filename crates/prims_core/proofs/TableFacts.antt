@@ -26,49 +26,49 @@ get_or-rows_of (suc n) w xs (suc i) d inside =
     ∙ ap (take w) (drop-drop (i * w) w xs ∙ ap (λ (k : ℕ). drop k xs) (omega (arith, suc-mul i w)))
 
 -- From here on, a table is given by an equation: it is the rows of this list.
-pub row_count : (n w : ℕ) (xs : List ℕ) (table : List (List ℕ)) → rows_of n w xs ≡ table → length table ≡ n
-row_count n w xs table is = sym (ap length is) ∙ length-rows_of n w xs
+pub length-table : (n w : ℕ) (xs : List ℕ) (table : List (List ℕ)) → rows_of n w xs ≡ table → length table ≡ n
+length-table n w xs table is = sym (ap length is) ∙ length-rows_of n w xs
 
 -- A valid row number is below n, and the row ends within the list.
-pub row_inside : (n w : ℕ) (xs : List ℕ) (table : List (List ℕ)) (i : ℕ) → rows_of n w xs ≡ table
+pub row_number-lt : (n w : ℕ) (xs : List ℕ) (table : List (List ℕ)) (i : ℕ) → rows_of n w xs ≡ table
     → i < length table → i < n
-row_inside n w xs table i is inside = omega (arith, ap length is, length-rows_of n w xs)
+row_number-lt n w xs table i is inside = omega (arith, ap length is, length-rows_of n w xs)
 
-pub row_end : (n w : ℕ) (xs : List ℕ) (table : List (List ℕ)) (i : ℕ) → rows_of n w xs ≡ table
+pub row_ends_within : (n w : ℕ) (xs : List ℕ) (table : List (List ℕ)) (i : ℕ) → rows_of n w xs ≡ table
     → i < length table → i * w + w ≤ n * w
-row_end n w xs table i is inside =
-    let below : i < n = row_inside n w xs table i is inside in
+row_ends_within n w xs table i is inside =
+    let below : i < n = row_number-lt n w xs table i is inside in
     grind (arith, rows)
 
 -- Reading w words at i * w gives row i, which has w words.
-pub row_read : (n w : ℕ) (xs : List ℕ) (table : List (List ℕ)) (i : ℕ) → rows_of n w xs ≡ table
+pub take_drop-row : (n w : ℕ) (xs : List ℕ) (table : List (List ℕ)) (i : ℕ) → rows_of n w xs ≡ table
     → i < length table → take w (drop (i * w) xs) ≡ get_or table i []
-row_read n w xs table i is inside =
-    sym (get_or-rows_of n w xs i [] (row_inside n w xs table i is inside))
+take_drop-row n w xs table i is inside =
+    sym (get_or-rows_of n w xs i [] (row_number-lt n w xs table i is inside))
     ∙ ap (λ (rows : List (List ℕ)). get_or rows i []) is
 
 pub length-row : (n w : ℕ) (xs : List ℕ) (table : List (List ℕ)) (i : ℕ) → rows_of n w xs ≡ table
     → i < length table → n * w ≤ length xs → length (get_or table i []) ≡ w
 length-row n w xs table i is inside whole =
-    ap length (sym (row_read n w xs table i is inside))
-    ∙ length-take-le w (drop (i * w) xs) (omega (arith, length-drop (i * w) xs, row_end n w xs table i is inside))
+    ap length (sym (take_drop-row n w xs table i is inside))
+    ∙ length-take-le w (drop (i * w) xs) (omega (arith, length-drop (i * w) xs, row_ends_within n w xs table i is inside))
 
 -- Padding fills a list up to the size.
 pub length-padded : (size : ℕ) (xs : List ℕ) → length xs ≤ size → length (padded size xs) ≡ size
 length-padded size xs inside = simp (length-append, length-replicate) (omega (arith, inside))
 
 -- A row that `set_row` accepts has w words.
-pub same_words : (n w : ℕ) (xs row : List ℕ) (table : List (List ℕ)) (i : ℕ) → rows_of n w (padded (n * w) xs) ≡ table
+pub length-accepted_row : (n w : ℕ) (xs row : List ℕ) (table : List (List ℕ)) (i : ℕ) → rows_of n w (padded (n * w) xs) ≡ table
     → i < length table → length xs ≤ n * w → length row ≡ length (get_or table i []) → length row ≡ w
-same_words n w xs row table i is inside within same =
+length-accepted_row n w xs row table i is inside within same =
     same ∙ length-row n w (padded (n * w) xs) table i is inside (omega (arith, length-padded (n * w) xs within))
 
 -- A table with this shape has no more words than the padded list. `into_words` needs it.
-pub shape_fits : (n w rows words : ℕ) (xs : List ℕ) (table : List (List ℕ)) → rows_of n w (padded (n * w) xs) ≡ table
+pub HasShape-le : (n w rows words : ℕ) (xs : List ℕ) (table : List (List ℕ)) → rows_of n w (padded (n * w) xs) ≡ table
     → length xs ≤ n * w → HasShape table rows words → rows * words ≤ n * w
-shape_fits n w zero words xs table is within shape = omega (arith, zero-mul words)
-shape_fits n w (suc rows) words xs table is within shape =
-    let all : suc rows ≡ n = sym (shape.row_count) ∙ row_count n w (padded (n * w) xs) table is in
+HasShape-le n w zero words xs table is within shape = omega (arith, zero-mul words)
+HasShape-le n w (suc rows) words xs table is within shape =
+    let all : suc rows ≡ n = sym (shape.row_count) ∙ length-table n w (padded (n * w) xs) table is in
     let some : 0 < length table = omega (arith, shape.row_count) in
     let long : words ≡ w =
     sym (shape.row_words 0 (omega arith))
@@ -114,9 +114,9 @@ rows_of-written (suc n) w (suc i) xs row inside long whole =
     (ap (λ (xss : List (List ℕ)). take w xs ∷ xss) below)
 
 -- Appending zeros doesn't change what the padded list is, so the table stays the same.
-pub padded-filled : (size len : ℕ) (xs : List ℕ) → len ≤ size
+pub padded-append_zeros : (size len : ℕ) (xs : List ℕ) → len ≤ size
     → padded size (xs ++ replicate (len - length xs) 0) ≡ padded size xs
-padded-filled size len xs inside =
+padded-append_zeros size len xs inside =
     let long : length (xs ++ replicate (len - length xs) zero) ≡ length xs + (len - length xs) =
     simp (length-append, length-replicate) refl in
     rw (
@@ -126,10 +126,10 @@ padded-filled size len xs inside =
     )
     (ap (λ (k : ℕ). xs ++ replicate k zero) (omega (arith, inside)))
 
-pub same_rows : (n w end : ℕ) (xs ys : List ℕ) (table : List (List ℕ)) → rows_of n w (padded (n * w) xs) ≡ table
+pub rows_of-append_zeros : (n w end : ℕ) (xs ys : List ℕ) (table : List (List ℕ)) → rows_of n w (padded (n * w) xs) ≡ table
     → end ≤ n * w → ys ≡ xs ++ replicate (end - length xs) 0 → rows_of n w (padded (n * w) ys) ≡ table
-same_rows n w end xs ys table is inside filled =
-    ap (λ (list : List ℕ). rows_of n w (padded (n * w) list)) filled ∙ ap (rows_of n w) (padded-filled (n * w) end xs inside) ∙ is
+rows_of-append_zeros n w end xs ys table is inside filled =
+    ap (λ (list : List ℕ). rows_of n w (padded (n * w) list)) filled ∙ ap (rows_of n w) (padded-append_zeros (n * w) end xs inside) ∙ is
 
 -- Writing over a part of the list, and then padding it, is the same as writing over that part of the padded list.
 pub padded-put_mid : (size start count : ℕ) (xs row : List ℕ) → start + count ≤ length xs → length row ≡ count
@@ -149,50 +149,50 @@ padded-put_mid size start count xs row inside long =
     refl
 
 -- `row` reads a row that is in the list from the list. Any row after the end of the list is zeros.
-pub row_written_out : (n w : ℕ) (xs : List ℕ) (table : List (List ℕ)) (i : ℕ) → rows_of n w (padded (n * w) xs) ≡ table
+pub take_drop-padded_row : (n w : ℕ) (xs : List ℕ) (table : List (List ℕ)) (i : ℕ) → rows_of n w (padded (n * w) xs) ≡ table
     → i < length table → i * w + w ≤ length xs → take w (drop (i * w) xs) ≡ get_or table i []
-row_written_out n w xs table i is inside written =
+take_drop-padded_row n w xs table i is inside written =
     let zeros : List ℕ = replicate (n * w - length xs) zero in
     let read : take w (drop (i * w) (xs ++ zeros)) ≡ take w (drop (i * w) xs) =
     ap (take w) (drop-append-le (i * w) xs zeros (omega (arith, written)))
     ∙ take-append-le w (drop (i * w) xs) zeros (omega (arith, written, length-drop (i * w) xs)) in
-    sym read ∙ row_read n w (padded (n * w) xs) table i is inside
+    sym read ∙ take_drop-row n w (padded (n * w) xs) table i is inside
 
-pub row_of_zeros : (n w : ℕ) (xs : List ℕ) (table : List (List ℕ)) (i : ℕ) → rows_of n w (padded (n * w) xs) ≡ table
+pub replicate-padded_row : (n w : ℕ) (xs : List ℕ) (table : List (List ℕ)) (i : ℕ) → rows_of n w (padded (n * w) xs) ≡ table
     → i < length table → length xs ≤ i * w → replicate w 0 ≡ get_or table i []
-row_of_zeros n w xs table i is inside behind =
+replicate-padded_row n w xs table i is inside behind =
     let zeros : List ℕ = replicate (n * w - length xs) zero in
-    let ends : i * w + w ≤ n * w = row_end n w (padded (n * w) xs) table i is inside in
+    let ends : i * w + w ≤ n * w = row_ends_within n w (padded (n * w) xs) table i is inside in
     let place : i * w ≡ length xs + (i * w - length xs) = omega (arith, behind) in
     let read : take w (drop (i * w) (xs ++ zeros)) ≡ replicate w zero =
     ap (λ (k : ℕ). take w (drop k (xs ++ zeros))) place
     ∙ ap (take w) (drop-append-add xs zeros (i * w - length xs) ∙ drop-replicate (i * w - length xs) (n * w - length xs) zero)
     ∙ take-replicate w (n * w - length xs - (i * w - length xs)) zero (omega (arith, behind, ends)) in
-    sym read ∙ row_read n w (padded (n * w) xs) table i is inside
+    sym read ∙ take_drop-row n w (padded (n * w) xs) table i is inside
 
 -- A list of whole rows that ends before the end of row i ends at the start of row i or before it.
-pub whole_rows : (n w size i : ℕ) → size ≡ n * w → size < i * w + w → size ≤ i * w
-whole_rows zero w size i whole short = rw (whole, zero-mul) (omega arith)
-whole_rows (suc n) w size zero whole short = absurd (omega (arith, whole, short, suc-mul n w))
-whole_rows (suc n) w size (suc i) whole short =
+pub multiple-le_row_start : (n w size i : ℕ) → size ≡ n * w → size < i * w + w → size ≤ i * w
+multiple-le_row_start zero w size i whole short = rw (whole, zero-mul) (omega arith)
+multiple-le_row_start (suc n) w size zero whole short = absurd (omega (arith, whole, short, suc-mul n w))
+multiple-le_row_start (suc n) w size (suc i) whole short =
     let less : size - w < i * w + w = omega (arith, short, whole, suc-mul i w, suc-mul n w) in
-    let before : size - w ≤ i * w = whole_rows n w (size - w) i (omega (arith, whole, suc-mul n w)) less in
+    let before : size - w ≤ i * w = multiple-le_row_start n w (size - w) i (omega (arith, whole, suc-mul n w)) less in
     omega (arith, before, suc-mul i w)
 
 -- A list of whole rows, extended by zeros to the end of row i if it is shorter, has whole rows again.
-pub whole_after : (n w size i : ℕ) → size ≡ n * w → (m : ℕ) × (size + (i * w + w - size) ≡ m * w)
-whole_after zero w size i whole = (suc i, rw (whole, zero-mul) (omega (arith, suc-mul i w)))
-whole_after (suc n) w size zero whole = (suc n, omega (arith, whole, suc-mul n w))
-whole_after (suc n) w size (suc i) whole =
+pub multiple-extended_to_row : (n w size i : ℕ) → size ≡ n * w → (m : ℕ) × (size + (i * w + w - size) ≡ m * w)
+multiple-extended_to_row zero w size i whole = (suc i, rw (whole, zero-mul) (omega (arith, suc-mul i w)))
+multiple-extended_to_row (suc n) w size zero whole = (suc n, omega (arith, whole, suc-mul n w))
+multiple-extended_to_row (suc n) w size (suc i) whole =
     let before : (m : ℕ) × (size - w + (i * w + w - (size - w)) ≡ m * w) =
-    whole_after n w (size - w) i (omega (arith, whole, suc-mul n w)) in
+    multiple-extended_to_row n w (size - w) i (omega (arith, whole, suc-mul n w)) in
     (suc (before.0), omega (arith, before.1, whole, suc-mul i w, suc-mul n w, suc-mul (before.0) w))
 
 -- So the layout of a table holds after `set_row` has extended its list.
-pub laid_out_after : (n w size room i size' room' : ℕ) → IsLaidOut n w size room → i * w + w ≤ n * w
+pub IsLaidOut-extended : (n w size room i size' room' : ℕ) → IsLaidOut n w size room → i * w + w ≤ n * w
     → size' ≡ size + (i * w + w - size) → room ≤ room' → IsLaidOut n w size' room'
-laid_out_after n w size room i size' room' laid ends sized more =
-    let whole : (m : ℕ) × (size + (i * w + w - size) ≡ m * w) = whole_after laid.whole.0 w size i laid.whole.1 in record {
+IsLaidOut-extended n w size room i size' room' laid ends sized more =
+    let whole : (m : ℕ) × (size + (i * w + w - size) ≡ m * w) = multiple-extended_to_row laid.whole.0 w size i laid.whole.1 in record {
       whole = (whole.0, sized ∙ whole.1);
       inside = omega (arith, laid.inside, ends, sized);
       fits = omega (arith, laid.fits, more);
@@ -200,12 +200,12 @@ laid_out_after n w size room i size' room' laid ends sized more =
     }
 
 -- The clause of `set_row`: the list after the write, as the vector holds it, is the table with row i replaced.
-pub row_written : (n w : ℕ) (xs : List ℕ) (table : List (List ℕ)) (i size items : ℕ) (row : List ℕ)
+pub rows_of-padded_put_mid : (n w : ℕ) (xs : List ℕ) (table : List (List ℕ)) (i size items : ℕ) (row : List ℕ)
     → rows_of n w (padded (n * w) xs) ≡ table → i < length table → i * w + w ≤ length xs → length xs ≤ n * w → items ≡ length xs
     → length row ≡ w → size ≡ w
     → rows_of n w (padded (n * w) (take items (put_mid (i * w) size xs row ++ drop (length (put_mid (i * w) size xs row)) xs)))
     ≡ set table i row
-row_written n w xs table i size items row is inside written within counted long sized =
+rows_of-padded_put_mid n w xs table i size items row is inside written within counted long sized =
     let kept : length (put_mid (i * w) size xs row) ≡ items =
     simp (length-append, length-take, length-drop) (omega arith) in
     rw (
@@ -213,7 +213,7 @@ row_written n w xs table i size items row is inside written within counted long 
       padded-put_mid (n * w) (i * w) size xs row (omega arith) (omega arith),
       sized,
       drop-drop w (i * w) (padded (n * w) xs),
-      rows_of-written n w i (padded (n * w) xs) row (row_inside n w (padded (n * w) xs) table i is inside) long
+      rows_of-written n w i (padded (n * w) xs) row (row_number-lt n w (padded (n * w) xs) table i is inside) long
           (omega (arith, length-padded (n * w) xs within)),
     )
     (ap (λ (rows : List (List ℕ)). set rows i row) is)

@@ -1,7 +1,7 @@
 -- Words as bytes and under XOR. `words_of-from_places` serves `load_words`: words that are each the number of their
--- four bytes are `words_of` the bytes. `number-from_word` serves Integerify in kdf_core: of a number given by words,
--- the first word decides the lowest 32 bits. The lemmas on `xor_lists` serve `mix_xor_diagonals`: a part of the XOR of
--- two lists is the XOR of their parts.
+-- four bytes are `words_of` the bytes. `little_number-first_word` serves Integerify in kdf_core: of a number given by
+-- words, the first word decides the lowest 32 bits. The lemmas on `xor_lists` serve `mix_xor_diagonals`: a part of the
+-- XOR of two lists is the XOR of their parts.
 use Rattle.std.proofs.Common.{◌≡◌, ℕ, zero, suc, ◌+◌, ◌*◌, ◌%◌, ◌^◌, ◌<◌, ◌≤◌, List, [], ◌∷◌, ◌++◌, length, take, drop, get_or, map, bit_xor, flat_map, refl, sym, ◌∙◌, ap, arith}
 use Rattle.std.proofs.lemmas.Grind.{same_number_lists}
 use Rattle.std.proofs.lemmas.List.{get_or-map, get_or-take, length-map}
@@ -37,10 +37,10 @@ words_of-from_places bytes words four read =
     ∙ little_number-take_four (drop (4 * k) bytes)))
 
 -- A number given by words is its first word modulo 2 ^ 32, plus a multiple of 2 ^ 32.
-pub number-from_word : (count word : ℕ) (words : List ℕ)
+pub little_number-first_word : (count word : ℕ) (words : List ℕ)
     → (above : ℕ) × (little_number (count + 4) (bytes_of_words (word ∷ words)) ≡ word % 2 ^ 32 + 2 ^ 32 * above)
 unfolding bytes_of_words
-number-from_word count word words =
+little_number-first_word count word words =
     let all : List ℕ = little_bytes 4 word ++ flat_map (little_bytes 4) words in
     let number : count + 4 ≡ suc (suc (suc (suc count))) = omega arith in
     (little_from 4 count all, rw number (omega arith))
@@ -62,10 +62,10 @@ drop-zip2 f (suc n) [] ys = refl
 drop-zip2 f (suc n) (x ∷ xs) [] = sym (zip2-nil f (drop n xs))
 drop-zip2 f (suc n) (x ∷ xs) (y ∷ ys) = drop-zip2 f n xs ys
 
-pub part-xor_lists : (size start : ℕ) (xs ys : List ℕ)
+pub take_drop-xor_lists : (size start : ℕ) (xs ys : List ℕ)
     → take size (drop start (xor_lists xs ys)) ≡ xor_lists (take size (drop start xs)) (take size (drop start ys))
 unfolding xor_lists
-part-xor_lists size start xs ys =
+take_drop-xor_lists size start xs ys =
     ap (take size) (drop-zip2 bit_xor start xs ys) ∙ take-zip2 bit_xor size (drop start xs) (drop start ys)
 
 pub length-xor_lists : (xs ys : List ℕ) → length ys ≡ length xs → length (xor_lists xs ys) ≡ length xs
@@ -73,8 +73,8 @@ unfolding xor_lists
 length-xor_lists xs ys same = length-zip2 bit_xor xs ys (sym same)
 
 -- The XOR of two lists is no longer than either.
-pub shorter-xor_lists : (xs ys : List ℕ) → (length (xor_lists xs ys) ≤ length xs) × (length (xor_lists xs ys) ≤ length ys)
+pub length-xor_lists_le : (xs ys : List ℕ) → (length (xor_lists xs ys) ≤ length xs) × (length (xor_lists xs ys) ≤ length ys)
 unfolding xor_lists
-shorter-xor_lists [] ys = (omega arith, omega arith)
-shorter-xor_lists (x ∷ xs) [] = (omega arith, omega arith)
-shorter-xor_lists (x ∷ xs) (y ∷ ys) = let less = shorter-xor_lists xs ys in (omega (arith, less), omega (arith, less))
+length-xor_lists_le [] ys = (omega arith, omega arith)
+length-xor_lists_le (x ∷ xs) [] = (omega arith, omega arith)
+length-xor_lists_le (x ∷ xs) (y ∷ ys) = let less = length-xor_lists_le xs ys in (omega (arith, less), omega (arith, less))

@@ -71,7 +71,7 @@ impl Table {
     /// Returns row `i`.
     ///
     /// Precondition: `i` is below the number of rows.
-    #[tactic(auto, using(crate::proofs::TableFacts::row_end))]
+    #[tactic(auto, using(crate::proofs::TableFacts::row_ends_within))]
     pub fn row(&self, i: usize) -> &[u32]
         requires { i < length self.now }
         ensures { result.now ≡ slice_index_or self.now i [] }
@@ -88,7 +88,7 @@ impl Table {
     /// Copies `row` to row `i`. The other rows keep their words.
     ///
     /// Preconditions: `i` is below the number of rows, and `row` is as long as a row of the table.
-    #[tactic(auto, using(crate::proofs::TableFacts::row_end))]
+    #[tactic(auto, using(crate::proofs::TableFacts::row_ends_within))]
     pub fn set_row(&mut self, i: usize, row: &[u32])
         requires inside { i < length self.old }
         requires same_length { length row.now ≡ length (slice_index_or self.old i []) }

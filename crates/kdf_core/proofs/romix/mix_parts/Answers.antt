@@ -2,7 +2,7 @@
 -- parts (`parts_done-more`, `parts_to_come-more`). At the end all parts are replaced (`parts-all`).
 use Rattle.std.proofs.Common.{◌≡◌, ◌+◌, ◌*◌, ◌≤◌, ◌-◌, ◌∙◌, ℕ, length, take, drop, length-take, length-drop, subst, refl, arith}
 use Rattle.std.proofs.Math.Nat.{mul-le-mul_left}
-use Rattle.prims_core.proofs.FilledTable.{mixes-more}
+use Rattle.prims_core.proofs.FilledTable.{mixes-add}
 use Rattle.kdf_core.proofs.MixedParts.{first_parts, parts_done-none, parts_done-more, parts_to_come-more, parts-all, mixes-none}
 use Rattle.kdf_core.proofs.romix.mix_parts.Goals as goal
 
@@ -31,7 +31,7 @@ parts-preserved g c =
       to_come = parts_to_come-more size i (size * i + size - size * i) c.args.parts.now parts c.mix_part.new.part inside width
           before.to_come same;
       kept = c.mix_part.ensures.kept ∙ before.kept;
-      count = mixes-more c.args.meter.now c.parts.meter c.mix_part.new.meter (2 * c.args.row_count * i) (2 * c.args.row_count)
+      count = mixes-add c.args.meter.now c.parts.meter c.mix_part.new.meter (2 * c.args.row_count * i) (2 * c.args.row_count)
           (2 * c.args.row_count * (i + 1)) before.count c.mix_part.ensures.count (omega arith);
     }
 

@@ -1,11 +1,11 @@
 -- The clauses of `mix_with_rows`, from its loop: each iteration is two steps of ROMix's second loop, from x to y and
--- back (`iterate-two_more`). N is even (`even`), so N / 2 iterations are N steps.
+-- back (`iterate-add_two`). N is even (`even`), so N / 2 iterations are N steps.
 use Rattle.std.proofs.Common.{◌≡◌, ℕ, ◌+◌, ◌*◌, List, length, subst, sym, ap, ◌∙◌, arith}
 use Rattle.prims_core.specs.Memory.{rows_of, HoldsMixings}
 use Rattle.std.specs.Fn.{iterate}
 use Rattle.prims_core.specs.Diagonals.{in_rows}
 use Rattle.kdf_core.specs.Scrypt.{mixed_back}
-use Rattle.prims_core.proofs.FilledTable.{iterate-two_more, mixes-more}
+use Rattle.prims_core.proofs.FilledTable.{iterate-add_two, mixes-add}
 use Rattle.kdf_core.proofs.ScryptBounds.{even}
 use Rattle.kdf_core.proofs.romix.mix_with_rows.Goals as goal
 
@@ -22,11 +22,11 @@ mixing-preserved c =
     let same_y : length c.args.x.now ≡ length c.mix_back.new.y =
     omega (arith, c.mix_back.auto.y, c.mixing.auto.y, halves.first, halves.second) in
     record {
-      mixed = λ start holds. iterate-two_more (mixed_back count start) n (in_rows c.args.x.now) (in_rows c.mixing.x)
+      mixed = λ start holds. iterate-add_two (mixed_back count start) n (in_rows c.args.x.now) (in_rows c.mixing.x)
           (in_rows c.mix_back.new.y) (in_rows c.mix_back-in-mixing.new.y) (c.mixing.invariant.mixed start holds)
           (c.mix_back.ensures.mixed start (holds_as _ start same_x holds)) (c.mix_back-in-mixing.ensures.mixed start (holds_as _ start same_y holds));
-      count = mixes-more c.args.meter.now c.mix_back.new.meter c.mix_back-in-mixing.new.meter (2 * n + 1) 1 (2 * (n + 1))
-          (mixes-more c.args.meter.now c.mixing.meter c.mix_back.new.meter (2 * n) 1 (2 * n + 1) c.mixing.invariant.count
+      count = mixes-add c.args.meter.now c.mix_back.new.meter c.mix_back-in-mixing.new.meter (2 * n + 1) 1 (2 * (n + 1))
+          (mixes-add c.args.meter.now c.mixing.meter c.mix_back.new.meter (2 * n) 1 (2 * n + 1) c.mixing.invariant.count
           c.mix_back.ensures.count (omega arith)) c.mix_back-in-mixing.ensures.count (omega arith);
     }
 

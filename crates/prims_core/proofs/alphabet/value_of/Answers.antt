@@ -1,9 +1,9 @@
 -- The clauses of `value_of`, for each arm of its match. In a range, the byte is the character of the value
--- (`character_of-first` and the like), and no other value has that character. A byte of the last arm is in one of the
--- four gaps around the ranges, so it is outside the alphabet.
+-- (`character_of-dot_to_nine` and the like), and no other value has that character. A byte of the last arm is in one of
+-- the four gaps around the ranges, so it is outside the alphabet.
 use Rattle.std.proofs.Common.{◌≡◌, ℕ, ◌+◌, ◌-◌, ◌<◌, arith, refl, sym, ◌∙◌, ap, inl, inr, Some}
 use Rattle.prims_core.specs.Alphabet.{character_of}
-use Rattle.prims_core.proofs.AlphabetFacts.{character_of-first, character_of-upper, character_of-lower, character_of-injective, Contains-character_of, IsOutside, outside_alphabet, no_value}
+use Rattle.prims_core.proofs.AlphabetFacts.{character_of-dot_to_nine, character_of-upper_case, character_of-lower_case, character_of-injective, Contains-character_of, IsOutside, Contains-not_outside, character_of-not_outside}
 use Rattle.prims_core.proofs.alphabet.value_of.Goals as goal
 
 pub returns-in-46-to-57 : goal.returns-in-46-to-57
@@ -11,7 +11,7 @@ returns-in-46-to-57 c =
     let byte : ℕ = c.args.character in
     let value : ℕ = byte - 46 in
     let below : value < 64 = omega arith in
-    let is : character_of value ≡ byte = character_of-first (byte - 46) (omega arith) ∙ omega arith in
+    let is : character_of value ≡ byte = character_of-dot_to_nine (byte - 46) (omega arith) ∙ omega arith in
     record {
       accepts = ((λ _. Contains-character_of byte value below is), λ _. refl);
       value = (below, is);
@@ -23,7 +23,7 @@ returns-in-65-to-90 c =
     let byte : ℕ = c.args.character in
     let value : ℕ = byte - 65 + 12 in
     let below : value < 64 = omega arith in
-    let is : character_of value ≡ byte = character_of-upper (byte - 65) (omega arith) ∙ omega arith in
+    let is : character_of value ≡ byte = character_of-upper_case (byte - 65) (omega arith) ∙ omega arith in
     record {
       accepts = ((λ _. Contains-character_of byte value below is), λ _. refl);
       value = (below, is);
@@ -35,7 +35,7 @@ returns-in-97-to-122 c =
     let byte : ℕ = c.args.character in
     let value : ℕ = byte - 97 + 38 in
     let below : value < 64 = omega arith in
-    let is : character_of value ≡ byte = character_of-lower (byte - 97) (omega arith) ∙ omega arith in
+    let is : character_of value ≡ byte = character_of-lower_case (byte - 97) (omega arith) ∙ omega arith in
     record {
       accepts = ((λ _. Contains-character_of byte value below is), λ _. refl);
       value = (below, is);
@@ -46,34 +46,34 @@ pub returns-in_default : goal.returns-in_default
 returns-in_default c =
     let outside : IsOutside c.args.character = inl (omega arith) in
     record {
-      accepts = ((λ some. cc), λ has. absurd (outside_alphabet c.args.character outside has));
+      accepts = ((λ some. cc), λ has. absurd (Contains-not_outside c.args.character outside has));
       value = tt;
-      inverse = λ v vs same. absurd (no_value c.args.character outside v vs same);
+      inverse = λ v vs same. absurd (character_of-not_outside c.args.character outside v vs same);
     }
 
 pub returns-in_default-2 : goal.returns-in_default-2
 returns-in_default-2 c =
     let outside : IsOutside c.args.character = inr (inl (omega arith, omega arith)) in
     record {
-      accepts = ((λ some. cc), λ has. absurd (outside_alphabet c.args.character outside has));
+      accepts = ((λ some. cc), λ has. absurd (Contains-not_outside c.args.character outside has));
       value = tt;
-      inverse = λ v vs same. absurd (no_value c.args.character outside v vs same);
+      inverse = λ v vs same. absurd (character_of-not_outside c.args.character outside v vs same);
     }
 
 pub returns-in_default-3 : goal.returns-in_default-3
 returns-in_default-3 c =
     let outside : IsOutside c.args.character = inr (inr (inl (omega arith, omega arith))) in
     record {
-      accepts = ((λ some. cc), λ has. absurd (outside_alphabet c.args.character outside has));
+      accepts = ((λ some. cc), λ has. absurd (Contains-not_outside c.args.character outside has));
       value = tt;
-      inverse = λ v vs same. absurd (no_value c.args.character outside v vs same);
+      inverse = λ v vs same. absurd (character_of-not_outside c.args.character outside v vs same);
     }
 
 pub returns-in_default-4 : goal.returns-in_default-4
 returns-in_default-4 c =
     let outside : IsOutside c.args.character = inr (inr (inr (omega arith))) in
     record {
-      accepts = ((λ some. cc), λ has. absurd (outside_alphabet c.args.character outside has));
+      accepts = ((λ some. cc), λ has. absurd (Contains-not_outside c.args.character outside has));
       value = tt;
-      inverse = λ v vs same. absurd (no_value c.args.character outside v vs same);
+      inverse = λ v vs same. absurd (character_of-not_outside c.args.character outside v vs same);
     }

@@ -1,10 +1,10 @@
 -- The clause of `to_diagonals`. Each iteration of its loop rearranges block i and leaves the others
--- (`rearranged-more`). At the end each block, read in row order, is the original one, so the lists are equal
--- (`same_blocks`).
+-- (`rearranged_blocks-put_mid`). At the end each block, read in row order, is the original one, so the lists are equal
+-- (`equal-from_same_blocks`).
 use Rattle.std.proofs.Common.{◌≡◌, ℕ, ◌+◌, ◌-◌, ◌*◌, ◌/◌, ◌<◌, length, take, drop, refl, ap, ◌∙◌, arith}
 use Rattle.prims_core.specs.BlockMix.{block_at}
 use Rattle.prims_core.specs.Diagonals.{block_in_rows, in_rows}
-use Rattle.prims_core.proofs.BlockFacts.{length-in_rows, block_at-in_rows, same_blocks, rearranged-more}
+use Rattle.prims_core.proofs.BlockFacts.{length-in_rows, block_at-in_rows, equal-from_same_blocks, rearranged_blocks-put_mid}
 use Rattle.prims_core.proofs.mix.to_diagonals.Goals as goal
 
 pub turning-init : goal.turning-init
@@ -20,7 +20,7 @@ turning-preserved c =
     -- The slice that the code takes is block i.
     let read : take (16 * i + 16 - 16 * i) (drop (16 * i) c.turning.words) ≡ block_at i c.turning.words =
     ap (λ (k : ℕ). take k (drop (16 * i) c.turning.words)) size in
-    let more = rearranged-more n i (16 * i + 16 - 16 * i) (λ k b. block_in_rows b ≡ block_at k c.args.words.now) c.args.words.now c.turning.words c.store_diagonals.new.words whole inside size
+    let more = rearranged_blocks-put_mid n i (16 * i + 16 - 16 * i) (λ k b. block_in_rows b ≡ block_at k c.args.words.now) c.args.words.now c.turning.words c.store_diagonals.new.words whole inside size
     (omega arith) (c.store_diagonals.ensures ∙ c.of-block.ensures ∙ read ∙ c.turning.invariant.rest i (omega arith))
     c.turning.invariant.done c.turning.invariant.rest in record {
       length = omega arith;
@@ -32,5 +32,5 @@ pub returns : goal.returns
 returns c =
     let n : ℕ = length c.args.words.now / 16 in
     let whole : length c.args.words.now ≡ 16 * n = omega (arith, c.requires.whole) in
-    same_blocks n (in_rows c.turning.words) c.args.words.now (omega (arith, length-in_rows c.turning.words, c.turning.invariant.length, whole)) whole (λ k inside.
+    equal-from_same_blocks n (in_rows c.turning.words) c.args.words.now (omega (arith, length-in_rows c.turning.words, c.turning.invariant.length, whole)) whole (λ k inside.
     block_at-in_rows c.turning.words k (omega (arith, c.turning.invariant.length, whole)) ∙ c.turning.invariant.done k (omega (arith, whole)))

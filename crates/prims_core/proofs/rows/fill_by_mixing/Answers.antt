@@ -1,15 +1,15 @@
 -- The clauses of `fill_by_mixing`. Each iteration appends x and then y, which is x mixed once, and leaves x mixed twice
--- (`mixings-two_more`). The memory holds both rows (`room_for_two_rows`). Since the number of rows is even, all of them
--- are there after the last iteration (`filled-held`).
+-- (`HasMixings-append_two`). The memory holds both rows (`two_more_rows-fit`). Since the number of rows is even, all of
+-- them are there after the last iteration (`HoldsMixings-from_HasMixings`).
 use Rattle.std.proofs.Common.{rules, ◌≡◌, ℕ, ◌+◌, ◌*◌, length, ap, ◌∙◌, arith, length-append}
 use Rattle.prims_core.specs.BlockMix.{block_mix}
 use Rattle.prims_core.specs.Diagonals.{in_rows}
-use Rattle.prims_core.proofs.FilledTable.{mixings-none, mixings-two_more, mixes-more, room_for_two_rows, filled-held, iterate-two_more}
+use Rattle.prims_core.proofs.FilledTable.{HasMixings-nil, HasMixings-append_two, mixes-add, two_more_rows-fit, HoldsMixings-from_HasMixings, iterate-add_two}
 use Rattle.prims_core.proofs.rows.fill_by_mixing.Goals as goal
 
 pub filling-init : goal.filling-init
 filling-init g c = record {
-  filled = rw c.restart.ensures.words (mixings-none _ _);
+  filled = rw c.restart.ensures.words (HasMixings-nil _ _);
   kept = c.restart.ensures.room;
   mixed = search rules;
   count = search rules;
@@ -17,12 +17,12 @@ filling-init g c = record {
 
 pub mix_and_append-requires-clause-fits : goal.mix_and_append-requires-clause-fits
 mix_and_append-requires-clause-fits g c =
-    let two = room_for_two_rows c.args.count (length c.args.x.now) c.filling.counter (omega (arith, c.filling-test.true)) in
+    let two = two_more_rows-fit c.args.count (length c.args.x.now) c.filling.counter (omega (arith, c.filling-test.true)) in
     omega (arith, two, c.filling.auto.x, c.filling.invariant.filled.long, c.filling.invariant.kept, c.requires.fits)
 
 pub mix_and_append-requires-in-filling-clause-fits : goal.mix_and_append-requires-in-filling-clause-fits
 mix_and_append-requires-in-filling-clause-fits g c =
-    let two = room_for_two_rows c.args.count (length c.args.x.now) c.filling.counter (omega (arith, c.filling-test.true)) in
+    let two = two_more_rows-fit c.args.count (length c.args.x.now) c.filling.counter (omega (arith, c.filling-test.true)) in
     let once = ap length c.mix_and_append.ensures.appended ∙ length-append (g.R.Rows.words c.filling.rows) c.filling.x in
     let long : length c.mix_and_append.new.dst ≡ length c.args.x.now =
     omega (arith, c.mix_and_append.auto.dst, c.filling.auto.y, c.requires.blocks.2) in
@@ -43,14 +43,14 @@ filling-preserved g c =
     let i : ℕ = c.filling.counter in
     let before = c.filling.invariant in
     record {
-      filled = mixings-two_more _ _ _ c.filling.x c.mix_and_append.new.dst _ _ i before.filled c.filling.auto.x
+      filled = HasMixings-append_two _ _ _ c.filling.x c.mix_and_append.new.dst _ _ i before.filled c.filling.auto.x
           (omega (arith, c.mix_and_append.auto.dst, c.filling.auto.y, c.requires.blocks.2)) before.mixed c.mix_and_append.ensures.mixed
           c.mix_and_append.ensures.appended c.mix_and_append-in-filling.ensures.appended;
       kept = omega (arith, before.kept, c.mix_and_append.ensures.kept, c.mix_and_append-in-filling.ensures.kept);
-      mixed = iterate-two_more block_mix i (in_rows c.args.x.now) (in_rows c.filling.x) (in_rows c.mix_and_append.new.dst)
+      mixed = iterate-add_two block_mix i (in_rows c.args.x.now) (in_rows c.filling.x) (in_rows c.mix_and_append.new.dst)
           (in_rows c.mix_and_append-in-filling.new.dst) before.mixed c.mix_and_append.ensures.mixed c.mix_and_append-in-filling.ensures.mixed;
-      count = mixes-more c.args.meter.now c.mix_and_append.new.meter c.mix_and_append-in-filling.new.meter (2 * i + 1) 1
-          (2 * (i + 1)) (mixes-more c.args.meter.now c.filling.meter c.mix_and_append.new.meter (2 * i) 1 (2 * i + 1) before.count
+      count = mixes-add c.args.meter.now c.mix_and_append.new.meter c.mix_and_append-in-filling.new.meter (2 * i + 1) 1
+          (2 * (i + 1)) (mixes-add c.args.meter.now c.filling.meter c.mix_and_append.new.meter (2 * i) 1 (2 * i + 1) before.count
           c.mix_and_append.ensures.count (omega arith)) c.mix_and_append-in-filling.ensures.count (omega arith);
     }
 
@@ -64,4 +64,4 @@ pub returns-clause-rows : goal.returns-clause-rows
 returns-clause-rows g c =
     let all : 2 * c.filling.counter ≡ c.args.count =
     omega (arith, c.requires.even, c.filling-test.false, c.filling.auto.counter-end) in
-    filled-held c.args.count (length c.args.x.now) (g.R.Rows.words c.filling.rows) _ (rw all at c.filling.invariant.filled)
+    HoldsMixings-from_HasMixings c.args.count (length c.args.x.now) (g.R.Rows.words c.filling.rows) _ (rw all at c.filling.invariant.filled)

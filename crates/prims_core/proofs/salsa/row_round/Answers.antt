@@ -1,23 +1,23 @@
 -- The clause of `row_round`. The lanes of a rotated vector are those of the vector joined to itself, from a place on
--- (`lanes_of_twice`). With them, lane j of the four vectors is row j, from its word on the main diagonal on, so the
--- quarter round of lane j is that of row j. The rotations back put each word in its place.
+-- (`slice_index-append_self`). With them, lane j of the four vectors is row j, from its word on the main diagonal on,
+-- so the quarter round of lane j is that of row j. The rotations back put each word in its place.
 use Rattle.std.proofs.Common.{refl, arith, rules}
 use Rattle.prims_core.specs.Words.{chunks_exact}
 use Rattle.prims_core.specs.Salsa.{row_round}
-use Rattle.prims_core.proofs.RotatedLanes.{lanes_of_twice}
+use Rattle.prims_core.proofs.RotatedLanes.{slice_index-append_self}
 use Rattle.prims_core.proofs.salsa.row_round.Goals as goal
 
 pub returns-clause-rows : goal.returns-clause-rows
 unfolding row_round chunks_exact
 returns-clause-rows c =
     let x = c.x.inside in
-    let two = lanes_of_twice x.second c.x.invariant.1 in
-    let three = lanes_of_twice x.third c.x.invariant.2 in
-    let four = lanes_of_twice x.fourth c.x.invariant.3 in
+    let two = slice_index-append_self x.second c.x.invariant.1 in
+    let three = slice_index-append_self x.third c.x.invariant.2 in
+    let four = slice_index-append_self x.fourth c.x.invariant.3 in
     let new = c.quarter_rounds.result in
-    let to_four = lanes_of_twice new.1 (search rules) in
-    let to_three = lanes_of_twice new.2 (search rules) in
-    let to_two = lanes_of_twice new.3 (search rules) in
+    let to_four = slice_index-append_self new.1 (search rules) in
+    let to_three = slice_index-append_self new.2 (search rules) in
+    let to_two = slice_index-append_self new.3 (search rules) in
     rw (
       to_four.0,
       to_four.1,

@@ -1,7 +1,7 @@
--- The clause of `xor_rotated_sum` is `rotated_in_lanes`, since each vector has four lanes.
-use Rattle.prims_core.proofs.RotatedLanes.{rotated_in_lanes}
+-- The clause of `xor_rotated_sum` is `rotated_sum-in_lanes`, since each vector has four lanes.
+use Rattle.prims_core.proofs.RotatedLanes.{rotated_sum-in_lanes}
 use Rattle.prims_core.proofs.salsa.xor_rotated_sum.Goals as goal
 
 pub returns : goal.returns
 returns c =
-    rotated_in_lanes c.args.bits c.requires.0 c.requires.1 c.args.word c.fits-word.0 c.args.x c.fits-x.0 c.args.y c.fits-y.0
+    rotated_sum-in_lanes c.args.bits c.requires.0 c.requires.1 c.args.word c.fits-word.0 c.args.x c.fits-x.0 c.args.y c.fits-y.0

@@ -1,9 +1,9 @@
 -- The clause of `of_diagonals`: the words that the four swizzles pick are the block in row order
--- (`loaded_from_diagonals`).
+-- (`words_on-loaded_from_diagonals`).
 use Rattle.std.proofs.Common.{arith}
 use Rattle.std.proofs.lemmas.List.{take_all}
-use Rattle.prims_core.proofs.FourDiagonals.{loaded_from_diagonals}
+use Rattle.prims_core.proofs.FourDiagonals.{words_on-loaded_from_diagonals}
 use Rattle.prims_core.proofs.diagonals.Diagonals.of_diagonals.Goals as goal
 
 pub returns : goal.returns
-returns c = rw (take_all 16 c.args.words.now (omega arith)) (loaded_from_diagonals c.args.words.now c.requires)
+returns c = rw (take_all 16 c.args.words.now (omega arith)) (words_on-loaded_from_diagonals c.args.words.now c.requires)

@@ -2,11 +2,11 @@
 -- each.
 use Rattle.std.proofs.Common.{◌∙◌, ap₂}
 use Rattle.std.specs.Simd.Lanes.{zip2}
-use Rattle.prims_core.proofs.FourDiagonals.{words_on-zip2, four_words-zip2}
+use Rattle.prims_core.proofs.FourDiagonals.{words_on-zip2, HaveFourWords-zip2}
 use Rattle.prims_core.proofs.diagonals.Diagonals.sum.Goals as goal
 
 pub invariant_of-result : goal.invariant_of-result
-invariant_of-result c = four_words-zip2 _ _ _ _ _ _ _ _ _ c.self.invariant c.other.invariant
+invariant_of-result c = HaveFourWords-zip2 _ _ _ _ _ _ _ _ _ c.self.invariant c.other.invariant
 
 pub returns : goal.returns
 returns c =

@@ -1,8 +1,8 @@
 -- The clause `zeros` of `new`: a new table reads as zeros, whether its vector is empty or filled with zeros, since the
--- list is padded with zeros either way (`padded-filled`).
+-- list is padded with zeros either way (`padded-append_zeros`).
 use Rattle.std.proofs.Common.{◌≡◌, ℕ, ◌-◌, ◌*◌, List, [], ◌++◌, length, replicate, Vec, Global, ap, ◌∙◌, arith}
 use Rattle.prims_core.specs.Memory.{rows_of, padded}
-use Rattle.prims_core.proofs.TableFacts.{rows_of-replicate, padded-filled}
+use Rattle.prims_core.proofs.TableFacts.{rows_of-replicate, padded-append_zeros}
 use Rattle.prims_core.proofs.table.Table.new.Goals as goal
 use Rattle.prims_core.proofs.table.Table.new.Goals.{then-row_words-gt1024, else-row_words-gt1024}
 
@@ -16,7 +16,7 @@ returns-clause-zeros c =
       | then-row_words-gt1024 w ↦
           ap (λ (words : Vec ℕ Global). padded n words.items) w.words-is
           ∙ ap (padded n) (w.fill.ensures.zeros ∙ ap (λ (xs : List ℕ). xs ++ replicate (n - length xs) 0) empty)
-          ∙ padded-filled n n [] (omega arith)
+          ∙ padded-append_zeros n n [] (omega arith)
       | else-row_words-gt1024 w ↦ ap (λ (words : Vec ℕ Global). padded n words.items) w.words-is ∙ ap (padded n) empty
     ] ∙ none in
     ap (rows_of c.args.rows c.args.row_words) zeros ∙ rows_of-replicate c.args.rows c.args.row_words
