@@ -5,9 +5,9 @@ use Rattle.prims_core.specs.Meter.{with_work}
 use Rattle.prims_core.specs.declared.meter.Work.{Work}
 
 -- The work d and x, and then e and y, is the work of their sums.
-pub work_more : (a b c : Work) (d x e y digests bytes : ℕ) → b ≡ with_work a d x → c ≡ with_work b e y
+pub with_work-add : (a b c : Work) (d x e y digests bytes : ℕ) → b ≡ with_work a d x → c ≡ with_work b e y
     → d + e ≡ digests → x + y ≡ bytes → c ≡ with_work a digests bytes
-work_more a b c d x e y digests bytes first then all_digests all_bytes =
+with_work-add a b c d x e y digests bytes first then all_digests all_bytes =
     let both : a.digests + d + e ≡ a.digests + digests = omega arith in
     let fed : a.bytes + x + y ≡ a.bytes + bytes = omega arith in
     then ∙ (ap (λ (m : Work). with_work m e y) first

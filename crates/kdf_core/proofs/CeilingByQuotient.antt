@@ -8,18 +8,18 @@ use Rattle.std.proofs.Math.Pow.{pow_mono}
 use Rattle.std.proofs.lemmas.Nat.{pow_pos}
 
 -- A product of three is at most c exactly if the product of the last two is at most c divided by the first.
-pub within_by_quotient : (k r p c : ℕ) → (IsTrue (nat_le (r * p) (c / 2 ^ k)) → 2 ^ k * r * p ≤ c) × (2 ^ k * r * p ≤ c → IsTrue (nat_le (r * p) (c / 2 ^ k)))
-within_by_quotient k r p c =
+pub quotient_test-iff_within : (k r p c : ℕ) → (IsTrue (nat_le (r * p) (c / 2 ^ k)) → 2 ^ k * r * p ≤ c) × (2 ^ k * r * p ≤ c → IsTrue (nat_le (r * p) (c / 2 ^ k)))
+quotient_test-iff_within k r p c =
     let both = le-div_iff_mul-le {k = 2 ^ k} {x = r * p} {y = c} (pow_pos k) in
     (λ h. omega (arith, both.0 (leb-true _ _ h)), λ h. le-leb _ _ (both.1 (omega (arith, h))))
 
 -- From N = 2 ^ 24 on the product is above the ceiling.
-pub above_from_24 : (k r p : ℕ) → 24 ≤ k → 0 < r → 0 < p → 2 ^ k * r * p ≤ 8388608 → ⊥
-above_from_24 k r p high some_r some_p h =
+pub above_ceiling-from_24 : (k r p : ℕ) → 24 ≤ k → 0 < r → 0 < p → 2 ^ k * r * p ≤ 8388608 → ⊥
+above_ceiling-from_24 k r p high some_r some_p h =
     let power : 2 ^ 24 ≤ 2 ^ k = pow_mono high in
     omega (arith, power, le-mul_of_pos_right (2 ^ k) some_r, le-mul_of_pos_right (2 ^ k * r) some_p, h)
 
 -- So there the test of log2 N gives the right answer, in both directions.
-pub above_by_power : (k r p : ℕ) → 24 ≤ k → 0 < r → 0 < p → (IsTrue (nat_lt k 24) → 2 ^ k * r * p ≤ 8388608) × (2 ^ k * r * p ≤ 8388608 → IsTrue (nat_lt k 24))
-above_by_power k r p high some_r some_p =
-    (λ h. absurd (omega (arith, ltb-true k 24 h)), λ h. absurd (above_from_24 k r p high some_r some_p h))
+pub power_test-iff_within : (k r p : ℕ) → 24 ≤ k → 0 < r → 0 < p → (IsTrue (nat_lt k 24) → 2 ^ k * r * p ≤ 8388608) × (2 ^ k * r * p ≤ 8388608 → IsTrue (nat_lt k 24))
+power_test-iff_within k r p high some_r some_p =
+    (λ h. absurd (omega (arith, ltb-true k 24 h)), λ h. absurd (above_ceiling-from_24 k r p high some_r some_p h))

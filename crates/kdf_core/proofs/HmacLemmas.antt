@@ -12,10 +12,10 @@ use Rattle.kdf_core.specs.Hmac.{hmac_sha256, key_block, padded_key}
 use Rattle.kdf_core.specs.HmacMessages.{PaddedKey, IsKeyOf}
 
 -- A tag is the digest of the outer padded key and of the digest of the inner padded key and the text.
-pub tag_is : (held : PaddedKey) (key a b text tag : List ℕ) → IsKeyOf held key → text ≡ sha256 (held.inner ++ a ++ b)
+pub hmac_sha256-from_digests : (held : PaddedKey) (key a b text tag : List ℕ) → IsKeyOf held key → text ≡ sha256 (held.inner ++ a ++ b)
     → tag ≡ sha256 (held.outer ++ text ++ []) → tag ≡ hmac_sha256 key (a ++ b)
 unfolding hmac_sha256
-tag_is held key a b text tag of_key first second =
+hmac_sha256-from_digests held key a b text tag of_key first second =
     let inner = padded_key key 0x36 in
     let outer = padded_key key 0x5c in
     -- The code's inner digest is that of the definition.
@@ -24,32 +24,32 @@ tag_is held key a b text tag of_key first second =
     second ∙ ap sha256 (append-nil (held.outer ++ text)
     ∙ (ap (λ (x : List ℕ). x ++ text) of_key.outer ∙ ap (λ (x : List ℕ). outer ++ x) text_is))
 
--- filled kept: these bytes, with zeros up to a block.
-abbrev filled : List ℕ → List ℕ
-filled kept = kept ++ replicate (64 - length kept) 0
+-- filled_block kept: these bytes, with zeros up to a block.
+abbrev filled_block : List ℕ → List ℕ
+filled_block kept = kept ++ replicate (64 - length kept) 0
 
 -- The block of a key that is longer than a block: its digest and zeros.
-pub long_block : (key kept : List ℕ) → 64 < length key → kept ≡ sha256 key → length kept ≡ 32
+pub key_block-long : (key kept : List ℕ) → 64 < length key → kept ≡ sha256 key → length kept ≡ 32
     → kept ++ replicate 32 0 ≡ key_block key
 unfolding key_block
-long_block key kept long is length_is =
+key_block-long key kept long is length_is =
     let zeros : 32 ≡ 64 - length kept = omega arith in
-    ap (λ n. kept ++ replicate n 0) zeros ∙ ap filled (is ∙ cond_below 64 (length key) (sha256 key) key long)
+    ap (λ n. kept ++ replicate n 0) zeros ∙ ap filled_block (is ∙ cond_below 64 (length key) (sha256 key) key long)
 
 -- The block of any other key: the key and zeros.
-pub short_block : (key kept zeros : List ℕ) → length key ≤ 64 → kept ≡ key → zeros ≡ replicate 64 0
+pub key_block-short : (key kept zeros : List ℕ) → length key ≤ 64 → kept ≡ key → zeros ≡ replicate 64 0
     → kept ++ drop (length key) zeros ≡ key_block key
 unfolding key_block
-short_block key kept zeros short is zeros_are =
+key_block-short key kept zeros short is zeros_are =
     let rest : drop (length key) zeros ≡ replicate (64 - length kept) 0 =
     ap (drop (length key)) zeros_are ∙ drop-replicate (length key) 64 0 ∙ ap (λ (k : List ℕ). replicate (64 - length k) 0) (sym is) in
-    ap (λ (x : List ℕ). kept ++ x) rest ∙ ap filled (cond_above 64 (length key) (sha256 key) key kept short is)
+    ap (λ (x : List ℕ). kept ++ x) rest ∙ ap filled_block (cond_above 64 (length key) (sha256 key) key kept short is)
 
 -- The block XOR the pad byte, repeated, is the padded key.
-pub padded_is : (key block padded : List ℕ) (pad : ℕ) → block ≡ key_block key
+pub padded_key-from_xor : (key block padded : List ℕ) (pad : ℕ) → block ≡ key_block key
     → padded ≡ xor_lists block (replicate 64 pad) → padded ≡ padded_key key pad
 unfolding padded_key
-padded_is key block padded pad is under = under ∙ ap (λ (b : List ℕ). xor_lists b (replicate 64 pad)) is
+padded_key-from_xor key block padded pad is under = under ∙ ap (λ (b : List ℕ). xor_lists b (replicate 64 pad)) is
 
 -- A list that has the XOR of two bytes at each place is the XOR of the two lists.
 pub xor_lists-from_places : (sum xs ys : List ℕ) → length sum ≡ length xs → length xs ≡ length ys

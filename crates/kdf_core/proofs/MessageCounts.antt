@@ -25,22 +25,22 @@ use Rattle.kdf_core.specs.ScryptMessages.{mixed_parts, scrypt_messages}
 use Rattle.kdf_core.specs.ScryptWork.{scrypt_work}
 use Rattle.kdf_core.proofs.MixedLengths.{length-flat_map_same, length-mixed_parts}
 use Rattle.kdf_core.proofs.Pbkdf2Lemmas.{block-one}
-use Rattle.kdf_core.proofs.ScryptResult.{digests-are, bytes-are}
+use Rattle.kdf_core.proofs.ScryptResult.{scrypt_work-digests, scrypt_work-bytes}
 
 -- The messages of one list, and then those of another: numbers and bytes are added.
-both-in_all : (xs ys : List (List ℕ)) (d b e c : ℕ) → HaveCountAndSum xs d b → HaveCountAndSum ys e c → HaveCountAndSum (xs ++ ys) (d + e) (b + c)
-both-in_all xs ys d b e c front rest = record {
+HaveCountAndSum-append : (xs ys : List (List ℕ)) (d b e c : ℕ) → HaveCountAndSum xs d b → HaveCountAndSum ys e c → HaveCountAndSum (xs ++ ys) (d + e) (b + c)
+HaveCountAndSum-append xs ys d b e c front rest = record {
   count = length-append xs ys ∙ omega (arith, front.count, rest.count);
   sum = sum_by-append length xs ys ∙ omega (arith, front.sum, rest.sum);
 }
 
 -- If each of `count` numbers has the same number of messages and of bytes, all of them have `count` times as many.
-each-in_all : (messages : ℕ → List (List ℕ)) (d b from count : ℕ) → ((k : ℕ) → from ≤ k → HaveCountAndSum (messages k) d b)
+HaveCountAndSum-flat_map : (messages : ℕ → List (List ℕ)) (d b from count : ℕ) → ((k : ℕ) → from ≤ k → HaveCountAndSum (messages k) d b)
     → HaveCountAndSum (flat_map messages (range_with_len from count)) (count * d) (count * b)
-each-in_all messages d b from zero each = record { count = omega arith; sum = omega arith }
-each-in_all messages d b from (suc count) each =
-    let rest = each-in_all messages d b (from + 1) count (λ k above. each k (omega arith)) in
-    let all = both-in_all (messages from) (flat_map messages (range_with_len (from + 1) count)) d b (count * d) (count * b)
+HaveCountAndSum-flat_map messages d b from zero each = record { count = omega arith; sum = omega arith }
+HaveCountAndSum-flat_map messages d b from (suc count) each =
+    let rest = HaveCountAndSum-flat_map messages d b (from + 1) count (λ k above. each k (omega arith)) in
+    let all = HaveCountAndSum-append (messages from) (flat_map messages (range_with_len (from + 1) count)) d b (count * d) (count * b)
     (each from (omega arith)) rest in
     record { count = all.count ∙ omega arith; sum = all.sum ∙ omega arith }
 
@@ -49,8 +49,8 @@ length-sha256 : (message : List ℕ) → length (sha256 message) ≡ 32
 length-sha256 message = sha256_laws.length_digest-law message
 
 -- What is kept of a key, itself or its digest, has at most 64 bytes.
-length-kept : (key : List ℕ) → length (if nat_lt 64 (length key) then sha256 key else key) ≤ 64
-length-kept key = elim (cases_lt 64 (length key)) [
+length-kept_key_le : (key : List ℕ) → length (if nat_lt 64 (length key) then sha256 key else key) ≤ 64
+length-kept_key_le key = elim (cases_lt 64 (length key)) [
   | inl long ↦ omega (arith, ap length (cond_below 64 (length key) (sha256 key) key long), length-sha256 key)
   | inr short ↦ omega (arith, ap length (cond_above 64 (length key) (sha256 key) key key short refl))
 ]
@@ -61,12 +61,12 @@ unfolding padded_key key_block xor_lists
 length-padded_key key pad =
     let kept = if nat_lt 64 (length key) then sha256 key else key in
     let whole : length (kept ++ replicate (64 - length kept) 0) ≡ 64 =
-    length-append kept (replicate (64 - length kept) 0) ∙ omega (arith, length-kept key, length-replicate {A = ℕ} (64 - length kept) 0) in
+    length-append kept (replicate (64 - length kept) 0) ∙ omega (arith, length-kept_key_le key, length-replicate {A = ℕ} (64 - length kept) 0) in
     length-zip2 _ (kept ++ replicate (64 - length kept) 0) (replicate 64 pad) whole ∙ whole
 
 -- A key has one message if it is longer than a block, and otherwise none.
-key-in_all : (key : List ℕ) → HaveCountAndSum (key_messages key) (key_digests (length key)) (key_bytes (length key))
-key-in_all key =
+HaveCountAndSum-key_messages : (key : List ℕ) → HaveCountAndSum (key_messages key) (key_digests (length key)) (key_bytes (length key))
+HaveCountAndSum-key_messages key =
     elim (nat_lt 64 (length key))
     as (λ long. HaveCountAndSum (if long then key ∷ [] else []) (if long then 1 else 0) ((if long then 1 else 0) * length key)) [
       | true ↦ record { count = refl; sum = omega arith }
@@ -74,8 +74,8 @@ key-in_all key =
     ]
 
 -- A tag has two messages.
-tag-in_all : (key text : List ℕ) → HaveCountAndSum (tag_messages key text) 2 (tag_bytes (length text))
-tag-in_all key text =
+HaveCountAndSum-tag_messages : (key text : List ℕ) → HaveCountAndSum (tag_messages key text) 2 (tag_bytes (length text))
+HaveCountAndSum-tag_messages key text =
     let inner = padded_key key 0x36 ++ text in
     record {
       count = refl;
@@ -90,9 +90,9 @@ tag-in_all key text =
     }
 
 -- The text of a block's first tag is the salt and the block's number, and that of each later one is a tag.
-length-chain_none : (password salt : List ℕ) (i : ℕ) → length (chain password salt i 0) ≡ length salt + 4
+length-chain_zero : (password salt : List ℕ) (i : ℕ) → length (chain password salt i 0) ≡ length salt + 4
 unfolding chain
-length-chain_none password salt i = length-append salt (big_bytes 4 i)
+length-chain_zero password salt i = length-append salt (big_bytes 4 i)
 
 length-chain : (password salt : List ℕ) (i j : ℕ) → 1 ≤ j → length (chain password salt i j) ≡ 32
 unfolding chain hmac_sha256
@@ -100,35 +100,35 @@ length-chain password salt i zero some = absurd (omega arith)
 length-chain password salt i (suc j) some = length-sha256 _
 
 -- A block's messages are those of its first tag, and those of the others, which have the same length.
-block-in_all : (password salt : List ℕ) (rounds i : ℕ) → 1 ≤ rounds
+HaveCountAndSum-block_messages : (password salt : List ℕ) (rounds i : ℕ) → 1 ≤ rounds
     → HaveCountAndSum (block_messages password salt rounds i) (2 * rounds) (block_bytes (length salt) rounds)
 unfolding block_messages
-block-in_all password salt zero i some = absurd (omega arith)
-block-in_all password salt (suc more) i some =
+HaveCountAndSum-block_messages password salt zero i some = absurd (omega arith)
+HaveCountAndSum-block_messages password salt (suc more) i some =
     let u = chain password salt i in
     let messages = λ (j : ℕ). tag_messages password (u j) in
     -- Each tag but the first is of a text of 32 bytes, the tag before it.
     let tags : (j : ℕ) → 1 ≤ j → HaveCountAndSum (messages j) 2 (tag_bytes 32) =
     λ j above. record {
-      count = (tag-in_all password (u j)).count;
-      sum = (tag-in_all password (u j)).sum ∙ ap tag_bytes (length-chain password salt i j above);
+      count = (HaveCountAndSum-tag_messages password (u j)).count;
+      sum = (HaveCountAndSum-tag_messages password (u j)).sum ∙ ap tag_bytes (length-chain password salt i j above);
     } in
-    let rest = each-in_all messages 2 (tag_bytes 32) 1 more tags in
-    let all = both-in_all (messages 0) (flat_map messages (range_with_len 1 more)) 2 (tag_bytes (length (u 0))) (more * 2) (more * tag_bytes 32)
-    (tag-in_all password (u 0)) rest in
+    let rest = HaveCountAndSum-flat_map messages 2 (tag_bytes 32) 1 more tags in
+    let all = HaveCountAndSum-append (messages 0) (flat_map messages (range_with_len 1 more)) 2 (tag_bytes (length (u 0))) (more * 2) (more * tag_bytes 32)
+    (HaveCountAndSum-tag_messages password (u 0)) rest in
     record {
       count = all.count ∙ omega arith;
-      sum = all.sum ∙ omega (arith, length-chain_none password salt i);
+      sum = all.sum ∙ omega (arith, length-chain_zero password salt i);
     }
 
 -- Each block of a derivation has the same number of messages and of bytes.
-pbkdf2-in_all : (password salt : List ℕ) (rounds count : ℕ) → 1 ≤ rounds
+HaveCountAndSum-pbkdf2_messages : (password salt : List ℕ) (rounds count : ℕ) → 1 ≤ rounds
     → HaveCountAndSum (pbkdf2_messages password salt rounds count) (pbkdf2_digests rounds count) (pbkdf2_bytes (length salt) rounds count)
 unfolding pbkdf2_messages
-pbkdf2-in_all password salt rounds count some =
+HaveCountAndSum-pbkdf2_messages password salt rounds count some =
     let blocks = div_ceil count 32 in
-    let all = each-in_all (block_messages password salt rounds) (2 * rounds) (block_bytes (length salt) rounds) 1 blocks
-    (λ i above. block-in_all password salt rounds i some) in
+    let all = HaveCountAndSum-flat_map (block_messages password salt rounds) (2 * rounds) (block_bytes (length salt) rounds) 1 blocks
+    (λ i above. HaveCountAndSum-block_messages password salt rounds i some) in
     record { count = all.count ∙ omega arith; sum = all.sum }
 
 -- PBKDF2 derives as many bytes as are asked for.
@@ -146,11 +146,11 @@ length-pbkdf2_sha256 password salt count =
 
 -- scrypt's messages: the password's, those of the derivation of the parts, and those of the result, whose salt is all
 -- parts.
-pub scrypt-in_all : (password salt : List ℕ) (params : ScryptParams) (count : ℕ)
+pub HaveCountAndSum-scrypt_messages : (password salt : List ℕ) (params : ScryptParams) (count : ℕ)
     → HaveCountAndSum (scrypt_messages password salt params count) (scrypt_work params (length password) (length salt) count).digests
     (scrypt_work params (length password) (length salt) count).bytes
 unfolding scrypt_messages
-scrypt-in_all password salt params count =
+HaveCountAndSum-scrypt_messages password salt params count =
     let first = parts_bytes params in
     let derived = pbkdf2_sha256 password salt 1 first in
     let last = mixed_parts (row_count params) (part_bytes params) derived in
@@ -158,13 +158,13 @@ scrypt-in_all password salt params count =
     let derived_length : length derived ≡ first = length-pbkdf2_sha256 password salt first in
     let last_length : length last ≡ first =
     length-mixed_parts (row_count params) (part_bytes params) params.r params.p derived (omega arith) derived_length ∙ derived_length in
-    let key = key-in_all password in
-    let firsts = pbkdf2-in_all password salt 1 first (omega arith) in
-    let lasts = pbkdf2-in_all password last 1 count (omega arith) in
+    let key = HaveCountAndSum-key_messages password in
+    let firsts = HaveCountAndSum-pbkdf2_messages password salt 1 first (omega arith) in
+    let lasts = HaveCountAndSum-pbkdf2_messages password last 1 count (omega arith) in
     -- The three lists of messages, added up.
-    let all = both-in_all (key_messages password ++ pbkdf2_messages password salt 1 first) (pbkdf2_messages password last 1 count) _ _ _ _
-    (both-in_all (key_messages password) (pbkdf2_messages password salt 1 first) _ _ _ _ key firsts) lasts in
+    let all = HaveCountAndSum-append (key_messages password ++ pbkdf2_messages password salt 1 first) (pbkdf2_messages password last 1 count) _ _ _ _
+    (HaveCountAndSum-append (key_messages password) (pbkdf2_messages password salt 1 first) _ _ _ _ key firsts) lasts in
     record {
-      count = all.count ∙ digests-are params (length password) (length salt) count first refl;
-      sum = all.sum ∙ bytes-are params (length password) (length salt) count first (length last) refl last_length;
+      count = all.count ∙ scrypt_work-digests params (length password) (length salt) count first refl;
+      sum = all.sum ∙ scrypt_work-bytes params (length password) (length salt) count first (length last) refl last_length;
     }

@@ -45,9 +45,9 @@ length-chunks_exact : (items : List ℕ) (size : ℕ) → length (chunks_exact i
 unfolding chunks_exact
 length-chunks_exact items size = length-map-range_with_len (λ i. take size (drop (size * i) items)) 0 (length items / size)
 
-size-chunks_exact : (items : List ℕ) (size : ℕ) → HaveSize size (chunks_exact items size)
+HaveSize-chunks_exact : (items : List ℕ) (size : ℕ) → HaveSize size (chunks_exact items size)
 unfolding chunks_exact
-size-chunks_exact items size =
+HaveSize-chunks_exact items size =
     let count : ℕ = length items / size in
     All-map (λ (piece : List ℕ). length piece ≡ size) (λ i. take size (drop (size * i) items)) (range_with_len 0 count)
     (λ k d inside.
@@ -76,9 +76,9 @@ length-begun_at : (place : ℕ) (row : List ℕ) → length (begun_at place row)
 length-begun_at place row =
     omega (arith, length-append (drop place row) (take place row), length-drop place row, length-take place row)
 
-matrix-row_round : (rows : List (List ℕ)) → IsMatrix rows → IsMatrix (row_round rows)
+IsMatrix-row_round : (rows : List (List ℕ)) → IsMatrix rows → IsMatrix (row_round rows)
 unfolding row_round
-matrix-row_round rows is =
+IsMatrix-row_round rows is =
     let turned : ℕ × List ℕ → List ℕ = λ p. begun_at (4 - p.0) (quarter_round (begun_at p.0 p.1)) in
     record {
       four = length-map (enumerate_from 0 rows) turned ∙ (length-enumerate_from 0 rows ∙ is.four);
@@ -91,9 +91,9 @@ matrix-row_round rows is =
           ∙ length-quarter_round (begun_at p.0 p.1) (length-begun_at p.0 p.1 ∙ row));
     }
 
-matrix-transpose : (rows : List (List ℕ)) → IsMatrix rows → IsMatrix (transpose rows)
+IsMatrix-transpose : (rows : List (List ℕ)) → IsMatrix rows → IsMatrix (transpose rows)
 unfolding transpose
-matrix-transpose rows is =
+IsMatrix-transpose rows is =
     let column : ℕ → List ℕ = λ i. map (λ row. slice_index row i) rows in
     record {
       four = length-map-range_with_len column 0 4;
@@ -101,11 +101,11 @@ matrix-transpose rows is =
           (λ k d inside. length-map rows (λ row. slice_index row (get_or (range_with_len 0 4) k d)) ∙ is.four);
     }
 
-matrix-double_round : (rows : List (List ℕ)) → IsMatrix rows → IsMatrix (double_round rows)
+IsMatrix-double_round : (rows : List (List ℕ)) → IsMatrix rows → IsMatrix (double_round rows)
 unfolding double_round column_round
-matrix-double_round rows is =
-    matrix-row_round (column_round rows)
-    (matrix-transpose (row_round (transpose rows)) (matrix-row_round (transpose rows) (matrix-transpose rows is)))
+IsMatrix-double_round rows is =
+    IsMatrix-row_round (column_round rows)
+    (IsMatrix-transpose (row_round (transpose rows)) (IsMatrix-row_round (transpose rows) (IsMatrix-transpose rows is)))
 
 -- So Salsa20/8 of sixteen words has sixteen words.
 length-salsa20_8 : (words : List ℕ) → length words ≡ 16 → length (salsa20_8 words) ≡ 16
@@ -113,27 +113,27 @@ unfolding salsa20_8
 length-salsa20_8 words sixteen =
     -- Sixteen words, cut into rows, are a matrix, and the rounds keep it one.
     let cut : IsMatrix (chunks_exact words 4) =
-    record { four = length-chunks_exact words 4 ∙ omega arith; each = size-chunks_exact words 4 } in
+    record { four = length-chunks_exact words 4 ∙ omega arith; each = HaveSize-chunks_exact words 4 } in
     let rounds = iterate double_round 4 (chunks_exact words 4) in
-    let mixed : IsMatrix rounds = iterate-keeps IsMatrix double_round matrix-double_round 4 (chunks_exact words 4) cut in
+    let mixed : IsMatrix rounds = iterate-keeps IsMatrix double_round IsMatrix-double_round 4 (chunks_exact words 4) cut in
     let joined : length (concat rounds) ≡ 16 = length-concat 4 rounds mixed.each ∙ ap (λ n. n * 4) mixed.four in
     length-zip2 sum_of_words words (concat rounds) (sixteen ∙ sym joined) ∙ sixteen
 
 -- The blocks that are mixed: each X has sixteen words, so the results have as many words as the blocks.
 
-size-mixed_block : (x block : List ℕ) → length x ≡ 16 → length block ≡ 16 → length (salsa20_8 (xor_lists x block)) ≡ 16
+length-mixed_block : (x block : List ℕ) → length x ≡ 16 → length block ≡ 16 → length (salsa20_8 (xor_lists x block)) ≡ 16
 unfolding xor_lists
-size-mixed_block x block first second =
+length-mixed_block x block first second =
     length-salsa20_8 (xor_lists x block) (length-zip2 _ x block (first ∙ sym second) ∙ first)
 
 length-block_at : (words : List ℕ) (count i : ℕ) → length words ≡ 16 * count → i < count → length (block_at i words) ≡ 16
 length-block_at words count i is inside = length-take-le 16 (drop (16 * i) words) (omega (arith, length-drop (16 * i) words))
 
-size-x_after : (r : ℕ) (words : List ℕ) (i : ℕ) → length words ≡ 32 * r → 0 < r → i ≤ 2 * r → length (x_after r words i) ≡ 16
+length-x_after : (r : ℕ) (words : List ℕ) (i : ℕ) → length words ≡ 32 * r → 0 < r → i ≤ 2 * r → length (x_after r words i) ≡ 16
 unfolding x_after
-size-x_after r words zero is some inside = length-block_at words (2 * r) (2 * r - 1) (omega arith) (omega arith)
-size-x_after r words (suc i) is some inside =
-    size-mixed_block (x_after r words i) (block_at i words) (size-x_after r words i is some (omega arith))
+length-x_after r words zero is some inside = length-block_at words (2 * r) (2 * r - 1) (omega arith) (omega arith)
+length-x_after r words (suc i) is some inside =
+    length-mixed_block (x_after r words i) (block_at i words) (length-x_after r words i is some (omega arith))
     (length-block_at words (2 * r) i (omega arith) (omega arith))
 
 pub length-block_mix : (words : List ℕ) (r : ℕ) → length words ≡ 32 * r → length (block_mix words) ≡ 32 * r
@@ -149,7 +149,7 @@ length-block_mix words r is =
     let at : (k d : ℕ) → k < length (range_with_len 0 n) → get_or (range_with_len 0 n) k d < n =
     λ k d inside. omega (arith, length-range_with_len 0 n, get_or-range_with_len 0 n k d (omega (arith, length-range_with_len 0 n))) in
     let each : (i : ℕ) → i < 2 * n → length (y i) ≡ 16 =
-    λ i inside. size-x_after n words (i + 1) (omega arith) (omega arith) (omega arith) in
+    λ i inside. length-x_after n words (i + 1) (omega arith) (omega arith) (omega arith) in
     -- So the results with even numbers and those with odd numbers are 2n pieces of sixteen words.
     let pieces : HaveSize 16 (evens ++ odds) = All-append size evens odds
     (All-map size (λ i. y (2 * i)) (range_with_len 0 n)
@@ -199,7 +199,7 @@ unfolding mixed_parts
 length-mixed_parts n size r count bytes size_is whole =
     let parts = chunks_exact bytes size in
     length-flat_map_same (mixed_part n) size parts
-    (λ k d inside. length-mixed_part n (get_or parts k d) r (size-chunks_exact bytes size k d inside ∙ size_is) ∙ sym size_is)
+    (λ k d inside. length-mixed_part n (get_or parts k d) r (HaveSize-chunks_exact bytes size k d inside ∙ size_is) ∙ sym size_is)
     ∙ (ap (λ m. m * size) (length-chunks_exact bytes size) ∙ divided size whole) where
       divided : (size : ℕ) → length bytes ≡ size * count → length bytes / size * size ≡ length bytes
       divided zero is = omega arith

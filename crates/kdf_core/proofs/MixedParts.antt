@@ -1,6 +1,6 @@
 -- The loop of `mix_parts`, which replaces the parts by their ROMix one by one. Its invariant says what the bytes before
--- part i are (`take`) and that those from part i on are unchanged (`drop`). `parts_done-more` and `parts_to_come-more`
--- are one iteration, and `parts-all` is the clause at the end.
+-- part i are (`take`) and that those from part i on are unchanged (`drop`). `take-put_mid_part` and `drop-put_mid_part`
+-- are one iteration, and `mixed_parts-from_first_parts` is the clause at the end.
 use Rattle.std.proofs.Common.{◌≡◌, ℕ, ◌+◌, ◌*◌, ◌<◌, ◌≤◌, List, [], ◌∷◌, ◌++◌, length, take, drop, sym, ap, ◌∙◌, arith, ◌/◌}
 use Rattle.std.specs.List.{flat_map, range_with_len}
 use Rattle.std.proofs.lemmas.Grind.{flat_map-append}
@@ -11,13 +11,13 @@ use Rattle.std.proofs.lemmas.Slice.{take-put_mid, drop-put_mid}
 use Rattle.std.proofs.Math.Nat.{mul-div_cancel}
 use Rattle.prims_core.specs.declared.meter.Work.{Work}
 use Rattle.prims_core.specs.Words.{chunks_exact}
-use Rattle.kdf_core.proofs.Pbkdf2Lemmas.{range-more}
+use Rattle.kdf_core.proofs.Pbkdf2Lemmas.{range_with_len-add_one}
 use Rattle.kdf_core.specs.Scrypt.{mixed_part}
 use Rattle.kdf_core.specs.ScryptMessages.{mixed_parts}
 
 -- Before the first iteration no mixing is counted.
-pub mixes-none : (m : Work) (n : ℕ) → m ≡ record m { mixes = m.mixes + n * 0 }
-mixes-none m n = let none : m.mixes ≡ m.mixes + n * 0 = omega arith in ap (λ k. record m { mixes = k }) none
+pub mixes-add_zero : (m : Work) (n : ℕ) → m ≡ record m { mixes = m.mixes + n * 0 }
+mixes-add_zero m n = let none : m.mixes ≡ m.mixes + n * 0 = omega arith in ap (λ k. record m { mixes = k }) none
 
 -- first_parts n size bytes count: the first count parts, of size bytes each, with each replaced by its ROMix with n
 -- rows.
@@ -26,28 +26,28 @@ first_parts n size bytes count =
     flat_map (λ i. mixed_part n (take size (drop (size * i) bytes))) (range_with_len 0 count)
 
 -- Before the first iteration no part is done.
-pub parts_done-none : (n size : ℕ) (bytes : List ℕ) → take (size * 0) bytes ≡ first_parts n size bytes 0
+pub first_parts-zero : (n size : ℕ) (bytes : List ℕ) → take (size * 0) bytes ≡ first_parts n size bytes 0
 unfolding first_parts
-parts_done-none n size bytes = let none : size * 0 ≡ 0 = omega arith in ap (λ m. take m bytes) none
+first_parts-zero n size bytes = let none : size * 0 ≡ 0 = omega arith in ap (λ m. take m bytes) none
 
 -- The first i + 1 parts are the first i, followed by the ROMix of part i.
-first_parts-more : (n size : ℕ) (bytes : List ℕ) (i : ℕ)
+first_parts-add_one : (n size : ℕ) (bytes : List ℕ) (i : ℕ)
     → first_parts n size bytes (i + 1) ≡ first_parts n size bytes i ++ mixed_part n (take size (drop (size * i) bytes))
 unfolding first_parts
-first_parts-more n size bytes i =
+first_parts-add_one n size bytes i =
     let each = λ (k : ℕ). mixed_part n (take size (drop (size * k) bytes)) in
     let here : 0 + i ≡ i = omega arith in
-    ap (flat_map each) (range-more 0 i)
+    ap (flat_map each) (range_with_len-add_one 0 i)
     ∙ (flat_map-append each (range_with_len 0 i) ((0 + i) ∷ [])
     ∙ (ap (λ k. flat_map each (range_with_len 0 i) ++ (each k ++ [])) here
     ∙ ap (λ (b : List ℕ). flat_map each (range_with_len 0 i) ++ b) (append-nil (each i))))
 
 -- After the ROMix of part i is written over it, i + 1 parts are done.
-pub parts_done-more : (n size i k : ℕ) (start old part : List ℕ) → size * i + size ≤ length old → k ≡ size
+pub take-put_mid_part : (n size i k : ℕ) (start old part : List ℕ) → size * i + size ≤ length old → k ≡ size
     → take (size * i) old ≡ first_parts n size start i → drop (size * i) old ≡ drop (size * i) start
     → part ≡ mixed_part n (take k (drop (size * i) old)) → length part ≡ size
     → take (size * (i + 1)) (put_mid (size * i) k old part) ≡ first_parts n size start (i + 1)
-parts_done-more n size i k start old part inside k_is done to_come is length_is =
+take-put_mid_part n size i k start old part inside k_is done to_come is length_is =
     let at = size * i in
     let place : size * (i + 1) ≡ at + size = omega arith in
     let end : at + size ≡ at + length part = omega arith in
@@ -58,13 +58,13 @@ parts_done-more n size i k start old part inside k_is done to_come is length_is 
     ∙ (take-put_mid at k old part (at + size) end within
     ∙ (ap (λ (front : List ℕ). front ++ part) done
     ∙ (ap (λ (b : List ℕ). first_parts n size start i ++ b) (is ∙ ap (mixed_part n) read)
-    ∙ sym (first_parts-more n size start i))))
+    ∙ sym (first_parts-add_one n size start i))))
 
 -- The parts after it are still as at the start.
-pub parts_to_come-more : (size i k : ℕ) (start old part : List ℕ) → size * i + size ≤ length old → k ≡ size
+pub drop-put_mid_part : (size i k : ℕ) (start old part : List ℕ) → size * i + size ≤ length old → k ≡ size
     → drop (size * i) old ≡ drop (size * i) start → length part ≡ size
     → drop (size * (i + 1)) (put_mid (size * i) k old part) ≡ drop (size * (i + 1)) start
-parts_to_come-more size i k start old part inside k_is to_come length_is =
+drop-put_mid_part size i k start old part inside k_is to_come length_is =
     let at = size * i in
     let place : size * (i + 1) ≡ at + size = omega arith in
     let end : at + k ≤ at + size = omega arith in
@@ -77,10 +77,10 @@ parts_to_come-more size i k start old part inside k_is to_come length_is =
     ∙ (drop-drop size at start ∙ ap (λ m. drop m start) (sym place)))))
 
 -- With all parts done, the bytes are those of `mixed_parts`.
-pub parts-all : (n size count : ℕ) (start old : List ℕ) → 0 < size → length start ≡ size * count → length old ≡ length start
+pub mixed_parts-from_first_parts : (n size count : ℕ) (start old : List ℕ) → 0 < size → length start ≡ size * count → length old ≡ length start
     → take (size * count) old ≡ first_parts n size start count → old ≡ mixed_parts n size start
 unfolding mixed_parts chunks_exact first_parts
-parts-all n size count start old some whole same done =
+mixed_parts-from_first_parts n size count start old some whole same done =
     let within : length old ≤ size * count = omega arith in
     let turned : size * count ≡ count * size = omega arith in
     let quotient : length start / size ≡ count = ap (λ m. m / size) (whole ∙ turned) ∙ mul-div_cancel count some in

@@ -1,6 +1,7 @@
 -- PBKDF2 step by step, for `derived_block` and `pbkdf2`: the tags U_j and the XOR of them round by round, and the
--- derived bytes block by block. `block-more` takes the last round out of T_i, and `front_more` the last block out of
--- the derived bytes, of which the last may be short. `front_all` is the clause at the end of `pbkdf2`.
+-- derived bytes block by block. `block-add_one` takes the last round out of T_i, and `take-blocks_add_one` the last
+-- block out of the derived bytes, of which the last may be short. `pbkdf2_sha256-from_blocks` is the clause at the end
+-- of `pbkdf2`.
 use Rattle.std.proofs.Common.{◌≡◌, ℕ, zero, suc, ◌+◌, ◌-◌, ◌*◌, ◌<◌, ◌≤◌, List, [], ◌∷◌, ◌++◌, length, map, take, refl, sym, ap, ◌∙◌, arith}
 use Rattle.std.specs.Prelude.{fold}
 use Rattle.std.specs.List.{flat_map, range_with_len}
@@ -20,10 +21,10 @@ unfolding chain
 chain-one password salt i = refl
 
 -- Each later U_j is the tag of the one before. The code passes an empty second piece.
-pub chain-more : (password salt : List ℕ) (i j : ℕ)
+pub chain-add_one : (password salt : List ℕ) (i j : ℕ)
     → chain password salt i (j + 1) ≡ hmac_sha256 password (chain password salt i j ++ [])
 unfolding chain
-chain-more password salt i j =
+chain-add_one password salt i j =
     let next : j + 1 ≡ suc j = omega arith in
     rw (next, append-nil) refl
 
@@ -32,11 +33,11 @@ pub block-one : (password salt : List ℕ) (i : ℕ) → block password salt 1 i
 unfolding block
 block-one password salt i = refl
 
-pub block-more : (password salt : List ℕ) (i rounds : ℕ) → 1 ≤ rounds
+pub block-add_one : (password salt : List ℕ) (i rounds : ℕ) → 1 ≤ rounds
     → block password salt (rounds + 1) i
     ≡ xor_lists (block password salt rounds i) (chain password salt i (rounds + 1))
 unfolding block
-block-more password salt i rounds some =
+block-add_one password salt i rounds some =
     let u : ℕ → List ℕ = chain password salt i in
     let count : rounds + 1 - 1 ≡ rounds - 1 + 1 = omega arith in
     let more : map u (range_with_len 2 (rounds - 1 + 1)) ≡ map u (range_with_len 2 (rounds - 1)) ++ u (rounds + 1) ∷ [] =
@@ -45,20 +46,20 @@ block-more password salt i rounds some =
     ∙ (ap (fold xor_lists (u 1)) more ∙ fold-append xor_lists (u 1) (map u (range_with_len 2 (rounds - 1))) (u (rounds + 1) ∷ []))
 
 -- A range that is one longer has one more number at its end.
-pub range-more : (a n : ℕ) → range_with_len a (n + 1) ≡ range_with_len a n ++ (a + n) ∷ []
-range-more a zero = ap (λ (k : ℕ). k ∷ []) (omega arith)
-range-more a (suc n) =
+pub range_with_len-add_one : (a n : ℕ) → range_with_len a (n + 1) ≡ range_with_len a n ++ (a + n) ∷ []
+range_with_len-add_one a zero = ap (λ (k : ℕ). k ∷ []) (omega arith)
+range_with_len-add_one a (suc n) =
     let next : suc n + 1 ≡ suc (n + 1) = omega arith in
     let last : a + 1 + n ≡ a + suc n = omega arith in
-    ap (range_with_len a) next ∙ ap (λ (ks : List ℕ). a ∷ ks) (range-more (a + 1) n ∙ ap (λ (k : ℕ). range_with_len (a + 1) n ++ k ∷ []) last)
+    ap (range_with_len a) next ∙ ap (λ (ks : List ℕ). a ∷ ks) (range_with_len-add_one (a + 1) n ∙ ap (λ (k : ℕ). range_with_len (a + 1) n ++ k ∷ []) last)
 
 -- One iteration of the loop of `pbkdf2`: after the next block is written after the others, or as much of it as fits,
 -- `out` begins with one block more.
-pub front_more : (block : ℕ → List ℕ) (old new part : List ℕ) (room i : ℕ) → 32 * i < room → length old ≡ room
+pub take-blocks_add_one : (block : ℕ → List ℕ) (old new part : List ℕ) (room i : ℕ) → 32 * i < room → length old ≡ room
     → take (32 * i) old ≡ take room (flat_map block (range_with_len 1 i)) → part ≡ block (i + 1)
     → take (32 * i + 32) new ≡ take (32 * i) old ++ take (room - 32 * i) part
     → take (32 * (i + 1)) new ≡ take room (flat_map block (range_with_len 1 (i + 1)))
-front_more block old new part room i inside length_is front is written =
+take-blocks_add_one block old new part room i inside length_is front is written =
     let blocks = flat_map block (range_with_len 1 i) in
     let rest = room - 32 * i in
     -- The blocks before all fit into `out`, so none of them is cut.
@@ -69,7 +70,7 @@ front_more block old new part room i inside length_is front is written =
     let end : length blocks + rest ≡ room = omega arith in
     let next : 1 + i ≡ i + 1 = omega arith in
     let more : flat_map block (range_with_len 1 (i + 1)) ≡ blocks ++ block (i + 1) =
-    ap (flat_map block) (range-more 1 i) ∙ (flat_map-append block (range_with_len 1 i) ((1 + i) ∷ [])
+    ap (flat_map block) (range_with_len-add_one 1 i) ∙ (flat_map-append block (range_with_len 1 i) ((1 + i) ∷ [])
     ∙ (ap (λ k. blocks ++ (block k ++ [])) next ∙ ap (λ (b : List ℕ). blocks ++ b) (append-nil (block (i + 1))))) in
     -- The wanted bytes are the blocks before, and as much of the next one as fits.
     let wanted : take room (flat_map block (range_with_len 1 (i + 1))) ≡ blocks ++ take rest (block (i + 1)) =
@@ -78,11 +79,11 @@ front_more block old new part room i inside length_is front is written =
     ∙ (ap (λ (b : List ℕ). blocks ++ take rest b) is ∙ sym wanted)))
 
 -- With all blocks written, `out` is the derived bytes.
-pub front_all : (password salt out : List ℕ) (rounds room i : ℕ) → length out ≡ room → i ≡ div_ceil room 32
+pub pbkdf2_sha256-from_blocks : (password salt out : List ℕ) (rounds room i : ℕ) → length out ≡ room → i ≡ div_ceil room 32
     → take (32 * i) out ≡ take room (flat_map (block password salt rounds) (range_with_len 1 i))
     → out ≡ pbkdf2_sha256 password salt rounds room
 unfolding pbkdf2_sha256
-front_all password salt out rounds room i length_is all front =
+pbkdf2_sha256-from_blocks password salt out rounds room i length_is all front =
     let within : length out ≤ 32 * i = omega (arith, (div_ceil_times room 32 (omega arith)).0) in
     sym (take_all (32 * i) out within) ∙ (front
     ∙ ap (λ n. take room (flat_map (block password salt rounds) (range_with_len 1 n))) all)

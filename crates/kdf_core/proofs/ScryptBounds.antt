@@ -14,8 +14,8 @@ use Rattle.kdf_core.specs.ScryptWork.{table_bytes}
 use Rattle.std.specs.Int.{div_ceil}
 
 -- Accepted parameters are bounded.
-pub bounded : (params : ScryptParams) → IsAccepted params → IsBounded params
-bounded params accepted =
+pub IsBounded-from_IsAccepted : (params : ScryptParams) → IsAccepted params → IsBounded params
+IsBounded-from_IsAccepted params accepted =
     let n = row_count params in
     let r = params.r in
     let p = params.p in
@@ -44,31 +44,25 @@ bounded params accepted =
     }
 
 -- N is a power of two, from 2 to 2 ^ 32. So it is even, and not 0.
-pub rows_power : (params : ScryptParams) (n : ℕ) → IsAccepted params → n ≡ row_count params → IsPower n params.log_n
-rows_power params n accepted is =
-    let log = (bounded params accepted).log in
-    record { power = is; above_one = accepted.0.0; most = omega arith }
-
--- N is even
-pub even : (rows k : ℕ) → IsPower rows k → 2 * (rows / 2) ≡ rows
-even rows k is =
+pub IsPower-even : (rows k : ℕ) → IsPower rows k → 2 * (rows / 2) ≡ rows
+IsPower-even rows k is =
     let next : k ≡ 1 + (k - 1) = omega (arith, is.above_one) in
     let twice : rows ≡ 2 * 2 ^ (k - 1) = is.power ∙ (ap (λ e. 2 ^ e) next ∙ pow-add 2 1 (k - 1)) in
     omega (arith, twice)
 
-pub some_row : (rows k : ℕ) → IsPower rows k → 0 < rows
-some_row rows k is = omega (arith, is.power, pow_pos k)
+pub IsPower-pos : (rows k : ℕ) → IsPower rows k → 0 < rows
+IsPower-pos rows k is = omega (arith, is.power, pow_pos k)
 
 -- The bytes of all parts, as the code computes them, are those of the definition.
-pub parts-product : (params : ScryptParams) (r p : ℕ) → r ≡ params.r → p ≡ params.p → 128 * r * p ≡ parts_bytes params
-parts-product params r p r_is p_is = ap (λ n. 128 * n * p) r_is ∙ ap (λ n. 128 * params.r * n) p_is
+pub parts_bytes-product : (params : ScryptParams) (r p : ℕ) → r ≡ params.r → p ≡ params.p → 128 * r * p ≡ parts_bytes params
+parts_bytes-product params r p r_is p_is = ap (λ n. 128 * n * p) r_is ∙ ap (λ n. 128 * params.r * n) p_is
 
-pub parts-fit : (params : ScryptParams) → IsAccepted params → parts_bytes params ≤ 2 ^ 29
-parts-fit params accepted = omega (arith, (bounded params accepted).parts)
+pub parts_bytes-le : (params : ScryptParams) → IsAccepted params → parts_bytes params ≤ 2 ^ 29
+parts_bytes-le params accepted = omega (arith, (IsBounded-from_IsAccepted params accepted).parts)
 
 -- The parts are 4rp blocks of 32 bytes, as PBKDF2 derives them.
-pub parts-blocks : (params : ScryptParams) → div_ceil (parts_bytes params) 32 ≡ 4 * (params.r * params.p)
-parts-blocks params =
+pub div_ceil-parts_bytes : (params : ScryptParams) → div_ceil (parts_bytes params) 32 ≡ 4 * (params.r * params.p)
+div_ceil-parts_bytes params =
     let product : parts_bytes params ≡ 32 * (4 * (params.r * params.p)) = omega arith in
     ap (λ n. div_ceil n 32) product ∙ omega arith
 
@@ -77,31 +71,31 @@ key_bytes-le length =
     elim (nat_lt 64 length) as (λ b. (if b then 1 else 0) * length ≤ length) [ true ↦ omega arith | false ↦ omega arith ]
 
 -- The bytes that scrypt digests stay far below 2 ^ 128.
-pub bytes-fit : (before key blocks each more last : ℕ) → before ≤ 2 ^ 120 → key < 2 ^ 64 → blocks ≤ 2 ^ 24 → each ≤ 2 ^ 65
+pub digested_bytes-lt : (before key blocks each more last : ℕ) → before ≤ 2 ^ 120 → key < 2 ^ 64 → blocks ≤ 2 ^ 24 → each ≤ 2 ^ 65
     → more ≤ 2 ^ 33 → last ≤ 2 ^ 31 → before + key + blocks * each + more * last < 2 ^ 128
-bytes-fit before key blocks each more last a b c d e f =
+digested_bytes-lt before key blocks each more last a b c d e f =
     let derived : blocks * each ≤ 2 ^ 24 * each = mul-le-mul_right each c in
     let answer : more * last ≤ 2 ^ 33 * last = mul-le-mul_right last e in
     omega arith
 
 -- The bytes of the table, as the code computes them, are those of the definition.
-pub table-product : (params : ScryptParams) (n r : ℕ) → n ≡ row_count params → r ≡ params.r → 4 * (n * (32 * r)) ≡ table_bytes params
-table-product params n r n_is r_is =
+pub table_bytes-product : (params : ScryptParams) (n r : ℕ) → n ≡ row_count params → r ≡ params.r → 4 * (n * (32 * r)) ≡ table_bytes params
+table_bytes-product params n r n_is r_is =
     ap (λ k. 4 * (k * (32 * r))) n_is ∙ (ap (λ k. 4 * (row_count params * (32 * k))) r_is ∙ omega arith)
 
 -- So a meter with counts of at most 2 ^ 120 can count all bytes of scrypt without overflow.
-pub all_bytes-fit : (before password_length salt_length count first last : ℕ) (params : ScryptParams) → IsAccepted params → before ≤ 2 ^ 120
+pub scrypt_bytes-lt : (before password_length salt_length count first last : ℕ) (params : ScryptParams) → IsAccepted params → before ≤ 2 ^ 120
     → password_length < 2 ^ 64 → salt_length < 2 ^ 64 → count ≤ 32 * (2 ^ 32 - 1) → first ≡ parts_bytes params → last ≡ parts_bytes params
     → before + key_bytes password_length + pbkdf2_bytes salt_length 1 first + pbkdf2_bytes last 1 count < 2 ^ 128
-all_bytes-fit before password_length salt_length count first last params accepted a b c d first_is last_is =
-    let fit : parts_bytes params ≤ 2 ^ 29 = parts-fit params accepted in
-    bytes-fit before (key_bytes password_length) (div_ceil first 32) (block_bytes salt_length 1) (div_ceil count 32) (block_bytes last 1) a
+scrypt_bytes-lt before password_length salt_length count first last params accepted a b c d first_is last_is =
+    let fit : parts_bytes params ≤ 2 ^ 29 = parts_bytes-le params accepted in
+    digested_bytes-lt before (key_bytes password_length) (div_ceil first 32) (block_bytes salt_length 1) (div_ceil count 32) (block_bytes last 1) a
     (omega (arith, key_bytes-le password_length)) (omega arith) (omega arith) (omega arith) (omega arith)
 
 -- `scrypt_work`: with lengths of at most 2 ^ 32, the bytes fit into 64 bits.
-pub known_bytes-fit : (key parts tag blocks last : ℕ) → key ≤ 2 ^ 32 → parts ≤ 2 ^ 22 → tag ≤ 2 ^ 33 → blocks ≤ 2 ^ 27 → last ≤ 2 ^ 30
+pub known_work_bytes-lt : (key parts tag blocks last : ℕ) → key ≤ 2 ^ 32 → parts ≤ 2 ^ 22 → tag ≤ 2 ^ 33 → blocks ≤ 2 ^ 27 → last ≤ 2 ^ 30
     → key + 4 * parts * tag + blocks * last < 2 ^ 64
-known_bytes-fit key parts tag blocks last a b c d e =
+known_work_bytes-lt key parts tag blocks last a b c d e =
     let derived : 4 * parts * tag ≤ 2 ^ 24 * tag = mul-le-mul_right tag (omega arith) in
     let answer : blocks * last ≤ 2 ^ 27 * last = mul-le-mul_right last d in
     omega arith

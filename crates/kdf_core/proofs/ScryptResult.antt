@@ -1,6 +1,7 @@
--- The clauses of `derive` and `scrypt` from those of the calls in them. `value-is` composes the two derivations and the
--- mixing between them to the value of the definition. `digests-are` and `bytes-are` add the work of the three steps to
--- the closed form, and `after_two_growths` is the meter where the third allocation fails.
+-- The clauses of `derive` and `scrypt` from those of the calls in them. `scrypt-from_derivations` composes the two
+-- derivations and the mixing between them to the value of the definition. `scrypt_work-digests` and `scrypt_work-bytes`
+-- add the work of the three steps to the closed form, and `meter-after_two_growths` is the meter where the third
+-- allocation fails.
 use Rattle.std.proofs.Common.{◌≡◌, ℕ, ◌+◌, ◌*◌, List, length, ap, ◌∙◌, arith}
 use Rattle.std.specs.Int.{div_ceil}
 use Rattle.prims_core.specs.Meter.{with_work}
@@ -13,15 +14,15 @@ use Rattle.kdf_core.specs.Pbkdf2Messages.{block_bytes, pbkdf2_digests, pbkdf2_by
 use Rattle.kdf_core.specs.Scrypt.{part_bytes, parts_bytes, scrypt}
 use Rattle.kdf_core.specs.ScryptMessages.{mixed_parts}
 use Rattle.kdf_core.specs.ScryptWork.{scrypt_work}
-use Rattle.kdf_core.proofs.ScryptBounds.{parts-blocks}
+use Rattle.kdf_core.proofs.ScryptBounds.{div_ceil-parts_bytes}
 
 -- Deriving the parts, mixing them, and deriving the result from them is scrypt.
-pub value-is : (password salt : List ℕ) (params : ScryptParams) (count n : ℕ) (parts halves derived mixed out : List ℕ)
+pub scrypt-from_derivations : (password salt : List ℕ) (params : ScryptParams) (count n : ℕ) (parts halves derived mixed out : List ℕ)
     → n ≡ row_count params → length parts ≡ parts_bytes params → length halves ≡ 64 * params.r
     → derived ≡ pbkdf2_sha256 password salt 1 (length parts) → mixed ≡ mixed_parts n (2 * length halves) derived
     → out ≡ pbkdf2_sha256 password mixed 1 count → out ≡ scrypt password salt params count
 unfolding scrypt mixed_parts
-value-is password salt params count n parts halves derived mixed out n_is whole blocks first mixing second =
+scrypt-from_derivations password salt params count n parts halves derived mixed out n_is whole blocks first mixing second =
     let size : 2 * length halves ≡ part_bytes params = omega arith in
     let derived_is : derived ≡ pbkdf2_sha256 password salt 1 (parts_bytes params) = first ∙ ap (pbkdf2_sha256 password salt 1) whole in
     second ∙ ap (λ (s : List ℕ). pbkdf2_sha256 password s 1 count)
@@ -29,23 +30,23 @@ value-is password salt params count n parts halves derived mixed out n_is whole 
     ∙ (ap (λ k. mixed_parts (row_count params) k derived) size ∙ ap (mixed_parts (row_count params) (part_bytes params)) derived_is)))
 
 -- The mixing counts no bytes, so those before the last derivation are those of the key and of the first derivation.
-pub bytes-before_last : (m0 m1 m2 m3 : Work) (key_d key_b first_d first_b mixes : ℕ) → m1 ≡ with_work m0 key_d key_b
+pub bytes-before_last_derivation : (m0 m1 m2 m3 : Work) (key_d key_b first_d first_b mixes : ℕ) → m1 ≡ with_work m0 key_d key_b
     → m2 ≡ with_work m1 first_d first_b → m3 ≡ record m2 { mixes = m2.mixes + mixes } → m3.bytes ≡ m0.bytes + key_b + first_b
-bytes-before_last m0 m1 m2 m3 key_d key_b first_d first_b mixes first then mixing =
+bytes-before_last_derivation m0 m1 m2 m3 key_d key_b first_d first_b mixes first then mixing =
     omega (arith, ap (λ (m : Work). m.bytes) first, ap (λ (m : Work). m.bytes) then, ap (λ (m : Work). m.bytes) mixing)
 
 -- The digests of the key and of both derivations are those of the closed form, and so are the bytes.
-pub digests-are : (params : ScryptParams) (password_length salt_length count first : ℕ) → first ≡ parts_bytes params
+pub scrypt_work-digests : (params : ScryptParams) (password_length salt_length count first : ℕ) → first ≡ parts_bytes params
     → key_digests password_length + pbkdf2_digests 1 first + pbkdf2_digests 1 count ≡ (scrypt_work params password_length salt_length count).digests
-digests-are params password_length salt_length count first is =
-    let blocks : div_ceil first 32 ≡ 4 * (params.r * params.p) = ap (λ n. div_ceil n 32) is ∙ parts-blocks params in
+scrypt_work-digests params password_length salt_length count first is =
+    let blocks : div_ceil first 32 ≡ 4 * (params.r * params.p) = ap (λ n. div_ceil n 32) is ∙ div_ceil-parts_bytes params in
     omega (arith, blocks)
 
-pub bytes-are : (params : ScryptParams) (password_length salt_length count first last : ℕ) → first ≡ parts_bytes params → last ≡ parts_bytes params
+pub scrypt_work-bytes : (params : ScryptParams) (password_length salt_length count first last : ℕ) → first ≡ parts_bytes params → last ≡ parts_bytes params
     → key_bytes password_length + pbkdf2_bytes salt_length 1 first + pbkdf2_bytes last 1 count
     ≡ (scrypt_work params password_length salt_length count).bytes
-bytes-are params password_length salt_length count first last is last_is =
-    let blocks : div_ceil first 32 ≡ 4 * (params.r * params.p) = ap (λ n. div_ceil n 32) is ∙ parts-blocks params in
+scrypt_work-bytes params password_length salt_length count first last is last_is =
+    let blocks : div_ceil first 32 ≡ 4 * (params.r * params.p) = ap (λ n. div_ceil n 32) is ∙ div_ceil-parts_bytes params in
     let derived : pbkdf2_bytes salt_length 1 first ≡ 4 * (params.r * params.p) * tag_bytes (salt_length + 4) =
     ap (λ n. n * block_bytes salt_length 1) blocks ∙ omega arith in
     let answer : pbkdf2_bytes last 1 count ≡ div_ceil count 32 * tag_bytes (parts_bytes params + 4) =
@@ -54,10 +55,10 @@ bytes-are params password_length salt_length count first last is last_is =
     ∙ ap (λ n. key_bytes password_length + 4 * (params.r * params.p) * tag_bytes (salt_length + 4) + n) answer
 
 -- The counts where the table and the parts are allocated, and the halves are not.
-pub after_two_growths : (m0 m1 m2 m3 : Work) (t s table parts : ℕ) → m1 ≡ record m0 { table = m0.table + t }
+pub meter-after_two_growths : (m0 m1 m2 m3 : Work) (t s table parts : ℕ) → m1 ≡ record m0 { table = m0.table + t }
     → m2 ≡ record m1 { scratch = m1.scratch + s } → m3 ≡ m2 → t ≡ table → s ≡ parts
     → m3 ≡ record m0 { table = m0.table + table; scratch = m0.scratch + parts }
-after_two_growths m0 m1 m2 m3 t s table parts first second third t_is s_is =
+meter-after_two_growths m0 m1 m2 m3 t s table parts first second third t_is s_is =
     third ∙ (second ∙ (ap (λ (m : Work). record m { scratch = m.scratch + s }) first
     ∙ (ap (λ n. record m0 { table = m0.table + n; scratch = m0.scratch + s }) t_is
     ∙ ap (λ n. record m0 { table = m0.table + table; scratch = m0.scratch + n }) s_is)))

@@ -6,19 +6,19 @@ use Rattle.prims_core.specs.Memory.{rows_of}
 use Rattle.prims_core.proofs.TableFacts.{get_or-rows_of}
 
 -- A row ends within the table.
-pub row_inside : (n w i size : ℕ) → i < n → size ≡ n * w → i * w + w ≤ size
-row_inside n w i size inside whole = rw whole (grind (arith, rows))
+pub row_ends_within : (n w i size : ℕ) → i < n → size ≡ n * w → i * w + w ≤ size
+row_ends_within n w i size inside whole = rw whole (grind (arith, rows))
 
 -- So the slice of it has the length of a row.
-pub length-row_read : (n w i : ℕ) (table : List ℕ) → i < n → length table ≡ n * w
+pub length-row_slice : (n w i : ℕ) (table : List ℕ) → i < n → length table ≡ n * w
     → length (take (i * w + w - i * w) (drop (i * w) table)) ≡ w
-length-row_read n w i table inside whole =
-    let ends : i * w + w ≤ length table = row_inside n w i (length table) inside whole in
+length-row_slice n w i table inside whole =
+    let ends : i * w + w ≤ length table = row_ends_within n w i (length table) inside whole in
     simp (length-take, length-drop) (omega (arith, ends))
 
 -- And it is the row.
-pub row_read : (n w i : ℕ) (table : List ℕ) → i < n
+pub row_slice-get_or : (n w i : ℕ) (table : List ℕ) → i < n
     → take (i * w + w - i * w) (drop (i * w) table) ≡ get_or (rows_of n w table) i []
-row_read n w i table inside =
+row_slice-get_or n w i table inside =
     let size : i * w + w - i * w ≡ w = omega arith in
     ap (λ (k : ℕ). take k (drop (i * w) table)) size ∙ sym (get_or-rows_of n w table i [] inside)

@@ -1,15 +1,15 @@
--- All parts have at most 2 ^ 29 bytes (`parts-fit`), so `needed_bytes` doesn't overflow, and its result is within that
--- bound.
+-- All parts have at most 2 ^ 29 bytes (`parts_bytes-le`), so `needed_bytes` doesn't overflow, and its result is within
+-- that bound.
 use Rattle.std.proofs.Common.{arith}
-use Rattle.kdf_core.proofs.ScryptBounds.{parts-product, parts-fit}
+use Rattle.kdf_core.proofs.ScryptBounds.{parts_bytes-product, parts_bytes-le}
 use Rattle.kdf_core.proofs.lent.needed_bytes.Goals as goal
 
 pub overflow_mul-result-2 : goal.overflow_mul-result-2
 overflow_mul-result-2 c =
     let params = c.args.params.now in
-    omega (arith, parts-product params c.r.result c.p.result c.r.ensures.number c.p.ensures.number, parts-fit params c.r.ensures.accepted)
+    omega (arith, parts_bytes-product params c.r.result c.p.result c.r.ensures.number c.p.ensures.number, parts_bytes-le params c.r.ensures.accepted)
 
 pub returns-clause-below : goal.returns-clause-below
 returns-clause-below c =
     let params = c.args.params.now in
-    omega (arith, parts-product params c.r.result c.p.result c.r.ensures.number c.p.ensures.number, parts-fit params c.r.ensures.accepted)
+    omega (arith, parts_bytes-product params c.r.result c.p.result c.r.ensures.number c.p.ensures.number, parts_bytes-le params c.r.ensures.accepted)

@@ -1,14 +1,14 @@
 -- The clauses of `pbkdf2`, from its loop over the blocks: each iteration writes the next block after the others
--- (`front_more`), and at the end `out` is the derived bytes (`front_all`). The meter can count one more block while a
--- block is missing, since it can count all of them.
+-- (`take-blocks_add_one`), and at the end `out` is the derived bytes (`pbkdf2_sha256-from_blocks`). The meter can count
+-- one more block while a block is missing, since it can count all of them.
 use Rattle.std.proofs.Common.{◌≡◌, ℕ, ◌+◌, ◌*◌, ◌<◌, ◌≤◌, ◌-◌, ◌++◌, length, take, ap, ◌∙◌, arith}
 use Rattle.std.specs.Int.{div_ceil}
 use Rattle.std.proofs.Math.Nat.{mul-le-mul_left, mul-le-mul_right}
 use Rattle.std.proofs.lemmas.Grind.{div_ceil_times}
 use Rattle.kdf_core.specs.Pbkdf2.{block}
 use Rattle.kdf_core.specs.Pbkdf2Messages.{block_bytes}
-use Rattle.kdf_core.proofs.AddedWork.{work_more}
-use Rattle.kdf_core.proofs.Pbkdf2Lemmas.{front_more, front_all}
+use Rattle.kdf_core.proofs.AddedWork.{with_work-add}
+use Rattle.kdf_core.proofs.Pbkdf2Lemmas.{take-blocks_add_one, pbkdf2_sha256-from_blocks}
 use Rattle.kdf_core.proofs.pbkdf2.pbkdf2.Goals as goal
 
 -- The work of one more block is within the work of all.
@@ -34,16 +34,16 @@ filling-preserved c =
     let inside : 32 * i < room = omega (arith, (div_ceil_times room 32 (omega arith)).1) in
     let before = c.filling.invariant in
     record {
-      front = λ password of_key. front_more (block password salt rounds) c.filling.out c.put_block.new.out
+      front = λ password of_key. take-blocks_add_one (block password salt rounds) c.filling.out c.put_block.new.out
           c.derived_block-block.result room i inside c.filling.auto.out (before.front password of_key)
           (c.derived_block-block.ensures.block password of_key)
           (c.put_block.ensures ∙ ap (λ n. take (32 * i) c.filling.out ++ take (n - 32 * i) c.derived_block-block.result) c.filling.auto.out);
-      count = work_more c.args.meter.now c.filling.meter c.derived_block-block.new.meter _ _ _ _ _ _ before.count
+      count = with_work-add c.args.meter.now c.filling.meter c.derived_block-block.new.meter _ _ _ _ _ _ before.count
           c.derived_block-block.ensures.count (omega arith) (omega arith);
     }
 
 pub returns-clause-bytes : goal.returns-clause-bytes
 returns-clause-bytes c password of_key =
     let all : c.filling.i ≡ div_ceil (length c.args.out.now) 32 = omega arith in
-    front_all password c.args.salt.now c.filling.out c.args.rounds (length c.args.out.now) c.filling.i c.filling.auto.out all
+    pbkdf2_sha256-from_blocks password c.args.salt.now c.filling.out c.args.rounds (length c.args.out.now) c.filling.i c.filling.auto.out all
     (c.filling.invariant.front password of_key)

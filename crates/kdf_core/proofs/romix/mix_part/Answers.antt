@@ -6,7 +6,7 @@ use Rattle.prims_core.specs.Diagonals.{in_rows}
 use Rattle.prims_core.specs.Memory.{rows_of, HoldsMixings}
 use Rattle.prims_core.specs.Words.{bytes_of_words}
 use Rattle.kdf_core.specs.Scrypt.{mixed_back, romix, mixed_part}
-use Rattle.kdf_core.proofs.ScryptBounds.{even, some_row}
+use Rattle.kdf_core.proofs.ScryptBounds.{IsPower-even, IsPower-pos}
 use Rattle.kdf_core.proofs.romix.mix_part.Goals as goal
 
 pub to_diagonals-requires : goal.to_diagonals-requires
@@ -16,7 +16,7 @@ to_diagonals-requires g c =
 pub fill_by_mixing-requires-clause-even : goal.fill_by_mixing-requires-clause-even
 fill_by_mixing-requires-clause-even g c =
     let k = c.requires.power.0 in
-    omega (arith, even c.args.row_count k c.requires.power.1, some_row c.args.row_count k c.requires.power.1)
+    omega (arith, IsPower-even c.args.row_count k c.requires.power.1, IsPower-pos c.args.row_count k c.requires.power.1)
 
 pub from_diagonals-requires : goal.from_diagonals-requires
 from_diagonals-requires g c =

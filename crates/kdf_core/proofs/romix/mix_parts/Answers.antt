@@ -1,17 +1,17 @@
 -- The clauses of `mix_parts`, from its loop: each iteration replaces the next part by its ROMix and keeps the later
--- parts (`parts_done-more`, `parts_to_come-more`). At the end all parts are replaced (`parts-all`).
+-- parts (`take-put_mid_part`, `drop-put_mid_part`). At the end all parts are replaced (`mixed_parts-from_first_parts`).
 use Rattle.std.proofs.Common.{◌≡◌, ◌+◌, ◌*◌, ◌≤◌, ◌-◌, ◌∙◌, ℕ, length, take, drop, length-take, length-drop, subst, refl, arith}
 use Rattle.std.proofs.Math.Nat.{mul-le-mul_left}
 use Rattle.prims_core.proofs.FilledTable.{mixes-add}
-use Rattle.kdf_core.proofs.MixedParts.{first_parts, parts_done-none, parts_done-more, parts_to_come-more, parts-all, mixes-none}
+use Rattle.kdf_core.proofs.MixedParts.{first_parts, first_parts-zero, take-put_mid_part, drop-put_mid_part, mixed_parts-from_first_parts, mixes-add_zero}
 use Rattle.kdf_core.proofs.romix.mix_parts.Goals as goal
 
 pub parts-init : goal.parts-init
 parts-init g c = record {
-  done = parts_done-none c.args.row_count (2 * length c.args.halves.now) c.args.parts.now;
+  done = first_parts-zero c.args.row_count (2 * length c.args.halves.now) c.args.parts.now;
   to_come = refl;
   kept = refl;
-  count = mixes-none c.args.meter.now (2 * c.args.row_count);
+  count = mixes-add_zero c.args.meter.now (2 * c.args.row_count);
 }
 
 pub parts-preserved : goal.parts-preserved
@@ -26,9 +26,9 @@ parts-preserved g c =
     let same : length c.mix_part.new.part ≡ size =
     c.mix_part.auto.part ∙ omega (arith, length-take (size * i + size - size * i) (drop (size * i) parts), length-drop (size * i) parts) in
     record {
-      done = parts_done-more c.args.row_count size i (size * i + size - size * i) c.args.parts.now parts c.mix_part.new.part inside width
+      done = take-put_mid_part c.args.row_count size i (size * i + size - size * i) c.args.parts.now parts c.mix_part.new.part inside width
           before.done before.to_come c.mix_part.ensures.part same;
-      to_come = parts_to_come-more size i (size * i + size - size * i) c.args.parts.now parts c.mix_part.new.part inside width
+      to_come = drop-put_mid_part size i (size * i + size - size * i) c.args.parts.now parts c.mix_part.new.part inside width
           before.to_come same;
       kept = c.mix_part.ensures.kept ∙ before.kept;
       count = mixes-add c.args.meter.now c.parts.meter c.mix_part.new.meter (2 * c.args.row_count * i) (2 * c.args.row_count)
@@ -39,6 +39,6 @@ pub returns-clause-parts : goal.returns-clause-parts
 returns-clause-parts g c =
     let size = 2 * length c.args.halves.now in
     let all : c.parts.i ≡ c.args.count = omega arith in
-    parts-all c.args.row_count size c.args.count c.args.parts.now c.parts.parts (omega (arith, c.requires.some_block.1)) c.requires.whole
+    mixed_parts-from_first_parts c.args.row_count size c.args.count c.args.parts.now c.parts.parts (omega (arith, c.requires.some_block.1)) c.requires.whole
     c.parts.auto.parts
     (subst (λ (n : ℕ). take (size * n) c.parts.parts ≡ first_parts c.args.row_count size c.args.parts.now n) all c.parts.invariant.done)

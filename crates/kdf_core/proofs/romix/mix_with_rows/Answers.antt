@@ -1,12 +1,12 @@
 -- The clauses of `mix_with_rows`, from its loop: each iteration is two steps of ROMix's second loop, from x to y and
--- back (`iterate-add_two`). N is even (`even`), so N / 2 iterations are N steps.
+-- back (`iterate-add_two`). N is even (`IsPower-even`), so N / 2 iterations are N steps.
 use Rattle.std.proofs.Common.{◌≡◌, ℕ, ◌+◌, ◌*◌, List, length, subst, sym, ap, ◌∙◌, arith}
 use Rattle.prims_core.specs.Memory.{rows_of, HoldsMixings}
 use Rattle.std.specs.Fn.{iterate}
 use Rattle.prims_core.specs.Diagonals.{in_rows}
 use Rattle.kdf_core.specs.Scrypt.{mixed_back}
 use Rattle.prims_core.proofs.FilledTable.{iterate-add_two, mixes-add}
-use Rattle.kdf_core.proofs.ScryptBounds.{even}
+use Rattle.kdf_core.proofs.ScryptBounds.{IsPower-even}
 use Rattle.kdf_core.proofs.romix.mix_with_rows.Goals as goal
 
 pub mixing-preserved : goal.mixing-preserved
@@ -32,10 +32,10 @@ mixing-preserved c =
 
 pub returns-clause-mixed : goal.returns-clause-mixed
 returns-clause-mixed c start holds =
-    let all : 2 * c.mixing.counter ≡ c.args.row_count = omega (arith, even c.args.row_count c.requires.power.0 c.requires.power.1) in
+    let all : 2 * c.mixing.counter ≡ c.args.row_count = omega (arith, IsPower-even c.args.row_count c.requires.power.0 c.requires.power.1) in
     c.mixing.invariant.mixed start holds ∙ ap (λ n. iterate (mixed_back c.args.row_count start) n (in_rows c.args.x.now)) all
 
 pub returns-clause-count : goal.returns-clause-count
 returns-clause-count c =
-    let all : 2 * c.mixing.counter ≡ c.args.row_count = omega (arith, even c.args.row_count c.requires.power.0 c.requires.power.1) in
+    let all : 2 * c.mixing.counter ≡ c.args.row_count = omega (arith, IsPower-even c.args.row_count c.requires.power.0 c.requires.power.1) in
     c.mixing.invariant.count ∙ ap (λ n. record c.args.meter.now { mixes = c.args.meter.now.mixes + n }) all

@@ -1,10 +1,10 @@
 -- The clauses of `scrypt_work`: no sum overflows, since the lengths are at most 2 ^ 32 and the parameters are bounded
--- (`known_bytes-fit`), and the numbers that the code reads are those of the parameters, so its result is the closed
+-- (`known_work_bytes-lt`), and the numbers that the code reads are those of the parameters, so its result is the closed
 -- form.
 use Rattle.std.proofs.Common.{◌≡◌, ℕ, ◌*◌, ◌^◌, ◌≤◌, ◌∙◌, refl, arith, rules}
 use Rattle.std.proofs.Math.Nat.{mul-le-mul}
 use Rattle.kdf_core.specs.Hmac.{key_digests}
-use Rattle.kdf_core.proofs.ScryptBounds.{known_bytes-fit}
+use Rattle.kdf_core.proofs.ScryptBounds.{known_work_bytes-lt}
 use Rattle.kdf_core.proofs.work.scrypt_work.Goals as goal
 
 pub overflow_add-result-3 : goal.overflow_add-result-3
@@ -13,7 +13,7 @@ overflow_add-result-3 c =
     let few : parts ≤ 2 ^ 22 = rw (c.from-r.ensures ∙ c.r.ensures.number, c.from-p.ensures ∙ c.p.ensures.number) c.row_count.ensures.bounded.parts in
     let once : c.from-key_digests.result ≤ 1 = search rules in
     let key : c.from-key_digests.result * c.args.password_len ≤ 1 * 2 ^ 32 = mul-le-mul once c.requires.password in
-    let fit = known_bytes-fit (c.from-key_digests.result * c.args.password_len) parts c.salted_tag_bytes.result 0 0 (omega arith) few
+    let fit = known_work_bytes-lt (c.from-key_digests.result * c.args.password_len) parts c.salted_tag_bytes.result 0 0 (omega arith) few
     (omega arith) (omega arith) (omega arith) in
     omega (arith, fit)
 
@@ -23,7 +23,7 @@ overflow_add-result-4 c =
     let few : parts ≤ 2 ^ 22 = rw (c.from-r.ensures ∙ c.r.ensures.number, c.from-p.ensures ∙ c.p.ensures.number) c.row_count.ensures.bounded.parts in
     let once : c.from-key_digests.result ≤ 1 = search rules in
     let key : c.from-key_digests.result * c.args.password_len ≤ 1 * 2 ^ 32 = mul-le-mul once c.requires.password in
-    let fit = known_bytes-fit (c.from-key_digests.result * c.args.password_len) parts c.salted_tag_bytes.result c.div_ceil-blocks.result
+    let fit = known_work_bytes-lt (c.from-key_digests.result * c.args.password_len) parts c.salted_tag_bytes.result c.div_ceil-blocks.result
     c.salted_tag_bytes-2.result (omega arith) few (omega arith) (omega arith) (omega arith) in
     omega (arith, fit)
 

@@ -1,5 +1,5 @@
--- The clause of `new`: the block XOR each pad is the padded key of the definition (`padded_is`).
-use Rattle.kdf_core.proofs.HmacLemmas.{padded_is}
+-- The clause of `new`: the block XOR each pad is the padded key of the definition (`padded_key-from_xor`).
+use Rattle.kdf_core.proofs.HmacLemmas.{padded_key-from_xor}
 use Rattle.kdf_core.proofs.hmac.HmacKey.new.Goals as goal
 
 pub returns-clause-key : goal.returns-clause-key
@@ -7,6 +7,6 @@ returns-clause-key c =
     let key = c.args.key.now in
     let block = c.block_of-block.result in
     record {
-      inner = padded_is key block c.padded.result 0x36 c.block_of-block.ensures.block c.padded.ensures;
-      outer = padded_is key block c.padded-2.result 0x5c c.block_of-block.ensures.block c.padded-2.ensures;
+      inner = padded_key-from_xor key block c.padded.result 0x36 c.block_of-block.ensures.block c.padded.ensures;
+      outer = padded_key-from_xor key block c.padded-2.result 0x5c c.block_of-block.ensures.block c.padded-2.ensures;
     }
