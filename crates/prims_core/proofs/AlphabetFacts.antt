@@ -62,13 +62,13 @@ character_of-ranges v below = elim (cases_lt v 12) [
 
 -- The alphabet contains exactly the characters of the values below 64.
 pub Contains-character_of : (c v : ℕ) → v < 64 → character_of v ≡ c → Contains alphabet c
-Contains-character_of c v below is =
+Contains-character_of c v below spells_c =
     let inside : v < length alphabet = rw length-alphabet below in
-    (v, inside, get_or_default_zero alphabet v c inside ∙ is)
+    (v, inside, get_or_default_zero alphabet v c inside ∙ spells_c)
 
 pub value-from_Contains : (c : ℕ) → Contains alphabet c → (v : ℕ) × (v < 64) × (character_of v ≡ c)
-value-from_Contains c (k, inside, is) =
-    (k, rw length-alphabet at inside, sym (get_or_default_zero alphabet k c inside) ∙ is)
+value-from_Contains c (k, inside, spells_c) =
+    (k, rw length-alphabet at inside, sym (get_or_default_zero alphabet k c inside) ∙ spells_c)
 
 -- No two values have the same character.
 pub character_of-injective : (v w : ℕ) → v < 64 → w < 64 → character_of v ≡ character_of w → v ≡ w
@@ -80,10 +80,10 @@ abbrev pub IsOutside : ℕ → Type 0
 IsOutside c = (c < 46) ⊎ (((57 < c) × (c < 65)) ⊎ (((90 < c) × (c < 97)) ⊎ (122 < c)))
 
 pub character_of-not_outside : (c : ℕ) → IsOutside c → (v : ℕ) → v < 64 → character_of v ≡ c → ⊥
-character_of-not_outside c outside v below is = omega (arith, outside, character_of-ranges v below)
+character_of-not_outside c outside v below spells_c = omega (arith, outside, character_of-ranges v below)
 
 -- So the alphabet doesn't contain it.
 pub Contains-not_outside : (c : ℕ) → IsOutside c → Contains alphabet c → ⊥
-Contains-not_outside c outside has =
-    let found : (v : ℕ) × (v < 64) × (character_of v ≡ c) = value-from_Contains c has in
+Contains-not_outside c outside contained =
+    let found : (v : ℕ) × (v < 64) × (character_of v ≡ c) = value-from_Contains c contained in
     character_of-not_outside c outside found.0 found.1 found.2

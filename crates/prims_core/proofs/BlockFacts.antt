@@ -48,33 +48,33 @@ unfolding in_rows chunks_exact
 block_at-in_rows words i inside =
     let cut : ℕ → List ℕ = λ k. take 16 (drop (16 * k) words) in
     let n : ℕ = length words / 16 in
-    let all : length (chunks_exact words 16) ≡ n = length-map-range_with_len cut 0 n in
-    take_drop-flat_map block_in_rows 16 length-block_in_rows (chunks_exact words 16) i (omega (arith, all))
+    let count_pieces : length (chunks_exact words 16) ≡ n = length-map-range_with_len cut 0 n in
+    take_drop-flat_map block_in_rows 16 length-block_in_rows (chunks_exact words 16) i (omega (arith, count_pieces))
     ∙ ap block_in_rows (get_or-map-range_with_len cut 0 n i i [] (omega arith) (omega arith))
 
 -- Two lists that have the same blocks are equal.
 pub equal-from_same_blocks : (n : ℕ) (xs ys : List ℕ) → length xs ≡ 16 * n → length ys ≡ 16 * n
     → ((i : ℕ) → i < n → block_at i xs ≡ block_at i ys) → xs ≡ ys
-equal-from_same_blocks n xs ys whole_xs whole_ys each =
-    let pieces : length (chunks_exact ys 16) ≡ n = length-chunks_exact ys 16 n (omega arith) whole_ys in
-    concat-from_pieces 16 (chunks_exact ys 16) xs (rw pieces whole_xs) (λ i inside.
-    get_or-chunks_exact ys 16 n i (omega arith) whole_ys (omega arith) ∙ sym (each i (omega arith)))
-    ∙ concat-chunks_exact ys 16 n (omega arith) whole_ys
+equal-from_same_blocks n xs ys length_xs length_ys same_at =
+    let count_pieces : length (chunks_exact ys 16) ≡ n = length-chunks_exact ys 16 n (omega arith) length_ys in
+    concat-from_pieces 16 (chunks_exact ys 16) xs (rw count_pieces length_xs) (λ i inside.
+    get_or-chunks_exact ys 16 n i (omega arith) length_ys (omega arith) ∙ sym (same_at i (omega arith)))
+    ∙ concat-chunks_exact ys 16 n (omega arith) length_ys
 
 -- A list after a block is written over block i: block i is the written one, and each other block k is as before.
 pub block_at-put_mid_same : (i width : ℕ) (out x : List ℕ) → 16 * i + 16 ≤ length out → length x ≡ 16
     → block_at i (put_mid (16 * i) width out x) ≡ x
-block_at-put_mid_same i width out x inside whole =
-    let length_is : 16 * i + 16 - 16 * i ≡ 16 = omega arith in
-    rw length_is at (between-put_mid (16 * i) width out x (16 * i + 16) (omega arith) (omega arith))
+block_at-put_mid_same i width out x inside length_x =
+    let block_size : 16 * i + 16 - 16 * i ≡ 16 = omega arith in
+    rw block_size at (between-put_mid (16 * i) width out x (16 * i + 16) (omega arith) (omega arith))
 
 pub block_at-put_mid_other : (i width k : ℕ) (out x : List ℕ) → 16 * i + 16 ≤ length out → width ≡ 16 → length x ≡ 16
     → (k < i) ⊎ (i < k) → block_at k (put_mid (16 * i) width out x) ≡ block_at k out
-block_at-put_mid_other i width k out x inside is whole (inl below) =
+block_at-put_mid_other i width k out x inside width_is length_x (inl below) =
     sym (drop-take (16 * k) 16 (put_mid (16 * i) width out x))
     ∙ ap (drop (16 * k)) (take-put_mid_below (16 * i) width out x (16 * k + 16) (omega arith) (omega arith))
     ∙ drop-take (16 * k) 16 out
-block_at-put_mid_other i width k out x inside is whole (inr above) =
+block_at-put_mid_other i width k out x inside width_is length_x (inr above) =
     ap (take 16) (drop-put_mid (16 * i) width out x (16 * k) (omega arith) (omega arith) (omega arith))
 
 -- The loops of `to_diagonals` and `from_diagonals`, one step on: blocks before i have property P and the others are
@@ -84,13 +84,13 @@ pub rearranged_blocks-put_mid : (n i width : ℕ) (P : ℕ → List ℕ → Type
     → ((k : ℕ) → k < i → P k (block_at k words)) → ((k : ℕ) → i ≤ k → block_at k words ≡ block_at k start)
     → ((k : ℕ) → k < i + 1 → P k (block_at k (put_mid (16 * i) width words block)))
     × ((k : ℕ) → i + 1 ≤ k → block_at k (put_mid (16 * i) width words block) ≡ block_at k start)
-rearranged_blocks-put_mid n i width P start words block whole inside sixteen long is done rest = (
+rearranged_blocks-put_mid n i width P start words block length_words inside width_is length_block block_has_P done rest = (
   (λ k so_far. elim (cases_lt k i) [
     | inl earlier ↦
-        subst (P k) (sym (block_at-put_mid_other i width k words block (omega arith) sixteen long (inl earlier))) (done k earlier)
+        subst (P k) (sym (block_at-put_mid_other i width k words block (omega arith) width_is length_block (inl earlier))) (done k earlier)
     | inr now ↦
-        let this : k ≡ i = omega arith in
-        rw this (subst (P i) (sym (block_at-put_mid_same i width words block (omega arith) long)) is)
+        let k_is_i : k ≡ i = omega arith in
+        rw k_is_i (subst (P i) (sym (block_at-put_mid_same i width words block (omega arith) length_block)) block_has_P)
   ]),
-  (λ k later. block_at-put_mid_other i width k words block (omega arith) sixteen long (inr (omega arith)) ∙ rest k (omega arith)),
+  (λ k later. block_at-put_mid_other i width k words block (omega arith) width_is length_block (inr (omega arith)) ∙ rest k (omega arith)),
 )

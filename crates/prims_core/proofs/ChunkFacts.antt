@@ -20,7 +20,7 @@ pub get_or-chunks_exact : (items : List ℕ) (size count i : ℕ) → 0 < size �
     → get_or (chunks_exact items size) i [] ≡ take size (drop (size * i) items)
 unfolding chunks_exact
 get_or-chunks_exact items size count i some whole inside =
-    let pieces : length items / size ≡ count =
+    let count_pieces : length items / size ≡ count =
     ap (λ (n : ℕ). n / size) whole ∙ mul-div_cancel_left count some in
     get_or-map-range_with_len (λ i. take size (drop (size * i) items)) 0 (length items / size) i i [] (omega arith) (omega arith)
 
@@ -28,21 +28,21 @@ get_or-chunks_exact items size count i some whole inside =
 pub concat-from_pieces : (size : ℕ) (pieces : List (List ℕ)) (items : List ℕ) → length items ≡ size * length pieces
     → ((i : ℕ) → i < length pieces → get_or pieces i [] ≡ take size (drop (size * i) items))
     → items ≡ concat pieces
-concat-from_pieces size [] items whole each = nil_from_length items (omega arith)
-concat-from_pieces size (piece ∷ pieces) items whole each =
-    let none : size * 0 ≡ 0 = omega arith in
-    let first : piece ≡ take size items = rw none at (each 0 (omega arith)) in
-    let rest : drop size items ≡ concat pieces =
+concat-from_pieces size [] items whole piece_at = nil_from_length items (omega arith)
+concat-from_pieces size (piece ∷ pieces) items whole piece_at =
+    let start_zero : size * 0 ≡ 0 = omega arith in
+    let first_piece : piece ≡ take size items = rw start_zero at (piece_at 0 (omega arith)) in
+    let other_pieces : drop size items ≡ concat pieces =
     concat-from_pieces size pieces (drop size items) (omega (arith, length-drop size items)) (λ i inside.
-    let place : size * suc i ≡ size + size * i = omega arith in
-    let there = each (suc i) (omega arith) in
-    rw (drop-drop, ← place) there) in
-    sym (take-append-drop size items) ∙ ap₂ ◌++◌ (sym first) rest
+    let next_start : size * suc i ≡ size + size * i = omega arith in
+    let next_piece = piece_at (suc i) (omega arith) in
+    rw (drop-drop, ← next_start) next_piece) in
+    sym (take-append-drop size items) ∙ ap₂ ◌++◌ (sym first_piece) other_pieces
 
 -- A list that is cut into pieces, and joined again, is the same list.
 pub concat-chunks_exact : (items : List ℕ) (size count : ℕ) → 0 < size → length items ≡ size * count
     → concat (chunks_exact items size) ≡ items
 concat-chunks_exact items size count some whole =
-    let all : length (chunks_exact items size) ≡ count = length-chunks_exact items size count some whole in
-    sym (concat-from_pieces size (chunks_exact items size) items (rw all whole)
+    let count_pieces : length (chunks_exact items size) ≡ count = length-chunks_exact items size count some whole in
+    sym (concat-from_pieces size (chunks_exact items size) items (rw count_pieces whole)
     (λ i inside. get_or-chunks_exact items size count i some whole (omega arith)))

@@ -23,17 +23,17 @@ iterate-add_one h (suc n) x =
 -- The same for two more applications, where the values between them are given by equations.
 pub iterate-add_two : (h : List ℕ → List ℕ) (n : ℕ) (x a b c : List ℕ) → a ≡ iterate h (2 * n) x → b ≡ h a → c ≡ h b
     → c ≡ iterate h (2 * (n + 1)) x
-iterate-add_two h n x a b c is first second =
-    let all : 2 * n + 1 + 1 ≡ 2 * (n + 1) = omega arith in
-    let once : b ≡ iterate h (2 * n + 1) x = first ∙ (ap h is ∙ sym (iterate-add_one h (2 * n) x)) in
-    second ∙ (ap h once ∙ (sym (iterate-add_one h (2 * n + 1) x) ∙ ap (λ k. iterate h k x) all))
+iterate-add_two h n x a b c a_is b_is c_is =
+    let count_is : 2 * n + 1 + 1 ≡ 2 * (n + 1) = omega arith in
+    let b_iterated : b ≡ iterate h (2 * n + 1) x = b_is ∙ (ap h a_is ∙ sym (iterate-add_one h (2 * n) x)) in
+    c_is ∙ (ap h b_iterated ∙ (sym (iterate-add_one h (2 * n + 1) x) ∙ ap (λ k. iterate h k x) count_is))
 
 -- A meter that counts m mixings and then n has counted their sum.
 pub mixes-add : (a b c : Work) (m n all : ℕ) → b ≡ record a { mixes = a.mixes + m } → c ≡ record b { mixes = b.mixes + n } → m + n ≡ all
     → c ≡ record a { mixes = a.mixes + all }
-mixes-add a b c m n all first then sum =
-    let whole : a.mixes + m + n ≡ a.mixes + all = omega arith in
-    then ∙ (ap (λ (x : Work). record x { mixes = x.mixes + n }) first ∙ ap (λ k. record a { mixes = k }) whole)
+mixes-add a b c m n all b_is c_is sum_is =
+    let counted : a.mixes + m + n ≡ a.mixes + all = omega arith in
+    c_is ∙ (ap (λ (x : Work). record x { mixes = x.mixes + n }) b_is ∙ ap (λ k. record a { mixes = k }) counted)
 
 -- HasMixings items w count start: the list is this number of rows of w words, and row i, which is in diagonal order,
 -- holds `start` after i mixings.
@@ -48,17 +48,17 @@ HasMixings-nil w start = record { long = omega arith; held = λ i none. absurd (
 -- Appending `start` after `count` mixings adds a row.
 pub HasMixings-append : (items row start : List ℕ) (w count : ℕ) → HasMixings items w count start → length row ≡ w
     → in_rows row ≡ iterate block_mix count start → HasMixings (items ++ row) w (count + 1) start
-HasMixings-append items row start w count before same is =
+HasMixings-append items row start w count before length_row row_mixed =
     record {
-      long = length-append items row ∙ omega (arith, before.long, same);
+      long = length-append items row ∙ omega (arith, before.long, length_row);
       held = below_more _ _
           (λ (i : ℕ) (inside : i < count).
-          let below : i * w + w ≤ count * w = grind (arith, rows) in
-          let ends : i * w + w ≤ length items = omega (arith, before.long, below) in
-          ap in_rows (ap (take w) (drop-append-le (i * w) items row (omega (arith, ends)))
-          ∙ take-append-le w (drop (i * w) items) row (omega (arith, ends, length-drop (i * w) items)))
+          let row_fits : i * w + w ≤ count * w = grind (arith, rows) in
+          let row_ends : i * w + w ≤ length items = omega (arith, before.long, row_fits) in
+          ap in_rows (ap (take w) (drop-append-le (i * w) items row (omega (arith, row_ends)))
+          ∙ take-append-le w (drop (i * w) items) row (omega (arith, row_ends, length-drop (i * w) items)))
           ∙ before.held i inside)
-          (ap in_rows (ap (take w) (drop_at items row (count * w) before.long) ∙ take_all w row (omega (arith, same))) ∙ is);
+          (ap in_rows (ap (take w) (drop_at items row (count * w) before.long) ∙ take_all w row (omega (arith, length_row))) ∙ row_mixed);
     }
 
 -- The same for two rows, x and then y, where y is x mixed once more. This is one iteration of the loop of
@@ -66,11 +66,11 @@ HasMixings-append items row start w count before same is =
 pub HasMixings-append_two : (items once twice x y start : List ℕ) (w i : ℕ) → HasMixings items w (2 * i) start → length x ≡ w → length y ≡ w
     → in_rows x ≡ iterate block_mix (2 * i) start → in_rows y ≡ block_mix (in_rows x) → once ≡ items ++ x → twice ≡ once ++ y
     → HasMixings twice w (2 * (i + 1)) start
-HasMixings-append_two items once twice x y start w i before long_x long_y is mixed first second =
-    let all : 2 * i + 1 + 1 ≡ 2 * (i + 1) = omega arith in
-    let one : HasMixings once w (2 * i + 1) start = rw first (HasMixings-append items x start w (2 * i) before long_x is) in
-    rw (second, ← all) (HasMixings-append once y start w (2 * i + 1) one long_y
-    (mixed ∙ (ap block_mix is ∙ sym (iterate-add_one block_mix (2 * i) start))))
+HasMixings-append_two items once twice x y start w i before length_x length_y x_mixed y_mixed once_is twice_is =
+    let count_is : 2 * i + 1 + 1 ≡ 2 * (i + 1) = omega arith in
+    let with_x : HasMixings once w (2 * i + 1) start = rw once_is (HasMixings-append items x start w (2 * i) before length_x x_mixed) in
+    rw (twice_is, ← count_is) (HasMixings-append once y start w (2 * i + 1) with_x length_y
+    (y_mixed ∙ (ap block_mix x_mixed ∙ sym (iterate-add_one block_mix (2 * i) start))))
 
 -- After i iterations, of two rows each, the memory for n rows still holds two more if i is below n / 2.
 pub two_more_rows-fit : (n w i : ℕ) → i < n / 2 → 2 * i * w + w + w ≤ n * w
@@ -80,4 +80,4 @@ two_more_rows-fit n w i inside =
 
 -- A list with all its rows is a table that holds the mixings.
 pub HoldsMixings-from_HasMixings : (n w : ℕ) (items start : List ℕ) → HasMixings items w n start → HoldsMixings (rows_of n w items) n start
-HoldsMixings-from_HasMixings n w items start is = λ i inside. ap in_rows (get_or-rows_of n w items i [] inside) ∙ is.held i inside
+HoldsMixings-from_HasMixings n w items start filled = λ i inside. ap in_rows (get_or-rows_of n w items i [] inside) ∙ filled.held i inside

@@ -36,49 +36,49 @@ place_of-even_or_odd r i = elim (cases_lt (i % 2) 1) [
 pub ArePlaced-put_mid : (r i width : ℕ) (y : ℕ → List ℕ) (out x : List ℕ) → length out ≡ 32 * r
     → i < 2 * r → width ≡ 16 → length x ≡ 16 → block_in_rows x ≡ y i → ArePlaced y r i out
     → ArePlaced y r (i + 1) (put_mid (16 * place_of r i) width out x)
-ArePlaced-put_mid r i width y out x whole inside sixteen block is before = λ k so_far.
+ArePlaced-put_mid r i width y out x length_out inside width_is length_x x_is_result placed = λ k so_far.
     let place : ℕ = place_of r i in
     -- A result k other than i has another place, so writing result i leaves it.
     let other : ℕ = place_of r k in
     let fits : place < 2 * r = omega (arith, place_of-even_or_odd r i) in
     elim (cases_lt k i) [
       | inl earlier ↦
-          let apart : (other < place) ⊎ (place < other) = elim (cases_lt other place) [
+          let other_place : (other < place) ⊎ (place < other) = elim (cases_lt other place) [
             | inl below ↦ inl below
             | inr above ↦ inr (omega (arith, place_of-even_or_odd r i, place_of-even_or_odd r k))
           ] in
-          ap block_in_rows (block_at-put_mid_other place width other out x (omega arith) sixteen block apart) ∙ before k earlier
+          ap block_in_rows (block_at-put_mid_other place width other out x (omega arith) width_is length_x other_place) ∙ placed k earlier
       | inr now ↦
-          let this : k ≡ i = omega arith in
-          rw this (ap block_in_rows (block_at-put_mid_same place width out x (omega arith) block) ∙ is)
+          let k_is_i : k ≡ i = omega arith in
+          rw k_is_i (ap block_in_rows (block_at-put_mid_same place width out x (omega arith) length_x) ∙ x_is_result)
     ]
 
 -- With all results in their places, the list is the even results and then the odd ones.
 pub in_rows-from_ArePlaced : (r : ℕ) (y : ℕ → List ℕ) (out : List ℕ) → length out ≡ 32 * r → ArePlaced y r (2 * r) out
     → in_rows out ≡ concat (map (λ i. y (2 * i)) (range_with_len 0 r) ++ map (λ i. y (2 * i + 1)) (range_with_len 0 r))
-in_rows-from_ArePlaced r y out whole placed =
+in_rows-from_ArePlaced r y out length_out placed =
     let evens = map (λ i. y (2 * i)) (range_with_len 0 r) in
     let odds = map (λ i. y (2 * i + 1)) (range_with_len 0 r) in
-    let front_length : length evens ≡ r = length-map-range_with_len (λ i. y (2 * i)) 0 r in
-    let back_length : length odds ≡ r = length-map-range_with_len (λ i. y (2 * i + 1)) 0 r in
-    let both : length (evens ++ odds) ≡ 2 * r = omega (arith, length-append evens odds) in
+    let length_evens : length evens ≡ r = length-map-range_with_len (λ i. y (2 * i)) 0 r in
+    let length_odds : length odds ≡ r = length-map-range_with_len (λ i. y (2 * i + 1)) 0 r in
+    let length_both : length (evens ++ odds) ≡ 2 * r = omega (arith, length-append evens odds) in
     -- Block p of `out` in row order is block p of `in_rows out`.
-    let there : (p : ℕ) → p < 2 * r → block_in_rows (block_at p out) ≡ block_at p (in_rows out) =
+    let same_block : (p : ℕ) → p < 2 * r → block_in_rows (block_at p out) ≡ block_at p (in_rows out) =
     λ p inside. sym (block_at-in_rows out p (omega arith)) in
     -- Before place r, block p is result 2p; from there on it is result 2q + 1, where q is p - r.
     concat-from_pieces 16 (evens ++ odds) (in_rows out) (omega (arith, length-in_rows out)) (λ p inside.
     elim (cases_lt p r) [
       | inl front ↦
-          let place : place_of r (2 * p) ≡ p = omega (arith, place_of-even_or_odd r (2 * p)) in
+          let place_is_p : place_of r (2 * p) ≡ p = omega (arith, place_of-even_or_odd r (2 * p)) in
           get_or_append_left evens odds [] p (omega arith)
           ∙ get_or-map-range_with_len (λ i. y (2 * i)) 0 r p p [] front (omega arith)
-          ∙ sym (rw place at (placed (2 * p) (omega arith))) ∙ there p (omega arith)
+          ∙ sym (rw place_is_p at (placed (2 * p) (omega arith))) ∙ same_block p (omega arith)
       | inr back ↦
           let q = p - r in
-          let place : place_of r (2 * q + 1) ≡ p = omega (arith, place_of-even_or_odd r (2 * q + 1)) in
-          get_or-append_right evens odds r p [] front_length back
+          let place_is_p : place_of r (2 * q + 1) ≡ p = omega (arith, place_of-even_or_odd r (2 * q + 1)) in
+          get_or-append_right evens odds r p [] length_evens back
           ∙ get_or-map-range_with_len (λ i. y (2 * i + 1)) 0 r q q [] (omega arith) (omega arith)
-          ∙ sym (rw place at (placed (2 * q + 1) (omega arith))) ∙ there p (omega arith)
+          ∙ sym (rw place_is_p at (placed (2 * q + 1) (omega arith))) ∙ same_block p (omega arith)
     ])
 
 -- The first i blocks followed by block i are the first i + 1 blocks.

@@ -14,7 +14,7 @@ use Rattle.prims_core.proofs.AlphabetFacts.{Contains-character_of, character_of-
 pub numerals-add_one : (n m value : ℕ) → n ≡ m + 1
     → numerals n value ≡ character_of (value % 64) ∷ numerals m (value / 64)
 unfolding numerals
-numerals-add_one n m value is = rw (is, add-one) refl
+numerals-add_one n m value n_is = rw (n_is, add-one) refl
 
 pub numerals-zero : (value : ℕ) → numerals 0 value ≡ []
 unfolding numerals
@@ -30,26 +30,26 @@ pub numerals-character_written : (out more whole : List ℕ) (character chars co
     → more ≡ out ++ character ∷ [] → character ≡ character_of (rest % 64) → count < chars
     → out ++ numerals (chars - count) rest ≡ whole
     → more ++ numerals (chars - (count + 1)) (rest / 64) ≡ whole
-numerals-character_written out more whole character chars count rest written is left so_far =
-    let step : numerals (chars - count) rest ≡ character ∷ numerals (chars - (count + 1)) (rest / 64) =
-    rw is (numerals-add_one (chars - count) (chars - (count + 1)) rest (omega arith)) in
-    rw (written, append_assoc) (ap (λ (xs : List ℕ). out ++ xs) (sym step) ∙ so_far)
+numerals-character_written out more whole character chars count rest more_is character_is some_left so_far =
+    let numeral_split : numerals (chars - count) rest ≡ character ∷ numerals (chars - (count + 1)) (rest / 64) =
+    rw character_is (numerals-add_one (chars - count) (chars - (count + 1)) rest (omega arith)) in
+    rw (more_is, append_assoc) (ap (λ (xs : List ℕ). out ++ xs) (sym numeral_split) ∙ so_far)
 
 -- With all characters written, what is written is the whole numeral.
 pub numerals-all_written : (out whole : List ℕ) (chars count rest : ℕ) → chars ≤ count
     → out ++ numerals (chars - count) rest ≡ whole → out ≡ whole
 numerals-all_written out whole chars count rest none so_far =
-    let done : chars - count ≡ 0 = omega arith in
+    let none_left : chars - count ≡ 0 = omega arith in
     let last : out ++ [] ≡ whole =
-    subst (λ (xs : List ℕ). out ++ xs ≡ whole) (ap (λ (n : ℕ). numerals n rest) done ∙ numerals-zero rest) so_far in
+    subst (λ (xs : List ℕ). out ++ xs ≡ whole) (ap (λ (n : ℕ). numerals n rest) none_left ∙ numerals-zero rest) so_far in
     sym (append-nil out) ∙ last
 
 -- Putting the value v below a number puts its character in front of the numeral.
 pub numerals-mul-add : (n number v c : ℕ) → v < 64 → character_of v ≡ c
     → numerals (n + 1) (number * 64 + v) ≡ c ∷ numerals n number
-numerals-mul-add n number v c below is =
+numerals-mul-add n number v c below spells_c =
     rw (numerals-add_one (n + 1) n (number * 64 + v) refl, mod-mul-add number 64 v below, div-mul-add number 64 v below)
-    (ap (λ (d : ℕ). d ∷ numerals n number) is)
+    (ap (λ (d : ℕ). d ∷ numerals n number) spells_c)
 
 -- Such a number stays below the next power of 64.
 pub mul-add-lt_pow : (n number v : ℕ) → number < 64 ^ n → v < 64 → number * 64 + v < 64 ^ (n + 1)
@@ -76,34 +76,34 @@ unfolding numerals
 numerals-injective zero a b small_a small_b same = omega arith
 numerals-injective (suc n) a b small_a small_b same =
     let power : 64 ^ suc n ≡ 64 ^ n * 64 = pow-suc 64 n in
-    let first : character_of (a % 64) ≡ character_of (b % 64) = cc in
-    let rest : numerals n (a / 64) ≡ numerals n (b / 64) = cc in
-    let low : a % 64 ≡ b % 64 = character_of-injective (a % 64) (b % 64) (omega arith) (omega arith) first in
-    let high : a / 64 ≡ b / 64 = numerals-injective n (a / 64) (b / 64) (omega arith) (omega arith) rest in
+    let same_first : character_of (a % 64) ≡ character_of (b % 64) = cc in
+    let same_rest : numerals n (a / 64) ≡ numerals n (b / 64) = cc in
+    let same_remainder : a % 64 ≡ b % 64 = character_of-injective (a % 64) (b % 64) (omega arith) (omega arith) same_first in
+    let same_quotient : a / 64 ≡ b / 64 = numerals-injective n (a / 64) (b / 64) (omega arith) (omega arith) same_rest in
     omega arith
 
 -- A list that has a character outside the alphabet is not all in the alphabet.
 pub not_All-with_outside : (front back digits : List ℕ) (c : ℕ) → (front ++ c ∷ []) ++ back ≡ digits
     → (Contains alphabet c → ⊥) → All (Contains alphabet) digits → ⊥
-not_All-with_outside front back digits c is strange all =
-    let whole : front ++ c ∷ back ≡ digits = sym (append_assoc front (c ∷ []) back) ∙ is in
-    let at : get_or digits (length front) 0 ≡ c =
-    subst (λ (xs : List ℕ). get_or xs (length front) 0 ≡ c) whole (get_or-append_seam front c back 0) in
+not_All-with_outside front back digits c digits_are c_outside all =
+    let digits_split : front ++ c ∷ back ≡ digits = sym (append_assoc front (c ∷ []) back) ∙ digits_are in
+    let digit_is_c : get_or digits (length front) 0 ≡ c =
+    subst (λ (xs : List ℕ). get_or xs (length front) 0 ≡ c) digits_split (get_or-append_seam front c back 0) in
     let inside : length front < length digits =
-    omega (arith, simp length-append at (ap length is)) in
-    strange (subst (Contains alphabet) at (all (length front) 0 inside))
+    omega (arith, simp length-append at (ap length digits_are)) in
+    c_outside (subst (Contains alphabet) digit_is_c (all (length front) 0 inside))
 
 -- `read_30`, from the last digit to the first: before any digit is read, after one more, and at the end.
 pub numerals-none_read : (rest digits : List ℕ) → rest ≡ digits → rest ++ numerals 0 0 ≡ digits
-numerals-none_read rest digits is = rw numerals-zero (append-nil rest ∙ is)
+numerals-none_read rest digits rest_is = rw numerals-zero (append-nil rest ∙ rest_is)
 
 pub numerals-digit_read : (rest fewer digits : List ℕ) (digit v n number : ℕ) → rest ≡ fewer ++ digit ∷ []
     → v < 64 → character_of v ≡ digit → rest ++ numerals n number ≡ digits
     → fewer ++ numerals (n + 1) (number * 64 + v) ≡ digits
-numerals-digit_read rest fewer digits digit v n number last below is so_far =
-    rw (numerals-mul-add n number v digit below is)
+numerals-digit_read rest fewer digits digit v n number rest_is below spells_digit so_far =
+    rw (numerals-mul-add n number v digit below spells_digit)
     (sym (append_assoc fewer (digit ∷ []) (numerals n number))
-    ∙ ap (λ (xs : List ℕ). xs ++ numerals n number) (sym last) ∙ so_far)
+    ∙ ap (λ (xs : List ℕ). xs ++ numerals n number) (sym rest_is) ∙ so_far)
 
 pub length-all_read : (rest digits : List ℕ) (n number : ℕ) → length rest ≡ 0
     → rest ++ numerals n number ≡ digits → length digits ≡ n

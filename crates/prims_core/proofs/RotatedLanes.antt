@@ -33,16 +33,16 @@ xor_halves-rotate_left : (bits : ℕ) → 0 < bits → bits < 32 → (word x : �
     → bit_xor (bit_xor word (x * 2 ^ bits % 2 ^ 32)) (x / 2 ^ (32 - bits)) ≡ bit_xor word (rotate_left w32 x bits)
 xor_halves-rotate_left bits some few word x fits =
     let down = 32 - bits in
-    let all : down + bits ≡ 32 = omega arith in
-    let whole : 2 ^ 32 ≡ 2 ^ bits * 2 ^ down = omega (ap (λ (n : ℕ). 2 ^ n) (sym all) ∙ pow-add 2 down bits, arith) in
+    let down_add_bits : down + bits ≡ 32 = omega arith in
+    let pow_split : 2 ^ 32 ≡ 2 ^ bits * 2 ^ down = omega (ap (λ (n : ℕ). 2 ^ n) (sym down_add_bits) ∙ pow-add 2 down bits, arith) in
     let up = x * 2 ^ bits / 2 ^ bits % 2 ^ down in
     -- The half shifted up is a multiple of 2 ^ bits, and the half shifted down is below it.
-    let moved_up : x * 2 ^ bits % 2 ^ 32 ≡ up * 2 ^ bits =
-    omega (ap (λ (n : ℕ). x * 2 ^ bits % 2 ^ n) (sym all) ∙ mod-pow-add (x * 2 ^ bits) down bits, mul-mod_left x (2 ^ bits), arith) in
-    let low : x / 2 ^ down < 2 ^ bits = (div-lt_iff_lt-mul (pow_pos down)).1 (omega arith) in
-    let one : bits % 32 ≡ bits = omega arith in
-    let other : down % 32 ≡ down = omega arith in
-    rw (xor_assoc, one, other, moved_up, xor_shifted up bits (x / 2 ^ down) low, or_shifted up bits (x / 2 ^ down) low) refl
+    let up_multiple : x * 2 ^ bits % 2 ^ 32 ≡ up * 2 ^ bits =
+    omega (ap (λ (n : ℕ). x * 2 ^ bits % 2 ^ n) (sym down_add_bits) ∙ mod-pow-add (x * 2 ^ bits) down bits, mul-mod_left x (2 ^ bits), arith) in
+    let down_below : x / 2 ^ down < 2 ^ bits = (div-lt_iff_lt-mul (pow_pos down)).1 (omega arith) in
+    let bits_mod : bits % 32 ≡ bits = omega arith in
+    let down_mod : down % 32 ≡ down = omega arith in
+    rw (xor_assoc, bits_mod, down_mod, up_multiple, xor_shifted up bits (x / 2 ^ down) down_below, or_shifted up bits (x / 2 ^ down) down_below) refl
 
 -- IsRotatedInLanes bits word x y: in each lane, the operations of `xor_rotated_sum` give `word` XOR the rotated sum of
 -- x and y.

@@ -27,31 +27,31 @@ get_or-rows_of (suc n) w xs (suc i) d inside =
 
 -- From here on, a table is given by an equation: it is the rows of this list.
 pub length-table : (n w : ℕ) (xs : List ℕ) (table : List (List ℕ)) → rows_of n w xs ≡ table → length table ≡ n
-length-table n w xs table is = sym (ap length is) ∙ length-rows_of n w xs
+length-table n w xs table table_is = sym (ap length table_is) ∙ length-rows_of n w xs
 
 -- A valid row number is below n, and the row ends within the list.
 pub row_number-lt : (n w : ℕ) (xs : List ℕ) (table : List (List ℕ)) (i : ℕ) → rows_of n w xs ≡ table
     → i < length table → i < n
-row_number-lt n w xs table i is inside = omega (arith, ap length is, length-rows_of n w xs)
+row_number-lt n w xs table i table_is inside = omega (arith, ap length table_is, length-rows_of n w xs)
 
 pub row_ends_within : (n w : ℕ) (xs : List ℕ) (table : List (List ℕ)) (i : ℕ) → rows_of n w xs ≡ table
     → i < length table → i * w + w ≤ n * w
-row_ends_within n w xs table i is inside =
-    let below : i < n = row_number-lt n w xs table i is inside in
+row_ends_within n w xs table i table_is inside =
+    let row_below : i < n = row_number-lt n w xs table i table_is inside in
     grind (arith, rows)
 
 -- Reading w words at i * w gives row i, which has w words.
 pub take_drop-row : (n w : ℕ) (xs : List ℕ) (table : List (List ℕ)) (i : ℕ) → rows_of n w xs ≡ table
     → i < length table → take w (drop (i * w) xs) ≡ get_or table i []
-take_drop-row n w xs table i is inside =
-    sym (get_or-rows_of n w xs i [] (row_number-lt n w xs table i is inside))
-    ∙ ap (λ (rows : List (List ℕ)). get_or rows i []) is
+take_drop-row n w xs table i table_is inside =
+    sym (get_or-rows_of n w xs i [] (row_number-lt n w xs table i table_is inside))
+    ∙ ap (λ (rows : List (List ℕ)). get_or rows i []) table_is
 
 pub length-row : (n w : ℕ) (xs : List ℕ) (table : List (List ℕ)) (i : ℕ) → rows_of n w xs ≡ table
     → i < length table → n * w ≤ length xs → length (get_or table i []) ≡ w
-length-row n w xs table i is inside whole =
-    ap length (sym (take_drop-row n w xs table i is inside))
-    ∙ length-take-le w (drop (i * w) xs) (omega (arith, length-drop (i * w) xs, row_ends_within n w xs table i is inside))
+length-row n w xs table i table_is inside whole =
+    ap length (sym (take_drop-row n w xs table i table_is inside))
+    ∙ length-take-le w (drop (i * w) xs) (omega (arith, length-drop (i * w) xs, row_ends_within n w xs table i table_is inside))
 
 -- Padding fills a list up to the size.
 pub length-padded : (size : ℕ) (xs : List ℕ) → length xs ≤ size → length (padded size xs) ≡ size
@@ -60,67 +60,67 @@ length-padded size xs inside = simp (length-append, length-replicate) (omega (ar
 -- A row that `set_row` accepts has w words.
 pub length-accepted_row : (n w : ℕ) (xs row : List ℕ) (table : List (List ℕ)) (i : ℕ) → rows_of n w (padded (n * w) xs) ≡ table
     → i < length table → length xs ≤ n * w → length row ≡ length (get_or table i []) → length row ≡ w
-length-accepted_row n w xs row table i is inside within same =
-    same ∙ length-row n w (padded (n * w) xs) table i is inside (omega (arith, length-padded (n * w) xs within))
+length-accepted_row n w xs row table i table_is inside within same_length =
+    same_length ∙ length-row n w (padded (n * w) xs) table i table_is inside (omega (arith, length-padded (n * w) xs within))
 
 -- A table with this shape has no more words than the padded list. `into_words` needs it.
 pub HasShape-le : (n w rows words : ℕ) (xs : List ℕ) (table : List (List ℕ)) → rows_of n w (padded (n * w) xs) ≡ table
     → length xs ≤ n * w → HasShape table rows words → rows * words ≤ n * w
-HasShape-le n w zero words xs table is within shape = omega (arith, zero-mul words)
-HasShape-le n w (suc rows) words xs table is within shape =
-    let all : suc rows ≡ n = sym (shape.row_count) ∙ length-table n w (padded (n * w) xs) table is in
-    let some : 0 < length table = omega (arith, shape.row_count) in
-    let long : words ≡ w =
+HasShape-le n w zero words xs table table_is within shape = omega (arith, zero-mul words)
+HasShape-le n w (suc rows) words xs table table_is within shape =
+    let rows_are_n : suc rows ≡ n = sym (shape.row_count) ∙ length-table n w (padded (n * w) xs) table table_is in
+    let some_row : 0 < length table = omega (arith, shape.row_count) in
+    let words_are_w : words ≡ w =
     sym (shape.row_words 0 (omega arith))
-    ∙ length-row n w (padded (n * w) xs) table 0 is some (omega (arith, length-padded (n * w) xs within)) in
-    rw (all, long) (omega arith)
+    ∙ length-row n w (padded (n * w) xs) table 0 table_is some_row (omega (arith, length-padded (n * w) xs within)) in
+    rw (rows_are_n, words_are_w) (omega arith)
 
 -- Zeros, cut into rows, are rows of zeros.
 pub rows_of-replicate : (n w : ℕ) → rows_of n w (replicate (n * w) 0) ≡ replicate n (replicate w 0)
 unfolding rows_of
 rows_of-replicate zero w = refl
 rows_of-replicate (suc n) w =
-    let all : suc n * w ≡ n * w + w = suc-mul n w in
-    let first : take w (replicate (n * w + w) zero) ≡ replicate w zero =
+    let size_split : suc n * w ≡ n * w + w = suc-mul n w in
+    let first_row : take w (replicate (n * w + w) zero) ≡ replicate w zero =
     take-replicate w (n * w + w) zero (omega arith) in
-    let left : n * w + w - w ≡ n * w = omega arith in
-    let rest : drop w (replicate (n * w + w) zero) ≡ replicate (n * w) zero =
-    drop-replicate w (n * w + w) zero ∙ ap (λ (k : ℕ). replicate k zero) left in
-    rw (all, first, rest, rows_of-replicate n w) refl
+    let rest_size : n * w + w - w ≡ n * w = omega arith in
+    let other_rows : drop w (replicate (n * w + w) zero) ≡ replicate (n * w) zero =
+    drop-replicate w (n * w + w) zero ∙ ap (λ (k : ℕ). replicate k zero) rest_size in
+    rw (size_split, first_row, other_rows, rows_of-replicate n w) refl
 
 -- Writing a row of w words at i * w replaces row i, and keeps the others.
 pub rows_of-written : (n w i : ℕ) (xs row : List ℕ) → i < n → length row ≡ w → n * w ≤ length xs
     → rows_of n w (take (i * w) xs ++ (row ++ drop (i * w + w) xs)) ≡ set (rows_of n w xs) i row
 unfolding rows_of
-rows_of-written zero w i xs row inside long whole = absurd (omega arith)
-rows_of-written (suc n) w zero xs row inside long whole =
-    rw (zero-mul, zero-add, take_at row (drop w xs) w long, drop_at row (drop w xs) w long) refl
-rows_of-written (suc n) w (suc i) xs row inside long whole =
-    let more : suc i * w ≡ w + i * w = omega (arith, suc-mul i w) in
-    let first : length (take w xs) ≡ w = length-take-le w xs (omega (arith, suc-mul n w)) in
-    let rest : List ℕ = drop w xs in
+rows_of-written zero w i xs row inside length_row whole = absurd (omega arith)
+rows_of-written (suc n) w zero xs row inside length_row whole =
+    rw (zero-mul, zero-add, take_at row (drop w xs) w length_row, drop_at row (drop w xs) w length_row) refl
+rows_of-written (suc n) w (suc i) xs row inside length_row whole =
+    let row_start : suc i * w ≡ w + i * w = omega (arith, suc-mul i w) in
+    let length_first : length (take w xs) ≡ w = length-take-le w xs (omega (arith, suc-mul n w)) in
+    let others : List ℕ = drop w xs in
     -- The first row is untouched, and the rest is the list of the other rows with row i of them written over.
-    let apart : take (suc i * w) xs ++ (row ++ drop (suc i * w + w) xs)
-    ≡ take w xs ++ (take (i * w) rest ++ (row ++ drop (i * w + w) rest)) =
-    rw (more, take-add w (i * w) xs, append_assoc, drop-drop (i * w + w) w xs)
+    let first_kept : take (suc i * w) xs ++ (row ++ drop (suc i * w + w) xs)
+    ≡ take w xs ++ (take (i * w) others ++ (row ++ drop (i * w + w) others)) =
+    rw (row_start, take-add w (i * w) xs, append_assoc, drop-drop (i * w + w) w xs)
     (ap (λ (k : ℕ). take w xs ++ (take (i * w) (drop w xs) ++ (row ++ drop k xs))) (omega arith)) in
-    let below : rows_of n w (take (i * w) rest ++ (row ++ drop (i * w + w) rest)) ≡ set (rows_of n w rest) i row =
-    rows_of-written n w i rest row (omega arith) long (omega (arith, length-drop w xs, suc-mul n w)) in
+    let others_written : rows_of n w (take (i * w) others ++ (row ++ drop (i * w + w) others)) ≡ set (rows_of n w others) i row =
+    rows_of-written n w i others row (omega arith) length_row (omega (arith, length-drop w xs, suc-mul n w)) in
     rw (
-      apart,
-      take_at (take w xs) (take (i * w) rest ++ (row ++ drop (i * w + w) rest)) w first,
-      drop_at (take w xs) (take (i * w) rest ++ (row ++ drop (i * w + w) rest)) w first,
+      first_kept,
+      take_at (take w xs) (take (i * w) others ++ (row ++ drop (i * w + w) others)) w length_first,
+      drop_at (take w xs) (take (i * w) others ++ (row ++ drop (i * w + w) others)) w length_first,
     )
-    (ap (λ (xss : List (List ℕ)). take w xs ∷ xss) below)
+    (ap (λ (xss : List (List ℕ)). take w xs ∷ xss) others_written)
 
 -- Appending zeros doesn't change what the padded list is, so the table stays the same.
 pub padded-append_zeros : (size len : ℕ) (xs : List ℕ) → len ≤ size
     → padded size (xs ++ replicate (len - length xs) 0) ≡ padded size xs
 padded-append_zeros size len xs inside =
-    let long : length (xs ++ replicate (len - length xs) zero) ≡ length xs + (len - length xs) =
+    let length_filled : length (xs ++ replicate (len - length xs) zero) ≡ length xs + (len - length xs) =
     simp (length-append, length-replicate) refl in
     rw (
-      long,
+      length_filled,
       append_assoc xs (replicate (len - length xs) zero) (replicate (size - (length xs + (len - length xs))) zero),
       replicate-append-replicate (len - length xs) (size - (length xs + (len - length xs))) zero,
     )
@@ -128,18 +128,18 @@ padded-append_zeros size len xs inside =
 
 pub rows_of-append_zeros : (n w end : ℕ) (xs ys : List ℕ) (table : List (List ℕ)) → rows_of n w (padded (n * w) xs) ≡ table
     → end ≤ n * w → ys ≡ xs ++ replicate (end - length xs) 0 → rows_of n w (padded (n * w) ys) ≡ table
-rows_of-append_zeros n w end xs ys table is inside filled =
-    ap (λ (list : List ℕ). rows_of n w (padded (n * w) list)) filled ∙ ap (rows_of n w) (padded-append_zeros (n * w) end xs inside) ∙ is
+rows_of-append_zeros n w end xs ys table table_is inside ys_filled =
+    ap (λ (list : List ℕ). rows_of n w (padded (n * w) list)) ys_filled ∙ ap (rows_of n w) (padded-append_zeros (n * w) end xs inside) ∙ table_is
 
 -- Writing over a part of the list, and then padding it, is the same as writing over that part of the padded list.
 pub padded-put_mid : (size start count : ℕ) (xs row : List ℕ) → start + count ≤ length xs → length row ≡ count
     → padded size (put_mid start count xs row) ≡ put_mid start count (padded size xs) row
-padded-put_mid size start count xs row inside long =
+padded-put_mid size start count xs row inside length_row =
     let zeros : List ℕ = replicate (size - length xs) zero in
-    let kept : length (put_mid start count xs row) ≡ length xs =
-    simp (length-append, length-take, length-drop) (omega (arith, inside, long)) in
+    let same_length : length (put_mid start count xs row) ≡ length xs =
+    simp (length-append, length-take, length-drop) (omega (arith, inside, length_row)) in
     rw (
-      kept,
+      same_length,
       append_assoc (take start xs) (row ++ drop count (drop start xs)) zeros,
       append_assoc row (drop count (drop start xs)) zeros,
       take-append-le start xs zeros (omega (arith, inside)),
@@ -151,52 +151,52 @@ padded-put_mid size start count xs row inside long =
 -- `row` reads a row that is in the list from the list. Any row after the end of the list is zeros.
 pub take_drop-padded_row : (n w : ℕ) (xs : List ℕ) (table : List (List ℕ)) (i : ℕ) → rows_of n w (padded (n * w) xs) ≡ table
     → i < length table → i * w + w ≤ length xs → take w (drop (i * w) xs) ≡ get_or table i []
-take_drop-padded_row n w xs table i is inside written =
+take_drop-padded_row n w xs table i table_is inside row_within =
     let zeros : List ℕ = replicate (n * w - length xs) zero in
-    let read : take w (drop (i * w) (xs ++ zeros)) ≡ take w (drop (i * w) xs) =
-    ap (take w) (drop-append-le (i * w) xs zeros (omega (arith, written)))
-    ∙ take-append-le w (drop (i * w) xs) zeros (omega (arith, written, length-drop (i * w) xs)) in
-    sym read ∙ take_drop-row n w (padded (n * w) xs) table i is inside
+    let read_row : take w (drop (i * w) (xs ++ zeros)) ≡ take w (drop (i * w) xs) =
+    ap (take w) (drop-append-le (i * w) xs zeros (omega (arith, row_within)))
+    ∙ take-append-le w (drop (i * w) xs) zeros (omega (arith, row_within, length-drop (i * w) xs)) in
+    sym read_row ∙ take_drop-row n w (padded (n * w) xs) table i table_is inside
 
 pub replicate-padded_row : (n w : ℕ) (xs : List ℕ) (table : List (List ℕ)) (i : ℕ) → rows_of n w (padded (n * w) xs) ≡ table
     → i < length table → length xs ≤ i * w → replicate w 0 ≡ get_or table i []
-replicate-padded_row n w xs table i is inside behind =
+replicate-padded_row n w xs table i table_is inside past_end =
     let zeros : List ℕ = replicate (n * w - length xs) zero in
-    let ends : i * w + w ≤ n * w = row_ends_within n w (padded (n * w) xs) table i is inside in
-    let place : i * w ≡ length xs + (i * w - length xs) = omega (arith, behind) in
-    let read : take w (drop (i * w) (xs ++ zeros)) ≡ replicate w zero =
-    ap (λ (k : ℕ). take w (drop k (xs ++ zeros))) place
+    let row_ends : i * w + w ≤ n * w = row_ends_within n w (padded (n * w) xs) table i table_is inside in
+    let row_start : i * w ≡ length xs + (i * w - length xs) = omega (arith, past_end) in
+    let read_zeros : take w (drop (i * w) (xs ++ zeros)) ≡ replicate w zero =
+    ap (λ (k : ℕ). take w (drop k (xs ++ zeros))) row_start
     ∙ ap (take w) (drop-append-add xs zeros (i * w - length xs) ∙ drop-replicate (i * w - length xs) (n * w - length xs) zero)
-    ∙ take-replicate w (n * w - length xs - (i * w - length xs)) zero (omega (arith, behind, ends)) in
-    sym read ∙ take_drop-row n w (padded (n * w) xs) table i is inside
+    ∙ take-replicate w (n * w - length xs - (i * w - length xs)) zero (omega (arith, past_end, row_ends)) in
+    sym read_zeros ∙ take_drop-row n w (padded (n * w) xs) table i table_is inside
 
 -- A list of whole rows that ends before the end of row i ends at the start of row i or before it.
 pub multiple-le_row_start : (n w size i : ℕ) → size ≡ n * w → size < i * w + w → size ≤ i * w
-multiple-le_row_start zero w size i whole short = rw (whole, zero-mul) (omega arith)
-multiple-le_row_start (suc n) w size zero whole short = absurd (omega (arith, whole, short, suc-mul n w))
-multiple-le_row_start (suc n) w size (suc i) whole short =
-    let less : size - w < i * w + w = omega (arith, short, whole, suc-mul i w, suc-mul n w) in
-    let before : size - w ≤ i * w = multiple-le_row_start n w (size - w) i (omega (arith, whole, suc-mul n w)) less in
-    omega (arith, before, suc-mul i w)
+multiple-le_row_start zero w size i size_is ends_before = rw (size_is, zero-mul) (omega arith)
+multiple-le_row_start (suc n) w size zero size_is ends_before = absurd (omega (arith, size_is, ends_before, suc-mul n w))
+multiple-le_row_start (suc n) w size (suc i) size_is ends_before =
+    let rest_short : size - w < i * w + w = omega (arith, ends_before, size_is, suc-mul i w, suc-mul n w) in
+    let rest_before : size - w ≤ i * w = multiple-le_row_start n w (size - w) i (omega (arith, size_is, suc-mul n w)) rest_short in
+    omega (arith, rest_before, suc-mul i w)
 
 -- A list of whole rows, extended by zeros to the end of row i if it is shorter, has whole rows again.
 pub multiple-extended_to_row : (n w size i : ℕ) → size ≡ n * w → (m : ℕ) × (size + (i * w + w - size) ≡ m * w)
-multiple-extended_to_row zero w size i whole = (suc i, rw (whole, zero-mul) (omega (arith, suc-mul i w)))
-multiple-extended_to_row (suc n) w size zero whole = (suc n, omega (arith, whole, suc-mul n w))
-multiple-extended_to_row (suc n) w size (suc i) whole =
-    let before : (m : ℕ) × (size - w + (i * w + w - (size - w)) ≡ m * w) =
-    multiple-extended_to_row n w (size - w) i (omega (arith, whole, suc-mul n w)) in
-    (suc (before.0), omega (arith, before.1, whole, suc-mul i w, suc-mul n w, suc-mul (before.0) w))
+multiple-extended_to_row zero w size i size_is = (suc i, rw (size_is, zero-mul) (omega (arith, suc-mul i w)))
+multiple-extended_to_row (suc n) w size zero size_is = (suc n, omega (arith, size_is, suc-mul n w))
+multiple-extended_to_row (suc n) w size (suc i) size_is =
+    let rest_extended : (m : ℕ) × (size - w + (i * w + w - (size - w)) ≡ m * w) =
+    multiple-extended_to_row n w (size - w) i (omega (arith, size_is, suc-mul n w)) in
+    (suc (rest_extended.0), omega (arith, rest_extended.1, size_is, suc-mul i w, suc-mul n w, suc-mul (rest_extended.0) w))
 
 -- So the layout of a table holds after `set_row` has extended its list.
 pub IsLaidOut-extended : (n w size room i size' room' : ℕ) → IsLaidOut n w size room → i * w + w ≤ n * w
     → size' ≡ size + (i * w + w - size) → room ≤ room' → IsLaidOut n w size' room'
-IsLaidOut-extended n w size room i size' room' laid ends sized more =
-    let whole : (m : ℕ) × (size + (i * w + w - size) ≡ m * w) = multiple-extended_to_row laid.whole.0 w size i laid.whole.1 in record {
-      whole = (whole.0, sized ∙ whole.1);
-      inside = omega (arith, laid.inside, ends, sized);
-      fits = omega (arith, laid.fits, more);
-      short = λ (less : size' < n * w). laid.short (omega (arith, less, sized));
+IsLaidOut-extended n w size room i size' room' laid row_ends size_is room_le =
+    let whole_rows : (m : ℕ) × (size + (i * w + w - size) ≡ m * w) = multiple-extended_to_row laid.whole.0 w size i laid.whole.1 in record {
+      whole = (whole_rows.0, size_is ∙ whole_rows.1);
+      inside = omega (arith, laid.inside, row_ends, size_is);
+      fits = omega (arith, laid.fits, room_le);
+      short = λ (less : size' < n * w). laid.short (omega (arith, less, size_is));
     }
 
 -- The clause of `set_row`: the list after the write, as the vector holds it, is the table with row i replaced.
@@ -205,15 +205,15 @@ pub rows_of-padded_put_mid : (n w : ℕ) (xs : List ℕ) (table : List (List ℕ
     → length row ≡ w → size ≡ w
     → rows_of n w (padded (n * w) (take items (put_mid (i * w) size xs row ++ drop (length (put_mid (i * w) size xs row)) xs)))
     ≡ set table i row
-rows_of-padded_put_mid n w xs table i size items row is inside written within counted long sized =
-    let kept : length (put_mid (i * w) size xs row) ≡ items =
+rows_of-padded_put_mid n w xs table i size items row table_is inside row_within within items_is length_row size_is =
+    let same_length : length (put_mid (i * w) size xs row) ≡ items =
     simp (length-append, length-take, length-drop) (omega arith) in
     rw (
-      take_at (put_mid (i * w) size xs row) (drop (length (put_mid (i * w) size xs row)) xs) items kept,
+      take_at (put_mid (i * w) size xs row) (drop (length (put_mid (i * w) size xs row)) xs) items same_length,
       padded-put_mid (n * w) (i * w) size xs row (omega arith) (omega arith),
-      sized,
+      size_is,
       drop-drop w (i * w) (padded (n * w) xs),
-      rows_of-written n w i (padded (n * w) xs) row (row_number-lt n w (padded (n * w) xs) table i is inside) long
+      rows_of-written n w i (padded (n * w) xs) row (row_number-lt n w (padded (n * w) xs) table i table_is inside) length_row
           (omega (arith, length-padded (n * w) xs within)),
     )
-    (ap (λ (rows : List (List ℕ)). set rows i row) is)
+    (ap (λ (rows : List (List ℕ)). set rows i row) table_is)

@@ -26,14 +26,14 @@ pub words_of-from_places : (bytes words : List ℕ) → length bytes ≡ 4 * len
     → ((k : ℕ) → k < length words → get_or words k 0 ≡ little_number 4 (drop (4 * k) bytes))
     → words ≡ words_of bytes
 unfolding words_of
-words_of-from_places bytes words four read =
-    let pieces : length (chunks_exact bytes 4) ≡ length words =
-    length-chunks_exact bytes 4 (length words) (omega arith) four in
+words_of-from_places bytes words length_bytes word_at =
+    let count_pieces : length (chunks_exact bytes 4) ≡ length words =
+    length-chunks_exact bytes 4 (length words) (omega arith) length_bytes in
     same_number_lists words (map (little_number 4) (chunks_exact bytes 4))
-    (sym (length-map (chunks_exact bytes 4) (little_number 4) ∙ pieces))
-    (λ k inside. read k inside ∙ sym (
+    (sym (length-map (chunks_exact bytes 4) (little_number 4) ∙ count_pieces))
+    (λ k inside. word_at k inside ∙ sym (
     get_or-map (little_number 4) (chunks_exact bytes 4) k [] 0 (omega arith)
-    ∙ ap (little_number 4) (get_or-chunks_exact bytes 4 (length words) k (omega arith) four inside)
+    ∙ ap (little_number 4) (get_or-chunks_exact bytes 4 (length words) k (omega arith) length_bytes inside)
     ∙ little_number-take_four (drop (4 * k) bytes)))
 
 -- A number given by words is its first word modulo 2 ^ 32, plus a multiple of 2 ^ 32.
@@ -41,9 +41,9 @@ pub little_number-first_word : (count word : ℕ) (words : List ℕ)
     → (above : ℕ) × (little_number (count + 4) (bytes_of_words (word ∷ words)) ≡ word % 2 ^ 32 + 2 ^ 32 * above)
 unfolding bytes_of_words
 little_number-first_word count word words =
-    let all : List ℕ = little_bytes 4 word ++ flat_map (little_bytes 4) words in
-    let number : count + 4 ≡ suc (suc (suc (suc count))) = omega arith in
-    (little_from 4 count all, rw number (omega arith))
+    let bytes : List ℕ = little_bytes 4 word ++ flat_map (little_bytes 4) words in
+    let count_is : count + 4 ≡ suc (suc (suc (suc count))) = omega arith in
+    (little_from 4 count bytes, rw count_is (omega arith))
 
 -- A part of what an operator makes of two lists is what it makes of those parts of the lists.
 take-zip2 : (f : ℕ → ℕ → ℕ) (n : ℕ) (xs ys : List ℕ) → take n (zip2 f xs ys) ≡ zip2 f (take n xs) (take n ys)

@@ -20,11 +20,11 @@ digits-init c = record {
 -- The digit at which the call returns `None` is not in the alphabet, so not all digits are.
 digits-not_All_Contains : (c : goal.After-from_residual) → All (Contains alphabet) c.args.digits.now → ⊥
 digits-not_All_Contains c all =
-    let strange : Contains alphabet c.in-Some.digit.now → ⊥ = λ inside. (let no : false ≡ true = c.in_err-value_of.ensures.accepts.1 inside in cc) in
+    let digit_outside : Contains alphabet c.in-Some.digit.now → ⊥ = λ inside. (let no : false ≡ true = c.in_err-value_of.ensures.accepts.1 inside in cc) in
     not_All-with_outside c.next.new.self.iter.rest.now (numerals (length c.digits.yielded) c.digits.number)
     c.args.digits.now c.in-Some.digit.now
     (ap (λ (xs : List ℕ). xs ++ numerals (length c.digits.yielded) c.digits.number) (sym c.in-Some.ensures.steps)
-    ∙ c.digits.invariant.split) strange all
+    ∙ c.digits.invariant.split) digit_outside all
 
 pub returns-in_err-value_of-clause-accepts : goal.returns-in_err-value_of-clause-accepts
 returns-in_err-value_of-clause-accepts c =
@@ -36,23 +36,23 @@ returns-in_err-value_of-clause-inverse c n small is =
 
 pub digits-preserved : goal.digits-preserved
 digits-preserved c =
-    let more : length (c.digits.yielded ++ c.in-Some.digit ∷ []) ≡ length c.digits.yielded + 1 =
+    let one_more : length (c.digits.yielded ++ c.in-Some.digit ∷ []) ≡ length c.digits.yielded + 1 =
     length-append c.digits.yielded (c.in-Some.digit ∷ []) in
     record {
-      split = rw (more, c.from.ensures) (numerals-digit_read _ _ _ _ _ _ _ c.in-Some.ensures.steps
+      split = rw (one_more, c.from.ensures) (numerals-digit_read _ _ _ _ _ _ _ c.in-Some.ensures.steps
           c.in_ok-value_of.ensures.value.0 c.in_ok-value_of.ensures.value.1 c.digits.invariant.split);
-      small = rw (more, c.from.ensures) (mul-add-lt_pow _ _ _ c.digits.invariant.small c.in_ok-value_of.ensures.value.0);
+      small = rw (one_more, c.from.ensures) (mul-add-lt_pow _ _ _ c.digits.invariant.small c.in_ok-value_of.ensures.value.0);
     }
 
 -- At the end no digit is unread: the digits are the numeral of the number, which is below 64 ^ 5.
 numeral-of_whole_digits : (c : goal.In-None)
     → (numerals 5 c.digits.number ≡ c.args.digits.now) × (c.digits.number < 64 ^ 5)
 numeral-of_whole_digits c =
-    let none : length c.digits.digit-iterator.iter.rest.now ≡ 0 = c.in-None.ensures.steps.0 in
-    let five : length c.digits.yielded ≡ 5 =
-    sym (length-all_read _ _ _ _ none c.digits.invariant.split) ∙ c.if-digits-ne5.false in (
-      ap (λ (n : ℕ). numerals n c.digits.number) (sym five) ∙ numerals-all_read _ _ _ _ none c.digits.invariant.split,
-      subst (λ (n : ℕ). c.digits.number < 64 ^ n) five c.digits.invariant.small,
+    let none_left : length c.digits.digit-iterator.iter.rest.now ≡ 0 = c.in-None.ensures.steps.0 in
+    let five_read : length c.digits.yielded ≡ 5 =
+    sym (length-all_read _ _ _ _ none_left c.digits.invariant.split) ∙ c.if-digits-ne5.false in (
+      ap (λ (n : ℕ). numerals n c.digits.number) (sym five_read) ∙ numerals-all_read _ _ _ _ none_left c.digits.invariant.split,
+      subst (λ (n : ℕ). c.digits.number < 64 ^ n) five_read c.digits.invariant.small,
     )
 
 pub returns-clause-accepts : goal.returns-clause-accepts

@@ -11,11 +11,11 @@ returns-in-46-to-57 c =
     let byte : ℕ = c.args.character in
     let value : ℕ = byte - 46 in
     let below : value < 64 = omega arith in
-    let is : character_of value ≡ byte = character_of-dot_to_nine (byte - 46) (omega arith) ∙ omega arith in
+    let spells_byte : character_of value ≡ byte = character_of-dot_to_nine (byte - 46) (omega arith) ∙ omega arith in
     record {
-      accepts = ((λ _. Contains-character_of byte value below is), λ _. refl);
-      value = (below, is);
-      inverse = λ v vs same. ap Some (character_of-injective value v below vs (is ∙ sym same));
+      accepts = ((λ _. Contains-character_of byte value below spells_byte), λ _. refl);
+      value = (below, spells_byte);
+      inverse = λ v vs same. ap Some (character_of-injective value v below vs (spells_byte ∙ sym same));
     }
 
 pub returns-in-65-to-90 : goal.returns-in-65-to-90
@@ -23,11 +23,11 @@ returns-in-65-to-90 c =
     let byte : ℕ = c.args.character in
     let value : ℕ = byte - 65 + 12 in
     let below : value < 64 = omega arith in
-    let is : character_of value ≡ byte = character_of-upper_case (byte - 65) (omega arith) ∙ omega arith in
+    let spells_byte : character_of value ≡ byte = character_of-upper_case (byte - 65) (omega arith) ∙ omega arith in
     record {
-      accepts = ((λ _. Contains-character_of byte value below is), λ _. refl);
-      value = (below, is);
-      inverse = λ v vs same. ap Some (character_of-injective value v below vs (is ∙ sym same));
+      accepts = ((λ _. Contains-character_of byte value below spells_byte), λ _. refl);
+      value = (below, spells_byte);
+      inverse = λ v vs same. ap Some (character_of-injective value v below vs (spells_byte ∙ sym same));
     }
 
 pub returns-in-97-to-122 : goal.returns-in-97-to-122
@@ -35,11 +35,11 @@ returns-in-97-to-122 c =
     let byte : ℕ = c.args.character in
     let value : ℕ = byte - 97 + 38 in
     let below : value < 64 = omega arith in
-    let is : character_of value ≡ byte = character_of-lower_case (byte - 97) (omega arith) ∙ omega arith in
+    let spells_byte : character_of value ≡ byte = character_of-lower_case (byte - 97) (omega arith) ∙ omega arith in
     record {
-      accepts = ((λ _. Contains-character_of byte value below is), λ _. refl);
-      value = (below, is);
-      inverse = λ v vs same. ap Some (character_of-injective value v below vs (is ∙ sym same));
+      accepts = ((λ _. Contains-character_of byte value below spells_byte), λ _. refl);
+      value = (below, spells_byte);
+      inverse = λ v vs same. ap Some (character_of-injective value v below vs (spells_byte ∙ sym same));
     }
 
 pub returns-in_default : goal.returns-in_default

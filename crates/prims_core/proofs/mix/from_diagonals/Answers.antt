@@ -14,23 +14,23 @@ pub turning-preserved : goal.turning-preserved
 turning-preserved c =
     let i = c.turning.i in
     let n : ℕ = length c.args.words.now / 16 in
-    let whole : length c.turning.words ≡ 16 * n = omega (arith, c.turning.invariant.length, c.requires.whole) in
+    let length_words : length c.turning.words ≡ 16 * n = omega (arith, c.turning.invariant.length, c.requires.whole) in
     let inside : i < n = omega arith in
-    let size : 16 * i + 16 - 16 * i ≡ 16 = omega arith in
+    let slice_size : 16 * i + 16 - 16 * i ≡ 16 = omega arith in
     -- The slice that the code takes is block i.
-    let read : take (16 * i + 16 - 16 * i) (drop (16 * i) c.turning.words) ≡ block_at i c.turning.words =
-    ap (λ (k : ℕ). take k (drop (16 * i) c.turning.words)) size in
-    let more = rearranged_blocks-put_mid n i (16 * i + 16 - 16 * i) (λ k b. b ≡ block_in_rows (block_at k c.args.words.now)) c.args.words.now c.turning.words c.store.new.words whole inside size
-    (omega arith) (c.store.ensures ∙ c.of_diagonals-block.ensures ∙ ap block_in_rows (read ∙ c.turning.invariant.rest i (omega arith)))
+    let slice_is_block : take (16 * i + 16 - 16 * i) (drop (16 * i) c.turning.words) ≡ block_at i c.turning.words =
+    ap (λ (k : ℕ). take k (drop (16 * i) c.turning.words)) slice_size in
+    let one_more = rearranged_blocks-put_mid n i (16 * i + 16 - 16 * i) (λ k b. b ≡ block_in_rows (block_at k c.args.words.now)) c.args.words.now c.turning.words c.store.new.words length_words inside slice_size
+    (omega arith) (c.store.ensures ∙ c.of_diagonals-block.ensures ∙ ap block_in_rows (slice_is_block ∙ c.turning.invariant.rest i (omega arith)))
     c.turning.invariant.done c.turning.invariant.rest in record {
       length = omega arith;
-      done = more.0;
-      rest = more.1;
+      done = one_more.0;
+      rest = one_more.1;
     }
 
 pub returns : goal.returns
 returns c =
     let n : ℕ = length c.args.words.now / 16 in
-    let whole : length c.args.words.now ≡ 16 * n = omega (arith, c.requires.whole) in
-    equal-from_same_blocks n c.turning.words (in_rows c.args.words.now) (omega (arith, c.turning.invariant.length, whole)) (omega (arith, length-in_rows c.args.words.now, whole)) (λ k inside.
-    c.turning.invariant.done k (omega (arith, whole)) ∙ sym (block_at-in_rows c.args.words.now k (omega (arith, whole))))
+    let length_words : length c.args.words.now ≡ 16 * n = omega (arith, c.requires.whole) in
+    equal-from_same_blocks n c.turning.words (in_rows c.args.words.now) (omega (arith, c.turning.invariant.length, length_words)) (omega (arith, length-in_rows c.args.words.now, length_words)) (λ k inside.
+    c.turning.invariant.done k (omega (arith, length_words)) ∙ sym (block_at-in_rows c.args.words.now k (omega (arith, length_words))))

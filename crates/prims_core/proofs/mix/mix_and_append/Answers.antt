@@ -47,16 +47,16 @@ mixing-preserved g c =
     let words = in_rows c.args.src.now in
     let i : ℕ = c.mixing.i in
     let r : ℕ = length c.args.src.now / 32 in
-    let old : List ℕ = g.R.Rows.words c.args.rows.now in
+    let rows_before : List ℕ = g.R.Rows.words c.args.rows.now in
     -- X after this iteration is the X of the definition after block i.
-    let is : c.mixed_block-x.result ≡ x_after r words (i + 1) =
+    let x_is : c.mixed_block-x.result ≡ x_after r words (i + 1) =
     c.mixed_block-x.ensures ∙ ap₂ mixed_block {y = x_after r words i} c.mixing.invariant.before c.block_on_diagonals.ensures ∙ sym (x_after-add_one r words i) in record {
-      before = is;
-      placed = c.put_result.ensures (y_at r words) c.mixing.invariant.placed is;
+      before = x_is;
+      placed = c.put_result.ensures (y_at r words) c.mixing.invariant.placed x_is;
       appended = c.push_block.ensures.words
           ∙ ap₂ (λ (done block : List ℕ). done ++ block) c.mixing.invariant.appended c.block_words.ensures
-          ∙ append_assoc old (take (16 * i) c.args.src.now) (block_at i c.args.src.now)
-          ∙ ap (λ (blocks : List ℕ). old ++ blocks) (take-append-block_at i c.args.src.now);
+          ∙ append_assoc rows_before (take (16 * i) c.args.src.now) (block_at i c.args.src.now)
+          ∙ ap (λ (blocks : List ℕ). rows_before ++ blocks) (take-append-block_at i c.args.src.now);
       kept = omega (arith, c.mixing.invariant.kept, c.push_block.ensures.room);
     }
 
@@ -64,6 +64,6 @@ pub returns-clause-mixed : goal.returns-clause-mixed
 unfolding block_mix
 returns-clause-mixed g c =
     let words = in_rows c.args.src.now in
-    let r : length words / 32 ≡ length c.args.src.now / 32 = omega (arith, c.requires.blocks, length-in_rows c.args.src.now) in
-    rw r (in_rows-from_ArePlaced (length c.args.src.now / 32) (y_at (length c.args.src.now / 32) words) c.mixing.dst
+    let r_is : length words / 32 ≡ length c.args.src.now / 32 = omega (arith, c.requires.blocks, length-in_rows c.args.src.now) in
+    rw r_is (in_rows-from_ArePlaced (length c.args.src.now / 32) (y_at (length c.args.src.now / 32) words) c.mixing.dst
     (omega (arith, c.requires.blocks, c.mixing.auto.dst)) (λ k inside. c.mixing.invariant.placed k (omega (arith, c.mixing-test.false))))

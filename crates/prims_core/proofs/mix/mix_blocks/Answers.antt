@@ -19,15 +19,15 @@ mixing-preserved g c =
     let i = c.mixing.i in
     let r = c.args.r in
     -- X after this iteration is the X of the definition after block i.
-    let is : c.mixed_block-x.result ≡ x_after r words (i + 1) =
+    let x_is : c.mixed_block-x.result ≡ x_after r words (i + 1) =
     c.mixed_block-x.ensures ∙ ap₂ mixed_block {y = x_after r words i} c.mixing.invariant.before c.block.ensures ∙ sym (x_after-add_one r words i) in record {
-      before = is;
-      placed = c.put_result.ensures (y_at r words) c.mixing.invariant.placed is;
+      before = x_is;
+      placed = c.put_result.ensures (y_at r words) c.mixing.invariant.placed x_is;
     }
 
 pub returns : goal.returns
 unfolding block_mix
 returns g c =
     let words = g.B.Blocks.words c.args.src.now in
-    let r : length words / 32 ≡ c.args.r = omega (arith, c.requires) in
-    rw r (in_rows-from_ArePlaced c.args.r (y_at c.args.r words) c.mixing.dst (omega arith) (λ k inside. c.mixing.invariant.placed k (omega arith)))
+    let r_is : length words / 32 ≡ c.args.r = omega (arith, c.requires) in
+    rw r_is (in_rows-from_ArePlaced c.args.r (y_at c.args.r words) c.mixing.dst (omega arith) (λ k inside. c.mixing.invariant.placed k (omega arith)))

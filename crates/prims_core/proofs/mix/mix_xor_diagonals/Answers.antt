@@ -9,9 +9,9 @@ pub mix_blocks-requires : goal.mix_blocks-requires
 mix_blocks-requires c =
     let src = in_rows c.args.src.now in
     let row = in_rows c.args.row.now in
-    let same : length row ≡ length src =
+    let same_length : length row ≡ length src =
     omega (arith, c.requires.blocks, length-in_rows c.args.src.now, length-in_rows c.args.row.now) in (
       omega (arith, c.requires.blocks),
-      omega (arith, c.requires.blocks, length-xor_lists src row same, length-in_rows c.args.src.now),
+      omega (arith, c.requires.blocks, length-xor_lists src row same_length, length-in_rows c.args.src.now),
       omega (arith, c.requires.blocks),
     )

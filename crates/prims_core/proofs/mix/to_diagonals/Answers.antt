@@ -14,23 +14,23 @@ pub turning-preserved : goal.turning-preserved
 turning-preserved c =
     let i = c.turning.i in
     let n : ℕ = length c.args.words.now / 16 in
-    let whole : length c.turning.words ≡ 16 * n = omega (arith, c.turning.invariant.length, c.requires.whole) in
+    let length_words : length c.turning.words ≡ 16 * n = omega (arith, c.turning.invariant.length, c.requires.whole) in
     let inside : i < n = omega arith in
-    let size : 16 * i + 16 - 16 * i ≡ 16 = omega arith in
+    let slice_size : 16 * i + 16 - 16 * i ≡ 16 = omega arith in
     -- The slice that the code takes is block i.
-    let read : take (16 * i + 16 - 16 * i) (drop (16 * i) c.turning.words) ≡ block_at i c.turning.words =
-    ap (λ (k : ℕ). take k (drop (16 * i) c.turning.words)) size in
-    let more = rearranged_blocks-put_mid n i (16 * i + 16 - 16 * i) (λ k b. block_in_rows b ≡ block_at k c.args.words.now) c.args.words.now c.turning.words c.store_diagonals.new.words whole inside size
-    (omega arith) (c.store_diagonals.ensures ∙ c.of-block.ensures ∙ read ∙ c.turning.invariant.rest i (omega arith))
+    let slice_is_block : take (16 * i + 16 - 16 * i) (drop (16 * i) c.turning.words) ≡ block_at i c.turning.words =
+    ap (λ (k : ℕ). take k (drop (16 * i) c.turning.words)) slice_size in
+    let one_more = rearranged_blocks-put_mid n i (16 * i + 16 - 16 * i) (λ k b. block_in_rows b ≡ block_at k c.args.words.now) c.args.words.now c.turning.words c.store_diagonals.new.words length_words inside slice_size
+    (omega arith) (c.store_diagonals.ensures ∙ c.of-block.ensures ∙ slice_is_block ∙ c.turning.invariant.rest i (omega arith))
     c.turning.invariant.done c.turning.invariant.rest in record {
       length = omega arith;
-      done = more.0;
-      rest = more.1;
+      done = one_more.0;
+      rest = one_more.1;
     }
 
 pub returns : goal.returns
 returns c =
     let n : ℕ = length c.args.words.now / 16 in
-    let whole : length c.args.words.now ≡ 16 * n = omega (arith, c.requires.whole) in
-    equal-from_same_blocks n (in_rows c.turning.words) c.args.words.now (omega (arith, length-in_rows c.turning.words, c.turning.invariant.length, whole)) whole (λ k inside.
-    block_at-in_rows c.turning.words k (omega (arith, c.turning.invariant.length, whole)) ∙ c.turning.invariant.done k (omega (arith, whole)))
+    let length_words : length c.args.words.now ≡ 16 * n = omega (arith, c.requires.whole) in
+    equal-from_same_blocks n (in_rows c.turning.words) c.args.words.now (omega (arith, length-in_rows c.turning.words, c.turning.invariant.length, length_words)) length_words (λ k inside.
+    block_at-in_rows c.turning.words k (omega (arith, c.turning.invariant.length, length_words)) ∙ c.turning.invariant.done k (omega (arith, length_words)))

@@ -17,20 +17,20 @@ filling-init g c = record {
 
 pub mix_and_append-requires-clause-fits : goal.mix_and_append-requires-clause-fits
 mix_and_append-requires-clause-fits g c =
-    let two = two_more_rows-fit c.args.count (length c.args.x.now) c.filling.counter (omega (arith, c.filling-test.true)) in
-    omega (arith, two, c.filling.auto.x, c.filling.invariant.filled.long, c.filling.invariant.kept, c.requires.fits)
+    let two_rows_fit = two_more_rows-fit c.args.count (length c.args.x.now) c.filling.counter (omega (arith, c.filling-test.true)) in
+    omega (arith, two_rows_fit, c.filling.auto.x, c.filling.invariant.filled.long, c.filling.invariant.kept, c.requires.fits)
 
 pub mix_and_append-requires-in-filling-clause-fits : goal.mix_and_append-requires-in-filling-clause-fits
 mix_and_append-requires-in-filling-clause-fits g c =
-    let two = two_more_rows-fit c.args.count (length c.args.x.now) c.filling.counter (omega (arith, c.filling-test.true)) in
-    let once = ap length c.mix_and_append.ensures.appended ∙ length-append (g.R.Rows.words c.filling.rows) c.filling.x in
-    let long : length c.mix_and_append.new.dst ≡ length c.args.x.now =
+    let two_rows_fit = two_more_rows-fit c.args.count (length c.args.x.now) c.filling.counter (omega (arith, c.filling-test.true)) in
+    let length_once = ap length c.mix_and_append.ensures.appended ∙ length-append (g.R.Rows.words c.filling.rows) c.filling.x in
+    let length_y : length c.mix_and_append.new.dst ≡ length c.args.x.now =
     omega (arith, c.mix_and_append.auto.dst, c.filling.auto.y, c.requires.blocks.2) in
     omega (
       arith,
-      two,
-      once,
-      long,
+      two_rows_fit,
+      length_once,
+      length_y,
       c.filling.auto.x,
       c.filling.invariant.filled.long,
       c.mix_and_append.ensures.kept,
@@ -56,12 +56,12 @@ filling-preserved g c =
 
 pub returns-clause-whole : goal.returns-clause-whole
 returns-clause-whole g c =
-    let all : 2 * c.filling.counter ≡ c.args.count =
+    let all_rows : 2 * c.filling.counter ≡ c.args.count =
     omega (arith, c.requires.even, c.filling-test.false, c.filling.auto.counter-end) in
-    c.filling.invariant.filled.long ∙ ap (λ (n : ℕ). n * length c.args.x.now) all
+    c.filling.invariant.filled.long ∙ ap (λ (n : ℕ). n * length c.args.x.now) all_rows
 
 pub returns-clause-rows : goal.returns-clause-rows
 returns-clause-rows g c =
-    let all : 2 * c.filling.counter ≡ c.args.count =
+    let all_rows : 2 * c.filling.counter ≡ c.args.count =
     omega (arith, c.requires.even, c.filling-test.false, c.filling.auto.counter-end) in
-    HoldsMixings-from_HasMixings c.args.count (length c.args.x.now) (g.R.Rows.words c.filling.rows) _ (rw all at c.filling.invariant.filled)
+    HoldsMixings-from_HasMixings c.args.count (length c.args.x.now) (g.R.Rows.words c.filling.rows) _ (rw all_rows at c.filling.invariant.filled)

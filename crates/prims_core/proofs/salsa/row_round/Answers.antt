@@ -11,29 +11,29 @@ pub returns-clause-rows : goal.returns-clause-rows
 unfolding row_round chunks_exact
 returns-clause-rows c =
     let x = c.x.inside in
-    let two = slice_index-append_self x.second c.x.invariant.1 in
-    let three = slice_index-append_self x.third c.x.invariant.2 in
-    let four = slice_index-append_self x.fourth c.x.invariant.3 in
+    let second_lanes = slice_index-append_self x.second c.x.invariant.1 in
+    let third_lanes = slice_index-append_self x.third c.x.invariant.2 in
+    let fourth_lanes = slice_index-append_self x.fourth c.x.invariant.3 in
     let new = c.quarter_rounds.result in
-    let to_four = slice_index-append_self new.1 (search rules) in
-    let to_three = slice_index-append_self new.2 (search rules) in
-    let to_two = slice_index-append_self new.3 (search rules) in
+    let back_to_fourth = slice_index-append_self new.1 (search rules) in
+    let back_to_third = slice_index-append_self new.2 (search rules) in
+    let back_to_second = slice_index-append_self new.3 (search rules) in
     rw (
-      to_four.0,
-      to_four.1,
-      to_four.2,
-      to_four.3,
-      to_three.0,
-      to_three.1,
-      to_three.2,
-      to_three.3,
-      to_two.0,
-      to_two.1,
-      to_two.2,
-      to_two.3,
+      back_to_fourth.0,
+      back_to_fourth.1,
+      back_to_fourth.2,
+      back_to_fourth.3,
+      back_to_third.0,
+      back_to_third.1,
+      back_to_third.2,
+      back_to_third.3,
+      back_to_second.0,
+      back_to_second.1,
+      back_to_second.2,
+      back_to_second.3,
       ← c.x.view_is,
-      ← rw (four.1, three.2, two.3) at (c.quarter_rounds.ensures 0 (omega arith)),
-      ← rw (four.2, three.3, two.0) at (c.quarter_rounds.ensures 1 (omega arith)),
-      ← rw (four.3, three.0, two.1) at (c.quarter_rounds.ensures 2 (omega arith)),
-      ← rw (four.0, three.1, two.2) at (c.quarter_rounds.ensures 3 (omega arith)),
+      ← rw (fourth_lanes.1, third_lanes.2, second_lanes.3) at (c.quarter_rounds.ensures 0 (omega arith)),
+      ← rw (fourth_lanes.2, third_lanes.3, second_lanes.0) at (c.quarter_rounds.ensures 1 (omega arith)),
+      ← rw (fourth_lanes.3, third_lanes.0, second_lanes.1) at (c.quarter_rounds.ensures 2 (omega arith)),
+      ← rw (fourth_lanes.0, third_lanes.1, second_lanes.2) at (c.quarter_rounds.ensures 3 (omega arith)),
     ) refl

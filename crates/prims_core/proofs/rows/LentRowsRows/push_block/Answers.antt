@@ -10,23 +10,23 @@ use Rattle.prims_core.proofs.rows.LentRowsRows.push_block.Goals as goal
 pub returns-clause-words : goal.returns-clause-words
 returns-clause-words c =
     let words : List ℕ = c.args.self.now.words.now in
-    let at : ℕ = c.args.self.now.written in
-    let part : List ℕ = take (at + 16 - at) (drop at words) in
+    let old_end : ℕ = c.args.self.now.written in
+    let old_part : List ℕ = take (old_end + 16 - old_end) (drop old_end words) in
     -- Loading the block as one vector gives all its words, since it has sixteen.
-    let block : chunk 0 16 c.args.block.now ≡ c.args.block.now = take_all 16 c.args.block.now (omega (arith, c.requires.whole)) in
-    let same : length part ≡ length (chunk 0 16 c.args.block.now) =
+    let whole_block : chunk 0 16 c.args.block.now ≡ c.args.block.now = take_all 16 c.args.block.now (omega (arith, c.requires.whole)) in
+    let same_length : length old_part ≡ length (chunk 0 16 c.args.block.now) =
     omega (
       arith,
-      length-take (at + 16 - at) (drop at words),
-      length-drop at words,
-      length-take at words,
-      ap length block,
+      length-take (old_end + 16 - old_end) (drop old_end words),
+      length-drop old_end words,
+      length-take old_end words,
+      ap length whole_block,
       c.requires.whole,
       c.requires.fits,
     ) in
     -- Copying it to a part of sixteen words leaves the block there.
-    let written : put_chunk 0 part (chunk 0 16 c.args.block.now) ≡ c.args.block.now =
-    put_chunk_whole part (chunk 0 16 c.args.block.now) same ∙ block in
-    take-put_mid at (at + 16 - at) words (put_chunk 0 part (chunk 0 16 c.args.block.now)) (at + 16)
+    let written : put_chunk 0 old_part (chunk 0 16 c.args.block.now) ≡ c.args.block.now =
+    put_chunk_whole old_part (chunk 0 16 c.args.block.now) same_length ∙ whole_block in
+    take-put_mid old_end (old_end + 16 - old_end) words (put_chunk 0 old_part (chunk 0 16 c.args.block.now)) (old_end + 16)
     (omega (arith, ap length written, c.requires.whole)) (omega arith)
-    ∙ ap (λ (b : List ℕ). take at words ++ b) written
+    ∙ ap (λ (b : List ℕ). take old_end words ++ b) written

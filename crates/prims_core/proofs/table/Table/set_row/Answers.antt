@@ -11,9 +11,9 @@ use Rattle.prims_core.proofs.table.Table.set_row.Goals as goal
 pub copy_from_slice-requires : goal.copy_from_slice-requires
 copy_from_slice-requires c =
     let w : ℕ = c.self.inside.row_words in
-    let long : length c.args.row.now ≡ w =
+    let length_row : length c.args.row.now ≡ w =
     length-accepted_row _ _ _ _ _ c.args.i c.self.view_is c.requires.inside (omega (arith, c.self.inside.words.ok.0, c.self.invariant.inside)) c.requires.same_length in
-    simp (length-take, length-drop) (omega (arith, long, ap length c.deref_mut.ensures.value, c.fill.new.words.ok.0))
+    simp (length-take, length-drop) (omega (arith, length_row, ap length c.deref_mut.ensures.value, c.fill.new.words.ok.0))
 
 pub invariant_of-self : goal.invariant_of-self
 invariant_of-self c =
@@ -25,16 +25,16 @@ returns c =
     let n : ℕ = c.self.inside.rows in
     let w : ℕ = c.self.inside.row_words in
     let start : ℕ = c.args.i * w in
-    let ends : start + w ≤ n * w = row_ends_within _ _ _ _ c.args.i c.self.view_is c.requires.inside in
-    let long : length c.args.row.now ≡ w =
+    let row_ends : start + w ≤ n * w = row_ends_within _ _ _ _ c.args.i c.self.view_is c.requires.inside in
+    let length_row : length c.args.row.now ≡ w =
     length-accepted_row _ _ _ _ _ c.args.i c.self.view_is c.requires.inside (omega (arith, c.self.inside.words.ok.0, c.self.invariant.inside)) c.requires.same_length in
     -- The table is the same after zeros are appended.
-    let is : rows_of n w (padded (n * w) c.fill.new.words.items) ≡ c.args.self.now =
-    rows_of-append_zeros n w (start + w) _ _ _ c.self.view_is ends c.fill.ensures.zeros in
+    let same_table : rows_of n w (padded (n * w) c.fill.new.words.items) ≡ c.args.self.now =
+    rows_of-append_zeros n w (start + w) _ _ _ c.self.view_is row_ends c.fill.ensures.zeros in
     -- The copy replaces the words of row i by the given row.
-    let same : put_mid start (start + w - start) c.deref_mut.result.now c.copy_from_slice.new.self
+    let copied : put_mid start (start + w - start) c.deref_mut.result.now c.copy_from_slice.new.self
     ≡ put_mid start (start + w - start) c.fill.new.words.items c.args.row.now = cc in
-    ap (λ (words : List ℕ). rows_of n w (padded (n * w) (with_items c.fill.new.words words).items)) same
-    ∙ rows_of-padded_put_mid n w _ _ c.args.i (start + w - start) c.fill.new.words.len c.args.row.now is
+    ap (λ (words : List ℕ). rows_of n w (padded (n * w) (with_items c.fill.new.words words).items)) copied
+    ∙ rows_of-padded_put_mid n w _ _ c.args.i (start + w - start) c.fill.new.words.len c.args.row.now same_table
     c.requires.inside (omega (arith, c.fill.ensures.len, c.fill.new.words.ok.0))
-    (omega (arith, ends, c.fill.ensures.len, c.fill.new.words.ok.0, c.self.invariant.inside)) c.fill.new.words.ok.0 long (omega arith)
+    (omega (arith, row_ends, c.fill.ensures.len, c.fill.new.words.ok.0, c.self.invariant.inside)) c.fill.new.words.ok.0 length_row (omega arith)
