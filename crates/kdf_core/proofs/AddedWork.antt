@@ -7,9 +7,9 @@ use Rattle.prims_core.specs.declared.meter.Work.{Work}
 -- The work d and x, and then e and y, is the work of their sums.
 pub with_work-add : (a b c : Work) (d x e y digests bytes : ℕ) → b ≡ with_work a d x → c ≡ with_work b e y
     → d + e ≡ digests → x + y ≡ bytes → c ≡ with_work a digests bytes
-with_work-add a b c d x e y digests bytes first then all_digests all_bytes =
-    let both : a.digests + d + e ≡ a.digests + digests = omega arith in
-    let fed : a.bytes + x + y ≡ a.bytes + bytes = omega arith in
-    then ∙ (ap (λ (m : Work). with_work m e y) first
-    ∙ (ap (λ n. record a { digests = n; bytes = a.bytes + x + y }) both
-    ∙ ap (λ n. record a { digests = a.digests + digests; bytes = n }) fed))
+with_work-add a b c d x e y digests bytes b_is c_is all_digests all_bytes =
+    let digests_added : a.digests + d + e ≡ a.digests + digests = omega arith in
+    let bytes_added : a.bytes + x + y ≡ a.bytes + bytes = omega arith in
+    c_is ∙ (ap (λ (m : Work). with_work m e y) b_is
+    ∙ (ap (λ n. record a { digests = n; bytes = a.bytes + x + y }) digests_added
+    ∙ ap (λ n. record a { digests = a.digests + digests; bytes = n }) bytes_added))

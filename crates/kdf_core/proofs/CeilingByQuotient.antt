@@ -10,8 +10,8 @@ use Rattle.std.proofs.lemmas.Nat.{pow_pos}
 -- A product of three is at most c exactly if the product of the last two is at most c divided by the first.
 pub quotient_test-iff_within : (k r p c : ℕ) → (IsTrue (nat_le (r * p) (c / 2 ^ k)) → 2 ^ k * r * p ≤ c) × (2 ^ k * r * p ≤ c → IsTrue (nat_le (r * p) (c / 2 ^ k)))
 quotient_test-iff_within k r p c =
-    let both = le-div_iff_mul-le {k = 2 ^ k} {x = r * p} {y = c} (pow_pos k) in
-    (λ h. omega (arith, both.0 (leb-true _ _ h)), λ h. le-leb _ _ (both.1 (omega (arith, h))))
+    let le_quotient_iff = le-div_iff_mul-le {k = 2 ^ k} {x = r * p} {y = c} (pow_pos k) in
+    (λ h. omega (arith, le_quotient_iff.0 (leb-true _ _ h)), λ h. le-leb _ _ (le_quotient_iff.1 (omega (arith, h))))
 
 -- From N = 2 ^ 24 on the product is above the ceiling.
 pub above_ceiling-from_24 : (k r p : ℕ) → 24 ≤ k → 0 < r → 0 < p → 2 ^ k * r * p ≤ 8388608 → ⊥

@@ -15,14 +15,14 @@ use Rattle.kdf_core.specs.HmacMessages.{PaddedKey, IsKeyOf}
 pub hmac_sha256-from_digests : (held : PaddedKey) (key a b text tag : List ℕ) → IsKeyOf held key → text ≡ sha256 (held.inner ++ a ++ b)
     → tag ≡ sha256 (held.outer ++ text ++ []) → tag ≡ hmac_sha256 key (a ++ b)
 unfolding hmac_sha256
-hmac_sha256-from_digests held key a b text tag of_key first second =
+hmac_sha256-from_digests held key a b text tag of_key text_is tag_is =
     let inner = padded_key key 0x36 in
     let outer = padded_key key 0x5c in
     -- The code's inner digest is that of the definition.
-    let text_is : text ≡ sha256 (inner ++ (a ++ b)) =
-    first ∙ ap sha256 (append_assoc held.inner a b ∙ ap (λ (x : List ℕ). x ++ (a ++ b)) of_key.inner) in
-    second ∙ ap sha256 (append-nil (held.outer ++ text)
-    ∙ (ap (λ (x : List ℕ). x ++ text) of_key.outer ∙ ap (λ (x : List ℕ). outer ++ x) text_is))
+    let text_of_definition : text ≡ sha256 (inner ++ (a ++ b)) =
+    text_is ∙ ap sha256 (append_assoc held.inner a b ∙ ap (λ (x : List ℕ). x ++ (a ++ b)) of_key.inner) in
+    tag_is ∙ ap sha256 (append-nil (held.outer ++ text)
+    ∙ (ap (λ (x : List ℕ). x ++ text) of_key.outer ∙ ap (λ (x : List ℕ). outer ++ x) text_of_definition))
 
 -- filled_block kept: these bytes, with zeros up to a block.
 abbrev filled_block : List ℕ → List ℕ
@@ -32,29 +32,29 @@ filled_block kept = kept ++ replicate (64 - length kept) 0
 pub key_block-long : (key kept : List ℕ) → 64 < length key → kept ≡ sha256 key → length kept ≡ 32
     → kept ++ replicate 32 0 ≡ key_block key
 unfolding key_block
-key_block-long key kept long is length_is =
-    let zeros : 32 ≡ 64 - length kept = omega arith in
-    ap (λ n. kept ++ replicate n 0) zeros ∙ ap filled_block (is ∙ cond_below 64 (length key) (sha256 key) key long)
+key_block-long key kept key_long kept_is length_kept =
+    let zeros_left : 32 ≡ 64 - length kept = omega arith in
+    ap (λ n. kept ++ replicate n 0) zeros_left ∙ ap filled_block (kept_is ∙ cond_below 64 (length key) (sha256 key) key key_long)
 
 -- The block of any other key: the key and zeros.
 pub key_block-short : (key kept zeros : List ℕ) → length key ≤ 64 → kept ≡ key → zeros ≡ replicate 64 0
     → kept ++ drop (length key) zeros ≡ key_block key
 unfolding key_block
-key_block-short key kept zeros short is zeros_are =
-    let rest : drop (length key) zeros ≡ replicate (64 - length kept) 0 =
-    ap (drop (length key)) zeros_are ∙ drop-replicate (length key) 64 0 ∙ ap (λ (k : List ℕ). replicate (64 - length k) 0) (sym is) in
-    ap (λ (x : List ℕ). kept ++ x) rest ∙ ap filled_block (cond_above 64 (length key) (sha256 key) key kept short is)
+key_block-short key kept zeros key_short kept_is zeros_are =
+    let zeros_left : drop (length key) zeros ≡ replicate (64 - length kept) 0 =
+    ap (drop (length key)) zeros_are ∙ drop-replicate (length key) 64 0 ∙ ap (λ (k : List ℕ). replicate (64 - length k) 0) (sym kept_is) in
+    ap (λ (x : List ℕ). kept ++ x) zeros_left ∙ ap filled_block (cond_above 64 (length key) (sha256 key) key kept key_short kept_is)
 
 -- The block XOR the pad byte, repeated, is the padded key.
 pub padded_key-from_xor : (key block padded : List ℕ) (pad : ℕ) → block ≡ key_block key
     → padded ≡ xor_lists block (replicate 64 pad) → padded ≡ padded_key key pad
 unfolding padded_key
-padded_key-from_xor key block padded pad is under = under ∙ ap (λ (b : List ℕ). xor_lists b (replicate 64 pad)) is
+padded_key-from_xor key block padded pad block_is padded_is = padded_is ∙ ap (λ (b : List ℕ). xor_lists b (replicate 64 pad)) block_is
 
 -- A list that has the XOR of two bytes at each place is the XOR of the two lists.
 pub xor_lists-from_places : (sum xs ys : List ℕ) → length sum ≡ length xs → length xs ≡ length ys
     → ((k : ℕ) → k < length xs → get_or sum k 0 ≡ bit_xor (get_or xs k 0) (get_or ys k 0)) → sum ≡ xor_lists xs ys
 unfolding xor_lists
-xor_lists-from_places sum xs ys length_is same places =
-    same_number_lists sum (xor_lists xs ys) (length_is ∙ sym (length-zip2 bit_xor xs ys same))
-    (λ k inside. places k (omega arith) ∙ sym (get_or-zip2 bit_xor xs ys k 0 0 0 (omega arith) (omega arith)))
+xor_lists-from_places sum xs ys length_sum same_length xor_at =
+    same_number_lists sum (xor_lists xs ys) (length_sum ∙ sym (length-zip2 bit_xor xs ys same_length))
+    (λ k inside. xor_at k (omega arith) ∙ sym (get_or-zip2 bit_xor xs ys k 0 0 0 (omega arith) (omega arith)))

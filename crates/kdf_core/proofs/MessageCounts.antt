@@ -29,20 +29,20 @@ use Rattle.kdf_core.proofs.ScryptResult.{scrypt_work-digests, scrypt_work-bytes}
 
 -- The messages of one list, and then those of another: numbers and bytes are added.
 HaveCountAndSum-append : (xs ys : List (List ℕ)) (d b e c : ℕ) → HaveCountAndSum xs d b → HaveCountAndSum ys e c → HaveCountAndSum (xs ++ ys) (d + e) (b + c)
-HaveCountAndSum-append xs ys d b e c front rest = record {
-  count = length-append xs ys ∙ omega (arith, front.count, rest.count);
-  sum = sum_by-append length xs ys ∙ omega (arith, front.sum, rest.sum);
+HaveCountAndSum-append xs ys d b e c xs_counts ys_counts = record {
+  count = length-append xs ys ∙ omega (arith, xs_counts.count, ys_counts.count);
+  sum = sum_by-append length xs ys ∙ omega (arith, xs_counts.sum, ys_counts.sum);
 }
 
 -- If each of `count` numbers has the same number of messages and of bytes, all of them have `count` times as many.
 HaveCountAndSum-flat_map : (messages : ℕ → List (List ℕ)) (d b from count : ℕ) → ((k : ℕ) → from ≤ k → HaveCountAndSum (messages k) d b)
     → HaveCountAndSum (flat_map messages (range_with_len from count)) (count * d) (count * b)
-HaveCountAndSum-flat_map messages d b from zero each = record { count = omega arith; sum = omega arith }
-HaveCountAndSum-flat_map messages d b from (suc count) each =
-    let rest = HaveCountAndSum-flat_map messages d b (from + 1) count (λ k above. each k (omega arith)) in
-    let all = HaveCountAndSum-append (messages from) (flat_map messages (range_with_len (from + 1) count)) d b (count * d) (count * b)
-    (each from (omega arith)) rest in
-    record { count = all.count ∙ omega arith; sum = all.sum ∙ omega arith }
+HaveCountAndSum-flat_map messages d b from zero each_counts = record { count = omega arith; sum = omega arith }
+HaveCountAndSum-flat_map messages d b from (suc count) each_counts =
+    let rest_counts = HaveCountAndSum-flat_map messages d b (from + 1) count (λ k above. each_counts k (omega arith)) in
+    let all_counts = HaveCountAndSum-append (messages from) (flat_map messages (range_with_len (from + 1) count)) d b (count * d) (count * b)
+    (each_counts from (omega arith)) rest_counts in
+    record { count = all_counts.count ∙ omega arith; sum = all_counts.sum ∙ omega arith }
 
 -- A digest has 32 bytes.
 length-sha256 : (message : List ℕ) → length (sha256 message) ≡ 32
@@ -60,9 +60,9 @@ length-padded_key : (key : List ℕ) (pad : ℕ) → length (padded_key key pad)
 unfolding padded_key key_block xor_lists
 length-padded_key key pad =
     let kept = if nat_lt 64 (length key) then sha256 key else key in
-    let whole : length (kept ++ replicate (64 - length kept) 0) ≡ 64 =
+    let length_block : length (kept ++ replicate (64 - length kept) 0) ≡ 64 =
     length-append kept (replicate (64 - length kept) 0) ∙ omega (arith, length-kept_key_le key, length-replicate {A = ℕ} (64 - length kept) 0) in
-    length-zip2 _ (kept ++ replicate (64 - length kept) 0) (replicate 64 pad) whole ∙ whole
+    length-zip2 _ (kept ++ replicate (64 - length kept) 0) (replicate 64 pad) length_block ∙ length_block
 
 -- A key has one message if it is longer than a block, and otherwise none.
 HaveCountAndSum-key_messages : (key : List ℕ) → HaveCountAndSum (key_messages key) (key_digests (length key)) (key_bytes (length key))
@@ -103,33 +103,33 @@ length-chain password salt i (suc j) some = length-sha256 _
 HaveCountAndSum-block_messages : (password salt : List ℕ) (rounds i : ℕ) → 1 ≤ rounds
     → HaveCountAndSum (block_messages password salt rounds i) (2 * rounds) (block_bytes (length salt) rounds)
 unfolding block_messages
-HaveCountAndSum-block_messages password salt zero i some = absurd (omega arith)
-HaveCountAndSum-block_messages password salt (suc more) i some =
+HaveCountAndSum-block_messages password salt zero i one_round = absurd (omega arith)
+HaveCountAndSum-block_messages password salt (suc more) i one_round =
     let u = chain password salt i in
     let messages = λ (j : ℕ). tag_messages password (u j) in
     -- Each tag but the first is of a text of 32 bytes, the tag before it.
-    let tags : (j : ℕ) → 1 ≤ j → HaveCountAndSum (messages j) 2 (tag_bytes 32) =
+    let tag_counts : (j : ℕ) → 1 ≤ j → HaveCountAndSum (messages j) 2 (tag_bytes 32) =
     λ j above. record {
       count = (HaveCountAndSum-tag_messages password (u j)).count;
       sum = (HaveCountAndSum-tag_messages password (u j)).sum ∙ ap tag_bytes (length-chain password salt i j above);
     } in
-    let rest = HaveCountAndSum-flat_map messages 2 (tag_bytes 32) 1 more tags in
-    let all = HaveCountAndSum-append (messages 0) (flat_map messages (range_with_len 1 more)) 2 (tag_bytes (length (u 0))) (more * 2) (more * tag_bytes 32)
-    (HaveCountAndSum-tag_messages password (u 0)) rest in
+    let rest_counts = HaveCountAndSum-flat_map messages 2 (tag_bytes 32) 1 more tag_counts in
+    let all_counts = HaveCountAndSum-append (messages 0) (flat_map messages (range_with_len 1 more)) 2 (tag_bytes (length (u 0))) (more * 2) (more * tag_bytes 32)
+    (HaveCountAndSum-tag_messages password (u 0)) rest_counts in
     record {
-      count = all.count ∙ omega arith;
-      sum = all.sum ∙ omega (arith, length-chain_zero password salt i);
+      count = all_counts.count ∙ omega arith;
+      sum = all_counts.sum ∙ omega (arith, length-chain_zero password salt i);
     }
 
 -- Each block of a derivation has the same number of messages and of bytes.
 HaveCountAndSum-pbkdf2_messages : (password salt : List ℕ) (rounds count : ℕ) → 1 ≤ rounds
     → HaveCountAndSum (pbkdf2_messages password salt rounds count) (pbkdf2_digests rounds count) (pbkdf2_bytes (length salt) rounds count)
 unfolding pbkdf2_messages
-HaveCountAndSum-pbkdf2_messages password salt rounds count some =
+HaveCountAndSum-pbkdf2_messages password salt rounds count one_round =
     let blocks = div_ceil count 32 in
-    let all = HaveCountAndSum-flat_map (block_messages password salt rounds) (2 * rounds) (block_bytes (length salt) rounds) 1 blocks
-    (λ i above. HaveCountAndSum-block_messages password salt rounds i some) in
-    record { count = all.count ∙ omega arith; sum = all.sum }
+    let all_counts = HaveCountAndSum-flat_map (block_messages password salt rounds) (2 * rounds) (block_bytes (length salt) rounds) 1 blocks
+    (λ i above. HaveCountAndSum-block_messages password salt rounds i one_round) in
+    record { count = all_counts.count ∙ omega arith; sum = all_counts.sum }
 
 -- PBKDF2 derives as many bytes as are asked for.
 length-pbkdf2_sha256 : (password salt : List ℕ) (count : ℕ) → length (pbkdf2_sha256 password salt 1 count) ≡ count
@@ -138,11 +138,11 @@ length-pbkdf2_sha256 password salt count =
     let blocks = div_ceil count 32 in
     let derived = flat_map (block password salt 1) (range_with_len 1 blocks) in
     -- T_1 to T_q have 32 bytes each.
-    let whole : length derived ≡ blocks * 32 =
+    let length_derived : length derived ≡ blocks * 32 =
     length-flat_map_same (block password salt 1) 32 (range_with_len 1 blocks)
     (λ k d inside. ap length (block-one password salt _) ∙ length-chain password salt _ 1 (omega arith))
     ∙ ap (λ n. n * 32) (length-range_with_len 1 blocks) in
-    length-take-le count derived (omega (arith, whole, (div_ceil_times count 32 (omega arith)).0))
+    length-take-le count derived (omega (arith, length_derived, (div_ceil_times count 32 (omega arith)).0))
 
 -- scrypt's messages: the password's, those of the derivation of the parts, and those of the result, whose salt is all
 -- parts.
@@ -151,20 +151,20 @@ pub HaveCountAndSum-scrypt_messages : (password salt : List ℕ) (params : Scryp
     (scrypt_work params (length password) (length salt) count).bytes
 unfolding scrypt_messages
 HaveCountAndSum-scrypt_messages password salt params count =
-    let first = parts_bytes params in
-    let derived = pbkdf2_sha256 password salt 1 first in
-    let last = mixed_parts (row_count params) (part_bytes params) derived in
+    let size = parts_bytes params in
+    let derived = pbkdf2_sha256 password salt 1 size in
+    let mixed = mixed_parts (row_count params) (part_bytes params) derived in
     -- Both PBKDF2 and ROMix give as many bytes as all parts have.
-    let derived_length : length derived ≡ first = length-pbkdf2_sha256 password salt first in
-    let last_length : length last ≡ first =
+    let derived_length : length derived ≡ size = length-pbkdf2_sha256 password salt size in
+    let mixed_length : length mixed ≡ size =
     length-mixed_parts (row_count params) (part_bytes params) params.r params.p derived (omega arith) derived_length ∙ derived_length in
-    let key = HaveCountAndSum-key_messages password in
-    let firsts = HaveCountAndSum-pbkdf2_messages password salt 1 first (omega arith) in
-    let lasts = HaveCountAndSum-pbkdf2_messages password last 1 count (omega arith) in
+    let key_counts = HaveCountAndSum-key_messages password in
+    let first_counts = HaveCountAndSum-pbkdf2_messages password salt 1 size (omega arith) in
+    let last_counts = HaveCountAndSum-pbkdf2_messages password mixed 1 count (omega arith) in
     -- The three lists of messages, added up.
-    let all = HaveCountAndSum-append (key_messages password ++ pbkdf2_messages password salt 1 first) (pbkdf2_messages password last 1 count) _ _ _ _
-    (HaveCountAndSum-append (key_messages password) (pbkdf2_messages password salt 1 first) _ _ _ _ key firsts) lasts in
+    let all_counts = HaveCountAndSum-append (key_messages password ++ pbkdf2_messages password salt 1 size) (pbkdf2_messages password mixed 1 count) _ _ _ _
+    (HaveCountAndSum-append (key_messages password) (pbkdf2_messages password salt 1 size) _ _ _ _ key_counts first_counts) last_counts in
     record {
-      count = all.count ∙ scrypt_work-digests params (length password) (length salt) count first refl;
-      sum = all.sum ∙ scrypt_work-bytes params (length password) (length salt) count first (length last) refl last_length;
+      count = all_counts.count ∙ scrypt_work-digests params (length password) (length salt) count size refl;
+      sum = all_counts.sum ∙ scrypt_work-bytes params (length password) (length salt) count size (length mixed) refl mixed_length;
     }

@@ -25,15 +25,15 @@ HaveSize size = All (λ piece. length piece ≡ size)
 -- Lists of one length, joined.
 pub length-flat_map_same : {X : Type 0} (f : X → List ℕ) (size : ℕ) (xs : List X) → All (λ x. length (f x) ≡ size) xs
     → length (flat_map f xs) ≡ length xs * size
-length-flat_map_same f size [] each = omega arith
-length-flat_map_same {X = X} f size (x ∷ xs) each =
-    let first : length (f x) ≡ size = All-head (λ (y : X). length (f y) ≡ size) x xs each in
-    let rest : length (flat_map f xs) ≡ length xs * size =
-    length-flat_map_same f size xs (All-tail (λ (y : X). length (f y) ≡ size) x xs each) in
+length-flat_map_same f size [] same_length = omega arith
+length-flat_map_same {X = X} f size (x ∷ xs) same_length =
+    let length_first : length (f x) ≡ size = All-head (λ (y : X). length (f y) ≡ size) x xs same_length in
+    let length_rest : length (flat_map f xs) ≡ length xs * size =
+    length-flat_map_same f size xs (All-tail (λ (y : X). length (f y) ≡ size) x xs same_length) in
     omega (arith, length-append (f x) (flat_map f xs))
 
 length-concat : (size : ℕ) (pieces : List (List ℕ)) → HaveSize size pieces → length (concat pieces) ≡ length pieces * size
-length-concat size pieces each = ap length (concat_is pieces) ∙ length-flat_map_same (λ (piece : List ℕ). piece) size pieces each
+length-concat size pieces same_size = ap length (concat_is pieces) ∙ length-flat_map_same (λ (piece : List ℕ). piece) size pieces same_size
 
 -- What one step keeps, any number of steps keeps.
 iterate-keeps : {A : Type 0} (P : A → Type 0) (step : A → A) → ((x : A) → P x → P (step x)) → (n : ℕ) (x : A) → P x → P (iterate step n x)
@@ -78,88 +78,88 @@ length-begun_at place row =
 
 IsMatrix-row_round : (rows : List (List ℕ)) → IsMatrix rows → IsMatrix (row_round rows)
 unfolding row_round
-IsMatrix-row_round rows is =
+IsMatrix-row_round rows matrix =
     let turned : ℕ × List ℕ → List ℕ = λ p. begun_at (4 - p.0) (quarter_round (begun_at p.0 p.1)) in
     record {
-      four = length-map (enumerate_from 0 rows) turned ∙ (length-enumerate_from 0 rows ∙ is.four);
+      four = length-map (enumerate_from 0 rows) turned ∙ (length-enumerate_from 0 rows ∙ matrix.four);
       each = All-map (λ (row : List ℕ). length row ≡ 4) turned (enumerate_from 0 rows) (λ k d inside.
           let p : ℕ × List ℕ = get_or (enumerate_from 0 rows) k d in
           let within : k < length rows = omega (arith, length-enumerate_from 0 rows) in
-          let row : length p.1 ≡ 4 =
-          ap (λ (q : ℕ × List ℕ). length q.1) (get_or-enumerate_from 0 rows k d within) ∙ is.each k d.1 within in
+          let length_row : length p.1 ≡ 4 =
+          ap (λ (q : ℕ × List ℕ). length q.1) (get_or-enumerate_from 0 rows k d within) ∙ matrix.each k d.1 within in
           length-begun_at (4 - p.0) (quarter_round (begun_at p.0 p.1))
-          ∙ length-quarter_round (begun_at p.0 p.1) (length-begun_at p.0 p.1 ∙ row));
+          ∙ length-quarter_round (begun_at p.0 p.1) (length-begun_at p.0 p.1 ∙ length_row));
     }
 
 IsMatrix-transpose : (rows : List (List ℕ)) → IsMatrix rows → IsMatrix (transpose rows)
 unfolding transpose
-IsMatrix-transpose rows is =
+IsMatrix-transpose rows matrix =
     let column : ℕ → List ℕ = λ i. map (λ row. slice_index row i) rows in
     record {
       four = length-map-range_with_len column 0 4;
       each = All-map (λ (row : List ℕ). length row ≡ 4) column (range_with_len 0 4)
-          (λ k d inside. length-map rows (λ row. slice_index row (get_or (range_with_len 0 4) k d)) ∙ is.four);
+          (λ k d inside. length-map rows (λ row. slice_index row (get_or (range_with_len 0 4) k d)) ∙ matrix.four);
     }
 
 IsMatrix-double_round : (rows : List (List ℕ)) → IsMatrix rows → IsMatrix (double_round rows)
 unfolding double_round column_round
-IsMatrix-double_round rows is =
+IsMatrix-double_round rows matrix =
     IsMatrix-row_round (column_round rows)
-    (IsMatrix-transpose (row_round (transpose rows)) (IsMatrix-row_round (transpose rows) (IsMatrix-transpose rows is)))
+    (IsMatrix-transpose (row_round (transpose rows)) (IsMatrix-row_round (transpose rows) (IsMatrix-transpose rows matrix)))
 
 -- So Salsa20/8 of sixteen words has sixteen words.
 length-salsa20_8 : (words : List ℕ) → length words ≡ 16 → length (salsa20_8 words) ≡ 16
 unfolding salsa20_8
-length-salsa20_8 words sixteen =
+length-salsa20_8 words length_words =
     -- Sixteen words, cut into rows, are a matrix, and the rounds keep it one.
-    let cut : IsMatrix (chunks_exact words 4) =
+    let rows_matrix : IsMatrix (chunks_exact words 4) =
     record { four = length-chunks_exact words 4 ∙ omega arith; each = HaveSize-chunks_exact words 4 } in
     let rounds = iterate double_round 4 (chunks_exact words 4) in
-    let mixed : IsMatrix rounds = iterate-keeps IsMatrix double_round IsMatrix-double_round 4 (chunks_exact words 4) cut in
-    let joined : length (concat rounds) ≡ 16 = length-concat 4 rounds mixed.each ∙ ap (λ n. n * 4) mixed.four in
-    length-zip2 sum_of_words words (concat rounds) (sixteen ∙ sym joined) ∙ sixteen
+    let rounds_matrix : IsMatrix rounds = iterate-keeps IsMatrix double_round IsMatrix-double_round 4 (chunks_exact words 4) rows_matrix in
+    let length_rounds : length (concat rounds) ≡ 16 = length-concat 4 rounds rounds_matrix.each ∙ ap (λ n. n * 4) rounds_matrix.four in
+    length-zip2 sum_of_words words (concat rounds) (length_words ∙ sym length_rounds) ∙ length_words
 
 -- The blocks that are mixed: each X has sixteen words, so the results have as many words as the blocks.
 
 length-mixed_block : (x block : List ℕ) → length x ≡ 16 → length block ≡ 16 → length (salsa20_8 (xor_lists x block)) ≡ 16
 unfolding xor_lists
-length-mixed_block x block first second =
-    length-salsa20_8 (xor_lists x block) (length-zip2 _ x block (first ∙ sym second) ∙ first)
+length-mixed_block x block length_x length_block =
+    length-salsa20_8 (xor_lists x block) (length-zip2 _ x block (length_x ∙ sym length_block) ∙ length_x)
 
 length-block_at : (words : List ℕ) (count i : ℕ) → length words ≡ 16 * count → i < count → length (block_at i words) ≡ 16
-length-block_at words count i is inside = length-take-le 16 (drop (16 * i) words) (omega (arith, length-drop (16 * i) words))
+length-block_at words count i length_words inside = length-take-le 16 (drop (16 * i) words) (omega (arith, length-drop (16 * i) words))
 
 length-x_after : (r : ℕ) (words : List ℕ) (i : ℕ) → length words ≡ 32 * r → 0 < r → i ≤ 2 * r → length (x_after r words i) ≡ 16
 unfolding x_after
-length-x_after r words zero is some inside = length-block_at words (2 * r) (2 * r - 1) (omega arith) (omega arith)
-length-x_after r words (suc i) is some inside =
-    length-mixed_block (x_after r words i) (block_at i words) (length-x_after r words i is some (omega arith))
+length-x_after r words zero length_words one_block inside = length-block_at words (2 * r) (2 * r - 1) (omega arith) (omega arith)
+length-x_after r words (suc i) length_words one_block inside =
+    length-mixed_block (x_after r words i) (block_at i words) (length-x_after r words i length_words one_block (omega arith))
     (length-block_at words (2 * r) i (omega arith) (omega arith))
 
 pub length-block_mix : (words : List ℕ) (r : ℕ) → length words ≡ 32 * r → length (block_mix words) ≡ 32 * r
 unfolding block_mix
-length-block_mix words r is =
+length-block_mix words r length_words =
     let n = length words / 32 in
-    let number : n ≡ r = ap (λ m. m / 32) is ∙ mul-div_cancel_left r (omega arith) in
+    let n_is : n ≡ r = ap (λ m. m / 32) length_words ∙ mul-div_cancel_left r (omega arith) in
     let y : ℕ → List ℕ = λ i. x_after n words (i + 1) in
     let evens = map (λ i. y (2 * i)) (range_with_len 0 n) in
     let odds = map (λ i. y (2 * i + 1)) (range_with_len 0 n) in
     let size = λ (piece : List ℕ). length piece ≡ 16 in
     -- Each number of the range is below n, so each of the results has sixteen words.
-    let at : (k d : ℕ) → k < length (range_with_len 0 n) → get_or (range_with_len 0 n) k d < n =
+    let number_below : (k d : ℕ) → k < length (range_with_len 0 n) → get_or (range_with_len 0 n) k d < n =
     λ k d inside. omega (arith, length-range_with_len 0 n, get_or-range_with_len 0 n k d (omega (arith, length-range_with_len 0 n))) in
-    let each : (i : ℕ) → i < 2 * n → length (y i) ≡ 16 =
+    let length_result : (i : ℕ) → i < 2 * n → length (y i) ≡ 16 =
     λ i inside. length-x_after n words (i + 1) (omega arith) (omega arith) (omega arith) in
     -- So the results with even numbers and those with odd numbers are 2n pieces of sixteen words.
-    let pieces : HaveSize 16 (evens ++ odds) = All-append size evens odds
+    let results_size : HaveSize 16 (evens ++ odds) = All-append size evens odds
     (All-map size (λ i. y (2 * i)) (range_with_len 0 n)
-    (λ k d inside. let below = at k d inside in each (2 * get_or (range_with_len 0 n) k d) (omega arith)))
+    (λ k d inside. let below = number_below k d inside in length_result (2 * get_or (range_with_len 0 n) k d) (omega arith)))
     (All-map size (λ i. y (2 * i + 1)) (range_with_len 0 n)
-    (λ k d inside. let below = at k d inside in each (2 * get_or (range_with_len 0 n) k d + 1) (omega arith))) in
-    length-concat 16 (evens ++ odds) pieces
+    (λ k d inside. let below = number_below k d inside in length_result (2 * get_or (range_with_len 0 n) k d + 1) (omega arith))) in
+    length-concat 16 (evens ++ odds) results_size
     ∙ omega (
       arith,
-      number,
+      n_is,
       length-append evens odds,
       length-map-range_with_len (λ i. y (2 * i)) 0 n,
       length-map-range_with_len (λ i. y (2 * i + 1)) 0 n,
@@ -170,39 +170,39 @@ length-block_mix words r is =
 length-mixed_back : (n : ℕ) (start : List ℕ) (r : ℕ) → length start ≡ 32 * r
     → (words : List ℕ) → length words ≡ 32 * r → length (mixed_back n start words) ≡ 32 * r
 unfolding mixed_back xor_lists
-length-mixed_back n start r first words is =
+length-mixed_back n start r length_start words length_words =
     let row = iterate block_mix (integerify words % n) start in
     -- Mixing keeps the length, so the row V[j] is as long as X.
-    let row_is : length row ≡ 32 * r =
-    iterate-keeps (λ (x : List ℕ). length x ≡ 32 * r) block_mix (λ x. length-block_mix x r) (integerify words % n) start first in
-    length-block_mix (xor_lists words row) r (length-zip2 _ words row (is ∙ sym row_is) ∙ is)
+    let length_row : length row ≡ 32 * r =
+    iterate-keeps (λ (x : List ℕ). length x ≡ 32 * r) block_mix (λ x. length-block_mix x r) (integerify words % n) start length_start in
+    length-block_mix (xor_lists words row) r (length-zip2 _ words row (length_words ∙ sym length_row) ∙ length_words)
 
 length-romix : (n : ℕ) (start : List ℕ) (r : ℕ) → length start ≡ 32 * r → length (romix n start) ≡ 32 * r
 unfolding romix
-length-romix n start r is =
-    let whole = λ (x : List ℕ). length x ≡ 32 * r in
-    iterate-keeps whole (mixed_back n start) (length-mixed_back n start r is) n (iterate block_mix n start)
-    (iterate-keeps whole block_mix (λ x. length-block_mix x r) n start is)
+length-romix n start r length_start =
+    let HasLength = λ (x : List ℕ). length x ≡ 32 * r in
+    iterate-keeps HasLength (mixed_back n start) (length-mixed_back n start r length_start) n (iterate block_mix n start)
+    (iterate-keeps HasLength block_mix (λ x. length-block_mix x r) n start length_start)
 
 length-mixed_part : (n : ℕ) (bytes : List ℕ) (r : ℕ) → length bytes ≡ 128 * r → length (mixed_part n bytes) ≡ 128 * r
 unfolding mixed_part words_of bytes_of_words
-length-mixed_part n bytes r is =
-    let words : length (words_of bytes) ≡ 32 * r =
-    length-map (chunks_exact bytes 4) _ ∙ (length-chunks_exact bytes 4 ∙ omega (arith, is)) in
+length-mixed_part n bytes r length_bytes =
+    let length_words : length (words_of bytes) ≡ 32 * r =
+    length-map (chunks_exact bytes 4) _ ∙ (length-chunks_exact bytes 4 ∙ omega (arith, length_bytes)) in
     length-flat_map_same (little_bytes 4) 4 (romix n (words_of bytes)) (λ k d inside. refl)
-    ∙ omega (arith, length-romix n (words_of bytes) r words)
+    ∙ omega (arith, length-romix n (words_of bytes) r length_words)
 
 -- All parts, each of 2r blocks of 64 bytes.
 pub length-mixed_parts : (n size r count : ℕ) (bytes : List ℕ) → size ≡ 128 * r → length bytes ≡ size * count
     → length (mixed_parts n size bytes) ≡ length bytes
 unfolding mixed_parts
-length-mixed_parts n size r count bytes size_is whole =
+length-mixed_parts n size r count bytes size_is length_whole =
     let parts = chunks_exact bytes size in
     length-flat_map_same (mixed_part n) size parts
     (λ k d inside. length-mixed_part n (get_or parts k d) r (HaveSize-chunks_exact bytes size k d inside ∙ size_is) ∙ sym size_is)
-    ∙ (ap (λ m. m * size) (length-chunks_exact bytes size) ∙ divided size whole) where
-      divided : (size : ℕ) → length bytes ≡ size * count → length bytes / size * size ≡ length bytes
-      divided zero is = omega arith
-      divided (suc size) is =
-          let quotient : length bytes / suc size ≡ count = ap (λ n. n / suc size) is ∙ mul-div_cancel_left count (omega arith) in
+    ∙ (ap (λ m. m * size) (length-chunks_exact bytes size) ∙ div_mul_size size length_whole) where
+      div_mul_size : (size : ℕ) → length bytes ≡ size * count → length bytes / size * size ≡ length bytes
+      div_mul_size zero length_bytes = omega arith
+      div_mul_size (suc size) length_bytes =
+          let quotient : length bytes / suc size ≡ count = ap (λ n. n / suc size) length_bytes ∙ mul-div_cancel_left count (omega arith) in
           ap (λ n. n * suc size) quotient ∙ omega arith

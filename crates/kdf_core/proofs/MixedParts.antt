@@ -47,43 +47,43 @@ pub take-put_mid_part : (n size i k : ℕ) (start old part : List ℕ) → size 
     → take (size * i) old ≡ first_parts n size start i → drop (size * i) old ≡ drop (size * i) start
     → part ≡ mixed_part n (take k (drop (size * i) old)) → length part ≡ size
     → take (size * (i + 1)) (put_mid (size * i) k old part) ≡ first_parts n size start (i + 1)
-take-put_mid_part n size i k start old part inside k_is done to_come is length_is =
+take-put_mid_part n size i k start old part part_fits width_is done to_come part_is length_part =
     let at = size * i in
-    let place : size * (i + 1) ≡ at + size = omega arith in
-    let end : at + size ≡ at + length part = omega arith in
+    let next_start : size * (i + 1) ≡ at + size = omega arith in
+    let part_end : at + size ≡ at + length part = omega arith in
     let within : at ≤ length old = omega arith in
     -- Part i is still the one from the start, so its ROMix is the one wanted.
-    let read : take k (drop at old) ≡ take size (drop at start) = ap (λ m. take m (drop at old)) k_is ∙ ap (take size) to_come in
-    ap (λ m. take m (put_mid at k old part)) place
-    ∙ (take-put_mid at k old part (at + size) end within
+    let part_read : take k (drop at old) ≡ take size (drop at start) = ap (λ m. take m (drop at old)) width_is ∙ ap (take size) to_come in
+    ap (λ m. take m (put_mid at k old part)) next_start
+    ∙ (take-put_mid at k old part (at + size) part_end within
     ∙ (ap (λ (front : List ℕ). front ++ part) done
-    ∙ (ap (λ (b : List ℕ). first_parts n size start i ++ b) (is ∙ ap (mixed_part n) read)
+    ∙ (ap (λ (b : List ℕ). first_parts n size start i ++ b) (part_is ∙ ap (mixed_part n) part_read)
     ∙ sym (first_parts-add_one n size start i))))
 
 -- The parts after it are still as at the start.
 pub drop-put_mid_part : (size i k : ℕ) (start old part : List ℕ) → size * i + size ≤ length old → k ≡ size
     → drop (size * i) old ≡ drop (size * i) start → length part ≡ size
     → drop (size * (i + 1)) (put_mid (size * i) k old part) ≡ drop (size * (i + 1)) start
-drop-put_mid_part size i k start old part inside k_is to_come length_is =
+drop-put_mid_part size i k start old part part_fits width_is to_come length_part =
     let at = size * i in
-    let place : size * (i + 1) ≡ at + size = omega arith in
-    let end : at + k ≤ at + size = omega arith in
+    let next_start : size * (i + 1) ≡ at + size = omega arith in
+    let part_end : at + k ≤ at + size = omega arith in
     let within : at ≤ length old = omega arith in
-    let same : length part ≡ k = omega arith in
-    ap (λ m. drop m (put_mid at k old part)) place
-    ∙ (drop-put_mid at k old part (at + size) end within same
+    let width_filled : length part ≡ k = omega arith in
+    ap (λ m. drop m (put_mid at k old part)) next_start
+    ∙ (drop-put_mid at k old part (at + size) part_end within width_filled
     ∙ (sym (drop-drop size at old)
     ∙ (ap (drop size) to_come
-    ∙ (drop-drop size at start ∙ ap (λ m. drop m start) (sym place)))))
+    ∙ (drop-drop size at start ∙ ap (λ m. drop m start) (sym next_start)))))
 
 -- With all parts done, the bytes are those of `mixed_parts`.
 pub mixed_parts-from_first_parts : (n size count : ℕ) (start old : List ℕ) → 0 < size → length start ≡ size * count → length old ≡ length start
     → take (size * count) old ≡ first_parts n size start count → old ≡ mixed_parts n size start
 unfolding mixed_parts chunks_exact first_parts
-mixed_parts-from_first_parts n size count start old some whole same done =
+mixed_parts-from_first_parts n size count start old size_positive length_start same_length done =
     let within : length old ≤ size * count = omega arith in
-    let turned : size * count ≡ count * size = omega arith in
-    let quotient : length start / size ≡ count = ap (λ m. m / size) (whole ∙ turned) ∙ mul-div_cancel count some in
+    let mul_turned : size * count ≡ count * size = omega arith in
+    let quotient : length start / size ≡ count = ap (λ m. m / size) (length_start ∙ mul_turned) ∙ mul-div_cancel count size_positive in
     let cut = λ (i : ℕ). take size (drop (size * i) start) in
     sym (take_all (size * count) old within)
     ∙ (done

@@ -37,13 +37,13 @@ pub block-add_one : (password salt : List ℕ) (i rounds : ℕ) → 1 ≤ rounds
     → block password salt (rounds + 1) i
     ≡ xor_lists (block password salt rounds i) (chain password salt i (rounds + 1))
 unfolding block
-block-add_one password salt i rounds some =
+block-add_one password salt i rounds one_round =
     let u : ℕ → List ℕ = chain password salt i in
-    let count : rounds + 1 - 1 ≡ rounds - 1 + 1 = omega arith in
-    let more : map u (range_with_len 2 (rounds - 1 + 1)) ≡ map u (range_with_len 2 (rounds - 1)) ++ u (rounds + 1) ∷ [] =
+    let count_is : rounds + 1 - 1 ≡ rounds - 1 + 1 = omega arith in
+    let tags_split : map u (range_with_len 2 (rounds - 1 + 1)) ≡ map u (range_with_len 2 (rounds - 1)) ++ u (rounds + 1) ∷ [] =
     map-range_with_len_more u 2 (rounds - 1) (rounds + 1) (omega arith) in
-    ap (λ n. fold xor_lists (u 1) (map u (range_with_len 2 n))) count
-    ∙ (ap (fold xor_lists (u 1)) more ∙ fold-append xor_lists (u 1) (map u (range_with_len 2 (rounds - 1))) (u (rounds + 1) ∷ []))
+    ap (λ n. fold xor_lists (u 1) (map u (range_with_len 2 n))) count_is
+    ∙ (ap (fold xor_lists (u 1)) tags_split ∙ fold-append xor_lists (u 1) (map u (range_with_len 2 (rounds - 1))) (u (rounds + 1) ∷ []))
 
 -- A range that is one longer has one more number at its end.
 pub range_with_len-add_one : (a n : ℕ) → range_with_len a (n + 1) ≡ range_with_len a n ++ (a + n) ∷ []
@@ -59,31 +59,31 @@ pub take-blocks_add_one : (block : ℕ → List ℕ) (old new part : List ℕ) (
     → take (32 * i) old ≡ take room (flat_map block (range_with_len 1 i)) → part ≡ block (i + 1)
     → take (32 * i + 32) new ≡ take (32 * i) old ++ take (room - 32 * i) part
     → take (32 * (i + 1)) new ≡ take room (flat_map block (range_with_len 1 (i + 1)))
-take-blocks_add_one block old new part room i inside length_is front is written =
+take-blocks_add_one block old new part room i inside length_old front part_is new_is =
     let blocks = flat_map block (range_with_len 1 i) in
     let rest = room - 32 * i in
     -- The blocks before all fit into `out`, so none of them is cut.
-    let whole : length blocks ≡ 32 * i =
+    let length_blocks : length blocks ≡ 32 * i =
     omega (arith, ap length front, length-take (32 * i) old, length-take room blocks) in
     let front_is : take (32 * i) old ≡ blocks = front ∙ take_all room blocks (omega arith) in
-    let place : 32 * (i + 1) ≡ 32 * i + 32 = omega arith in
-    let end : length blocks + rest ≡ room = omega arith in
-    let next : 1 + i ≡ i + 1 = omega arith in
-    let more : flat_map block (range_with_len 1 (i + 1)) ≡ blocks ++ block (i + 1) =
+    let next_end : 32 * (i + 1) ≡ 32 * i + 32 = omega arith in
+    let room_split : length blocks + rest ≡ room = omega arith in
+    let next_number : 1 + i ≡ i + 1 = omega arith in
+    let blocks_split : flat_map block (range_with_len 1 (i + 1)) ≡ blocks ++ block (i + 1) =
     ap (flat_map block) (range_with_len-add_one 1 i) ∙ (flat_map-append block (range_with_len 1 i) ((1 + i) ∷ [])
-    ∙ (ap (λ k. blocks ++ (block k ++ [])) next ∙ ap (λ (b : List ℕ). blocks ++ b) (append-nil (block (i + 1))))) in
+    ∙ (ap (λ k. blocks ++ (block k ++ [])) next_number ∙ ap (λ (b : List ℕ). blocks ++ b) (append-nil (block (i + 1))))) in
     -- The wanted bytes are the blocks before, and as much of the next one as fits.
-    let wanted : take room (flat_map block (range_with_len 1 (i + 1))) ≡ blocks ++ take rest (block (i + 1)) =
-    ap (take room) more ∙ (ap (λ k. take k (blocks ++ block (i + 1))) (sym end) ∙ take-append-add blocks (block (i + 1)) rest) in
-    ap (λ k. take k new) place ∙ (written ∙ (ap (λ (b : List ℕ). b ++ take rest part) front_is
-    ∙ (ap (λ (b : List ℕ). blocks ++ take rest b) is ∙ sym wanted)))
+    let wanted_split : take room (flat_map block (range_with_len 1 (i + 1))) ≡ blocks ++ take rest (block (i + 1)) =
+    ap (take room) blocks_split ∙ (ap (λ k. take k (blocks ++ block (i + 1))) (sym room_split) ∙ take-append-add blocks (block (i + 1)) rest) in
+    ap (λ k. take k new) next_end ∙ (new_is ∙ (ap (λ (b : List ℕ). b ++ take rest part) front_is
+    ∙ (ap (λ (b : List ℕ). blocks ++ take rest b) part_is ∙ sym wanted_split)))
 
 -- With all blocks written, `out` is the derived bytes.
 pub pbkdf2_sha256-from_blocks : (password salt out : List ℕ) (rounds room i : ℕ) → length out ≡ room → i ≡ div_ceil room 32
     → take (32 * i) out ≡ take room (flat_map (block password salt rounds) (range_with_len 1 i))
     → out ≡ pbkdf2_sha256 password salt rounds room
 unfolding pbkdf2_sha256
-pbkdf2_sha256-from_blocks password salt out rounds room i length_is all front =
+pbkdf2_sha256-from_blocks password salt out rounds room i length_out i_is front =
     let within : length out ≤ 32 * i = omega (arith, (div_ceil_times room 32 (omega arith)).0) in
     sym (take_all (32 * i) out within) ∙ (front
-    ∙ ap (λ n. take room (flat_map (block password salt rounds) (range_with_len 1 n))) all)
+    ∙ ap (λ n. take room (flat_map (block password salt rounds) (range_with_len 1 n))) i_is)

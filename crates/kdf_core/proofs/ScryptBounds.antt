@@ -45,13 +45,13 @@ IsBounded-from_IsAccepted params accepted =
 
 -- N is a power of two, from 2 to 2 ^ 32. So it is even, and not 0.
 pub IsPower-even : (rows k : ℕ) → IsPower rows k → 2 * (rows / 2) ≡ rows
-IsPower-even rows k is =
-    let next : k ≡ 1 + (k - 1) = omega (arith, is.above_one) in
-    let twice : rows ≡ 2 * 2 ^ (k - 1) = is.power ∙ (ap (λ e. 2 ^ e) next ∙ pow-add 2 1 (k - 1)) in
-    omega (arith, twice)
+IsPower-even rows k power =
+    let k_split : k ≡ 1 + (k - 1) = omega (arith, power.above_one) in
+    let rows_twice : rows ≡ 2 * 2 ^ (k - 1) = power.power ∙ (ap (λ e. 2 ^ e) k_split ∙ pow-add 2 1 (k - 1)) in
+    omega (arith, rows_twice)
 
 pub IsPower-pos : (rows k : ℕ) → IsPower rows k → 0 < rows
-IsPower-pos rows k is = omega (arith, is.power, pow_pos k)
+IsPower-pos rows k power = omega (arith, power.power, pow_pos k)
 
 -- The bytes of all parts, as the code computes them, are those of the definition.
 pub parts_bytes-product : (params : ScryptParams) (r p : ℕ) → r ≡ params.r → p ≡ params.p → 128 * r * p ≡ parts_bytes params
@@ -73,9 +73,9 @@ key_bytes-le length =
 -- The bytes that scrypt digests stay far below 2 ^ 128.
 pub digested_bytes-lt : (before key blocks each more last : ℕ) → before ≤ 2 ^ 120 → key < 2 ^ 64 → blocks ≤ 2 ^ 24 → each ≤ 2 ^ 65
     → more ≤ 2 ^ 33 → last ≤ 2 ^ 31 → before + key + blocks * each + more * last < 2 ^ 128
-digested_bytes-lt before key blocks each more last a b c d e f =
-    let derived : blocks * each ≤ 2 ^ 24 * each = mul-le-mul_right each c in
-    let answer : more * last ≤ 2 ^ 33 * last = mul-le-mul_right last e in
+digested_bytes-lt before key blocks each more last before_le key_lt blocks_le each_le more_le last_le =
+    let derived : blocks * each ≤ 2 ^ 24 * each = mul-le-mul_right each blocks_le in
+    let answer : more * last ≤ 2 ^ 33 * last = mul-le-mul_right last more_le in
     omega arith
 
 -- The bytes of the table, as the code computes them, are those of the definition.
@@ -87,15 +87,15 @@ table_bytes-product params n r n_is r_is =
 pub scrypt_bytes-lt : (before password_length salt_length count first last : ℕ) (params : ScryptParams) → IsAccepted params → before ≤ 2 ^ 120
     → password_length < 2 ^ 64 → salt_length < 2 ^ 64 → count ≤ 32 * (2 ^ 32 - 1) → first ≡ parts_bytes params → last ≡ parts_bytes params
     → before + key_bytes password_length + pbkdf2_bytes salt_length 1 first + pbkdf2_bytes last 1 count < 2 ^ 128
-scrypt_bytes-lt before password_length salt_length count first last params accepted a b c d first_is last_is =
-    let fit : parts_bytes params ≤ 2 ^ 29 = parts_bytes-le params accepted in
-    digested_bytes-lt before (key_bytes password_length) (div_ceil first 32) (block_bytes salt_length 1) (div_ceil count 32) (block_bytes last 1) a
+scrypt_bytes-lt before password_length salt_length count first last params accepted before_le password_lt salt_lt count_le first_is last_is =
+    let parts_le : parts_bytes params ≤ 2 ^ 29 = parts_bytes-le params accepted in
+    digested_bytes-lt before (key_bytes password_length) (div_ceil first 32) (block_bytes salt_length 1) (div_ceil count 32) (block_bytes last 1) before_le
     (omega (arith, key_bytes-le password_length)) (omega arith) (omega arith) (omega arith) (omega arith)
 
 -- `scrypt_work`: with lengths of at most 2 ^ 32, the bytes fit into 64 bits.
 pub known_work_bytes-lt : (key parts tag blocks last : ℕ) → key ≤ 2 ^ 32 → parts ≤ 2 ^ 22 → tag ≤ 2 ^ 33 → blocks ≤ 2 ^ 27 → last ≤ 2 ^ 30
     → key + 4 * parts * tag + blocks * last < 2 ^ 64
-known_work_bytes-lt key parts tag blocks last a b c d e =
+known_work_bytes-lt key parts tag blocks last key_le parts_le tag_le blocks_le last_le =
     let derived : 4 * parts * tag ≤ 2 ^ 24 * tag = mul-le-mul_right tag (omega arith) in
-    let answer : blocks * last ≤ 2 ^ 27 * last = mul-le-mul_right last d in
+    let answer : blocks * last ≤ 2 ^ 27 * last = mul-le-mul_right last blocks_le in
     omega arith

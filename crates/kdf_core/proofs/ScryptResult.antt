@@ -22,31 +22,31 @@ pub scrypt-from_derivations : (password salt : List ℕ) (params : ScryptParams)
     → derived ≡ pbkdf2_sha256 password salt 1 (length parts) → mixed ≡ mixed_parts n (2 * length halves) derived
     → out ≡ pbkdf2_sha256 password mixed 1 count → out ≡ scrypt password salt params count
 unfolding scrypt mixed_parts
-scrypt-from_derivations password salt params count n parts halves derived mixed out n_is whole blocks first mixing second =
+scrypt-from_derivations password salt params count n parts halves derived mixed out n_is length_parts length_halves derived_is mixed_is out_is =
     let size : 2 * length halves ≡ part_bytes params = omega arith in
-    let derived_is : derived ≡ pbkdf2_sha256 password salt 1 (parts_bytes params) = first ∙ ap (pbkdf2_sha256 password salt 1) whole in
-    second ∙ ap (λ (s : List ℕ). pbkdf2_sha256 password s 1 count)
-    (mixing ∙ (ap (λ k. mixed_parts k (2 * length halves) derived) n_is
-    ∙ (ap (λ k. mixed_parts (row_count params) k derived) size ∙ ap (mixed_parts (row_count params) (part_bytes params)) derived_is)))
+    let derived_of_params : derived ≡ pbkdf2_sha256 password salt 1 (parts_bytes params) = derived_is ∙ ap (pbkdf2_sha256 password salt 1) length_parts in
+    out_is ∙ ap (λ (s : List ℕ). pbkdf2_sha256 password s 1 count)
+    (mixed_is ∙ (ap (λ k. mixed_parts k (2 * length halves) derived) n_is
+    ∙ (ap (λ k. mixed_parts (row_count params) k derived) size ∙ ap (mixed_parts (row_count params) (part_bytes params)) derived_of_params)))
 
 -- The mixing counts no bytes, so those before the last derivation are those of the key and of the first derivation.
 pub bytes-before_last_derivation : (m0 m1 m2 m3 : Work) (key_d key_b first_d first_b mixes : ℕ) → m1 ≡ with_work m0 key_d key_b
     → m2 ≡ with_work m1 first_d first_b → m3 ≡ record m2 { mixes = m2.mixes + mixes } → m3.bytes ≡ m0.bytes + key_b + first_b
-bytes-before_last_derivation m0 m1 m2 m3 key_d key_b first_d first_b mixes first then mixing =
-    omega (arith, ap (λ (m : Work). m.bytes) first, ap (λ (m : Work). m.bytes) then, ap (λ (m : Work). m.bytes) mixing)
+bytes-before_last_derivation m0 m1 m2 m3 key_d key_b first_d first_b mixes m1_is m2_is m3_is =
+    omega (arith, ap (λ (m : Work). m.bytes) m1_is, ap (λ (m : Work). m.bytes) m2_is, ap (λ (m : Work). m.bytes) m3_is)
 
 -- The digests of the key and of both derivations are those of the closed form, and so are the bytes.
 pub scrypt_work-digests : (params : ScryptParams) (password_length salt_length count first : ℕ) → first ≡ parts_bytes params
     → key_digests password_length + pbkdf2_digests 1 first + pbkdf2_digests 1 count ≡ (scrypt_work params password_length salt_length count).digests
-scrypt_work-digests params password_length salt_length count first is =
-    let blocks : div_ceil first 32 ≡ 4 * (params.r * params.p) = ap (λ n. div_ceil n 32) is ∙ div_ceil-parts_bytes params in
+scrypt_work-digests params password_length salt_length count first first_is =
+    let blocks : div_ceil first 32 ≡ 4 * (params.r * params.p) = ap (λ n. div_ceil n 32) first_is ∙ div_ceil-parts_bytes params in
     omega (arith, blocks)
 
 pub scrypt_work-bytes : (params : ScryptParams) (password_length salt_length count first last : ℕ) → first ≡ parts_bytes params → last ≡ parts_bytes params
     → key_bytes password_length + pbkdf2_bytes salt_length 1 first + pbkdf2_bytes last 1 count
     ≡ (scrypt_work params password_length salt_length count).bytes
-scrypt_work-bytes params password_length salt_length count first last is last_is =
-    let blocks : div_ceil first 32 ≡ 4 * (params.r * params.p) = ap (λ n. div_ceil n 32) is ∙ div_ceil-parts_bytes params in
+scrypt_work-bytes params password_length salt_length count first last first_is last_is =
+    let blocks : div_ceil first 32 ≡ 4 * (params.r * params.p) = ap (λ n. div_ceil n 32) first_is ∙ div_ceil-parts_bytes params in
     let derived : pbkdf2_bytes salt_length 1 first ≡ 4 * (params.r * params.p) * tag_bytes (salt_length + 4) =
     ap (λ n. n * block_bytes salt_length 1) blocks ∙ omega arith in
     let answer : pbkdf2_bytes last 1 count ≡ div_ceil count 32 * tag_bytes (parts_bytes params + 4) =
@@ -58,7 +58,7 @@ scrypt_work-bytes params password_length salt_length count first last is last_is
 pub meter-after_two_growths : (m0 m1 m2 m3 : Work) (t s table parts : ℕ) → m1 ≡ record m0 { table = m0.table + t }
     → m2 ≡ record m1 { scratch = m1.scratch + s } → m3 ≡ m2 → t ≡ table → s ≡ parts
     → m3 ≡ record m0 { table = m0.table + table; scratch = m0.scratch + parts }
-meter-after_two_growths m0 m1 m2 m3 t s table parts first second third t_is s_is =
-    third ∙ (second ∙ (ap (λ (m : Work). record m { scratch = m.scratch + s }) first
+meter-after_two_growths m0 m1 m2 m3 t s table parts m1_is m2_is m3_is t_is s_is =
+    m3_is ∙ (m2_is ∙ (ap (λ (m : Work). record m { scratch = m.scratch + s }) m1_is
     ∙ (ap (λ n. record m0 { table = m0.table + n; scratch = m0.scratch + s }) t_is
     ∙ ap (λ n. record m0 { table = m0.table + table; scratch = m0.scratch + n }) s_is)))

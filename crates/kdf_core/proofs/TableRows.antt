@@ -7,14 +7,14 @@ use Rattle.prims_core.proofs.TableFacts.{get_or-rows_of}
 
 -- A row ends within the table.
 pub row_ends_within : (n w i size : ℕ) → i < n → size ≡ n * w → i * w + w ≤ size
-row_ends_within n w i size inside whole = rw whole (grind (arith, rows))
+row_ends_within n w i size inside size_is = rw size_is (grind (arith, rows))
 
 -- So the slice of it has the length of a row.
 pub length-row_slice : (n w i : ℕ) (table : List ℕ) → i < n → length table ≡ n * w
     → length (take (i * w + w - i * w) (drop (i * w) table)) ≡ w
-length-row_slice n w i table inside whole =
-    let ends : i * w + w ≤ length table = row_ends_within n w i (length table) inside whole in
-    simp (length-take, length-drop) (omega (arith, ends))
+length-row_slice n w i table inside length_table =
+    let row_ends : i * w + w ≤ length table = row_ends_within n w i (length table) inside length_table in
+    simp (length-take, length-drop) (omega (arith, row_ends))
 
 -- And it is the row.
 pub row_slice-get_or : (n w i : ℕ) (table : List ℕ) → i < n

@@ -22,7 +22,7 @@ tag-chain_one c password of_key =
 pub rounds-init : goal.rounds-init
 rounds-init c =
     let salt = c.args.salt.now in
-    let four : length c.number_be.result ≡ 4 = ap length c.number_be.ensures in
+    let number_length : length c.number_be.result ≡ 4 = ap length c.number_be.ensures in
     let bytes : tag_bytes (length salt + length c.number_be.result) ≡ block_bytes (length salt) 1 = omega arith in
     record {
       last = tag-chain_one c;
@@ -36,17 +36,17 @@ rounds-preserved c =
     let i = c.args.number in
     let n = c.rounds.counter in
     let before = c.rounds.invariant in
-    let some : 1 ≤ n = omega arith in
+    let one_round : 1 ≤ n = omega arith in
     -- The tag of this iteration is the next U_j.
-    let last : (password : List ℕ) → IsKeyOf c.args.key.now password → c.tag-last-in-rounds.result ≡ chain password salt i (n + 1) =
+    let tag_is_next : (password : List ℕ) → IsKeyOf c.args.key.now password → c.tag-last-in-rounds.result ≡ chain password salt i (n + 1) =
     λ password of_key. c.tag-last-in-rounds.ensures.tag password of_key
     ∙ (ap (λ (x : List ℕ). hmac_sha256 password (x ++ [])) (before.last password of_key) ∙ sym (chain-add_one password salt i n)) in
     record {
-      last = last;
+      last = tag_is_next;
       sum = λ password of_key. c.xor_into.ensures
           ∙ (ap (λ (x : List ℕ). xor_lists x c.tag-last-in-rounds.result) (before.sum password of_key)
-          ∙ (ap (λ (x : List ℕ). xor_lists (block password salt n i) x) (last password of_key)
-          ∙ sym (block-add_one password salt i n some)));
+          ∙ (ap (λ (x : List ℕ). xor_lists (block password salt n i) x) (tag_is_next password of_key)
+          ∙ sym (block-add_one password salt i n one_round)));
       count = with_work-add c.args.meter.now c.rounds.meter c.tag-last-in-rounds.new.meter _ _ _ _ _ _ before.count
           c.tag-last-in-rounds.ensures.count (omega arith) (omega arith);
     }

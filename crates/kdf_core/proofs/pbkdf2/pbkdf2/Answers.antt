@@ -44,6 +44,6 @@ filling-preserved c =
 
 pub returns-clause-bytes : goal.returns-clause-bytes
 returns-clause-bytes c password of_key =
-    let all : c.filling.i ≡ div_ceil (length c.args.out.now) 32 = omega arith in
-    pbkdf2_sha256-from_blocks password c.args.salt.now c.filling.out c.args.rounds (length c.args.out.now) c.filling.i c.filling.auto.out all
+    let all_written : c.filling.i ≡ div_ceil (length c.args.out.now) 32 = omega arith in
+    pbkdf2_sha256-from_blocks password c.args.salt.now c.filling.out c.args.rounds (length c.args.out.now) c.filling.i c.filling.auto.out all_written
     (c.filling.invariant.front password of_key)

@@ -21,15 +21,15 @@ parts-preserved g c =
     let parts = c.parts.parts in
     let before = c.parts.invariant in
     let next : i + 1 ≤ c.args.count = omega arith in
-    let inside : size * i + size ≤ length parts = omega (arith, c.parts.auto.parts, c.requires.whole, mul-le-mul_left size next) in
+    let part_fits : size * i + size ≤ length parts = omega (arith, c.parts.auto.parts, c.requires.whole, mul-le-mul_left size next) in
     let width : size * i + size - size * i ≡ size = omega arith in
-    let same : length c.mix_part.new.part ≡ size =
+    let length_part : length c.mix_part.new.part ≡ size =
     c.mix_part.auto.part ∙ omega (arith, length-take (size * i + size - size * i) (drop (size * i) parts), length-drop (size * i) parts) in
     record {
-      done = take-put_mid_part c.args.row_count size i (size * i + size - size * i) c.args.parts.now parts c.mix_part.new.part inside width
-          before.done before.to_come c.mix_part.ensures.part same;
-      to_come = drop-put_mid_part size i (size * i + size - size * i) c.args.parts.now parts c.mix_part.new.part inside width
-          before.to_come same;
+      done = take-put_mid_part c.args.row_count size i (size * i + size - size * i) c.args.parts.now parts c.mix_part.new.part part_fits width
+          before.done before.to_come c.mix_part.ensures.part length_part;
+      to_come = drop-put_mid_part size i (size * i + size - size * i) c.args.parts.now parts c.mix_part.new.part part_fits width
+          before.to_come length_part;
       kept = c.mix_part.ensures.kept ∙ before.kept;
       count = mixes-add c.args.meter.now c.parts.meter c.mix_part.new.meter (2 * c.args.row_count * i) (2 * c.args.row_count)
           (2 * c.args.row_count * (i + 1)) before.count c.mix_part.ensures.count (omega arith);
@@ -38,7 +38,7 @@ parts-preserved g c =
 pub returns-clause-parts : goal.returns-clause-parts
 returns-clause-parts g c =
     let size = 2 * length c.args.halves.now in
-    let all : c.parts.i ≡ c.args.count = omega arith in
+    let all_done : c.parts.i ≡ c.args.count = omega arith in
     mixed_parts-from_first_parts c.args.row_count size c.args.count c.args.parts.now c.parts.parts (omega (arith, c.requires.some_block.1)) c.requires.whole
     c.parts.auto.parts
-    (subst (λ (n : ℕ). take (size * n) c.parts.parts ≡ first_parts c.args.row_count size c.args.parts.now n) all c.parts.invariant.done)
+    (subst (λ (n : ℕ). take (size * n) c.parts.parts ≡ first_parts c.args.row_count size c.args.parts.now n) all_done c.parts.invariant.done)

@@ -32,10 +32,10 @@ mixing-preserved c =
 
 pub returns-clause-mixed : goal.returns-clause-mixed
 returns-clause-mixed c start holds =
-    let all : 2 * c.mixing.counter ≡ c.args.row_count = omega (arith, IsPower-even c.args.row_count c.requires.power.0 c.requires.power.1) in
-    c.mixing.invariant.mixed start holds ∙ ap (λ n. iterate (mixed_back c.args.row_count start) n (in_rows c.args.x.now)) all
+    let all_rows : 2 * c.mixing.counter ≡ c.args.row_count = omega (arith, IsPower-even c.args.row_count c.requires.power.0 c.requires.power.1) in
+    c.mixing.invariant.mixed start holds ∙ ap (λ n. iterate (mixed_back c.args.row_count start) n (in_rows c.args.x.now)) all_rows
 
 pub returns-clause-count : goal.returns-clause-count
 returns-clause-count c =
-    let all : 2 * c.mixing.counter ≡ c.args.row_count = omega (arith, IsPower-even c.args.row_count c.requires.power.0 c.requires.power.1) in
-    c.mixing.invariant.count ∙ ap (λ n. record c.args.meter.now { mixes = c.args.meter.now.mixes + n }) all
+    let all_rows : 2 * c.mixing.counter ≡ c.args.row_count = omega (arith, IsPower-even c.args.row_count c.requires.power.0 c.requires.power.1) in
+    c.mixing.invariant.count ∙ ap (λ n. record c.args.meter.now { mixes = c.args.meter.now.mixes + n }) all_rows

@@ -11,10 +11,10 @@ pub returns : goal.returns
 returns c =
     let words = c.args.words.now in
     let rows = in_rows words in
-    let r = c.requires.some_block in
+    let blocks = c.requires.some_block in
     let power = c.requires.power.1 in
-    let some : 16 ≤ length rows = omega (arith, length-in_rows words, r.1, r.2) in
-    ap (λ n. n % c.args.row_count) (sym (first_word-in_rows words r.0 r.1 r.2))
+    let one_block : 16 ≤ length rows = omega (arith, length-in_rows words, blocks.1, blocks.2) in
+    ap (λ n. n % c.args.row_count) (sym (first_word-in_rows words blocks.0 blocks.1 blocks.2))
     ∙ ap (λ n. get_or rows (length rows - 16) 0 % n) power.power
-    ∙ (sym (integerify-mod rows c.requires.power.0 some power.most)
+    ∙ (sym (integerify-mod rows c.requires.power.0 one_block power.most)
     ∙ ap (λ n. integerify rows % n) (sym power.power))

@@ -9,7 +9,7 @@ use Rattle.kdf_core.proofs.scrypt.derive.Goals as goal
 pub pbkdf2-requires-2-clause-bytes_room : goal.pbkdf2-requires-2-clause-bytes_room
 pbkdf2-requires-2-clause-bytes_room g c =
     let params = c.args.params.now in
-    let last : length c.mix_parts.new.parts ≡ parts_bytes params =
+    let length_last : length c.mix_parts.new.parts ≡ parts_bytes params =
     c.mix_parts.auto.parts ∙ (c.pbkdf2.auto.out ∙ c.requires.parts) in
     omega (
       arith,
@@ -17,7 +17,7 @@ pbkdf2-requires-2-clause-bytes_room g c =
           c.new-key.ensures.count c.pbkdf2.ensures.count c.mix_parts.ensures.count,
       scrypt_bytes-lt c.args.meter.now.bytes (length c.args.password.now) (length c.args.salt.now) (length c.args.out.now)
           (length c.args.parts.now) (length c.mix_parts.new.parts) params c.row_count-row_count.ensures.bounded.accepted c.requires.room.1
-          (omega arith) (omega arith) c.requires.few_blocks c.requires.parts last,
+          (omega arith) (omega arith) c.requires.few_blocks c.requires.parts length_last,
     )
 
 pub returns-clause-bytes : goal.returns-clause-bytes

@@ -10,22 +10,22 @@ use Rattle.kdf_core.proofs.work.scrypt_work.Goals as goal
 pub overflow_add-result-3 : goal.overflow_add-result-3
 overflow_add-result-3 c =
     let parts : ℕ = c.from-r.result * c.from-p.result in
-    let few : parts ≤ 2 ^ 22 = rw (c.from-r.ensures ∙ c.r.ensures.number, c.from-p.ensures ∙ c.p.ensures.number) c.row_count.ensures.bounded.parts in
-    let once : c.from-key_digests.result ≤ 1 = search rules in
-    let key : c.from-key_digests.result * c.args.password_len ≤ 1 * 2 ^ 32 = mul-le-mul once c.requires.password in
-    let fit = known_work_bytes-lt (c.from-key_digests.result * c.args.password_len) parts c.salted_tag_bytes.result 0 0 (omega arith) few
+    let parts_le : parts ≤ 2 ^ 22 = rw (c.from-r.ensures ∙ c.r.ensures.number, c.from-p.ensures ∙ c.p.ensures.number) c.row_count.ensures.bounded.parts in
+    let digests_le : c.from-key_digests.result ≤ 1 = search rules in
+    let key_le : c.from-key_digests.result * c.args.password_len ≤ 1 * 2 ^ 32 = mul-le-mul digests_le c.requires.password in
+    let bytes_lt = known_work_bytes-lt (c.from-key_digests.result * c.args.password_len) parts c.salted_tag_bytes.result 0 0 (omega arith) parts_le
     (omega arith) (omega arith) (omega arith) in
-    omega (arith, fit)
+    omega (arith, bytes_lt)
 
 pub overflow_add-result-4 : goal.overflow_add-result-4
 overflow_add-result-4 c =
     let parts : ℕ = c.from-r.result * c.from-p.result in
-    let few : parts ≤ 2 ^ 22 = rw (c.from-r.ensures ∙ c.r.ensures.number, c.from-p.ensures ∙ c.p.ensures.number) c.row_count.ensures.bounded.parts in
-    let once : c.from-key_digests.result ≤ 1 = search rules in
-    let key : c.from-key_digests.result * c.args.password_len ≤ 1 * 2 ^ 32 = mul-le-mul once c.requires.password in
-    let fit = known_work_bytes-lt (c.from-key_digests.result * c.args.password_len) parts c.salted_tag_bytes.result c.div_ceil-blocks.result
-    c.salted_tag_bytes-2.result (omega arith) few (omega arith) (omega arith) (omega arith) in
-    omega (arith, fit)
+    let parts_le : parts ≤ 2 ^ 22 = rw (c.from-r.ensures ∙ c.r.ensures.number, c.from-p.ensures ∙ c.p.ensures.number) c.row_count.ensures.bounded.parts in
+    let digests_le : c.from-key_digests.result ≤ 1 = search rules in
+    let key_le : c.from-key_digests.result * c.args.password_len ≤ 1 * 2 ^ 32 = mul-le-mul digests_le c.requires.password in
+    let bytes_lt = known_work_bytes-lt (c.from-key_digests.result * c.args.password_len) parts c.salted_tag_bytes.result c.div_ceil-blocks.result
+    c.salted_tag_bytes-2.result (omega arith) parts_le (omega arith) (omega arith) (omega arith) in
+    omega (arith, bytes_lt)
 
 pub returns-clause-work : goal.returns-clause-work
 returns-clause-work c =
