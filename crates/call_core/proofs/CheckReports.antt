@@ -6,7 +6,7 @@ use Rattle.crypt_core.specs.Crypt.{crypt}
 use Rattle.crypt_core.specs.Passwords.{IsPassword}
 use Rattle.crypt_core.specs.Settings.{SettingValue, Spells}
 use Rattle.crypt_core.specs.Work.{cost}
-use Rattle.crypt_core.proofs.WholeHashes.{fits_whole}
+use Rattle.crypt_core.proofs.WholeHashes.{IsWhole-from_Fits}
 use Rattle.call_core.specs.Checks.{Compares, IsDead, Verifies}
 use Rattle.call_core.specs.Private.Checks.{IsCheckRefused}
 use Rattle.call_core.specs.Reports.{refused}
@@ -15,7 +15,7 @@ use Rattle.call_core.specs.declared.report.Report.{Report}
 
 -- no password's hash is a dead hash
 pub dead_fits : (password field : List ℕ) (kept : SettingValue) → Spells field kept → crypt password kept ≡ field → IsDead field → ⊥
-dead_fits password field kept spells fits dead = dead.2 (fits_whole password field dead.0 dead.1 (kept, spells, fits))
+dead_fits password field kept spells fits dead = dead.2 (IsWhole-from_Fits password field dead.0 dead.1 (kept, spells, fits))
 
 -- a cost is not both above the budget and within it
 pub never_above : (password : List ℕ) (budget : ℕ) (kept other : SettingValue) → kept ≡ other

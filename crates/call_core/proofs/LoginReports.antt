@@ -21,7 +21,7 @@ use Rattle.crypt_core.specs.declared.scheme.Scheme.{Scheme}
 use Rattle.crypt_core.specs.declared.scheme.Scheme.TheVariants.{Md5crypt, Shacrypt, Scrypt}
 use Rattle.crypt_core.specs.declared.setting.fault.SettingFault.{SettingFault}
 use Rattle.crypt_core.specs.declared.setting.fault.SettingFault.TheVariants as settings
-use Rattle.crypt_core.proofs.BytesWithinCost.{bytes_within}
+use Rattle.crypt_core.proofs.BytesWithinCost.{work_bytes-le-cost}
 use Rattle.call_core.specs.Arguments.{IsFieldRefusal, IsSchemeMade, IsSchemeReading, TakesNewRounds}
 use Rattle.call_core.specs.Checks.{Compares, IsDead, Verifies}
 use Rattle.call_core.specs.Private.Checks.{IsCheckRefused}
@@ -186,8 +186,8 @@ uncheckable password field budget never = λ kept spells. go kept spells (nat_lt
 -- a hash spends at most its cost
 work_spent : (scheme : Scheme) (password salt : List ℕ)
     → spent scheme (work password (record { scheme = scheme; salt = salt })) ≤ cost_by scheme (length password) (length salt)
-work_spent Md5crypt password salt = bytes_within password (record { scheme = Md5crypt; salt = salt })
-work_spent (Shacrypt sha rounds) password salt = bytes_within password (record { scheme = Shacrypt sha rounds; salt = salt })
+work_spent Md5crypt password salt = work_bytes-le-cost password (record { scheme = Md5crypt; salt = salt })
+work_spent (Shacrypt sha rounds) password salt = work_bytes-le-cost password (record { scheme = Shacrypt sha rounds; salt = salt })
 work_spent (Scrypt params) password salt = omega arith
 
 none_spent : (scheme : Scheme) → spent scheme no_work ≡ 0

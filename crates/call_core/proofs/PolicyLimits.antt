@@ -26,7 +26,7 @@ use Rattle.crypt_core.specs.declared.scheme.Scheme.{Scheme}
 use Rattle.crypt_core.specs.declared.scheme.Scheme.TheVariants.{Md5crypt, Shacrypt, Scrypt}
 use Rattle.crypt_core.specs.declared.scheme.Sha.TheVariants.{Sha256, Sha512}
 use Rattle.crypt_core.proofs.MadeSaltLemmas.{length-made_salt}
-use Rattle.crypt_core.proofs.WorkBounds.{longest_of_64}
+use Rattle.crypt_core.proofs.WorkBounds.{cost_by-le-at_64}
 use Rattle.call_core.specs.Arguments.{IsSchemeMade, TakesNewRounds}
 use Rattle.call_core.specs.Checks.{Opens}
 use Rattle.call_core.specs.Limits.{allowance, limit_by, limit_bytes, limit_in, method_limit, new_cost, policy_limit, takes_new_rounds}
@@ -74,7 +74,7 @@ limit_used number rounds scheme Policy len makes short within =
 
 -- a new hash of a password of up to 64 bytes costs no more than one of 64 bytes
 less_than_of_64 : (scheme : Scheme) (len : ℕ) → len ≤ 64 → new_cost scheme len ≤ new_cost scheme 64
-less_than_of_64 scheme len short = longest_of_64 scheme len (method_row (method_of scheme)).made_salt_length short
+less_than_of_64 scheme len short = cost_by-le-at_64 scheme len (method_row (method_of scheme)).made_salt_length short
 
 pub empty_admitted : (scheme : Scheme) → new_cost scheme 0 ≤ policy_limit scheme
 empty_admitted scheme =

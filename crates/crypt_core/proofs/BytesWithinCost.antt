@@ -1,12 +1,9 @@
 -- Serves `digest_of` in src/hash.rt, whose clause `metered` says that the bytes digested are at most the cost.
--- `bytes_within` shows it scheme by scheme: the cost takes 255 where SHA-crypt's work takes the first byte of the
--- digest A, which is below 256, and the other schemes have the same bytes in both. `refused_bytes` shows that a hash
--- that fails for lack of memory has digested nothing.
-use Rattle.std.proofs.Common.{◌≡◌, ◌≤◌, ℕ, List, length, inl, inr, ap, arith}
+-- `work_bytes-le-cost` shows it scheme by scheme: the cost takes 255 where SHA-crypt's work takes the first byte of the
+-- digest A, which is below 256, and the other schemes have the same bytes in both.
+use Rattle.std.proofs.Common.{◌≤◌, ℕ, List, length, arith}
 use Rattle.prims_core.specs.Digests.{sha256, sha512, length-sha256, length-sha512}
 use Rattle.prims_core.specs.Private.DigestFacts.{sha256_bytes, sha512_bytes}
-use Rattle.prims_core.specs.declared.meter.Work.{Work}
-use Rattle.crypt_core.specs.Crypt.{IsAfterRefusedGrowth}
 use Rattle.crypt_core.specs.Settings.{SettingValue}
 use Rattle.crypt_core.specs.ShaCrypt.{sha_opening_byte}
 use Rattle.crypt_core.specs.Work.{cost, cost_by, first_byte_by, work, work_by}
@@ -14,25 +11,18 @@ use Rattle.crypt_core.specs.declared.scheme.Scheme.{Scheme}
 use Rattle.crypt_core.specs.declared.scheme.Scheme.TheVariants.{Md5crypt, Shacrypt, Scrypt}
 use Rattle.crypt_core.specs.declared.scheme.Sha.TheVariants.{Sha256, Sha512}
 use Rattle.crypt_core.proofs.ShaCryptLemmas.{sha_opening_byte-below}
-use Rattle.crypt_core.proofs.WorkBounds.{shacrypt-within}
+use Rattle.crypt_core.proofs.WorkBounds.{shacrypt_work-within}
 
-by_scheme : (scheme : Scheme) (password salt : List ℕ)
+work_by_bytes-le-cost_by : (scheme : Scheme) (password salt : List ℕ)
     → (work_by scheme (first_byte_by scheme password salt) (length password) (length salt)).bytes ≤ cost_by scheme (length password) (length salt)
-by_scheme Md5crypt password salt = omega arith
-by_scheme (Shacrypt Sha256 rounds) password salt =
-    (shacrypt-within 32 (sha_opening_byte sha256 password salt) rounds.count (length password) (length salt)
+work_by_bytes-le-cost_by Md5crypt password salt = omega arith
+work_by_bytes-le-cost_by (Shacrypt Sha256 rounds) password salt =
+    (shacrypt_work-within 32 (sha_opening_byte sha256 password salt) rounds.count (length password) (length salt)
     (sha_opening_byte-below sha256 32 length-sha256 password salt (omega arith) sha256_bytes)).bytes
-by_scheme (Shacrypt Sha512 rounds) password salt =
-    (shacrypt-within 64 (sha_opening_byte sha512 password salt) rounds.count (length password) (length salt)
+work_by_bytes-le-cost_by (Shacrypt Sha512 rounds) password salt =
+    (shacrypt_work-within 64 (sha_opening_byte sha512 password salt) rounds.count (length password) (length salt)
     (sha_opening_byte-below sha512 64 length-sha512 password salt (omega arith) sha512_bytes)).bytes
-by_scheme (Scrypt params) password salt = omega arith
+work_by_bytes-le-cost_by (Scrypt params) password salt = omega arith
 
-pub bytes_within : (password : List ℕ) (kept : SettingValue) → (work password kept).bytes ≤ cost kept (length password)
-bytes_within password kept = by_scheme kept.scheme password kept.salt
-
-pub refused_bytes : (before : Work) (scheme : Scheme) (after : Work) → IsAfterRefusedGrowth before scheme after → after.bytes ≡ before.bytes
-refused_bytes before (Scrypt params) after (inl e) = ap (λ (w : Work). w.bytes) e
-refused_bytes before (Scrypt params) after (inr (inl e)) = ap (λ (w : Work). w.bytes) e
-refused_bytes before (Scrypt params) after (inr (inr e)) = ap (λ (w : Work). w.bytes) e
-refused_bytes before Md5crypt after never = absurd never
-refused_bytes before (Shacrypt sha rounds) after never = absurd never
+pub work_bytes-le-cost : (password : List ℕ) (kept : SettingValue) → (work password kept).bytes ≤ cost kept (length password)
+work_bytes-le-cost password kept = work_by_bytes-le-cost_by kept.scheme password kept.salt

@@ -1,7 +1,7 @@
 -- Serves `Scheme::longest_within` in src/policy.rt, whose binary search needs that a hash of a longer password costs no
--- less. `costs_no_less` goes by induction over the difference of the lengths, so what matters is one more byte. For
+-- less. `cost_by-mono` goes by induction over the difference of the lengths, so what matters is one more byte. For
 -- SHA-crypt, a length that ends in binary digits of 1 loses up to ten digests and gains a digit 0 when the carry clears
--- those digits (`digits_next`), but the rounds add at least 1857 bytes (`rounds_next`), which is more.
+-- those digits (`digit_bytes-le-next`), but the rounds add at least 1857 bytes (`rounds_bytes-le-next`), which is more.
 use Rattle.std.proofs.Common.{◌≡◌, ℕ, zero, suc, ◌+◌, ◌-◌, ◌*◌, ◌/◌, ◌%◌, ◌^◌, ◌<◌, ◌≤◌, Bool, true, false, cond, nat_eq, inl, inr, refl, arith}
 use Rattle.std.specs.Int.{div_ceil}
 use Rattle.std.proofs.lemmas.Bool.{cases_lt}
@@ -15,13 +15,13 @@ use Rattle.crypt_core.specs.Work.{cost_by, rounds_bytes, shacrypt_bytes}
 use Rattle.crypt_core.specs.declared.scheme.Scheme.{Scheme}
 use Rattle.crypt_core.specs.declared.scheme.Scheme.TheVariants.{Md5crypt, Shacrypt, Scrypt}
 use Rattle.crypt_core.specs.declared.scheme.Sha.TheVariants.{Sha256, Sha512}
-use Rattle.crypt_core.proofs.CycleLemmas.{digit_bytes-none, digit_bytes-step}
+use Rattle.crypt_core.proofs.CycleLemmas.{digit_bytes-zero, digit_bytes-step}
 
 -- ---- the bytes for the binary digits
 
 -- An even number and the next one have the same binary digits but the lowest.
-even_next : (one other n half : ℕ) → n % 2 ≡ 0 → n / 2 ≡ half → 0 < n → digit_bytes one other n ≤ digit_bytes one other (n + 1) + other
-even_next one other n half low_is half_is some =
+digit_bytes-le-next_of_even : (one other n half : ℕ) → n % 2 ≡ 0 → n / 2 ≡ half → 0 < n → digit_bytes one other n ≤ digit_bytes one other (n + 1) + other
+digit_bytes-le-next_of_even one other n half low_is half_is some =
     let this : digit_bytes one other n ≡ other + digit_bytes one other half =
     rw (digit_bytes-step one other n some, low_is, half_is) refl in
     let low_next : (n + 1) % 2 ≡ 1 = omega (arith, low_is) in
@@ -31,9 +31,9 @@ even_next one other n half low_is half_is some =
     omega (arith, this, next)
 
 -- The number after an odd one ends in the digit 0, and its half is the half's successor.
-odd_next : (one other n half more : ℕ) → n % 2 ≡ 1 → n / 2 ≡ half → digit_bytes one other half ≤ digit_bytes one other (half + 1) + more
+digit_bytes-le-next_of_odd : (one other n half more : ℕ) → n % 2 ≡ 1 → n / 2 ≡ half → digit_bytes one other half ≤ digit_bytes one other (half + 1) + more
     → digit_bytes one other n ≤ digit_bytes one other (n + 1) + (one + more)
-odd_next one other n half more low_is half_is rest =
+digit_bytes-le-next_of_odd one other n half more low_is half_is rest =
     let this : digit_bytes one other n ≡ one + digit_bytes one other half =
     rw (digit_bytes-step one other n (omega (arith, low_is)), low_is, half_is) refl in
     let low_next : (n + 1) % 2 ≡ 0 = omega (arith, low_is) in
@@ -44,22 +44,22 @@ odd_next one other n half more low_is half_is rest =
 
 -- From a number of k digits to the next one, the pieces lose at most k times `one` bytes and once `other` bytes: the
 -- carry turns the final digits 1 into 0.
-digits_next : (k one other n : ℕ) → n < 2 ^ k → digit_bytes one other n ≤ digit_bytes one other (n + 1) + (k * one + other)
-digits_next k one other zero below = omega (arith, digit_bytes-none one other)
-digits_next zero one other (suc n) below = absurd (omega (arith, below))
-digits_next (suc k) one other (suc n) below =
-    let rest = digits_next k one other (suc n / 2) (omega (arith, below)) in
+digit_bytes-le-next : (k one other n : ℕ) → n < 2 ^ k → digit_bytes one other n ≤ digit_bytes one other (n + 1) + (k * one + other)
+digit_bytes-le-next k one other zero below = omega (arith, digit_bytes-zero one other)
+digit_bytes-le-next zero one other (suc n) below = absurd (omega (arith, below))
+digit_bytes-le-next (suc k) one other (suc n) below =
+    let rest = digit_bytes-le-next k one other (suc n / 2) (omega (arith, below)) in
     elim (cases_lt (suc n % 2) 1) [
-      | inl even ↦ omega (arith, even_next one other (suc n) (suc n / 2) (omega (arith, even)) refl (omega arith))
-      | inr odd ↦ omega (arith, odd_next one other (suc n) (suc n / 2) (k * one + other) (omega (arith, odd)) refl rest)
+      | inl even ↦ omega (arith, digit_bytes-le-next_of_even one other (suc n) (suc n / 2) (omega (arith, even)) refl (omega arith))
+      | inr odd ↦ omega (arith, digit_bytes-le-next_of_odd one other (suc n) (suc n / 2) (k * one + other) (omega (arith, odd)) refl rest)
     ]
 
 -- A longer piece for the digit 0 makes the pieces no shorter.
-digits_wider : (k one other most n : ℕ) → other ≤ most → n < 2 ^ k → digit_bytes one other n ≤ digit_bytes one most n
-digits_wider k one other most zero wide below = omega (arith, digit_bytes-none one other)
-digits_wider zero one other most (suc n) wide below = absurd (omega (arith, below))
-digits_wider (suc k) one other most (suc n) wide below =
-    let rest = digits_wider k one other most (suc n / 2) wide (omega (arith, below)) in
+digit_bytes-le-wider : (k one other most n : ℕ) → other ≤ most → n < 2 ^ k → digit_bytes one other n ≤ digit_bytes one most n
+digit_bytes-le-wider k one other most zero wide below = omega (arith, digit_bytes-zero one other)
+digit_bytes-le-wider zero one other most (suc n) wide below = absurd (omega (arith, below))
+digit_bytes-le-wider (suc k) one other most (suc n) wide below =
+    let rest = digit_bytes-le-wider k one other most (suc n / 2) wide (omega (arith, below)) in
     omega (
       arith,
       digit_bytes-step one other (suc n) (omega arith),
@@ -74,48 +74,48 @@ digits_wider (suc k) one other most (suc n) wide below =
 
 -- ---- the bytes of the rounds
 
-rounds_next : (count digest n salt : ℕ) → 1000 ≤ count → rounds_bytes count digest n salt + 1857 ≤ rounds_bytes count digest (n + 1) salt
-rounds_next count digest n salt many =
+rounds_bytes-le-next : (count digest n salt : ℕ) → 1000 ≤ count → rounds_bytes count digest n salt + 1857 ≤ rounds_bytes count digest (n + 1) salt
+rounds_bytes-le-next count digest n salt many =
     let once : count * (digest + (n + 1)) ≡ count * (digest + n) + count = omega arith in
     let twice : (count - div_ceil count 7) * (n + 1) ≡ (count - div_ceil count 7) * n + (count - div_ceil count 7) = omega arith in
     omega (arith, once, twice, many)
 
 -- ---- the cost
 
-sha_next : (digest count n salt : ℕ) → digest ≤ 64 → 1000 ≤ count → n < 1024
+shacrypt_bytes-le-next : (digest count n salt : ℕ) → digest ≤ 64 → 1000 ≤ count → n < 1024
     → shacrypt_bytes digest 255 count n salt ≤ shacrypt_bytes digest 255 count (n + 1) salt
-sha_next digest count n salt small many short =
-    let digits = digits_next 10 digest n n (omega (arith, short)) in
-    let wider = digits_wider 11 digest n (n + 1) (n + 1) (omega arith) (omega (arith, short)) in
-    let rounds = rounds_next count digest n salt many in
+shacrypt_bytes-le-next digest count n salt small many short =
+    let digits = digit_bytes-le-next 10 digest n n (omega (arith, short)) in
+    let wider = digit_bytes-le-wider 11 digest n (n + 1) (n + 1) (omega arith) (omega (arith, short)) in
+    let rounds = rounds_bytes-le-next count digest n salt many in
     let square : n * n ≤ (n + 1) * (n + 1) = mul-le-mul (omega arith) (omega arith) in
     omega (arith, digits, wider, rounds, square, small, short)
 
-next : (scheme : Scheme) (n salt : ℕ) → IsScheme scheme → n < 1024 → cost_by scheme n salt ≤ cost_by scheme (n + 1) salt
-next Md5crypt n salt is short =
-    let digits = digits_next 10 1 1 n (omega (arith, short)) in
-    let rounds = rounds_next 1000 16 n salt (omega arith) in
+cost_by-le-next : (scheme : Scheme) (n salt : ℕ) → IsScheme scheme → n < 1024 → cost_by scheme n salt ≤ cost_by scheme (n + 1) salt
+cost_by-le-next Md5crypt n salt is short =
+    let digits = digit_bytes-le-next 10 1 1 n (omega (arith, short)) in
+    let rounds = rounds_bytes-le-next 1000 16 n salt (omega arith) in
     omega (arith, digits, rounds)
-next (Shacrypt Sha256 rounds) n salt is short = sha_next 32 rounds.count n salt (omega arith) (omega (arith, is.0)) short
-next (Shacrypt Sha512 rounds) n salt is short = sha_next 64 rounds.count n salt (omega arith) (omega (arith, is.0)) short
-next (Scrypt params) n salt is short =
+cost_by-le-next (Shacrypt Sha256 rounds) n salt is short = shacrypt_bytes-le-next 32 rounds.count n salt (omega arith) (omega (arith, is.0)) short
+cost_by-le-next (Shacrypt Sha512 rounds) n salt is short = shacrypt_bytes-le-next 64 rounds.count n salt (omega arith) (omega (arith, is.0)) short
+cost_by-le-next (Scrypt params) n salt is short =
     let digest : key_digests n ≤ key_digests (n + 1) = grind (arith, nat_tests) in
     let longer : n ≤ n + 1 = omega arith in
     omega (arith, digest, mul-le-mul digest longer)
 
-after : (scheme : Scheme) (k n salt : ℕ) → IsScheme scheme → n + k ≤ 1024 → cost_by scheme n salt ≤ cost_by scheme (n + k) salt
-after scheme zero n salt is short =
+cost_by-le-add : (scheme : Scheme) (k n salt : ℕ) → IsScheme scheme → n + k ≤ 1024 → cost_by scheme n salt ≤ cost_by scheme (n + k) salt
+cost_by-le-add scheme zero n salt is short =
     let same : n + 0 ≡ n = omega arith in
     rw same (omega arith)
-after scheme (suc k) n salt is short =
+cost_by-le-add scheme (suc k) n salt is short =
     let same : n + suc k ≡ (n + k) + 1 = omega arith in
-    let less = after scheme k n salt is (omega (arith, short)) in
-    let more = next scheme (n + k) salt is (omega (arith, short)) in
+    let less = cost_by-le-add scheme k n salt is (omega (arith, short)) in
+    let more = cost_by-le-next scheme (n + k) salt is (omega (arith, short)) in
     rw same (omega (arith, less, more))
 
 -- The cost is monotone in the length of the password.
-pub costs_no_less : (scheme : Scheme) (n most salt : ℕ) → IsScheme scheme → n ≤ most → most ≤ password_limit
+pub cost_by-mono : (scheme : Scheme) (n most salt : ℕ) → IsScheme scheme → n ≤ most → most ≤ password_limit
     → cost_by scheme n salt ≤ cost_by scheme most salt
-costs_no_less scheme n most salt is less short =
+cost_by-mono scheme n most salt is less short =
     let same : most ≡ n + (most - n) = omega (arith, less) in
-    rw same (after scheme (most - n) n salt is (omega (arith, less, short)))
+    rw same (cost_by-le-add scheme (most - n) n salt is (omega (arith, less, short)))

@@ -1,7 +1,7 @@
 -- Adds up the counts of a meter for `md5crypt`, `shacrypt` and the functions that feed them (src/md5crypt.rt,
 -- src/shacrypt.rt, src/messages.rt). Their contracts give the counts after each call; these lemmas chain such equations
--- by arithmetic on the fields of the record. `digests_in_all` turns the sum over a list of messages into the closed
--- form that the clause `count` states.
+-- by arithmetic on the fields of the record. `with_digests-with_work` turns the sum over a list of messages into the
+-- closed form that the clause `count` states.
 use Rattle.std.proofs.Common.{◌≡◌, ℕ, ◌+◌, List, [], ◌∷◌, ◌++◌, length, arith, sym, ◌∙◌, ap, add-zero}
 use Rattle.std.specs.Prelude.{sum_by}
 use Rattle.std.proofs.lemmas.List.{length-append}
@@ -15,26 +15,26 @@ abbrev pub with_digests : Work → List (List ℕ) → Work
 with_digests counts messages = with_work counts (length messages) (sum_by length messages)
 
 -- Feeding no bytes changes nothing.
-pub bytes_none : (m : Work) → m ≡ record m { bytes = m.bytes + 0 }
-bytes_none m = ap (λ n. record m { bytes = n }) (sym (add-zero m.bytes))
+pub bytes-add_zero : (m : Work) → m ≡ record m { bytes = m.bytes + 0 }
+bytes-add_zero m = ap (λ n. record m { bytes = n }) (sym (add-zero m.bytes))
 
 -- Feeding x bytes and then y bytes counts z = x + y.
-pub bytes_more : (a b c : Work) (x y z : ℕ) → b ≡ record a { bytes = a.bytes + x } → c ≡ record b { bytes = b.bytes + y } → x + y ≡ z
+pub bytes-add_add : (a b c : Work) (x y z : ℕ) → b ≡ record a { bytes = a.bytes + x } → c ≡ record b { bytes = b.bytes + y } → x + y ≡ z
     → c ≡ record a { bytes = a.bytes + z }
-bytes_more a b c x y z p q e =
+bytes-add_add a b c x y z p q e =
     let total : a.bytes + x + y ≡ a.bytes + z = omega arith in
     q ∙ (ap (λ (m : Work). record m { bytes = m.bytes + y }) p ∙ ap (λ n. record a { bytes = n }) total)
 
 -- Feeding the bytes of a message and then finishing its digest counts the message.
-pub digest_counted : (a b c : Work) (message : List ℕ) (x : ℕ) → b ≡ record a { bytes = a.bytes + x } → c ≡ record b { digests = b.digests + 1 }
+pub with_digest-from_counts : (a b c : Work) (message : List ℕ) (x : ℕ) → b ≡ record a { bytes = a.bytes + x } → c ≡ record b { digests = b.digests + 1 }
     → x ≡ length message → c ≡ with_digest a message
-digest_counted a b c message x p q e =
+with_digest-from_counts a b c message x p q e =
     q ∙ (ap (λ (m : Work). record m { digests = m.digests + 1 }) p ∙ ap (λ n. record a { digests = a.digests + 1; bytes = a.bytes + n }) e)
 
 -- Digesting some messages and then one more counts the longer list.
-pub digests_more : (a b c : Work) (messages : List (List ℕ)) (message : List ℕ) → b ≡ with_digests a messages → c ≡ with_digest b message
+pub with_digests-push : (a b c : Work) (messages : List (List ℕ)) (message : List ℕ) → b ≡ with_digests a messages → c ≡ with_digest b message
     → c ≡ with_digests a (messages ++ message ∷ [])
-digests_more a b c messages message p q =
+with_digests-push a b c messages message p q =
     let digests : a.digests + length messages + 1 ≡ a.digests + length (messages ++ message ∷ []) =
     omega (arith, length-append messages (message ∷ [])) in
     let bytes : a.bytes + sum_by length messages + length message ≡ a.bytes + sum_by length (messages ++ message ∷ []) =
@@ -43,26 +43,26 @@ digests_more a b c messages message p q =
     ∙ (ap (λ n. record a { digests = n; bytes = a.bytes + sum_by length messages + length message }) digests
     ∙ ap (λ n. record a { digests = a.digests + length (messages ++ message ∷ []); bytes = n }) bytes))
 
-no_digests : (m : Work) → m ≡ with_digests m []
-no_digests m =
+with_digests-nil : (m : Work) → m ≡ with_digests m []
+with_digests-nil m =
     ap (λ n. record m { digests = n }) (sym (add-zero m.digests))
     ∙ ap (λ n. record m { digests = m.digests + 0; bytes = n }) (sym (add-zero m.bytes))
 
 -- Two digests as one list.
-pub two_digests : (a b c : Work) (first second : List ℕ) → b ≡ with_digest a first → c ≡ with_digest b second
+pub with_digests-two : (a b c : Work) (first second : List ℕ) → b ≡ with_digest a first → c ≡ with_digest b second
     → c ≡ with_digests a (first ∷ second ∷ [])
-two_digests a b c first second p q =
-    digests_more a b c (first ∷ []) second (digests_more a a b [] first (no_digests a) p) q
+with_digests-two a b c first second p q =
+    with_digests-push a b c (first ∷ []) second (with_digests-push a a b [] first (with_digests-nil a) p) q
 
 -- Four digests as one list.
-pub four_digests : (a b c d e : Work) (first second third fourth : List ℕ) → b ≡ with_digest a first → c ≡ with_digest b second
+pub with_digests-four : (a b c d e : Work) (first second third fourth : List ℕ) → b ≡ with_digest a first → c ≡ with_digest b second
     → d ≡ with_digest c third → e ≡ with_digest d fourth → e ≡ with_digests a (first ∷ second ∷ third ∷ fourth ∷ [])
-four_digests a b c d e first second third fourth p q r t =
-    digests_more a d e (first ∷ second ∷ third ∷ []) fourth
-    (digests_more a c d (first ∷ second ∷ []) third (two_digests a b c first second p q) r) t
+with_digests-four a b c d e first second third fourth p q r t =
+    with_digests-push a d e (first ∷ second ∷ third ∷ []) fourth
+    (with_digests-push a c d (first ∷ second ∷ []) third (with_digests-two a b c first second p q) r) t
 
 -- If the messages have this count and this sum of bytes, digesting them adds exactly that.
-pub digests_in_all : (m : Work) (messages : List (List ℕ)) (digests bytes : ℕ) → HaveCountAndSum messages digests bytes
+pub with_digests-with_work : (m : Work) (messages : List (List ℕ)) (digests bytes : ℕ) → HaveCountAndSum messages digests bytes
     → with_digests m messages ≡ with_work m digests bytes
-digests_in_all m messages digests bytes all =
+with_digests-with_work m messages digests bytes all =
     ap (λ n. with_work m n (sum_by length messages)) all.count ∙ ap (with_work m digests) all.sum

@@ -1,6 +1,6 @@
 -- Lemmas on `cycle` and on binary digits, for the loops of src/messages.rt (`feed_repeated`, `feed_cycle`, `cycle_of`,
 -- `feed_digits`) and `digit_bytes` in src/work.rt. `cycle` is defined byte by byte and the code feeds whole digests, so
--- `cycle-whole` shows by induction that k digests in a row are the first k times length bytes. `digits_up_to` is
+-- `cycle-mul-length` shows by induction that k digests in a row are the first k times length bytes. `digits_up_to` is
 -- defined with a limit on the number of digits and the loop halves a number, so `binary_digits-step` shows that halving
 -- drops the lowest digit.
 use Rattle.std.proofs.Common.{◌≡◌, ℕ, zero, suc, ◌+◌, ◌*◌, ◌/◌, ◌%◌, ◌<◌, ◌≤◌, List, [], ◌∷◌, ◌++◌, length, take, get_or, arith, refl, sym, ap, ◌∙◌, append_assoc, cond, nat_eq, Bool, true, false, flat_map}
@@ -26,21 +26,21 @@ pub cycle-more : (d : List ℕ) (n : ℕ) → cycle d (n + 1) ≡ cycle d n ++ g
 unfolding cycle
 cycle-more d n = map-range_with_len_more _ 0 n n (omega arith)
 
-pub cycle-none : (d : List ℕ) → cycle d 0 ≡ []
+pub cycle-zero : (d : List ℕ) → cycle d 0 ≡ []
 unfolding cycle
-cycle-none d = refl
+cycle-zero d = refl
 
 -- After k whole copies of d the next n bytes are the first n of d.
-pub cycle-turns : (d : List ℕ) (w k n : ℕ) → length d ≡ w → n ≤ w → cycle d (k * w + n) ≡ cycle d (k * w) ++ take n d
-cycle-turns d w k zero e h =
+pub cycle-mul-add : (d : List ℕ) (w k n : ℕ) → length d ≡ w → n ≤ w → cycle d (k * w + n) ≡ cycle d (k * w) ++ take n d
+cycle-mul-add d w k zero e h =
     let same : k * w + 0 ≡ k * w = omega arith in
     rw (same, append-nil) refl
-cycle-turns d w k (suc n) e h =
+cycle-mul-add d w k (suc n) e h =
     let below : n < w = omega arith in
     let in_d : n < length d = omega arith in
     let next : k * w + suc n ≡ (k * w + n) + 1 = omega arith in
     let place : (k * w + n) % length d ≡ n = rw e (mod-mul-add k w n below) in
-    rw (next, cycle-more d (k * w + n), place, take-suc d n 0 in_d, cycle-turns d w k n e (omega arith)) (append_assoc (cycle d (k * w)) (take n d) (get_or d n 0 ∷ []))
+    rw (next, cycle-more d (k * w + n), place, take-suc d n 0 in_d, cycle-mul-add d w k n e (omega arith)) (append_assoc (cycle d (k * w)) (take n d) (get_or d n 0 ∷ []))
 
 -- Another copy can also be appended at the end.
 pub repeat-more : (n : ℕ) (xs : List ℕ) → repeat (n + 1) xs ≡ repeat n xs ++ xs
@@ -54,14 +54,14 @@ length-repeat zero xs = omega arith
 length-repeat (suc n) xs = omega (arith, length-append xs (repeat n xs), length-repeat n xs)
 
 -- The first k times length bytes are k copies of d.
-pub cycle-whole : (d : List ℕ) (k : ℕ) → cycle d (k * length d) ≡ repeat k d
-cycle-whole d zero =
+pub cycle-mul-length : (d : List ℕ) (k : ℕ) → cycle d (k * length d) ≡ repeat k d
+cycle-mul-length d zero =
     let none : 0 * length d ≡ 0 = omega arith in
-    rw none (cycle-none d)
-cycle-whole d (suc k) =
+    rw none (cycle-zero d)
+cycle-mul-length d (suc k) =
     let turn : suc k * length d ≡ k * length d + length d = omega arith in
     let next : suc k ≡ k + 1 = omega arith in
-    rw (turn, cycle-turns d (length d) k (length d) refl (omega arith), cycle-whole d k, take_all (length d) d (omega arith))
+    rw (turn, cycle-mul-add d (length d) k (length d) refl (omega arith), cycle-mul-length d k, take_all (length d) d (omega arith))
     (sym (ap (λ n. repeat n d) next ∙ repeat-more k d))
 
 -- Any limit of at least n gives the same digits.
@@ -83,8 +83,8 @@ pub length-cycle : (d : List ℕ) (n : ℕ) → length (cycle d n) ≡ n
 unfolding cycle
 length-cycle d n = length-map-range_with_len _ 0 n
 
-pub no_pieces : (one other : List ℕ) → digit_pieces one other 0 ≡ []
-no_pieces one other = refl
+pub digit_pieces-zero : (one other : List ℕ) → digit_pieces one other 0 ≡ []
+digit_pieces-zero one other = refl
 
 -- The piece of the lowest digit comes first, then those of the half.
 pub digit_pieces-step : (one other : List ℕ) (n : ℕ) → 0 < n
@@ -114,8 +114,8 @@ length-digit_pieces one other n =
     length-flat_map _ (binary_digits n)
     ∙ ap (λ f. sum_by f (binary_digits n)) (fun_ext (λ digit. length-cond (nat_eq digit 1) one other))
 
-pub digit_bytes-none : (one other : ℕ) → digit_bytes one other 0 ≡ 0
-digit_bytes-none one other = refl
+pub digit_bytes-zero : (one other : ℕ) → digit_bytes one other 0 ≡ 0
+digit_bytes-zero one other = refl
 
 -- The piece of the lowest digit comes first, then those of the half.
 pub digit_bytes-step : (one other n : ℕ) → 0 < n
@@ -125,8 +125,8 @@ digit_bytes-step one other n some =
     ∙ sum_by-cons (by_digit one other) (n % 2) (binary_digits (n / 2))
 
 -- If neither piece has more than m bytes, n times m bounds them all.
-pub digit_bytes-few : (one other m n : ℕ) → one ≤ m → other ≤ m → digit_bytes one other n ≤ n * m
-digit_bytes-few one other m n a b =
+pub digit_bytes-le-mul : (one other m n : ℕ) → one ≤ m → other ≤ m → digit_bytes one other n ≤ n * m
+digit_bytes-le-mul one other m n a b =
     let all = sum_by-le (by_digit one other) m (binary_digits n) (λ k d inside. small (nat_eq (get_or (binary_digits n) k d) 1)) in
     omega (arith, all, mul-le-mul_right m (length-binary_digits n)) where
       small : (b : Bool) → cond b one other ≤ m

@@ -11,10 +11,10 @@ length-decimal_digit n small = ap length (decimal_digit n small)
 pub length-decimal_step : (n : ℕ) → 10 ≤ n → n < 2 ^ 64 → length (decimal n) ≡ length (decimal (n / 10)) + 1
 length-decimal_step n large below = ap length (decimal_step n large below) ∙ length-append (decimal (n / 10)) ((48 + n % 10) ∷ [])
 
-pub digit_written : (old new : List ℕ) (n : ℕ) → n < 10 → new ≡ old ++ ((48 + n) ∷ []) → new ≡ old ++ decimal n
-digit_written old new n small e = e ∙ ap (λ (x : List ℕ). old ++ x) (sym (decimal_digit n small))
+pub append-decimal_digit : (old new : List ℕ) (n : ℕ) → n < 10 → new ≡ old ++ ((48 + n) ∷ []) → new ≡ old ++ decimal n
+append-decimal_digit old new n small e = e ∙ ap (λ (x : List ℕ). old ++ x) (sym (decimal_digit n small))
 
-pub step_written : (old front new : List ℕ) (n : ℕ) → 10 ≤ n → n < 2 ^ 64 → front ≡ old ++ decimal (n / 10) → new ≡ front ++ ((48 + n % 10) ∷ []) → new ≡ old ++ decimal n
-step_written old front new n large below e f =
+pub append-decimal_step : (old front new : List ℕ) (n : ℕ) → 10 ≤ n → n < 2 ^ 64 → front ≡ old ++ decimal (n / 10) → new ≡ front ++ ((48 + n % 10) ∷ []) → new ≡ old ++ decimal n
+append-decimal_step old front new n large below e f =
     f ∙ ap (λ (x : List ℕ). x ++ ((48 + n % 10) ∷ [])) e ∙ append_assoc old (decimal (n / 10)) ((48 + n % 10) ∷ [])
     ∙ ap (λ (x : List ℕ). old ++ x) (sym (decimal_step n large below))

@@ -12,37 +12,37 @@ IsEndOfField [] = Unit {0}
 IsEndOfField (b ∷ rest) = b ≡ dollar
 
 -- Such a list can follow a field.
-pub ended_by : (rest : List ℕ) → IsEndOfField rest → (rest ≡ []) ⊎ BeginsWith rest (dollar ∷ [])
-ended_by [] end = inl refl
-ended_by (b ∷ rest) end = inr (rest, ap (λ (c : ℕ). c ∷ rest) end)
+pub end_of_field-cases : (rest : List ℕ) → IsEndOfField rest → (rest ≡ []) ⊎ BeginsWith rest (dollar ∷ [])
+end_of_field-cases [] end = inl refl
+end_of_field-cases (b ∷ rest) end = inr (rest, ap (λ (c : ℕ). c ∷ rest) end)
 
-pub end_of : (rest : List ℕ) → (rest ≡ []) ⊎ BeginsWith rest (dollar ∷ []) → IsEndOfField rest
-end_of [] end = tt
-end_of (b ∷ rest) (inl none) = absurd (cc none)
-end_of (b ∷ rest) (inr begins) = cc (begins.1)
+pub IsEndOfField-from_cases : (rest : List ℕ) → (rest ≡ []) ⊎ BeginsWith rest (dollar ∷ []) → IsEndOfField rest
+IsEndOfField-from_cases [] end = tt
+IsEndOfField-from_cases (b ∷ rest) (inl none) = absurd (cc none)
+IsEndOfField-from_cases (b ∷ rest) (inr begins) = cc (begins.1)
 
 -- If two joined lists are equal and their fronts have the same length, the fronts and the rests are equal.
-pub same_front : (a b x y : List ℕ) → length a ≡ length b → a ++ x ≡ b ++ y → (a ≡ b) × (x ≡ y)
-same_front [] [] x y same e = (refl, e)
-same_front [] (d ∷ b) x y same e = absurd (omega arith)
-same_front (c ∷ a) [] x y same e = absurd (omega arith)
-same_front (c ∷ a) (d ∷ b) x y same e =
+pub append-injective : (a b x y : List ℕ) → length a ≡ length b → a ++ x ≡ b ++ y → (a ≡ b) × (x ≡ y)
+append-injective [] [] x y same e = (refl, e)
+append-injective [] (d ∷ b) x y same e = absurd (omega arith)
+append-injective (c ∷ a) [] x y same e = absurd (omega arith)
+append-injective (c ∷ a) (d ∷ b) x y same e =
     let heads : c ≡ d = cc in
     let tails : a ++ x ≡ b ++ y = cc in
-    let rest = same_front a b x y (omega arith) tails in
+    let rest = append-injective a b x y (omega arith) tails in
     ((cc (heads, rest.0)), rest.1)
 
-same_field : (f g r s : List ℕ) → AllByRecursion (λ b. b ≢ dollar) f → AllByRecursion (λ b. b ≢ dollar) g → IsEndOfField r → IsEndOfField s → f ++ r ≡ g ++ s → (f ≡ g) × (r ≡ s)
-same_field [] [] r s hf hg er es e = (refl, e)
-same_field [] (y ∷ g) r s hf hg er es e = absurd (hg.0 (subst IsEndOfField e er))
-same_field (x ∷ f) [] r s hf hg er es e = absurd (hf.0 (subst IsEndOfField (sym e) es))
-same_field (x ∷ f) (y ∷ g) r s hf hg er es e =
+field_unique-by_recursion : (f g r s : List ℕ) → AllByRecursion (λ b. b ≢ dollar) f → AllByRecursion (λ b. b ≢ dollar) g → IsEndOfField r → IsEndOfField s → f ++ r ≡ g ++ s → (f ≡ g) × (r ≡ s)
+field_unique-by_recursion [] [] r s hf hg er es e = (refl, e)
+field_unique-by_recursion [] (y ∷ g) r s hf hg er es e = absurd (hg.0 (subst IsEndOfField e er))
+field_unique-by_recursion (x ∷ f) [] r s hf hg er es e = absurd (hf.0 (subst IsEndOfField (sym e) es))
+field_unique-by_recursion (x ∷ f) (y ∷ g) r s hf hg er es e =
     let heads : x ≡ y = cc in
     let tails : f ++ r ≡ g ++ s = cc in
-    let rest = same_field f g r s hf.1 hg.1 er es tails in
+    let rest = field_unique-by_recursion f g r s hf.1 hg.1 er es tails in
     ((cc (heads, rest.0)), rest.1)
 
 -- A list splits into a field and a rest in one way only.
 pub field_unique : (f g r s : List ℕ) → IsField f r → IsField g s → f ++ r ≡ g ++ s → (f ≡ g) × (r ≡ s)
 field_unique f g r s a b e =
-    same_field f g r s (recursion_from_All _ f a.0) (recursion_from_All _ g b.0) (end_of r a.1) (end_of s b.1) e
+    field_unique-by_recursion f g r s (recursion_from_All _ f a.0) (recursion_from_All _ g b.0) (IsEndOfField-from_cases r a.1) (IsEndOfField-from_cases s b.1) e

@@ -22,6 +22,6 @@ pub length-prefix : (m : Method) → length (prefix m) ≡ 3
 length-prefix m = eqb-true _ _ (each_method (λ n. eqb (length (prefix n)) 3) refl m)
 
 -- SHA-crypt keeps as many bytes of salt with either digest function.
-pub sha_salt_limit : (sha : Sha) → salt_limit (sha_method sha) ≡ shacrypt_salt_limit
-sha_salt_limit Sha256 = refl
-sha_salt_limit Sha512 = refl
+pub salt_limit-sha_method : (sha : Sha) → salt_limit (sha_method sha) ≡ shacrypt_salt_limit
+salt_limit-sha_method Sha256 = refl
+salt_limit-sha_method Sha512 = refl

@@ -1,8 +1,8 @@
 -- Shows which error a text gets from `Setting::read`, for its clauses and those of `check_bytes`, `scheme_at`,
 -- `shacrypt_at` and `params_at` in src/setting/read.rt. A refusal is the error of the first stage that fails, so each
--- lemma `refused_..` combines one failure with the proof that no earlier stage fails. The lemmas `from_..` do that
--- stage by stage, for what the text has spelled so far: a prefix excludes the other methods, and a cost part that is
--- spelled excludes the errors on it.
+-- lemma `refused_..` combines one failure with the proof that no earlier stage fails. The lemmas `refused-from_..` do
+-- that stage by stage, for what the text has spelled so far: a prefix excludes the other methods, and a cost part that
+-- is spelled excludes the errors on it.
 use Rattle.std.proofs.Common.{◌≡◌, ℕ, ◌≤◌, ◌<◌, Bool, true, false, inl, inr, List, ◌++◌, length, drop, All, refl, sym, ap, subst, ◌∙◌, arith}
 use Rattle.std.proofs.Math.Seq.{drop-append_seam}
 use Rattle.std.proofs.lemmas.List.{append_cancel_left}
@@ -23,98 +23,98 @@ use Rattle.crypt_core.specs.declared.setting.fault.SettingFault.{SettingFault}
 use Rattle.crypt_core.specs.Schemes.{IsScheme, method_of, sha_method}
 use Rattle.crypt_core.specs.Settings.{IsSettingByte, IsField, BeginsWith, rounds_word, scrypt_part, IsScryptSalt, KeepsSalt, SpellsCost, Spells, SpellsRounds, SpellsScheme, setting_limit}
 use Rattle.crypt_core.specs.TextLimits.{scrypt_part_len}
-use Rattle.crypt_core.proofs.DistinctNumerals.{length-scrypt_part, all_scrypt_part}
-use Rattle.crypt_core.proofs.OneSetting.{prefix_unique, scheme_unique, sha_apart}
-use Rattle.crypt_core.proofs.Refusals.{lacks_none}
-use Rattle.crypt_core.proofs.RoundsTexts.{field_parts}
+use Rattle.crypt_core.proofs.ScryptPartFacts.{length-scrypt_part, in_alphabet-scrypt_part}
+use Rattle.crypt_core.proofs.OneSetting.{prefix_unique, scheme_unique, sha_method-not_others}
+use Rattle.crypt_core.proofs.Refusals.{SpellsScheme-not-LacksCost}
+use Rattle.crypt_core.proofs.SpelledRounds.{rounds_field-append}
 
 -- ---- fronts that spell a scheme
 
 -- A prefix, a cost part and a rest make a text that spells the scheme.
-pub spelled_front : (text : List ℕ) (scheme : Scheme) (after part rest : List ℕ) → text ≡ prefix (method_of scheme) ++ after → after ≡ part ++ rest → SpellsCost scheme part rest → SpellsScheme text scheme rest
-spelled_front text scheme after part rest begins parts cost =
+pub SpellsScheme-from_cost_part : (text : List ℕ) (scheme : Scheme) (after part rest : List ℕ) → text ≡ prefix (method_of scheme) ++ after → after ≡ part ++ rest → SpellsCost scheme part rest → SpellsScheme text scheme rest
+SpellsScheme-from_cost_part text scheme after part rest begins parts cost =
     (part, begins ∙ ap (λ (x : List ℕ). prefix (method_of scheme) ++ x) parts, cost)
 
 -- The same for scrypt, from its numbers.
-pub spelled_numbers : (text : List ℕ) (n : ScryptParams) (after rest : List ℕ) → text ≡ prefix methods.Scrypt ++ after → after ≡ scrypt_part n ++ rest → HasNumerals n → SpellsScheme text (Scrypt n) rest
-spelled_numbers text n after rest begins parts numbers =
-    spelled_front text (Scrypt n) after (scrypt_part n) rest begins parts (refl, numbers.0, numbers.1, numbers.2)
+pub SpellsScheme-scrypt : (text : List ℕ) (n : ScryptParams) (after rest : List ℕ) → text ≡ prefix methods.Scrypt ++ after → after ≡ scrypt_part n ++ rest → HasNumerals n → SpellsScheme text (Scrypt n) rest
+SpellsScheme-scrypt text n after rest begins parts numbers =
+    SpellsScheme-from_cost_part text (Scrypt n) after (scrypt_part n) rest begins parts (refl, numbers.0, numbers.1, numbers.2)
 
 -- Dropping the 11 characters of the cost part leaves what follows it.
-pub after_numbers : (after rest : List ℕ) (n : ScryptParams) → after ≡ scrypt_part n ++ rest → drop scrypt_part_len after ≡ rest
-after_numbers after rest n parts =
+pub drop-scrypt_part : (after rest : List ℕ) (n : ScryptParams) → after ≡ scrypt_part n ++ rest → drop scrypt_part_len after ≡ rest
+drop-scrypt_part after rest n parts =
     ap (λ (k : ℕ). drop k after) (sym (length-scrypt_part n)) ∙ ap (λ (t : List ℕ). drop (length (scrypt_part n)) t) parts ∙ drop-append_seam (scrypt_part n) rest
 
 -- With a cost in range, the salt that the method keeps is the one that the scheme keeps.
-kept_salt : (scheme : Scheme) (field salt : List ℕ) → IsScheme scheme → KeepsField (method_of scheme) field salt → KeepsSalt scheme field salt
-kept_salt (Scrypt n) field salt c k = (c, k.0, k.1)
-kept_salt (Shacrypt Sha256 r) field salt c k = k
-kept_salt scheme field salt c k = k
+KeepsSalt-from_KeepsField : (scheme : Scheme) (field salt : List ℕ) → IsScheme scheme → KeepsField (method_of scheme) field salt → KeepsSalt scheme field salt
+KeepsSalt-from_KeepsField (Scrypt n) field salt c k = (c, k.0, k.1)
+KeepsSalt-from_KeepsField (Shacrypt Sha256 r) field salt c k = k
+KeepsSalt-from_KeepsField scheme field salt c k = k
 
 -- Puts the parts together: the text spells the setting.
-pub spelled : (text : List ℕ) (scheme : Scheme) (after salt : List ℕ) → IsSettingText text → SpellsScheme text scheme after → IsScheme scheme → SpellsSalt (method_of scheme) after salt → Spells text (record { scheme = scheme; salt = salt })
-spelled text scheme after salt t s c k = record {
+pub Spells-from_SpellsScheme : (text : List ℕ) (scheme : Scheme) (after salt : List ℕ) → IsSettingText text → SpellsScheme text scheme after → IsScheme scheme → SpellsSalt (method_of scheme) after salt → Spells text (record { scheme = scheme; salt = salt })
+Spells-from_SpellsScheme text scheme after salt t s c k = record {
   short = t.short;
   bytes = t.bytes;
   field = k.0;
   rest = k.1.0;
   is_field = k.1.2;
   scheme = subst (SpellsScheme text scheme) k.1.1 s;
-  salt = kept_salt scheme k.0 salt c k.2;
+  salt = KeepsSalt-from_KeepsField scheme k.0 salt c k.2;
 }
 
 -- ---- fronts without a cost
 
 -- If a text spells rounds, it has a well-formed `rounds=` field or doesn't begin with `rounds=`.
-spelled_rounds : (r : Rounds) (part after : List ℕ) → SpellsRounds r part after → LacksRounds (part ++ after) → ⊥
-spelled_rounds r part after s lacks = by r.is_written s
+SpellsRounds-not-LacksRounds : (r : Rounds) (part after : List ℕ) → SpellsRounds r part after → LacksRounds (part ++ after) → ⊥
+SpellsRounds-not-LacksRounds r part after s lacks = by r.is_written s
   where
     by : (f : Bool) → SpellsRounds (record { count = r.count; is_written = f }) part after → ⊥
     by true w =
-        lacks.2 w.0 after w.1 (append_cancel_left rounds_word _ _ (sym lacks.1 ∙ ap (λ (x : List ℕ). x ++ after) w.2 ∙ field_parts w.0 after))
+        lacks.2 w.0 after w.1 (append_cancel_left rounds_word _ _ (sym lacks.1 ∙ ap (λ (x : List ℕ). x ++ after) w.2 ∙ rounds_field-append w.0 after))
     by false w = w.2 (lacks.0, sym (ap (λ (x : List ℕ). x ++ after) w.0) ∙ lacks.1)
 
 -- So a text with `rounds=` but no well-formed field has no cost part of SHA-crypt.
-sha_lacks : (text : List ℕ) (sha : Sha) (after : List ℕ) → text ≡ prefix (sha_method sha) ++ after → LacksRounds after → LacksCost (sha_method sha) text
-sha_lacks text sha after e lacks = ((after, e), none)
+LacksCost-from_LacksRounds : (text : List ℕ) (sha : Sha) (after : List ℕ) → text ≡ prefix (sha_method sha) ++ after → LacksRounds after → LacksCost (sha_method sha) text
+LacksCost-from_LacksRounds text sha after e lacks = ((after, e), none)
   where
     none : (scheme : Scheme) (z : List ℕ) → method_of scheme ≡ sha_method sha → SpellsScheme text scheme z → ⊥
     none (Shacrypt other r) z m s =
-        spelled_rounds r s.0 z s.2 (subst LacksRounds (sym (prefix_unique (sha_method other) (sha_method sha) (s.0 ++ z) after (sym s.1 ∙ e)).1) lacks)
-    none Md5crypt z m s = (sha_apart sha).0 (sym m)
-    none (Scrypt n) z m s = (sha_apart sha).1 (sym m)
+        SpellsRounds-not-LacksRounds r s.0 z s.2 (subst LacksRounds (sym (prefix_unique (sha_method other) (sha_method sha) (s.0 ++ z) after (sym s.1 ∙ e)).1) lacks)
+    none Md5crypt z m s = (sha_method-not_others sha).0 (sym m)
+    none (Scrypt n) z m s = (sha_method-not_others sha).1 (sym m)
 
 -- And a text with too few characters has no cost part of scrypt.
-scrypt_lacks : (text after : List ℕ) → text ≡ prefix methods.Scrypt ++ after → LacksCharacters after → LacksCost methods.Scrypt text
-scrypt_lacks text after e lacks = ((after, e), none)
+LacksCost-from_LacksCharacters : (text after : List ℕ) → text ≡ prefix methods.Scrypt ++ after → LacksCharacters after → LacksCost methods.Scrypt text
+LacksCost-from_LacksCharacters text after e lacks = ((after, e), none)
   where
     none : (scheme : Scheme) (z : List ℕ) → method_of scheme ≡ methods.Scrypt → SpellsScheme text scheme z → ⊥
     none (Scrypt n) z m s =
         let parts : s.0 ++ z ≡ after = (prefix_unique methods.Scrypt methods.Scrypt (s.0 ++ z) after (sym s.1 ∙ e)).1 in
-        lacks (scrypt_part n) z (length-scrypt_part n) (all_scrypt_part n) (sym parts ∙ ap (λ (x : List ℕ). x ++ z) s.2.0)
+        lacks (scrypt_part n) z (length-scrypt_part n) (in_alphabet-scrypt_part n) (sym parts ∙ ap (λ (x : List ℕ). x ++ z) s.2.0)
     none Md5crypt z m s = absurd cc
-    none (Shacrypt sha r) z m s = (sha_apart sha).1 m
+    none (Shacrypt sha r) z m s = (sha_method-not_others sha).1 m
 
 -- A text with the prefix of one method can't lack the cost part of another.
-other_method : (text : List ℕ) (a b : Method) (after : List ℕ) → (a ≡ b → ⊥) → text ≡ prefix a ++ after → LacksCost b text → ⊥
-other_method text a b after differ e lacks = differ (prefix_unique a b after lacks.0.0 (sym e ∙ lacks.0.1)).0
+other_prefix-not-LacksCost : (text : List ℕ) (a b : Method) (after : List ℕ) → (a ≡ b → ⊥) → text ≡ prefix a ++ after → LacksCost b text → ⊥
+other_prefix-not-LacksCost text a b after differ e lacks = differ (prefix_unique a b after lacks.0.0 (sym e ∙ lacks.0.1)).0
 
 -- ---- the errors
 
-pub refused_long : (text : List ℕ) → setting_limit < length text → IsRefused text TooLong
+pub refused_too_long : (text : List ℕ) → setting_limit < length text → IsRefused text TooLong
 unfolding IsRefused
-refused_long text long = inl (refl, long)
+refused_too_long text long = inl (refl, long)
 
-pub refused_character : (text : List ℕ) → length text ≤ setting_limit → (All IsSettingByte text → ⊥) → IsRefused text BadCharacter
+pub refused_bad_character : (text : List ℕ) → length text ≤ setting_limit → (All IsSettingByte text → ⊥) → IsRefused text BadCharacter
 unfolding IsRefused
-refused_character text short bad = inr (λ b. omega arith, inl (refl, bad))
+refused_bad_character text short bad = inr (λ b. omega arith, inl (refl, bad))
 
 -- A text that begins with none of the four prefixes begins with no method's.
-pub unknown : (text : List ℕ) → ¬ BeginsWith text (prefix methods.Md5crypt) → ¬ BeginsWith text (prefix methods.Sha256crypt) → ¬ BeginsWith text (prefix methods.Sha512crypt) → ¬ BeginsWith text (prefix methods.Scrypt) → (m : Method) → ¬ BeginsWith text (prefix m)
-unknown text not_1 not_5 not_6 not_7 methods.Md5crypt = not_1
-unknown text not_1 not_5 not_6 not_7 methods.Sha256crypt = not_5
-unknown text not_1 not_5 not_6 not_7 methods.Sha512crypt = not_6
-unknown text not_1 not_5 not_6 not_7 methods.Scrypt = not_7
+pub begins_with_no_prefix : (text : List ℕ) → ¬ BeginsWith text (prefix methods.Md5crypt) → ¬ BeginsWith text (prefix methods.Sha256crypt) → ¬ BeginsWith text (prefix methods.Sha512crypt) → ¬ BeginsWith text (prefix methods.Scrypt) → (m : Method) → ¬ BeginsWith text (prefix m)
+begins_with_no_prefix text not_1 not_5 not_6 not_7 methods.Md5crypt = not_1
+begins_with_no_prefix text not_1 not_5 not_6 not_7 methods.Sha256crypt = not_5
+begins_with_no_prefix text not_1 not_5 not_6 not_7 methods.Sha512crypt = not_6
+begins_with_no_prefix text not_1 not_5 not_6 not_7 methods.Scrypt = not_7
 
 module _ (text : List ℕ) (is_text : IsSettingText text) where
   -- FirstFrom stage fault: this is the error of the first stage that fails, from this stage on.
@@ -122,52 +122,52 @@ module _ (text : List ℕ) (is_text : IsSettingText text) where
   FirstFrom stage = IsFirstBroken (drop stage setting_faults) (FailsStage text)
 
   -- A setting text passes the stages `TooLong` and `BadCharacter`.
-  from_prefix : (fault : SettingFault) → FirstFrom 2 fault → IsRefused text fault
+  refused-from_prefix_stage : (fault : SettingFault) → FirstFrom 2 fault → IsRefused text fault
   unfolding IsRefused
-  from_prefix fault first = inr (λ long. omega (arith, is_text.short, long), inr (λ bad. bad is_text.bytes, first))
+  refused-from_prefix_stage fault first = inr (λ long. omega (arith, is_text.short, long), inr (λ bad. bad is_text.bytes, first))
 
-  pub refused_unknown : ((m : Method) → BeginsWith text (prefix m) → ⊥) → IsRefused text UnknownScheme
-  refused_unknown none = from_prefix UnknownScheme (inl (refl, none))
+  pub refused_unknown_scheme : ((m : Method) → BeginsWith text (prefix m) → ⊥) → IsRefused text UnknownScheme
+  refused_unknown_scheme none = refused-from_prefix_stage UnknownScheme (inl (refl, none))
 
   -- A text with a method's prefix passes the stage `UnknownScheme`.
-  from_cost : (m : Method) (after : List ℕ) (fault : SettingFault) → text ≡ prefix m ++ after → FirstFrom 3 fault → IsRefused text fault
-  from_cost m after fault e first = from_prefix fault (inr (λ none. none m (after, e), first))
+  refused-from_cost_stage : (m : Method) (after : List ℕ) (fault : SettingFault) → text ≡ prefix m ++ after → FirstFrom 3 fault → IsRefused text fault
+  refused-from_cost_stage m after fault e first = refused-from_prefix_stage fault (inr (λ none. none m (after, e), first))
 
-  pub refused_rounds : (sha : Sha) (after : List ℕ) → text ≡ prefix (sha_method sha) ++ after → LacksRounds after → IsRefused text BadRounds
-  refused_rounds sha after e lacks = from_cost (sha_method sha) after BadRounds e (inl (refl, (sha, sha_lacks text sha after e lacks)))
+  pub refused_bad_rounds : (sha : Sha) (after : List ℕ) → text ≡ prefix (sha_method sha) ++ after → LacksRounds after → IsRefused text BadRounds
+  refused_bad_rounds sha after e lacks = refused-from_cost_stage (sha_method sha) after BadRounds e (inl (refl, (sha, LacksCost-from_LacksRounds text sha after e lacks)))
 
   -- A text with scrypt's prefix passes the stage `BadRounds`.
-  from_scrypt_cost : (after : List ℕ) (fault : SettingFault) → text ≡ prefix methods.Scrypt ++ after → FirstFrom 4 fault → IsRefused text fault
-  from_scrypt_cost after fault e first =
-      from_cost methods.Scrypt after fault e (inr (λ b. other_method text methods.Scrypt (sha_method b.0) after (λ same. (sha_apart b.0).1 (sym same)) e b.1, first))
+  refused-from_scrypt_cost_stage : (after : List ℕ) (fault : SettingFault) → text ≡ prefix methods.Scrypt ++ after → FirstFrom 4 fault → IsRefused text fault
+  refused-from_scrypt_cost_stage after fault e first =
+      refused-from_cost_stage methods.Scrypt after fault e (inr (λ b. other_prefix-not-LacksCost text methods.Scrypt (sha_method b.0) after (λ same. (sha_method-not_others b.0).1 (sym same)) e b.1, first))
 
-  pub refused_cost : (after : List ℕ) → text ≡ prefix methods.Scrypt ++ after → LacksCharacters after → IsRefused text BadCost
-  refused_cost after e lacks = from_scrypt_cost after BadCost e (inl (refl, scrypt_lacks text after e lacks))
+  pub refused_bad_cost : (after : List ℕ) → text ≡ prefix methods.Scrypt ++ after → LacksCharacters after → IsRefused text BadCost
+  refused_bad_cost after e lacks = refused-from_scrypt_cost_stage after BadCost e (inl (refl, LacksCost-from_LacksCharacters text after e lacks))
 
   -- If it spells scrypt's numbers, it passes the stage `BadCost`.
   module _ (n : ScryptParams) (rest : List ℕ) (spelled : SpellsScheme text (Scrypt n) rest) where
-    from_range : (fault : SettingFault) → FirstFrom 5 fault → IsRefused text fault
-    from_range fault first = from_scrypt_cost (spelled.0 ++ rest) fault spelled.1 (inr (lacks_none text (Scrypt n) rest methods.Scrypt spelled, first))
+    refused-from_range_stage : (fault : SettingFault) → FirstFrom 5 fault → IsRefused text fault
+    refused-from_range_stage fault first = refused-from_scrypt_cost_stage (spelled.0 ++ rest) fault spelled.1 (inr (SpellsScheme-not-LacksCost text (Scrypt n) rest methods.Scrypt spelled, first))
 
-    pub refused_range : (IsInRange n → ⊥) → IsRefused text ScryptRange
-    refused_range outside = from_range ScryptRange (inl (refl, (n, rest, spelled, outside)))
+    pub refused_scrypt_range : (IsInRange n → ⊥) → IsRefused text ScryptRange
+    refused_scrypt_range outside = refused-from_range_stage ScryptRange (inl (refl, (n, rest, spelled, outside)))
 
     -- These numbers are the only ones that it spells.
-    same_numbers : (m : ScryptParams) (after : List ℕ) → SpellsScheme text (Scrypt m) after → n ≡ m
-    same_numbers m after s = let same : Scrypt n ≡ Scrypt m = (scheme_unique text (Scrypt n) (Scrypt m) rest after spelled s).0 in cc
+    scrypt_numbers_unique : (m : ScryptParams) (after : List ℕ) → SpellsScheme text (Scrypt m) after → n ≡ m
+    scrypt_numbers_unique m after s = let same : Scrypt n ≡ Scrypt m = (scheme_unique text (Scrypt n) (Scrypt m) rest after spelled s).0 in cc
 
-    from_ceiling : IsInRange n → (fault : SettingFault) → FirstFrom 6 fault → IsRefused text fault
-    from_ceiling inside fault first = from_range fault (inr (λ b. b.3 (subst IsInRange (same_numbers b.0 b.1 b.2) inside), first))
+    refused-from_ceiling_stage : IsInRange n → (fault : SettingFault) → FirstFrom 6 fault → IsRefused text fault
+    refused-from_ceiling_stage inside fault first = refused-from_range_stage fault (inr (λ b. b.3 (subst IsInRange (scrypt_numbers_unique b.0 b.1 b.2) inside), first))
 
-    pub refused_ceiling : IsInRange n → (IsWithinCeiling n → ⊥) → IsRefused text AboveCeiling
-    refused_ceiling inside above = from_ceiling inside AboveCeiling (inl (refl, (n, rest, spelled, above)))
+    pub refused_above_ceiling : IsInRange n → (IsWithinCeiling n → ⊥) → IsRefused text AboveCeiling
+    refused_above_ceiling inside above = refused-from_ceiling_stage inside AboveCeiling (inl (refl, (n, rest, spelled, above)))
 
-    from_salt : IsAccepted n → (fault : SettingFault) → FirstFrom 7 fault → IsRefused text fault
-    from_salt accepted fault first =
-        from_ceiling accepted.0 fault (inr (λ b. b.3 (subst IsWithinCeiling (same_numbers b.0 b.1 b.2) accepted.1), first))
+    refused-from_salt_stage : IsAccepted n → (fault : SettingFault) → FirstFrom 7 fault → IsRefused text fault
+    refused-from_salt_stage accepted fault first =
+        refused-from_ceiling_stage accepted.0 fault (inr (λ b. b.3 (subst IsWithinCeiling (scrypt_numbers_unique b.0 b.1 b.2) accepted.1), first))
 
 -- A text that spells a scheme of scrypt in range, but has no salt of scrypt, has a bad salt.
-pub refused_salt : (text : List ℕ) (scheme : Scheme) (field rest : List ℕ) → IsSettingText text → SpellsScheme text scheme (field ++ rest) → IsScheme scheme → method_of scheme ≡ methods.Scrypt → IsField field rest → (IsScryptSalt field → ⊥) → IsRefused text BadSalt
-refused_salt text (Scrypt n) field rest t s c m f bad = from_salt text t n (field ++ rest) s c BadSalt (inl (refl, (n, field, rest, s, f, bad)))
-refused_salt text Md5crypt field rest t s c m f bad = absurd cc
-refused_salt text (Shacrypt sha r) field rest t s c m f bad = absurd ((sha_apart sha).1 m)
+pub refused_bad_salt : (text : List ℕ) (scheme : Scheme) (field rest : List ℕ) → IsSettingText text → SpellsScheme text scheme (field ++ rest) → IsScheme scheme → method_of scheme ≡ methods.Scrypt → IsField field rest → (IsScryptSalt field → ⊥) → IsRefused text BadSalt
+refused_bad_salt text (Scrypt n) field rest t s c m f bad = refused-from_salt_stage text t n (field ++ rest) s c BadSalt (inl (refl, (n, field, rest, s, f, bad)))
+refused_bad_salt text Md5crypt field rest t s c m f bad = absurd cc
+refused_bad_salt text (Shacrypt sha r) field rest t s c m f bad = absurd ((sha_method-not_others sha).1 m)

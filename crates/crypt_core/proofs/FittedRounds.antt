@@ -1,7 +1,7 @@
 -- Serves `Scheme::fitted` in src/policy.rt: the rounds that it picks are within the limit, never more than the
 -- policy's, and if they aren't within it, no rounds are. The pick divides what the limit leaves after the opening by
--- the longest round. No round has more bytes than that (`rounds_longest`), so that many rounds fit; rounds in range
--- that cost more than the limit must be more than that many. The last part shows that a policy's own limit always
+-- the longest round. No round has more bytes than that (`rounds_bytes-le-mul`), so that many rounds fit; rounds in
+-- range that cost more than the limit must be more than that many. The last part shows that a policy's own limit always
 -- leaves a scheme: SHA-crypt with 1000 rounds costs less than the least limit, and the other methods hardly depend on
 -- the password.
 use Rattle.std.proofs.Common.{◌≡◌, ℕ, ◌+◌, ◌-◌, ◌*◌, ◌/◌, ◌<◌, ◌≤◌, Bool, true, false, nat_le, if◌then◌else◌, Option, Some, None, inl, inr, refl, arith}
@@ -20,23 +20,23 @@ use Rattle.crypt_core.specs.Work.{rounds_bytes, shacrypt_bytes}
 use Rattle.crypt_core.specs.declared.scheme.Scheme.{Scheme}
 use Rattle.crypt_core.specs.declared.scheme.Scheme.TheVariants.{Md5crypt, Shacrypt, Scrypt}
 use Rattle.crypt_core.specs.declared.scheme.Sha.TheVariants.{Sha256, Sha512}
-use Rattle.crypt_core.proofs.WorkBounds.{at_most_k}
+use Rattle.crypt_core.proofs.WorkBounds.{digit_bytes-le-mul_of_below_pow}
 
 -- ---- the bytes of more rounds
 
-rounds_more : (n most digest len salt : ℕ) → n ≤ most → rounds_bytes n digest len salt ≤ rounds_bytes most digest len salt
-rounds_more n most digest len salt few =
+rounds_bytes-mono : (n most digest len salt : ℕ) → n ≤ most → rounds_bytes n digest len salt ≤ rounds_bytes most digest len salt
+rounds_bytes-mono n most digest len salt few =
     let all : n * (digest + len) ≤ most * (digest + len) = mul-le-mul_right (digest + len) few in
     let salted : (n - div_ceil n 3) * salt ≤ (most - div_ceil most 3) * salt = mul-le-mul_right salt (omega arith) in
     let twice : (n - div_ceil n 7) * len ≤ (most - div_ceil most 7) * len = mul-le-mul_right len (omega arith) in
     omega (arith, all, salted, twice)
 
-sha_more : (n most digest len salt : ℕ) → n ≤ most → shacrypt_bytes digest 255 n len salt ≤ shacrypt_bytes digest 255 most len salt
-sha_more n most digest len salt few = omega (arith, rounds_more n most digest len salt few)
+shacrypt_bytes-mono : (n most digest len salt : ℕ) → n ≤ most → shacrypt_bytes digest 255 n len salt ≤ shacrypt_bytes digest 255 most len salt
+shacrypt_bytes-mono n most digest len salt few = omega (arith, rounds_bytes-mono n most digest len salt few)
 
 -- No round has more bytes than the longest.
-rounds_longest : (n digest len salt : ℕ) → rounds_bytes n digest len salt ≤ n * (digest + 2 * len + salt)
-rounds_longest n digest len salt =
+rounds_bytes-le-mul : (n digest len salt : ℕ) → rounds_bytes n digest len salt ≤ n * (digest + 2 * len + salt)
+rounds_bytes-le-mul n digest len salt =
     let salted : (n - div_ceil n 3) * salt ≤ n * salt = mul-le-mul_right salt (omega arith) in
     let twice : (n - div_ceil n 7) * len ≤ n * len = mul-le-mul_right len (omega arith) in
     omega (arith, salted, twice)
@@ -47,19 +47,19 @@ abbrev fitting : ℕ → ℕ → ℕ → ℕ
 fitting digest limit len = (limit - shacrypt_bytes digest 255 0 len 16) / (digest + 2 * len + 16)
 
 -- At most `fitting` rounds cost no more than the limit, if the limit covers the opening.
-fitting_within : (digest limit len n : ℕ) → shacrypt_bytes digest 255 0 len 16 ≤ limit → n ≤ fitting digest limit len
+fitting-within_limit : (digest limit len n : ℕ) → shacrypt_bytes digest 255 0 len 16 ≤ limit → n ≤ fitting digest limit len
     → shacrypt_bytes digest 255 n len 16 ≤ limit
-fitting_within digest limit len n opened few =
+fitting-within_limit digest limit len n opened few =
     let per = digest + 2 * len + 16 in
     let left = limit - shacrypt_bytes digest 255 0 len 16 in
     let most : left / per * per ≤ left = div-mul-le_self left per in
     let all : n * per ≤ left / per * per = mul-le-mul_right per few in
-    let longest = rounds_longest n digest len 16 in
+    let longest = rounds_bytes-le-mul n digest len 16 in
     omega (arith, most, all, longest, opened)
 
 -- If a round fits, the limit covers the opening.
-opened_by : (digest limit len n : ℕ) → n ≤ fitting digest limit len → 0 < n → shacrypt_bytes digest 255 0 len 16 ≤ limit
-opened_by digest limit len n few some = elim (cases_lt limit (shacrypt_bytes digest 255 0 len 16)) [
+opening-within_limit : (digest limit len n : ℕ) → n ≤ fitting digest limit len → 0 < n → shacrypt_bytes digest 255 0 len 16 ≤ limit
+opening-within_limit digest limit len n few some = elim (cases_lt limit (shacrypt_bytes digest 255 0 len 16)) [
   | inl less ↦
       let none : limit - shacrypt_bytes digest 255 0 len 16 ≡ 0 = omega (arith, less) in
       let nothing : fitting digest limit len ≡ 0 = rw none (omega arith) in
@@ -68,60 +68,60 @@ opened_by digest limit len n few some = elim (cases_lt limit (shacrypt_bytes dig
 ]
 
 -- So if rounds in range cost more than the limit, the fitting ones are no more than these.
-fewer_fit : (digest limit len count : ℕ) → 1000 ≤ count → limit < shacrypt_bytes digest 255 count len 16
+clamped_fitting-le : (digest limit len count : ℕ) → 1000 ≤ count → limit < shacrypt_bytes digest 255 count len 16
     → clamped (fitting digest limit len) ≤ count
-fewer_fit digest limit len count many above = elim (cases_lt (fitting digest limit len) count) [
+clamped_fitting-le digest limit len count many above = elim (cases_lt (fitting digest limit len) count) [
   | inl more ↦ omega (arith, many, more)
   | inr fewer ↦
-      let opened = opened_by digest limit len count fewer (omega (arith, many)) in
-      let within = fitting_within digest limit len count opened fewer in
+      let opened = opening-within_limit digest limit len count fewer (omega (arith, many)) in
+      let within = fitting-within_limit digest limit len count opened fewer in
       absurd (omega (arith, within, above))
 ]
 
 -- If even the fitting rounds cost more, they are the fewest, so all others cost more too.
-never_fits : (digest limit len count : ℕ) → 1000 ≤ count → limit < shacrypt_bytes digest 255 (clamped (fitting digest limit len)) len 16
+above_limit-from_fitting_above : (digest limit len count : ℕ) → 1000 ≤ count → limit < shacrypt_bytes digest 255 (clamped (fitting digest limit len)) len 16
     → limit < shacrypt_bytes digest 255 count len 16
-never_fits digest limit len count many above = elim (cases_lt (fitting digest limit len) 1000) [
+above_limit-from_fitting_above digest limit len count many above = elim (cases_lt (fitting digest limit len) 1000) [
   | inl less ↦
       let fewest : clamped (fitting digest limit len) ≡ 1000 = omega (arith, less) in
-      let more = sha_more 1000 count digest len 16 many in
+      let more = shacrypt_bytes-mono 1000 count digest len 16 many in
       omega (arith, rw fewest at above, more)
   | inr enough ↦
       let fewer : clamped (fitting digest limit len) ≤ fitting digest limit len = omega (arith, enough) in
-      let opened = opened_by digest limit len (clamped (fitting digest limit len)) fewer (omega arith) in
-      let within = fitting_within digest limit len (clamped (fitting digest limit len)) opened fewer in
+      let opened = opening-within_limit digest limit len (clamped (fitting digest limit len)) fewer (omega arith) in
+      let within = fitting-within_limit digest limit len (clamped (fitting digest limit len)) opened fewer in
       absurd (omega (arith, within, above))
 ]
 
 -- ---- each scheme
 
 -- The fitting rounds never replace the policy's: the policy's scheme isn't outdated by theirs.
-pub fewer_kept : (scheme : Scheme) (limit len : ℕ) → IsScheme scheme → limit < new_cost scheme len
+pub is_outdated_by-fewer_rounds : (scheme : Scheme) (limit len : ℕ) → IsScheme scheme → limit < new_cost scheme len
     → IfSome (fewer_rounds scheme limit len) (λ fewer. is_outdated_by scheme fewer ≡ false)
-fewer_kept Md5crypt limit len is above = tt
-fewer_kept (Shacrypt Sha256 rounds) limit len is above =
-    go (nat_le (shacrypt_bytes 32 255 (clamped (fitting 32 limit len)) len 16) limit) (fewer_fit 32 limit len rounds.count (omega (arith, is.0)) above)
+is_outdated_by-fewer_rounds Md5crypt limit len is above = tt
+is_outdated_by-fewer_rounds (Shacrypt Sha256 rounds) limit len is above =
+    go (nat_le (shacrypt_bytes 32 255 (clamped (fitting 32 limit len)) len 16) limit) (clamped_fitting-le 32 limit len rounds.count (omega (arith, is.0)) above)
   where
     go : (within : Bool) → clamped (fitting 32 limit len) ≤ rounds.count
         → IfSome (if within then Some (Shacrypt Sha256 (record { count = clamped (fitting 32 limit len); is_written = true })) else None)
         (λ fewer. is_outdated_by (Shacrypt Sha256 rounds) fewer ≡ false)
     go true less = grind (arith, nat_tests, less)
     go false less = tt
-fewer_kept (Shacrypt Sha512 rounds) limit len is above =
-    go (nat_le (shacrypt_bytes 64 255 (clamped (fitting 64 limit len)) len 16) limit) (fewer_fit 64 limit len rounds.count (omega (arith, is.0)) above)
+is_outdated_by-fewer_rounds (Shacrypt Sha512 rounds) limit len is above =
+    go (nat_le (shacrypt_bytes 64 255 (clamped (fitting 64 limit len)) len 16) limit) (clamped_fitting-le 64 limit len rounds.count (omega (arith, is.0)) above)
   where
     go : (within : Bool) → clamped (fitting 64 limit len) ≤ rounds.count
         → IfSome (if within then Some (Shacrypt Sha512 (record { count = clamped (fitting 64 limit len); is_written = true })) else None)
         (λ fewer. is_outdated_by (Shacrypt Sha512 rounds) fewer ≡ false)
     go true less = grind (arith, nat_tests, less)
     go false less = tt
-fewer_kept (Scrypt params) limit len is above = tt
+is_outdated_by-fewer_rounds (Scrypt params) limit len is above = tt
 
 -- The fitting rounds are within the limit, and the method is the same.
-pub fewer_within : (scheme : Scheme) (limit len : ℕ)
+pub fewer_rounds-within_limit : (scheme : Scheme) (limit len : ℕ)
     → IfSome (fewer_rounds scheme limit len) (λ fewer. (new_cost fewer len ≤ limit) × (method_of fewer ≡ method_of scheme))
-fewer_within Md5crypt limit len = tt
-fewer_within (Shacrypt sha rounds) limit len =
+fewer_rounds-within_limit Md5crypt limit len = tt
+fewer_rounds-within_limit (Shacrypt sha rounds) limit len =
     go (Shacrypt sha (record { count = fitting_rounds sha limit len; is_written = true })) refl
     (nat_le (new_cost (Shacrypt sha (record { count = fitting_rounds sha limit len; is_written = true })) len) limit) refl
   where
@@ -129,77 +129,77 @@ fewer_within (Shacrypt sha rounds) limit len =
         → IfSome (if within then Some fewer else None) (λ fewer. (new_cost fewer len ≤ limit) × (method_of fewer ≡ sha_method sha))
     go fewer same true test = (grind (arith, nat_tests, test), same)
     go fewer same false test = tt
-fewer_within (Scrypt params) limit len = tt
+fewer_rounds-within_limit (Scrypt params) limit len = tt
 
 -- If the fitting rounds cost more than the limit, every other number of rounds does too.
-none_fits : (scheme : Scheme) (limit len : ℕ) → IsScheme scheme → limit < new_cost scheme len → fewer_rounds scheme limit len ≡ None
+NeverFits-from_none : (scheme : Scheme) (limit len : ℕ) → IsScheme scheme → limit < new_cost scheme len → fewer_rounds scheme limit len ≡ None
     → NeverFits scheme limit len
-none_fits Md5crypt limit len is above none = above
-none_fits (Shacrypt Sha256 rounds) limit len is above none = λ other range. elim (cases_lt limit
+NeverFits-from_none Md5crypt limit len is above none = above
+NeverFits-from_none (Shacrypt Sha256 rounds) limit len is above none = λ other range. elim (cases_lt limit
     (shacrypt_bytes 32 255 (clamped (fitting 32 limit len)) len 16)) [
-      | inl more ↦ never_fits 32 limit len other.count (omega (arith, range.0)) more
+      | inl more ↦ above_limit-from_fitting_above 32 limit len other.count (omega (arith, range.0)) more
       | inr less ↦
           let test : nat_le (shacrypt_bytes 32 255 (clamped (fitting 32 limit len)) len 16) limit ≡ true = grind (arith, nat_tests, less) in
           absurd (cc (rw test at none))
     ]
-none_fits (Shacrypt Sha512 rounds) limit len is above none = λ other range. elim (cases_lt limit
+NeverFits-from_none (Shacrypt Sha512 rounds) limit len is above none = λ other range. elim (cases_lt limit
     (shacrypt_bytes 64 255 (clamped (fitting 64 limit len)) len 16)) [
-      | inl more ↦ never_fits 64 limit len other.count (omega (arith, range.0)) more
+      | inl more ↦ above_limit-from_fitting_above 64 limit len other.count (omega (arith, range.0)) more
       | inr less ↦
           let test : nat_le (shacrypt_bytes 64 255 (clamped (fitting 64 limit len)) len 16) limit ≡ true = grind (arith, nat_tests, less) in
           absurd (cc (rw test at none))
     ]
-none_fits (Scrypt params) limit len is above none = above
+NeverFits-from_none (Scrypt params) limit len is above none = above
 
 -- ---- a policy's own limit
 
 -- SHA-crypt with 1000 rounds costs no more than the least limit of a policy.
-fewest_within : (digest len : ℕ) → digest ≤ 64 → len ≤ 1024 → shacrypt_bytes digest 255 1000 len 16 ≤ limit_floor
-fewest_within digest len small short =
-    let digits : digit_bytes digest len len ≤ 11 * 1024 = at_most_k 11 digest len 1024 len (omega (arith, small)) short (omega (arith, short)) in
+fewest_rounds-le-limit_floor : (digest len : ℕ) → digest ≤ 64 → len ≤ 1024 → shacrypt_bytes digest 255 1000 len 16 ≤ limit_floor
+fewest_rounds-le-limit_floor digest len small short =
+    let digits : digit_bytes digest len len ≤ 11 * 1024 = digit_bytes-le-mul_of_below_pow 11 digest len 1024 len (omega (arith, small)) short (omega (arith, short)) in
     let square : len * len ≤ 1024 * 1024 = mul-le-mul short short in
     omega (arith, digits, square, small, short)
 
-floored : (scheme : Scheme) → limit_floor ≤ policy_limit scheme
-floored scheme = grind arith
+limit_floor-le-policy_limit : (scheme : Scheme) → limit_floor ≤ policy_limit scheme
+limit_floor-le-policy_limit scheme = grind arith
 
 abbrev fewest : Rounds
 fewest = record { count = 1000; is_written = true }
 
 -- A policy's limit leaves some scheme for every password.
-policy_never_above : (scheme : Scheme) (limit len : ℕ) → len ≤ 1024 → policy_limit scheme ≤ limit → NeverFits scheme limit len → ⊥
-policy_never_above Md5crypt limit len short least never =
-    let digits : digit_bytes 1 1 len ≤ 11 * 1 = at_most_k 11 1 1 1 len (omega arith) (omega arith) (omega (arith, short)) in
-    let floor = floored Md5crypt in
+policy_limit-not-NeverFits : (scheme : Scheme) (limit len : ℕ) → len ≤ 1024 → policy_limit scheme ≤ limit → NeverFits scheme limit len → ⊥
+policy_limit-not-NeverFits Md5crypt limit len short least never =
+    let digits : digit_bytes 1 1 len ≤ 11 * 1 = digit_bytes-le-mul_of_below_pow 11 1 1 1 len (omega arith) (omega arith) (omega (arith, short)) in
+    let floor = limit_floor-le-policy_limit Md5crypt in
     absurd (omega (arith, digits, never, least, short, floor))
-policy_never_above (Shacrypt Sha256 rounds) limit len short least never =
+policy_limit-not-NeverFits (Shacrypt Sha256 rounds) limit len short least never =
     let more = never fewest (refl, λ is. absurd (cc is)) in
-    let less = fewest_within 32 len (omega arith) short in
-    let floor = floored (Shacrypt Sha256 rounds) in
+    let less = fewest_rounds-le-limit_floor 32 len (omega arith) short in
+    let floor = limit_floor-le-policy_limit (Shacrypt Sha256 rounds) in
     absurd (omega (arith, more, less, least, floor))
-policy_never_above (Shacrypt Sha512 rounds) limit len short least never =
+policy_limit-not-NeverFits (Shacrypt Sha512 rounds) limit len short least never =
     let more = never fewest (refl, λ is. absurd (cc is)) in
-    let less = fewest_within 64 len (omega arith) short in
-    let floor = floored (Shacrypt Sha512 rounds) in
+    let less = fewest_rounds-le-limit_floor 64 len (omega arith) short in
+    let floor = limit_floor-le-policy_limit (Shacrypt Sha512 rounds) in
     absurd (omega (arith, more, less, least, floor))
-policy_never_above (Scrypt params) limit len short least never =
+policy_limit-not-NeverFits (Scrypt params) limit len short least never =
     let digest : key_digests len ≤ 1 = grind (arith, nat_tests) in
     let key : key_digests len * len ≤ 1 * 1024 = mul-le-mul digest short in
     let twice : 2 * new_cost (Scrypt params) 64 ≤ policy_limit (Scrypt params) = grind arith in
     absurd (omega (arith, key, never, least, twice))
 
 -- So with that limit the fitting rounds are within it.
-pub policy_fits : (scheme : Scheme) (limit len : ℕ) → IsScheme scheme → limit < new_cost scheme len → len ≤ 1024 → policy_limit scheme ≤ limit
+pub IsSome-fewer_rounds : (scheme : Scheme) (limit len : ℕ) → IsScheme scheme → limit < new_cost scheme len → len ≤ 1024 → policy_limit scheme ≤ limit
     → IsSome (fewer_rounds scheme limit len)
-policy_fits scheme limit len is above short least = go (fewer_rounds scheme limit len) refl where
+IsSome-fewer_rounds scheme limit len is above short least = go (fewer_rounds scheme limit len) refl where
   go : (fewer : Option Scheme) → fewer_rounds scheme limit len ≡ fewer → IsSome fewer
   go (Some fewer) e = refl
-  go None e = absurd (policy_never_above scheme limit len short least (none_fits scheme limit len is above e))
+  go None e = absurd (policy_limit-not-NeverFits scheme limit len short least (NeverFits-from_none scheme limit len is above e))
 
 -- `fewer_rounds` returns none only if no rounds fit.
-pub none_then : (scheme : Scheme) (limit len : ℕ) → IsScheme scheme → limit < new_cost scheme len
+pub IfNone-fewer_rounds : (scheme : Scheme) (limit len : ℕ) → IsScheme scheme → limit < new_cost scheme len
     → IfNone (fewer_rounds scheme limit len) (NeverFits scheme limit len)
-none_then scheme limit len is above = go (fewer_rounds scheme limit len) refl where
+IfNone-fewer_rounds scheme limit len is above = go (fewer_rounds scheme limit len) refl where
   go : (fewer : Option Scheme) → fewer_rounds scheme limit len ≡ fewer → IfNone fewer (NeverFits scheme limit len)
   go (Some fewer) e = tt
-  go None e = none_fits scheme limit len is above e
+  go None e = NeverFits-from_none scheme limit len is above e

@@ -1,7 +1,7 @@
 -- Serves `is_packed` in src/pack.rt, which decides by the last character whether characters spell a number of k bytes.
--- `number_of` reads characters as a number in base 64, and `bytes_of` writes a number in base 256. `fits_bytes` joins
--- the two: the last character holds the highest bits of the number, so k + 1 characters spell a number below 256^k
--- exactly if that character's value is below 4^k.
+-- `number-from_characters` reads characters as a number in base 64, and `bytes_of` writes a number in base 256.
+-- `number_below-iff-last_value_below` joins the two: the last character holds the highest bits of the number, so k + 1
+-- characters spell a number below 256^k exactly if that character's value is below 4^k.
 use Rattle.std.proofs.Common.{◌≡◌, ◌↔◌, ℕ, zero, suc, ◌+◌, ◌*◌, ◌/◌, ◌%◌, ◌^◌, ◌<◌, ◌≤◌, inl, inr, List, [], ◌∷◌, ◌++◌, length, get_or, arith, refl, ap, ◌∙◌}
 use Rattle.std.specs.Prelude.{All, Contains, fold, slice_index}
 use Rattle.std.proofs.Math.Nat.{mul-le-mul_left, pow-suc}
@@ -17,11 +17,11 @@ use Rattle.prims_core.proofs.NumeralFacts.{mul-add-lt_pow, numerals-mul-add, num
 -- ---- the characters of a number
 
 -- Characters of the alphabet are the numerals of some number.
-pub number_of : (text : List ℕ) → All (Contains alphabet) text → (n : ℕ) × (n < 64 ^ length text) × (numerals (length text) n ≡ text)
-number_of [] all = (0, omega arith, numerals-zero 0)
-number_of (c ∷ text) all =
+pub number-from_characters : (text : List ℕ) → All (Contains alphabet) text → (n : ℕ) × (n < 64 ^ length text) × (numerals (length text) n ≡ text)
+number-from_characters [] all = (0, omega arith, numerals-zero 0)
+number-from_characters (c ∷ text) all =
     let found = value-from_Contains c (All-head (Contains alphabet) c text all) in
-    let rest = number_of text (All-tail (Contains alphabet) c text all) in
+    let rest = number-from_characters text (All-tail (Contains alphabet) c text all) in
     let one : suc (length text) ≡ length text + 1 = omega arith in (
       rest.0 * 64 + found.0,
       rw one (mul-add-lt_pow (length text) rest.0 found.0 rest.1 found.1),
@@ -29,21 +29,21 @@ number_of (c ∷ text) all =
     )
 
 -- Takes one factor out of a product.
-factor_out : (power more base v : ℕ) → more ≡ power * base → more * v ≡ base * (power * v)
-factor_out power more base v is = rw is (grind arith)
+mul-factor_out : (power more base v : ℕ) → more ≡ power * base → more * v ≡ base * (power * v)
+mul-factor_out power more base v is = rw is (grind arith)
 
 -- The last numeral is the character of the highest bits.
-highest : (k n : ℕ) → n < 64 ^ (k + 1)
+numerals-last : (k n : ℕ) → n < 64 ^ (k + 1)
     → (v : ℕ) × (v < 64) × (64 ^ k * v ≤ n) × (n < 64 ^ k * (v + 1)) × (get_or (numerals (k + 1) n) k 0 ≡ character_of v)
-highest zero n small =
+numerals-last zero n small =
     (n, omega arith, omega arith, omega arith, ap (λ (cs : List ℕ). get_or cs 0 0) (numerals-add_one 1 0 n refl) ∙ ap character_of (omega arith))
-highest (suc k) n small =
+numerals-last (suc k) n small =
     let power : 64 ^ suc k ≡ 64 ^ k * 64 = pow-suc 64 k in
     let next : suc k + 1 ≡ suc (k + 1) = omega arith in
     let more : 64 ^ (suc k + 1) ≡ 64 ^ (k + 1) * 64 = rw next (pow-suc 64 (k + 1)) in
-    let rest = highest k (n / 64) (omega arith) in
-    let from = factor_out (64 ^ k) (64 ^ suc k) 64 rest.0 power in
-    let to = factor_out (64 ^ k) (64 ^ suc k) 64 (rest.0 + 1) power in (
+    let rest = numerals-last k (n / 64) (omega arith) in
+    let from = mul-factor_out (64 ^ k) (64 ^ suc k) 64 rest.0 power in
+    let to = mul-factor_out (64 ^ k) (64 ^ suc k) 64 (rest.0 + 1) power in (
       rest.0,
       rest.1,
       omega (arith, from, rest.2),
@@ -52,10 +52,10 @@ highest (suc k) n small =
     )
 
 -- A number of k + 1 characters has k bytes exactly if the value of its last character is below 4 ^ k.
-pub fits_bytes : (k n : ℕ) → n < 64 ^ (k + 1)
+pub number_below-iff-last_value_below : (k n : ℕ) → n < 64 ^ (k + 1)
     → (v : ℕ) × (v < 64) × (n < 256 ^ k ↔ v < 4 ^ k) × (get_or (numerals (k + 1) n) k 0 ≡ character_of v)
-fits_bytes k n small =
-    let top = highest k n small in
+number_below-iff-last_value_below k n small =
+    let top = numerals-last k n small in
     let power : 256 ^ k ≡ 64 ^ k * 4 ^ k = mul-pow 64 4 k in
     let below : n < 256 ^ k → top.0 < 4 ^ k = λ less.
     elim (cases_lt top.0 (4 ^ k)) [
@@ -96,7 +96,7 @@ joined-bytes_of (suc k) n small =
     ∙ ap (λ m. m * 256 + n % 256) (joined-bytes_of k (n / 256) (omega arith)) ∙ omega arith
 
 -- Indexing a list of bytes gives a byte, also beyond its end.
-pub byte_in_list : (xs : List ℕ) (i : ℕ) → All (λ b. b < 256) xs → slice_index xs i < 256
-byte_in_list [] i all = omega arith
-byte_in_list (x ∷ xs) zero all = All-head (λ b. b < 256) x xs all
-byte_in_list (x ∷ xs) (suc i) all = byte_in_list xs i (All-tail (λ b. b < 256) x xs all)
+pub slice_index-below_256 : (xs : List ℕ) (i : ℕ) → All (λ b. b < 256) xs → slice_index xs i < 256
+slice_index-below_256 [] i all = omega arith
+slice_index-below_256 (x ∷ xs) zero all = All-head (λ b. b < 256) x xs all
+slice_index-below_256 (x ∷ xs) (suc i) all = slice_index-below_256 xs i (All-tail (λ b. b < 256) x xs all)

@@ -11,26 +11,26 @@ use Rattle.crypt_core.specs.Settings.{SettingValue, Spells, IsSettingByte, canon
 use Rattle.crypt_core.specs.Schemes.{method_of}
 use Rattle.crypt_core.specs.MethodLimits.{packed_len}
 use Rattle.crypt_core.proofs.CanonicalSpells.{canonical_spells_before}
-use Rattle.crypt_core.proofs.CanonicalSpells.{character_is_byte}
+use Rattle.crypt_core.proofs.CanonicalSpells.{IsSettingByte-character}
 use Rattle.std.proofs.lemmas.List.{length-append}
-use Rattle.crypt_core.proofs.PackingLemmas.{all_packed, length-packed_text, packed_len-small}
+use Rattle.crypt_core.proofs.PackingLemmas.{in_alphabet-packed, length-packed, packed_len-le}
 
-no_dollar : All (λ b. b ≢ dollar) (codes ":;*!\\")
-no_dollar = All-from_recursion (λ b. b ≢ dollar) (codes ":;*!\\") (λ e. omega arith, (λ e. omega arith, (λ e. omega arith, (λ e. omega arith, (λ e. omega arith, tt)))))
+excluded_bytes_not_dollar : All (λ b. b ≢ dollar) (codes ":;*!\\")
+excluded_bytes_not_dollar = All-from_recursion (λ b. b ≢ dollar) (codes ":;*!\\") (λ e. omega arith, (λ e. omega arith, (λ e. omega arith, (λ e. omega arith, (λ e. omega arith, tt)))))
 
-dollar_is_byte : IsSettingByte dollar
-dollar_is_byte = (omega arith, omega arith, λ inside. All-contains (λ b. b ≢ dollar) (codes ":;*!\\") dollar no_dollar inside refl)
+IsSettingByte-dollar : IsSettingByte dollar
+IsSettingByte-dollar = (omega arith, omega arith, λ inside. All-contains (λ b. b ≢ dollar) (codes ":;*!\\") dollar excluded_bytes_not_dollar inside refl)
 
 pub hashed_spells : (kept : SettingValue) (digest : List ℕ) → Spells (canonical_text kept) kept
     → Spells (canonical_text kept ++ dollar ∷ packed (method_of kept.scheme) digest) kept
 hashed_spells kept digest spelled =
     let text = packed (method_of kept.scheme) digest in
-    let bytes = All-weaker (Contains alphabet) IsSettingByte character_is_byte text (all_packed (method_of kept.scheme) digest) in
-    canonical_spells_before (canonical_text kept) kept (dollar ∷ text) spelled refl (All-cons IsSettingByte dollar text dollar_is_byte bytes)
-    (omega (arith, length-packed_text (method_of kept.scheme) digest, packed_len-small (method_of kept.scheme)))
+    let bytes = All-weaker (Contains alphabet) IsSettingByte IsSettingByte-character text (in_alphabet-packed (method_of kept.scheme) digest) in
+    canonical_spells_before (canonical_text kept) kept (dollar ∷ text) spelled refl (All-cons IsSettingByte dollar text IsSettingByte-dollar bytes)
+    (omega (arith, length-packed (method_of kept.scheme) digest, packed_len-le (method_of kept.scheme)))
 
 pub length-crypt : (password : List ℕ) (kept : SettingValue) → length (crypt password kept) ≡ length (canonical_text kept) + 1 + packed_len (method_of kept.scheme)
 unfolding crypt
 length-crypt password kept =
     let digest = digest_by kept.scheme password kept.salt in
-    omega (arith, length-append (canonical_text kept) (dollar ∷ packed (method_of kept.scheme) digest), length-packed_text (method_of kept.scheme) digest)
+    omega (arith, length-append (canonical_text kept) (dollar ∷ packed (method_of kept.scheme) digest), length-packed (method_of kept.scheme) digest)

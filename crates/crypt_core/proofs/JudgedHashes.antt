@@ -7,13 +7,13 @@ use Rattle.crypt_core.specs.Settings.{SettingValue, Spells}
 use Rattle.crypt_core.specs.declared.finding.Finding.{Finding}
 use Rattle.crypt_core.specs.declared.scheme.Scheme.{Scheme}
 
-pub found : (new : Scheme) (budget : ℕ) (field : List ℕ) (kept : SettingValue) (finding : Finding) → Spells field kept
+pub Finds-from_JudgesHash : (new : Scheme) (budget : ℕ) (field : List ℕ) (kept : SettingValue) (finding : Finding) → Spells field kept
     → JudgesHash new budget field kept finding → Finds new budget field finding
-found new budget field kept finding spells (standing, has, is) = subst (Finds new budget field) (sym is) (kept, spells, refl, refl, has)
+Finds-from_JudgesHash new budget field kept finding spells (standing, has, is) = subst (Finds new budget field) (sym is) (kept, spells, refl, refl, has)
 
-pub judged : (new : Scheme) (budget : ℕ) (field : List ℕ) (read kept : SettingValue) (finding : Finding) → IsReadOneWay field
+pub JudgesHash-any_spelled : (new : Scheme) (budget : ℕ) (field : List ℕ) (read kept : SettingValue) (finding : Finding) → IsReadOneWay field
     → Spells field read → JudgesHash new budget field read finding → Spells field kept → JudgesHash new budget field kept finding
 unfolding IsReadOneWay
-judged new budget field read kept finding one spells judges other =
+JudgesHash-any_spelled new budget field read kept finding one spells judges other =
     let same : read ≡ kept = cc (one (Ok read) (Ok kept) spells other) in
     subst (λ (setting : SettingValue). JudgesHash new budget field setting finding) same judges

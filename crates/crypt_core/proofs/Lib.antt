@@ -4,9 +4,9 @@ pub mod CostGrowth
 pub mod CountSums
 pub mod CycleLemmas
 pub mod DecimalDigits
-pub mod DistinctNumerals
 pub mod DollarFields
 pub mod EachMethod
+pub mod EmptyPasswordCost
 pub mod FirstBroken
 pub mod FirstRefusal
 pub mod FittedRounds
@@ -18,14 +18,14 @@ pub mod MadeSettings
 pub mod Md5cryptLemmas
 pub mod MessageLists
 pub mod OneSetting
-pub mod OwnLimits
 pub mod PackedTexts
 pub mod PackingLemmas
 pub mod ParsedParts
 pub mod Refusals
-pub mod RoundsTexts
 pub mod SameBytes
+pub mod ScryptPartFacts
 pub mod ShaCryptLemmas
+pub mod SpelledRounds
 pub mod StrippedPrefix
 pub mod Unpacking
 pub mod WholeHashes

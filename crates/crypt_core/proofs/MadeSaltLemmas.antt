@@ -22,14 +22,14 @@ pub made_salt-more : (numbers : List ℕ) (n : ℕ) → made_salt numbers (n + 1
 unfolding made_salt
 made_salt-more numbers n = map-range_with_len_more (made_character numbers) 0 n n (omega arith)
 
-pub all_made_salt : (numbers : List ℕ) (n : ℕ) → All (Contains alphabet) (made_salt numbers n)
+pub in_alphabet-made_salt : (numbers : List ℕ) (n : ℕ) → All (Contains alphabet) (made_salt numbers n)
 unfolding made_salt
-all_made_salt numbers n = All-map (Contains alphabet) (made_character numbers) (range_with_len 0 n) (λ k d h. Contains-character_of _ _ (omega arith) refl)
+in_alphabet-made_salt numbers n = All-map (Contains alphabet) (made_character numbers) (range_with_len 0 n) (λ k d h. Contains-character_of _ _ (omega arith) refl)
 
 pub length-made_salt : (numbers : List ℕ) (n : ℕ) → length (made_salt numbers n) ≡ n
 unfolding made_salt
 length-made_salt numbers n = length-map-range_with_len (made_character numbers) 0 n
 
 -- Every method keeps as many characters as its generated salt has.
-pub made_short : (m : Method) → made_salt_length m ≤ salt_limit m
-made_short m = leb-true _ _ (each_method (λ n. nat_le (made_salt_length n) (salt_limit n)) refl m)
+pub made_salt_length-le-salt_limit : (m : Method) → made_salt_length m ≤ salt_limit m
+made_salt_length-le-salt_limit m = leb-true _ _ (each_method (λ n. nat_le (made_salt_length n) (salt_limit n)) refl m)

@@ -22,22 +22,22 @@ use Rattle.crypt_core.specs.MadeSettings.{made_scheme, TakesRounds, BreaksMake, 
 use Rattle.crypt_core.specs.Private.Parts.{HasNumerals, TakesSalt}
 use Rattle.crypt_core.specs.Schemes.{IsScheme, method_of}
 use Rattle.crypt_core.specs.Settings.{SettingValue, IsSettingByte, dollar, BeginsWith, rounds_word, SpellsCost, KeepsSalt, cost_part, canonical_text}
-use Rattle.crypt_core.proofs.CanonicalSpells.{character_is_byte, IsSetting, not_dollar, not_equals, rounds_spelled, spelled_parts}
-use Rattle.crypt_core.proofs.DollarFields.{ended_by}
+use Rattle.crypt_core.proofs.CanonicalSpells.{IsSettingByte-character, IsSetting, character_not_dollar, character_not_equals_sign, SpellsRounds-cost_part, Spells-from_parts}
+use Rattle.crypt_core.proofs.DollarFields.{end_of_field-cases}
 use Rattle.crypt_core.proofs.FirstBroken.{first_breaks, first_unique}
 
 -- ---- the cost part
 
 -- No salt of alphabet characters begins with `rounds=`.
-no_rounds : (salt : List ℕ) → All (Contains alphabet) salt → BeginsWith (salt ++ []) rounds_word → ⊥
-no_rounds salt all (more, e) =
+salt-not-begins_with_rounds : (salt : List ℕ) → All (Contains alphabet) salt → BeginsWith (salt ++ []) rounds_word → ⊥
+salt-not-begins_with_rounds salt all (more, e) =
     let begins : salt ≡ rounds_word ++ more = sym (append-nil salt) ∙ e in
     let long : 6 < length salt = omega (arith, ap length begins) in
-    not_equals (get_or salt 6 0) (All-get_or (Contains alphabet) salt 6 0 long all) (ap (λ (xs : List ℕ). get_or xs 6 0) begins)
+    character_not_equals_sign (get_or salt 6 0) (All-get_or (Contains alphabet) salt 6 0 long all) (ap (λ (xs : List ℕ). get_or xs 6 0) begins)
 
 -- The numbers of accepted parameters fit the characters of the cost part.
-pub accepted_numerals : (params : ScryptParams) → IsAccepted params → HasNumerals params
-accepted_numerals params accepted =
+pub HasNumerals-from_IsAccepted : (params : ScryptParams) → IsAccepted params → HasNumerals params
+HasNumerals-from_IsAccepted params accepted =
     let n = row_count params in
     let some_n : 1 ≤ n = let above : 0 ≤ params.log_n = omega arith in let mono : 2 ^ 0 ≤ 2 ^ params.log_n = pow_mono above in omega (arith, mono) in
     let some_nr : 0 < n * params.r = one-le-mul some_n accepted.0.2 in
@@ -49,40 +49,40 @@ accepted_numerals params accepted =
     let low : params.log_n < 24 = lt_of_not-le (λ high. let power : 2 ^ 24 ≤ n = pow_mono high in omega arith) in
     (omega (arith, low), omega (arith, blocks, table, within), omega (arith, parts, within))
 
-cost_spelled : (scheme : Scheme) (salt : List ℕ) → IsScheme scheme → All (Contains alphabet) salt → SpellsCost scheme (cost_part scheme) (salt ++ [])
-cost_spelled Md5crypt salt c all = refl
-cost_spelled (Shacrypt sha r) salt c all = rounds_spelled sha r.count r.is_written (salt ++ []) c (λ flag. no_rounds salt all)
-cost_spelled (Scrypt n) salt c all = let says = accepted_numerals n c in (refl, says.0, says.1, says.2)
+SpellsCost-cost_part : (scheme : Scheme) (salt : List ℕ) → IsScheme scheme → All (Contains alphabet) salt → SpellsCost scheme (cost_part scheme) (salt ++ [])
+SpellsCost-cost_part Md5crypt salt c all = refl
+SpellsCost-cost_part (Shacrypt sha r) salt c all = SpellsRounds-cost_part sha r.count r.is_written (salt ++ []) c (λ flag. salt-not-begins_with_rounds salt all)
+SpellsCost-cost_part (Scrypt n) salt c all = let says = HasNumerals-from_IsAccepted n c in (refl, says.0, says.1, says.2)
 
-salt_kept : (scheme : Scheme) (salt : List ℕ) → IsScheme scheme → length salt ≤ salt_limit (method_of scheme) → All (Contains alphabet) salt → KeepsSalt scheme salt salt
-salt_kept (Scrypt n) salt c short all = (c, refl, (short, all))
-salt_kept scheme salt c short all = sym (take_all (salt_limit (method_of scheme)) salt short)
+KeepsSalt-whole : (scheme : Scheme) (salt : List ℕ) → IsScheme scheme → length salt ≤ salt_limit (method_of scheme) → All (Contains alphabet) salt → KeepsSalt scheme salt salt
+KeepsSalt-whole (Scrypt n) salt c short all = (c, refl, (short, all))
+KeepsSalt-whole scheme salt c short all = sym (take_all (salt_limit (method_of scheme)) salt short)
 
-pub spelled : (scheme : Scheme) (salt : List ℕ) → IsScheme scheme → length salt ≤ salt_limit (method_of scheme) → All (Contains alphabet) salt → IsSetting (record { scheme = scheme; salt = salt })
-spelled scheme salt c short all =
+pub IsSetting-from_parts : (scheme : Scheme) (salt : List ℕ) → IsScheme scheme → length salt ≤ salt_limit (method_of scheme) → All (Contains alphabet) salt → IsSetting (record { scheme = scheme; salt = salt })
+IsSetting-from_parts scheme salt c short all =
     let kept : SettingValue = record { scheme = scheme; salt = salt } in (
       canonical_text kept ++ [],
-      spelled_parts kept [] c short (All-weaker (Contains alphabet) IsSettingByte character_is_byte salt all)
-          (All-weaker (Contains alphabet) (λ b. b ≢ dollar) not_dollar salt all, ended_by [] tt) (cost_spelled scheme salt c all) (salt_kept scheme salt c short all)
+      Spells-from_parts kept [] c short (All-weaker (Contains alphabet) IsSettingByte IsSettingByte-character salt all)
+          (All-weaker (Contains alphabet) (λ b. b ≢ dollar) character_not_dollar salt all, end_of_field-cases [] tt) (SpellsCost-cost_part scheme salt c all) (KeepsSalt-whole scheme salt c short all)
           (All-nil IsSettingByte) (omega arith),
     )
 
 -- The same for a salt that the method accepts, kept whole.
-pub given : (scheme : Scheme) (kept salt : List ℕ) → IsScheme scheme → TakesSalt (method_of scheme) salt → kept ≡ salt → IsSetting (record { scheme = scheme; salt = kept })
-given scheme kept salt c takes is =
-    subst (λ (xs : List ℕ). IsSetting (record { scheme = scheme; salt = xs })) (sym is) (spelled scheme salt c takes.short takes.characters)
+pub IsSetting-given_salt : (scheme : Scheme) (kept salt : List ℕ) → IsScheme scheme → TakesSalt (method_of scheme) salt → kept ≡ salt → IsSetting (record { scheme = scheme; salt = kept })
+IsSetting-given_salt scheme kept salt c takes is =
+    subst (λ (xs : List ℕ). IsSetting (record { scheme = scheme; salt = xs })) (sym is) (IsSetting-from_parts scheme salt c takes.short takes.characters)
 
 -- ---- what is made
 
-pub accepted_at : (rounds : ℕ) → rounds ≤ 11 → IsAccepted (record { log_n = rounds + 7; r = 32; p = 1 })
-accepted_at rounds high =
+pub IsAccepted-made_params : (rounds : ℕ) → rounds ≤ 11 → IsAccepted (record { log_n = rounds + 7; r = 32; p = 1 })
+IsAccepted-made_params rounds high =
     let log_high : rounds + 7 ≤ 11 + 7 = omega arith in
     let power : 2 ^ (rounds + 7) ≤ 2 ^ (11 + 7) = pow_mono log_high in
     ((omega arith, omega arith, omega arith, omega arith), omega (arith, power))
 
-pub made_method : (m : Method) (rounds : ℕ) → method_of (made_scheme m rounds) ≡ m
-made_method methods.Md5crypt rounds = refl
-made_method m rounds = refl
+pub method_of-made_scheme : (m : Method) (rounds : ℕ) → method_of (made_scheme m rounds) ≡ m
+method_of-made_scheme methods.Md5crypt rounds = refl
+method_of-made_scheme m rounds = refl
 
 -- ---- errors
 
@@ -91,30 +91,30 @@ pub make_refused_length : (m : Method) (rounds : ℕ) (salt : List ℕ) → (len
 unfolding IsMakeRefused
 make_refused_length m rounds salt bad = inl (refl, bad)
 
-right_length : (m : Method) (salt : List ℕ) → 0 < length salt → length salt ≤ salt_limit m → (length salt ≡ 0) ⊎ (salt_limit m < length salt) → ⊥
-right_length m salt some short (inl none) = omega arith
-right_length m salt some short (inr long) = omega (arith, short, long)
+salt_length-breaks_no_rule : (m : Method) (salt : List ℕ) → 0 < length salt → length salt ≤ salt_limit m → (length salt ≡ 0) ⊎ (salt_limit m < length salt) → ⊥
+salt_length-breaks_no_rule m salt some short (inl none) = omega arith
+salt_length-breaks_no_rule m salt some short (inr long) = omega (arith, short, long)
 
 -- A salt of the right length with another character gives `SaltCharacter`.
 pub make_refused_character : (m : Method) (rounds : ℕ) (salt : List ℕ) → 0 < length salt → length salt ≤ salt_limit m → (All (Contains alphabet) salt → ⊥) → IsMakeRefused m rounds (Some salt) SaltCharacter
 unfolding IsMakeRefused
-make_refused_character m rounds salt some short bad = inr (right_length m salt some short, inl (refl, bad))
+make_refused_character m rounds salt some short bad = inr (salt_length-breaks_no_rule m salt some short, inl (refl, bad))
 
 -- If the salt is fine, rounds that the method doesn't accept give `Cost`.
 pub make_refused_cost : (m : Method) (rounds : ℕ) (salt : List ℕ) → TakesSalt m salt → (TakesRounds m rounds → ⊥) → IsMakeRefused m rounds (Some salt) Cost
 unfolding IsMakeRefused
-make_refused_cost m rounds salt h bad = inr (right_length m salt h.some h.short, inr (λ b. b h.characters, inl (refl, bad)))
+make_refused_cost m rounds salt h bad = inr (salt_length-breaks_no_rule m salt h.some h.short, inr (λ b. b h.characters, inl (refl, bad)))
 
 -- A salt and rounds that the method accepts break no rule.
-pub taken : (m : Method) (rounds : ℕ) (salt : List ℕ) → TakesSalt m salt → TakesRounds m rounds → (f : MakeFault) → ¬ BreaksMake m rounds (Some salt) f
-taken m rounds salt h takes SaltLength = right_length m salt h.some h.short
-taken m rounds salt h takes SaltCharacter = λ b. b h.characters
-taken m rounds salt h takes Cost = λ b. b takes
+pub not-BreaksMake : (m : Method) (rounds : ℕ) (salt : List ℕ) → TakesSalt m salt → TakesRounds m rounds → (f : MakeFault) → ¬ BreaksMake m rounds (Some salt) f
+not-BreaksMake m rounds salt h takes SaltLength = salt_length-breaks_no_rule m salt h.some h.short
+not-BreaksMake m rounds salt h takes SaltCharacter = λ b. b h.characters
+not-BreaksMake m rounds salt h takes Cost = λ b. b takes
 
 -- An error means that some rule is broken.
-pub refused_breaks : (m : Method) (rounds : ℕ) (given : Option (List ℕ)) (fault : MakeFault) → IsMakeRefused m rounds given fault → ((f : MakeFault) → ¬ BreaksMake m rounds given f) → ⊥
+pub IsMakeRefused-breaks_some : (m : Method) (rounds : ℕ) (given : Option (List ℕ)) (fault : MakeFault) → IsMakeRefused m rounds given fault → ((f : MakeFault) → ¬ BreaksMake m rounds given f) → ⊥
 unfolding IsMakeRefused
-refused_breaks m rounds given fault refused none = none fault (first_breaks make_faults (BreaksMake m rounds given) fault refused)
+IsMakeRefused-breaks_some m rounds given fault refused none = none fault (first_breaks make_faults (BreaksMake m rounds given) fault refused)
 
 -- There is at most one error.
 pub make_refusal_unique : (m : Method) (rounds : ℕ) (given : Option (List ℕ)) (f g : MakeFault) → IsMakeRefused m rounds given f → IsMakeRefused m rounds given g → f ≡ g
@@ -122,15 +122,15 @@ unfolding IsMakeRefused
 make_refusal_unique m rounds given f g rf rg = first_unique make_faults (BreaksMake m rounds given) f g rf rg
 
 -- So a result that satisfies the two clauses determines the error.
-pub only_make_refusal : {T : Type 0} (m : Method) (rounds : ℕ) (given : Option (List ℕ)) (r : Result T MakeFault) → OnOk r ((f : MakeFault) → ¬ BreaksMake m rounds given f) → IfErr r (IsMakeRefused m rounds given) → (fault : MakeFault) → IsMakeRefused m rounds given fault → r ≡ Err fault
-only_make_refusal m rounds given (Ok x) ok err fault refused = absurd (refused_breaks m rounds given fault refused ok)
-only_make_refusal m rounds given (Err f) ok err fault refused = ap (λ (g : MakeFault). Err g) (make_refusal_unique m rounds given f fault err refused)
+pub Err-from_IsMakeRefused : {T : Type 0} (m : Method) (rounds : ℕ) (given : Option (List ℕ)) (r : Result T MakeFault) → OnOk r ((f : MakeFault) → ¬ BreaksMake m rounds given f) → IfErr r (IsMakeRefused m rounds given) → (fault : MakeFault) → IsMakeRefused m rounds given fault → r ≡ Err fault
+Err-from_IsMakeRefused m rounds given (Ok x) ok err fault refused = absurd (IsMakeRefused-breaks_some m rounds given fault refused ok)
+Err-from_IsMakeRefused m rounds given (Err f) ok err fault refused = ap (λ (g : MakeFault). Err g) (make_refusal_unique m rounds given f fault err refused)
 
 -- A result is Ok exactly if no rule is broken.
-pub accepted : {T : Type 0} (m : Method) (rounds : ℕ) (given : Option (List ℕ)) (r : Result T MakeFault) → OnOk r ((f : MakeFault) → ¬ BreaksMake m rounds given f) → IfErr r (IsMakeRefused m rounds given) → IsOk r ↔ ((f : MakeFault) → ¬ BreaksMake m rounds given f)
-accepted m rounds given (Ok x) ok err = (λ e. ok, λ none. refl)
-accepted m rounds given (Err f) ok err = (λ e. absurd (cc e), λ none. absurd (refused_breaks m rounds given f err none))
+pub IsOk-iff_no_broken_rule : {T : Type 0} (m : Method) (rounds : ℕ) (given : Option (List ℕ)) (r : Result T MakeFault) → OnOk r ((f : MakeFault) → ¬ BreaksMake m rounds given f) → IfErr r (IsMakeRefused m rounds given) → IsOk r ↔ ((f : MakeFault) → ¬ BreaksMake m rounds given f)
+IsOk-iff_no_broken_rule m rounds given (Ok x) ok err = (λ e. ok, λ none. refl)
+IsOk-iff_no_broken_rule m rounds given (Err f) ok err = (λ e. absurd (cc e), λ none. absurd (IsMakeRefused-breaks_some m rounds given f err none))
 
-pub not_accepted : (m : Method) (rounds : ℕ) (given : Option (List ℕ)) (fault : MakeFault) → IsMakeRefused m rounds given fault
+pub false-iff_no_broken_rule : (m : Method) (rounds : ℕ) (given : Option (List ℕ)) (fault : MakeFault) → IsMakeRefused m rounds given fault
     → (false ≡ true → (f : MakeFault) → ¬ BreaksMake m rounds given f) × (((f : MakeFault) → ¬ BreaksMake m rounds given f) → false ≡ true)
-not_accepted m rounds given fault refused = (λ e. absurd (cc e), λ none. absurd (refused_breaks m rounds given fault refused none))
+false-iff_no_broken_rule m rounds given fault refused = (λ e. absurd (cc e), λ none. absurd (IsMakeRefused-breaks_some m rounds given fault refused none))

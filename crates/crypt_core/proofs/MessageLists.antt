@@ -15,21 +15,21 @@ use Rattle.crypt_core.specs.RoundMessage.{alternate_message, digest_after, round
 unfoldable pub messages_to : (ℕ → List ℕ) → ℕ → List (List ℕ)
 messages_to message n = map message (range_with_len 0 n)
 
-pub messages-more : (message : ℕ → List ℕ) (n : ℕ) → messages_to message (n + 1) ≡ messages_to message n ++ message n ∷ []
+pub messages_to-more : (message : ℕ → List ℕ) (n : ℕ) → messages_to message (n + 1) ≡ messages_to message n ++ message n ∷ []
 unfolding messages_to
-messages-more message n = map-range_with_len_more message 0 n n (omega arith)
+messages_to-more message n = map-range_with_len_more message 0 n n (omega arith)
 
 pub length-messages_to : (message : ℕ → List ℕ) (n : ℕ) → length (messages_to message n) ≡ n
 unfolding messages_to
 length-messages_to message n = length-map-range_with_len message 0 n
 
-pub length-alternate : (p s : List ℕ) → length (alternate_message p s) ≡ 2 * length p + length s
-length-alternate p s = omega (arith, length-append (p ++ s) p, length-append p s)
+pub length-alternate_message : (p s : List ℕ) → length (alternate_message p s) ≡ 2 * length p + length s
+length-alternate_message p s = omega (arith, length-append (p ++ s) p, length-append p s)
 
 -- The digest before the rounds, and after one more round.
-pub digest_after-none : (h : List ℕ → List ℕ) (opening p q : List ℕ) → digest_after h opening p q 0 ≡ opening
+pub digest_after-zero : (h : List ℕ → List ℕ) (opening p q : List ℕ) → digest_after h opening p q 0 ≡ opening
 unfolding digest_after
-digest_after-none h opening p q = refl
+digest_after-zero h opening p q = refl
 
 pub digest_after-more : (h : List ℕ → List ℕ) (opening p q : List ℕ) (i : ℕ)
     → digest_after h opening p q (i + 1) ≡ h (round_message i (digest_after h opening p q i) p q)
@@ -68,8 +68,8 @@ abbrev pub round_limit : ℕ
 round_limit = 64 + 2 * password_limit + shacrypt_salt_limit
 
 -- A round's message has the digest and the password once, and may have the salt and the password again.
-pub round_length-small : (i x p q : ℕ) → round_length i x p q ≤ x + 2 * p + q
-round_length-small i x p q =
+pub round_length-le : (i x p q : ℕ) → round_length i x p q ≤ x + 2 * p + q
+round_length-le i x p q =
     omega (arith, skipped (nat_eq (i % 3) 0) q, skipped (nat_eq (i % 7) 0) p) where
       skipped : (skip : Bool) (part : ℕ) → cond skip 0 part ≤ part
       skipped true part = omega arith

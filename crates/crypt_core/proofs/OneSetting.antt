@@ -13,48 +13,48 @@ use Rattle.crypt_core.specs.MethodLimits.{prefix}
 use Rattle.crypt_core.specs.Settings.{SettingValue, scrypt_part, SpellsCost, KeepsSalt, SpellsScheme, Spells}
 use Rattle.crypt_core.specs.Schemes.{method_of, sha_method}
 use Rattle.crypt_core.proofs.EachMethod.{length-prefix}
-use Rattle.crypt_core.proofs.DollarFields.{field_unique, same_front}
-use Rattle.crypt_core.proofs.DistinctNumerals.{scrypt_part_unique}
-use Rattle.crypt_core.proofs.RoundsTexts.{rounds_unique}
+use Rattle.crypt_core.proofs.DollarFields.{field_unique, append-injective}
+use Rattle.crypt_core.proofs.ScryptPartFacts.{scrypt_part_unique}
+use Rattle.crypt_core.proofs.SpelledRounds.{rounds_unique}
 
 -- The second byte of a prefix identifies the method.
-marks_differ : (a b : Method) → get_or (prefix a) 1 0 ≡ get_or (prefix b) 1 0 → a ≡ b
-marks_differ methods.Md5crypt methods.Md5crypt e = refl
-marks_differ methods.Sha256crypt methods.Sha256crypt e = refl
-marks_differ methods.Sha512crypt methods.Sha512crypt e = refl
-marks_differ methods.Scrypt methods.Scrypt e = refl
-marks_differ a b e = absurd (omega arith)
+prefix_mark-injective : (a b : Method) → get_or (prefix a) 1 0 ≡ get_or (prefix b) 1 0 → a ≡ b
+prefix_mark-injective methods.Md5crypt methods.Md5crypt e = refl
+prefix_mark-injective methods.Sha256crypt methods.Sha256crypt e = refl
+prefix_mark-injective methods.Sha512crypt methods.Sha512crypt e = refl
+prefix_mark-injective methods.Scrypt methods.Scrypt e = refl
+prefix_mark-injective a b e = absurd (omega arith)
 
 -- A text has the prefix of at most one method.
 pub prefix_unique : (a b : Method) (x y : List ℕ) → prefix a ++ x ≡ prefix b ++ y → (a ≡ b) × (x ≡ y)
 prefix_unique a b x y e =
-    let same = same_front (prefix a) (prefix b) x y (length-prefix a ∙ sym (length-prefix b)) e in
-    (marks_differ a b (ap (λ (t : List ℕ). get_or t 1 0) same.0), same.1)
+    let same = append-injective (prefix a) (prefix b) x y (length-prefix a ∙ sym (length-prefix b)) e in
+    (prefix_mark-injective a b (ap (λ (t : List ℕ). get_or t 1 0) same.0), same.1)
 
 -- Each digest function has its own method of SHA-crypt.
-sha_unique : (a b : Sha) → sha_method a ≡ sha_method b → a ≡ b
-sha_unique Sha256 Sha256 e = refl
-sha_unique Sha512 Sha512 e = refl
-sha_unique a b e = absurd (cc e)
+sha_method-injective : (a b : Sha) → sha_method a ≡ sha_method b → a ≡ b
+sha_method-injective Sha256 Sha256 e = refl
+sha_method-injective Sha512 Sha512 e = refl
+sha_method-injective a b e = absurd (cc e)
 
 -- SHA-crypt is neither md5crypt nor scrypt.
-pub sha_apart : (sha : Sha) → (sha_method sha ≢ methods.Md5crypt) × (sha_method sha ≢ methods.Scrypt)
-sha_apart Sha256 = (λ e. absurd (cc e), λ e. absurd (cc e))
-sha_apart Sha512 = (λ e. absurd (cc e), λ e. absurd (cc e))
+pub sha_method-not_others : (sha : Sha) → (sha_method sha ≢ methods.Md5crypt) × (sha_method sha ≢ methods.Scrypt)
+sha_method-not_others Sha256 = (λ e. absurd (cc e), λ e. absurd (cc e))
+sha_method-not_others Sha512 = (λ e. absurd (cc e), λ e. absurd (cc e))
 
 cost_unique : (a b : Scheme) (p q x y : List ℕ) → method_of a ≡ method_of b → SpellsCost a p x → SpellsCost b q y → p ++ x ≡ q ++ y → (a ≡ b) × (x ≡ y)
 cost_unique Md5crypt Md5crypt p q x y m ca cb e = (refl, sym (ap (λ (z : List ℕ). z ++ x) ca) ∙ e ∙ ap (λ (z : List ℕ). z ++ y) cb)
 cost_unique (Shacrypt a r) (Shacrypt b s) p q x y m ca cb e =
-    let both = rounds_unique r s p q x y ca cb e in (ap₂ Shacrypt (sha_unique a b m) both.0, both.1)
+    let both = rounds_unique r s p q x y ca cb e in (ap₂ Shacrypt (sha_method-injective a b m) both.0, both.1)
 cost_unique (Scrypt r) (Scrypt s) p q x y m ca cb e =
     let same : scrypt_part r ++ x ≡ scrypt_part s ++ y = sym (ap (λ (z : List ℕ). z ++ x) ca.0) ∙ e ∙ ap (λ (z : List ℕ). z ++ y) cb.0 in
     let both = scrypt_part_unique r s x y (ca.1, ca.2, ca.3) (cb.1, cb.2, cb.3) same in (ap (λ (t : ScryptParams). Scrypt t) both.0, both.1)
-cost_unique Md5crypt (Shacrypt sha s) p q x y m ca cb e = absurd ((sha_apart sha).0 (sym m))
+cost_unique Md5crypt (Shacrypt sha s) p q x y m ca cb e = absurd ((sha_method-not_others sha).0 (sym m))
 cost_unique Md5crypt (Scrypt s) p q x y m ca cb e = absurd (cc m)
-cost_unique (Shacrypt sha r) Md5crypt p q x y m ca cb e = absurd ((sha_apart sha).0 m)
-cost_unique (Shacrypt sha r) (Scrypt s) p q x y m ca cb e = absurd ((sha_apart sha).1 m)
+cost_unique (Shacrypt sha r) Md5crypt p q x y m ca cb e = absurd ((sha_method-not_others sha).0 m)
+cost_unique (Shacrypt sha r) (Scrypt s) p q x y m ca cb e = absurd ((sha_method-not_others sha).1 m)
 cost_unique (Scrypt r) Md5crypt p q x y m ca cb e = absurd (cc m)
-cost_unique (Scrypt r) (Shacrypt sha s) p q x y m ca cb e = absurd ((sha_apart sha).1 (sym m))
+cost_unique (Scrypt r) (Shacrypt sha s) p q x y m ca cb e = absurd ((sha_method-not_others sha).1 (sym m))
 
 -- A text begins with at most one scheme.
 pub scheme_unique : (text : List ℕ) (a b : Scheme) (x y : List ℕ) → SpellsScheme text a x → SpellsScheme text b y → (a ≡ b) × (x ≡ y)

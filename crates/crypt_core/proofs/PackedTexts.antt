@@ -19,9 +19,9 @@ use Rattle.crypt_core.specs.MethodLimits.{digest_len, packed_len}
 use Rattle.crypt_core.specs.Packing.{IsPacked, packed, packed_group, groups_of, group_number}
 use Rattle.crypt_core.specs.Private.Groups.{last_value_limit}
 use Rattle.crypt_core.proofs.EachMethod.{each_method}
-use Rattle.crypt_core.proofs.PackingLemmas.{all_packed, length-packed_text, packed_by}
-use Rattle.crypt_core.proofs.GroupNumbers.{fits_bytes, byte_in_list}
-use Rattle.crypt_core.proofs.Unpacking.{EndsBelow, order, unpacks, fills, text_length}
+use Rattle.crypt_core.proofs.PackingLemmas.{in_alphabet-packed, length-packed, packed_by}
+use Rattle.crypt_core.proofs.GroupNumbers.{number_below-iff-last_value_below, slice_index-below_256}
+use Rattle.crypt_core.proofs.Unpacking.{EndsBelow, order, Unpacks-from_fills, fills, text_length}
 
 -- ---- digests
 
@@ -38,10 +38,10 @@ is_place n places i = eqb (index_in places (get_or places i 0)) i && nat_lt (get
 digest_with : ℕ → List ℕ → List ℕ → List ℕ
 digest_with n places bytes = map (λ i. slice_index bytes (index_in places i)) (range_with_len 0 n)
 
-digest_with_is : (n : ℕ) (places bytes : List ℕ) → length places ≡ n → list_all (is_place n places) (range_with_len 0 n) ≡ true
+map-digest_with : (n : ℕ) (places bytes : List ℕ) → length places ≡ n → list_all (is_place n places) (range_with_len 0 n) ≡ true
     → length bytes ≡ length places → map (slice_index (digest_with n places bytes)) places ≡ bytes
 unfolding is_place digest_with
-digest_with_is n places bytes long all same =
+map-digest_with n places bytes long all same =
     ext_get_or 0 (map (slice_index (digest_with n places bytes)) places) bytes (length-map places _ ∙ sym same) (λ i inside.
     let below : i < n = omega (arith, length-map places (slice_index (digest_with n places bytes))) in
     let parts = and_parts _ _ (true_below-from_list_all (is_place n places) n all i below) in
@@ -51,66 +51,66 @@ digest_with_is n places bytes long all same =
     ∙ get_or-map-range_with_len (λ k. slice_index bytes (index_in places k)) 0 n place place 0 (ltb-true _ _ parts.1) (omega arith)
     ∙ ap (slice_index bytes) index)
 
-digest_with_digest : (n : ℕ) (places bytes : List ℕ) → All (λ b. b < 256) bytes
+digest_with-is_digest : (n : ℕ) (places bytes : List ℕ) → All (λ b. b < 256) bytes
     → (length (digest_with n places bytes) ≡ n) × All (λ b. b < 256) (digest_with n places bytes)
 unfolding digest_with
-digest_with_digest n places bytes all = (
+digest_with-is_digest n places bytes all = (
   length-map-range_with_len (λ i. slice_index bytes (index_in places i)) 0 n,
-  All-map (λ b. b < 256) (λ i. slice_index bytes (index_in places i)) (range_with_len 0 n) (λ k d inside. byte_in_list bytes (index_in places (get_or (range_with_len 0 n) k d)) all),
+  All-map (λ b. b < 256) (λ i. slice_index bytes (index_in places i)) (range_with_len 0 n) (λ k d inside. slice_index-below_256 bytes (index_in places (get_or (range_with_len 0 n) k d)) all),
 )
 
 -- A text that passes the checks is the packed form of some digest.
-pub is_packed_from : (m : Method) (text : List ℕ) → length text ≡ packed_len m → All (Contains alphabet) text
+pub IsPacked-from_checks : (m : Method) (text : List ℕ) → length text ≡ packed_len m → All (Contains alphabet) text
     → (v : ℕ) → v < last_value_limit m → get_or text (length text - 1) 0 ≡ character_of v → IsPacked m text
 unfolding packed fills is_place index_in order text_length EndsBelow
-is_packed_from m text long all v below last =
+IsPacked-from_checks m text long all v below last =
     let n = digest_len m in
     let places = order (groups_of m) in
     let sum = eqb-true _ _ (each_method (λ o. eqb (text_length (groups_of o)) (packed_len o)) refl m) in
     let count = eqb-true _ _ (each_method (λ o. eqb (length (order (groups_of o))) (digest_len o)) refl m) in
-    let found = unpacks (last_value_limit m) (groups_of m) text (each_method (λ o. fills (last_value_limit o) (groups_of o)) refl m) (long ∙ sym sum) all (v, below, last) in
+    let found = Unpacks-from_fills (last_value_limit m) (groups_of m) text (each_method (λ o. fills (last_value_limit o) (groups_of o)) refl m) (long ∙ sym sum) all (v, below, last) in
     let each = each_method (λ o. list_all (is_place (digest_len o) (order (groups_of o))) (range_with_len 0 (digest_len o))) refl m in
     let digest = digest_with n places found.bytes in (
       digest,
-      digest_with_digest n places found.bytes found.are_bytes,
-      sym (found.packs digest (digest_with_is n places found.bytes count each found.count)),
+      digest_with-is_digest n places found.bytes found.are_bytes,
+      sym (found.packs digest (map-digest_with n places found.bytes count each found.count)),
     )
 
 -- ---- the other way
 
 -- Appending k bytes to a number below a bound gives a number below the bound times 256^k.
-joined-below : (digest places : List ℕ) (number bound : ℕ) → All (λ b. b < 256) digest → number < bound
+fold_bytes-below : (digest places : List ℕ) (number bound : ℕ) → All (λ b. b < 256) digest → number < bound
     → fold (λ n place. n * 256 + slice_index digest place) number places < bound * 256 ^ length places
-joined-below digest [] number bound all small = omega arith
-joined-below digest (p ∷ ps) number bound all small =
+fold_bytes-below digest [] number bound all small = omega arith
+fold_bytes-below digest (p ∷ ps) number bound all small =
     let power : 256 ^ suc (length ps) ≡ 256 ^ length ps * 256 = pow-suc 256 (length ps) in
-    let rest = joined-below digest ps (number * 256 + slice_index digest p) (bound * 256) all (omega (arith, byte_in_list digest p all)) in
+    let rest = fold_bytes-below digest ps (number * 256 + slice_index digest p) (bound * 256) all (omega (arith, slice_index-below_256 digest p all)) in
     let product : bound * 256 * 256 ^ length ps ≡ bound * 256 ^ suc (length ps) = rw power (grind arith) in
     rw product at rest
 
 -- The last character of a packed text has a value below the bound.
-ends_packed : (bound : ℕ) (groups : List (List ℕ)) (digest : List ℕ) → fills bound groups ≡ true → All (λ b. b < 256) digest
+EndsBelow-packed_by : (bound : ℕ) (groups : List (List ℕ)) (digest : List ℕ) → fills bound groups ≡ true → All (λ b. b < 256) digest
     → (0 < length (packed_by groups digest)) × EndsBelow bound (packed_by groups digest)
 unfolding fills EndsBelow
-ends_packed bound [] digest h all = absurd (cc h)
-ends_packed bound (places ∷ []) digest h all =
+EndsBelow-packed_by bound [] digest h all = absurd (cc h)
+EndsBelow-packed_by bound (places ∷ []) digest h all =
     let parts = and_parts _ _ h in
     let is : 4 ^ length places ≡ bound = eqb-true _ _ parts.0 in
     let few = leb-true bound 64 parts.1 in
     let k = length places in
     let n = group_number digest places in
-    let small : n < 256 ^ k = omega (arith, joined-below digest places 0 1 all (omega arith)) in
+    let small : n < 256 ^ k = omega (arith, fold_bytes-below digest places 0 1 all (omega arith)) in
     let power : 256 ^ k ≡ 64 ^ k * 4 ^ k = mul-pow 64 4 k in
     let more : 64 ^ (k + 1) ≡ 64 ^ k * 64 = rw add-one (pow-suc 64 k) in
     let up : 64 ^ k * 4 ^ k ≤ 64 ^ k * 64 = mul-le-mul_left (64 ^ k) (omega arith) in
-    let top = fits_bytes k n (omega arith) in
+    let top = number_below-iff-last_value_below k n (omega arith) in
     let text = packed_group digest places in
     let long : length text ≡ k + 1 = length-numerals (k + 1) n in
     let place : length text - 1 ≡ k = omega arith in
     rw (append-nil text) (omega arith, (top.0, omega (arith, top.2.0 small), rw place top.3))
-ends_packed bound (places ∷ next ∷ groups) digest h all =
+EndsBelow-packed_by bound (places ∷ next ∷ groups) digest h all =
     let parts = and_parts _ _ h in
-    let rest = ends_packed bound (next ∷ groups) digest parts.1 all in
+    let rest = EndsBelow-packed_by bound (next ∷ groups) digest parts.1 all in
     let front = packed_group digest places in
     let text = packed_by (next ∷ groups) digest in
     let long = length-append front text in
@@ -124,19 +124,19 @@ ends_packed bound (places ∷ next ∷ groups) digest h all =
     )
 
 -- A packed digest passes the three checks.
-pub packed-length : (m : Method) (text : List ℕ) → IsPacked m text → length text ≡ packed_len m
-packed-length m text packed = ap length packed.2 ∙ length-packed_text m packed.0
+pub length-from_IsPacked : (m : Method) (text : List ℕ) → IsPacked m text → length text ≡ packed_len m
+length-from_IsPacked m text packed = ap length packed.2 ∙ length-packed m packed.0
 
-pub packed-characters : (m : Method) (text : List ℕ) → IsPacked m text → All (Contains alphabet) text
-packed-characters m text packed = subst (All (Contains alphabet)) (sym packed.2) (all_packed m packed.0)
+pub in_alphabet-from_IsPacked : (m : Method) (text : List ℕ) → IsPacked m text → All (Contains alphabet) text
+in_alphabet-from_IsPacked m text packed = subst (All (Contains alphabet)) (sym packed.2) (in_alphabet-packed m packed.0)
 
-pub packed-last : (m : Method) (text : List ℕ) (v : ℕ) → IsPacked m text → v < 64 → get_or text (length text - 1) 0 ≡ character_of v
+pub last_value-from_IsPacked : (m : Method) (text : List ℕ) (v : ℕ) → IsPacked m text → v < 64 → get_or text (length text - 1) 0 ≡ character_of v
     → v < last_value_limit m
 unfolding packed fills EndsBelow
-packed-last m text v is below last =
+last_value-from_IsPacked m text v is below last =
     let fill = each_method (λ o. fills (last_value_limit o) (groups_of o) && nat_le (last_value_limit o) 64) refl m in
     let parts = and_parts _ _ fill in
     let few = leb-true _ _ parts.1 in
-    let ends = (ends_packed (last_value_limit m) (groups_of m) is.0 parts.0 is.1.1).1 in
+    let ends = (EndsBelow-packed_by (last_value_limit m) (groups_of m) is.0 parts.0 is.1.1).1 in
     let same : v ≡ ends.0 = character_of-injective v ends.0 below (omega (arith, ends.1)) (sym last ∙ ap (λ (cs : List ℕ). get_or cs (length cs - 1) 0) is.2 ∙ ends.2) in
     omega (arith, ends.1)

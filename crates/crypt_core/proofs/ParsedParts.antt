@@ -1,7 +1,7 @@
 -- Serves the parsing functions in src/setting/read.rt: `field_len`, `number_at`, `capped_number`, `numbers_at` and
--- `scheme_at`. `field_to` shows that the field ends before the first `$`, and since a text has one such field, digits
--- that are no number mean that there is none. Capping the number at each digit equals capping it at the end. The
--- characters of scrypt's cost part are cut at fixed places into three numbers.
+-- `scheme_at`. `HasField-first_dollar` shows that the field ends before the first `$`, and since a text has one such
+-- field, digits that are no number mean that there is none. Capping the number at each digit equals capping it at the
+-- end. The characters of scrypt's cost part are cut at fixed places into three numbers.
 use Rattle.std.proofs.Common.{◌≡◌, ◌≢◌, ℕ, zero, suc, ◌+◌, ◌-◌, ◌*◌, ◌≤◌, ◌<◌, ◌^◌, Bool, true, false, cond, not, eqb, nat_lt, List, [], ◌∷◌, ◌++◌, length, take, drop, get_or, All, Contains, Option, Some, None, refl, sym, ap, subst, ◌∙◌, append_assoc, add-one, arith}
 use Rattle.std.specs.Prelude.{IfNone, min}
 use Rattle.std.specs.List.{position, position_or_len}
@@ -20,13 +20,13 @@ use Rattle.crypt_core.specs.Private.Parts.{HasField, HasNumerals, LacksCharacter
 use Rattle.crypt_core.specs.Settings.{dollar, IsRoundsNumber, scrypt_part}
 use Rattle.crypt_core.specs.Rounds.{max_rounds}
 use Rattle.crypt_core.specs.TextLimits.{scrypt_part_len}
-use Rattle.crypt_core.proofs.DollarFields.{IsEndOfField, end_of, ended_by, field_unique}
-use Rattle.crypt_core.proofs.RoundsTexts.{digits_are_field}
+use Rattle.crypt_core.proofs.DollarFields.{IsEndOfField, IsEndOfField-from_cases, end_of_field-cases, field_unique}
+use Rattle.crypt_core.proofs.SpelledRounds.{IsField-rounds_number}
 
 -- `IfNone r P` follows from P.
-pub on_none : {A : Type 0} (r : Option A) (P : Type 0) → P → IfNone r P
-on_none None P h = h
-on_none (Some x) P h = tt
+pub IfNone-always : {A : Type 0} (r : Option A) (P : Type 0) → P → IfNone r P
+IfNone-always None P h = h
+IfNone-always (Some x) P h = tt
 
 -- ---- fields
 
@@ -34,58 +34,58 @@ abbrev pub is_dollar : ℕ → Bool
 is_dollar b = eqb b dollar
 
 -- The first index that passes, or the length if none does.
-first_or_length : (p : ℕ → Bool) (xs : List ℕ) → unwrap_or (position p xs) (length xs) ≡ position_or_len p xs
-first_or_length p xs = by_test (nat_lt (position_or_len p xs) (length xs)) refl
+unwrap_or-position : (p : ℕ → Bool) (xs : List ℕ) → unwrap_or (position p xs) (length xs) ≡ position_or_len p xs
+unwrap_or-position p xs = by_test (nat_lt (position_or_len p xs) (length xs)) refl
   where
     by_test : (b : Bool) → nat_lt (position_or_len p xs) (length xs) ≡ b → unwrap_or (cond b (Some (position_or_len p xs)) None) (length xs) ≡ position_or_len p xs
     by_test true e = refl
     by_test false e = omega (arith, ltb-false _ _ e, prefix_len-le-length (λ x. not (p x)) xs)
 
 -- A rest that begins at the first `$` can follow a field.
-ended : (xs : List ℕ) (n : ℕ) → (n < length xs → get_or xs n 0 ≡ dollar) → IsEndOfField (drop n xs)
-ended [] n here = subst IsEndOfField (sym (drop-nil n)) tt
-ended (x ∷ xs) zero here = here (omega arith)
-ended (x ∷ xs) (suc n) here = ended xs n (λ below. here (omega arith))
+IsEndOfField-drop : (xs : List ℕ) (n : ℕ) → (n < length xs → get_or xs n 0 ≡ dollar) → IsEndOfField (drop n xs)
+IsEndOfField-drop [] n here = subst IsEndOfField (sym (drop-nil n)) tt
+IsEndOfField-drop (x ∷ xs) zero here = here (omega arith)
+IsEndOfField-drop (x ∷ xs) (suc n) here = IsEndOfField-drop xs n (λ below. here (omega arith))
 
-pub field_to : (xs : List ℕ) (n : ℕ) → n ≡ unwrap_or (position is_dollar xs) (length xs) → HasField xs (take n xs)
-field_to xs n found =
-    let is : n ≡ position_or_len is_dollar xs = found ∙ first_or_length is_dollar xs in (
+pub HasField-first_dollar : (xs : List ℕ) (n : ℕ) → n ≡ unwrap_or (position is_dollar xs) (length xs) → HasField xs (take n xs)
+HasField-first_dollar xs n found =
+    let is : n ≡ position_or_len is_dollar xs = found ∙ unwrap_or-position is_dollar xs in (
       drop n xs,
       sym (take-append-drop n xs),
       (
         All-from_get_or (λ b. b ≢ dollar) (take n xs) 0 (λ i lt same.
             let below : i < n = omega (arith, lt, length-take n xs) in
             eqb-false _ _ (fails_before_first is_dollar xs i 0 (omega (arith, below, is))) (sym (get_or-take n xs i 0 below) ∙ same)),
-        ended_by (drop n xs) (ended xs n (λ below. eqb-true _ _ (ap (λ (k : ℕ). is_dollar (get_or xs k 0)) is ∙ passes_at_first is_dollar xs 0 (omega (arith, below, is))))),
+        end_of_field-cases (drop n xs) (IsEndOfField-drop xs n (λ below. eqb-true _ _ (ap (λ (k : ℕ). is_dollar (get_or xs k 0)) is ∙ passes_at_first is_dollar xs 0 (omega (arith, below, is))))),
       ),
     )
 
 -- ---- numbers of rounds
 
 -- If the field isn't a number, the text lacks one.
-pub only_number : (xs : List ℕ) (n : ℕ) → HasField xs (take n xs) → (IsRoundsNumber (take n xs) → ⊥) → LacksNumber xs
-only_number xs n h not_number other rest number parts =
-    let same = field_unique (take n xs) other h.0 (dollar ∷ rest) h.2 (digits_are_field other rest number) (sym h.1 ∙ parts) in
+pub LacksNumber-bad_digits : (xs : List ℕ) (n : ℕ) → HasField xs (take n xs) → (IsRoundsNumber (take n xs) → ⊥) → LacksNumber xs
+LacksNumber-bad_digits xs n h not_number other rest number parts =
+    let same = field_unique (take n xs) other h.0 (dollar ∷ rest) h.2 (IsField-rounds_number other rest number) (sym h.1 ∙ parts) in
     not_number (subst IsRoundsNumber (sym same.0) number)
 
 -- It also lacks one if nothing follows the field.
-pub no_number : (xs : List ℕ) (n : ℕ) → HasField xs (take n xs) → n ≡ length xs → LacksNumber xs
-no_number xs n h whole other rest number parts =
-    let same = field_unique (take n xs) other h.0 (dollar ∷ rest) h.2 (digits_are_field other rest number) (sym h.1 ∙ parts) in
+pub LacksNumber-no_dollar : (xs : List ℕ) (n : ℕ) → HasField xs (take n xs) → n ≡ length xs → LacksNumber xs
+LacksNumber-no_dollar xs n h whole other rest number parts =
+    let same = field_unique (take n xs) other h.0 (dollar ∷ rest) h.2 (IsField-rounds_number other rest number) (sym h.1 ∙ parts) in
     omega (arith, whole, ap length h.1, length-append (take n xs) h.0, length-take n xs, ap length same.1)
 
-pub rest_all : (xs : List ℕ) (k : ℕ) → take (length xs - k) (drop k xs) ≡ drop k xs
-rest_all xs k = ap (λ (n : ℕ). take n (drop k xs)) (sym (length-drop k xs)) ∙ take-length (drop k xs)
+pub take-drop_rest : (xs : List ℕ) (k : ℕ) → take (length xs - k) (drop k xs) ≡ drop k xs
+take-drop_rest xs k = ap (λ (n : ℕ). take n (drop k xs)) (sym (length-drop k xs)) ∙ take-length (drop k xs)
 
 -- The text is the field, its `$`, and what follows that.
-pub number_parts : (xs : List ℕ) (n : ℕ) → HasField xs (take n xs) → n < length xs → xs ≡ take n xs ++ (dollar ∷ take (length xs - (n + 1)) (drop (n + 1) xs))
-number_parts xs n h below =
+pub append-number_dollar_rest : (xs : List ℕ) (n : ℕ) → HasField xs (take n xs) → n < length xs → xs ≡ take n xs ++ (dollar ∷ take (length xs - (n + 1)) (drop (n + 1) xs))
+append-number_dollar_rest xs n h below =
     let rest : h.0 ≡ drop n xs = append_cancel_left (take n xs) h.0 (drop n xs) (sym h.1 ∙ sym (take-append-drop n xs)) in
     let next : drop n xs ≡ get_or xs n 0 ∷ drop (suc n) xs = drop-cons xs n 0 below in
-    let here : get_or xs n 0 ≡ dollar = subst IsEndOfField (rest ∙ next) (end_of h.0 h.2.1) in
+    let here : get_or xs n 0 ≡ dollar = subst IsEndOfField (rest ∙ next) (IsEndOfField-from_cases h.0 h.2.1) in
     sym (take-append-drop n xs)
     ∙ ap (λ (t : List ℕ). take n xs ++ t)
-    (next ∙ ap (λ (c : ℕ). c ∷ drop (suc n) xs) here ∙ ap (λ (k : ℕ). dollar ∷ drop k xs) (sym (add-one n)) ∙ ap (λ (t : List ℕ). dollar ∷ t) (sym (rest_all xs (n + 1))))
+    (next ∙ ap (λ (c : ℕ). c ∷ drop (suc n) xs) here ∙ ap (λ (k : ℕ). dollar ∷ drop k xs) (sym (add-one n)) ∙ ap (λ (t : List ℕ). dollar ∷ t) (sym (take-drop_rest xs (n + 1))))
 
 pub digit_range : (ds : List ℕ) (i : ℕ) → IsRoundsNumber ds → i < length ds → (48 ≤ get_or ds i 0) × (get_or ds i 0 ≤ 57)
 digit_range [] i number lt = absurd number
@@ -93,22 +93,22 @@ digit_range (d ∷ ds) zero number lt = (omega (arith, number.0), number.1)
 digit_range (d ∷ ds) (suc i) number lt = number.2 i 0 (omega arith)
 
 -- One more digit, capped.
-pub capped_more : (ds : List ℕ) (i number digit : ℕ) → i < length ds → IsRoundsNumber ds → digit ≡ get_or ds i 0 → number ≡ min (digits_value 10 (take i ds)) max_rounds → min (number * 10 + (digit - 48)) max_rounds ≡ min (digits_value 10 (take (i + 1) ds)) max_rounds
-capped_more ds i number digit lt is_number is so_far =
+pub capped_value-more : (ds : List ℕ) (i number digit : ℕ) → i < length ds → IsRoundsNumber ds → digit ≡ get_or ds i 0 → number ≡ min (digits_value 10 (take i ds)) max_rounds → min (number * 10 + (digit - 48)) max_rounds ≡ min (digits_value 10 (take (i + 1) ds)) max_rounds
+capped_value-more ds i number digit lt is_number is so_far =
     let range = digit_range ds i is_number lt in
     omega (arith, digits_value_more 10 ds i lt, digit_value_digit (get_or ds i 0) range, range, is, so_far)
 
 -- ---- the characters of scrypt's cost part
 
 -- If the first byte is outside the alphabet, the cost part lacks characters.
-pub lacks_first : (after : List ℕ) → (Contains alphabet (get_or after 0 0) → ⊥) → LacksCharacters after
-lacks_first after outside part rest len all parts =
+pub LacksCharacters-first : (after : List ℕ) → (Contains alphabet (get_or after 0 0) → ⊥) → LacksCharacters after
+LacksCharacters-first after outside part rest len all parts =
     outside (subst (λ (xs : List ℕ). Contains alphabet (get_or xs 0 0)) (sym parts)
     (rw (get_or_append_left part rest 0 0 (omega arith)) (All-get_or (Contains alphabet) part 0 0 (omega arith) all)))
 
 -- The same if a group of five characters is incomplete or has such a byte.
-pub lacks_group : (after : List ℕ) (i : ℕ) → i + 5 ≤ scrypt_part_len → ((length (take 5 (drop i after)) ≡ 5) × All (Contains alphabet) (take 5 (drop i after)) → ⊥) → LacksCharacters after
-lacks_group after i within outside part rest len all parts =
+pub LacksCharacters-group : (after : List ℕ) (i : ℕ) → i + 5 ≤ scrypt_part_len → ((length (take 5 (drop i after)) ≡ 5) × All (Contains alphabet) (take 5 (drop i after)) → ⊥) → LacksCharacters after
+LacksCharacters-group after i within outside part rest len all parts =
     let group : take 5 (drop i after) ≡ take 5 (drop i part) =
     ap (λ (xs : List ℕ). take 5 (drop i xs)) parts
     ∙ ap (λ (xs : List ℕ). take 5 xs) (drop-append-le i part rest (omega arith))
@@ -118,15 +118,15 @@ lacks_group after i within outside part rest len all parts =
       subst (All (Contains alphabet)) (sym group) (All-take (Contains alphabet) 5 (drop i part) (All-drop (Contains alphabet) i part all)),
     )
 
-one_numeral : (v : ℕ) → v < 64 → numerals 1 v ≡ character_of v ∷ []
+numerals-one : (v : ℕ) → v < 64 → numerals 1 v ≡ character_of v ∷ []
 unfolding numerals
-one_numeral v below = ap (λ (w : ℕ). character_of w ∷ []) (omega arith)
+numerals-one v below = ap (λ (w : ℕ). character_of w ∷ []) (omega arith)
 
 -- The characters spell three numbers.
-pub numbers_parts : (after : List ℕ) (v r p : ℕ) → scrypt_part_len ≤ length after → v < 64 → character_of v ≡ get_or after 0 0 → r < 2 ^ 30 → numerals 5 r ≡ take 5 (drop 1 after) → p < 2 ^ 30 → numerals 5 p ≡ take 5 (drop 6 after) → (rest : List ℕ) × (after ≡ scrypt_part (scrypt_params v r p) ++ rest) × HasNumerals (scrypt_params v r p)
-numbers_parts [] v r p long vs v_is rs r_is ps p_is = absurd (omega arith)
-numbers_parts (x ∷ xs) v r p long vs v_is rs r_is ps p_is =
-    let first : numerals 1 v ≡ x ∷ [] = one_numeral v vs ∙ ap (λ (c : ℕ). c ∷ []) v_is in
+pub scrypt_part-from_numerals : (after : List ℕ) (v r p : ℕ) → scrypt_part_len ≤ length after → v < 64 → character_of v ≡ get_or after 0 0 → r < 2 ^ 30 → numerals 5 r ≡ take 5 (drop 1 after) → p < 2 ^ 30 → numerals 5 p ≡ take 5 (drop 6 after) → (rest : List ℕ) × (after ≡ scrypt_part (scrypt_params v r p) ++ rest) × HasNumerals (scrypt_params v r p)
+scrypt_part-from_numerals [] v r p long vs v_is rs r_is ps p_is = absurd (omega arith)
+scrypt_part-from_numerals (x ∷ xs) v r p long vs v_is rs r_is ps p_is =
+    let first : numerals 1 v ≡ x ∷ [] = numerals-one v vs ∙ ap (λ (c : ℕ). c ∷ []) v_is in
     let split : xs ≡ take 5 xs ++ (take 5 (drop 5 xs) ++ drop 5 (drop 5 xs)) =
     sym (take-append-drop 5 xs) ∙ ap (λ (t : List ℕ). take 5 xs ++ t) (sym (take-append-drop 5 (drop 5 xs))) in
     let parts : x ∷ xs ≡ (x ∷ []) ++ (take 5 xs ++ (take 5 (drop 5 xs) ++ drop 5 (drop 5 xs))) = ap (λ (t : List ℕ). x ∷ t) split in

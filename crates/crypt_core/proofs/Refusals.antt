@@ -20,58 +20,58 @@ use Rattle.crypt_core.proofs.OneSetting.{prefix_unique, scheme_unique, setting_u
 use Rattle.crypt_core.proofs.FirstBroken.{first_breaks, first_unique}
 
 -- A text that spells a scheme doesn't lack a cost part.
-pub lacks_none : (text : List ℕ) (scheme : Scheme) (after : List ℕ) (m : Method) → SpellsScheme text scheme after → LacksCost m text → ⊥
-lacks_none text scheme after m s lacks =
+pub SpellsScheme-not-LacksCost : (text : List ℕ) (scheme : Scheme) (after : List ℕ) (m : Method) → SpellsScheme text scheme after → LacksCost m text → ⊥
+SpellsScheme-not-LacksCost text scheme after m s lacks =
     let same = prefix_unique (method_of scheme) m (s.0 ++ after) lacks.0.0 (sym s.1 ∙ lacks.0.1) in
     lacks.1 scheme after same.0 s
 
 -- If scrypt's salt is kept, its numbers are accepted and its field is a salt of scrypt.
-scrypt_kept : (scheme : Scheme) (n : ScryptParams) (field salt : List ℕ) → scheme ≡ Scrypt n → KeepsSalt scheme field salt → IsAccepted n × IsScryptSalt field
-scrypt_kept (Scrypt m) n field salt e k = let same : m ≡ n = cc in (subst IsAccepted same k.0, k.2)
-scrypt_kept Md5crypt n field salt e k = absurd cc
-scrypt_kept (Shacrypt sha r) n field salt e k = absurd cc
+KeepsSalt-scrypt : (scheme : Scheme) (n : ScryptParams) (field salt : List ℕ) → scheme ≡ Scrypt n → KeepsSalt scheme field salt → IsAccepted n × IsScryptSalt field
+KeepsSalt-scrypt (Scrypt m) n field salt e k = let same : m ≡ n = cc in (subst IsAccepted same k.0, k.2)
+KeepsSalt-scrypt Md5crypt n field salt e k = absurd cc
+KeepsSalt-scrypt (Shacrypt sha r) n field salt e k = absurd cc
 
 -- A text that spells a setting passes every stage.
-pub spelled_fails_none : (text : List ℕ) (kept : SettingValue) → Spells text kept → (fault : SettingFault) → FailsStage text fault → ⊥
-spelled_fails_none text kept s TooLong b = omega (arith, s.short)
-spelled_fails_none text kept s BadCharacter b = b s.bytes
-spelled_fails_none text kept s UnknownScheme b = b (method_of kept.scheme) (s.scheme.0 ++ (s.field ++ s.rest), s.scheme.1)
-spelled_fails_none text kept s BadRounds (sha, b) = lacks_none text kept.scheme (s.field ++ s.rest) (sha_method sha) s.scheme b
-spelled_fails_none text kept s BadCost b = lacks_none text kept.scheme (s.field ++ s.rest) methods.Scrypt s.scheme b
-spelled_fails_none text kept s ScryptRange b =
+pub Spells-fails_no_stage : (text : List ℕ) (kept : SettingValue) → Spells text kept → (fault : SettingFault) → FailsStage text fault → ⊥
+Spells-fails_no_stage text kept s TooLong b = omega (arith, s.short)
+Spells-fails_no_stage text kept s BadCharacter b = b s.bytes
+Spells-fails_no_stage text kept s UnknownScheme b = b (method_of kept.scheme) (s.scheme.0 ++ (s.field ++ s.rest), s.scheme.1)
+Spells-fails_no_stage text kept s BadRounds (sha, b) = SpellsScheme-not-LacksCost text kept.scheme (s.field ++ s.rest) (sha_method sha) s.scheme b
+Spells-fails_no_stage text kept s BadCost b = SpellsScheme-not-LacksCost text kept.scheme (s.field ++ s.rest) methods.Scrypt s.scheme b
+Spells-fails_no_stage text kept s ScryptRange b =
     let same = scheme_unique text kept.scheme (Scrypt b.0) (s.field ++ s.rest) b.1 s.scheme b.2 in
-    b.3 (scrypt_kept kept.scheme b.0 s.field kept.salt same.0 s.salt).0.0
-spelled_fails_none text kept s AboveCeiling b =
+    b.3 (KeepsSalt-scrypt kept.scheme b.0 s.field kept.salt same.0 s.salt).0.0
+Spells-fails_no_stage text kept s AboveCeiling b =
     let same = scheme_unique text kept.scheme (Scrypt b.0) (s.field ++ s.rest) b.1 s.scheme b.2 in
-    b.3 (scrypt_kept kept.scheme b.0 s.field kept.salt same.0 s.salt).0.1
-spelled_fails_none text kept s BadSalt b =
+    b.3 (KeepsSalt-scrypt kept.scheme b.0 s.field kept.salt same.0 s.salt).0.1
+Spells-fails_no_stage text kept s BadSalt b =
     let same = scheme_unique text kept.scheme (Scrypt b.0) (s.field ++ s.rest) (b.1 ++ b.2) s.scheme b.3 in
     let fields = field_unique s.field b.1 s.rest b.2 s.is_field b.4 same.1 in
-    b.5 (subst IsScryptSalt fields.0 (scrypt_kept kept.scheme b.0 s.field kept.salt same.0 s.salt).1)
+    b.5 (subst IsScryptSalt fields.0 (KeepsSalt-scrypt kept.scheme b.0 s.field kept.salt same.0 s.salt).1)
 
 -- So it has no error.
-pub spelled_not_refused : (text : List ℕ) (kept : SettingValue) → Spells text kept → (fault : SettingFault) → IsRefused text fault → ⊥
+pub Spells-not-IsRefused : (text : List ℕ) (kept : SettingValue) → Spells text kept → (fault : SettingFault) → IsRefused text fault → ⊥
 unfolding IsRefused
-spelled_not_refused text kept s fault refused = spelled_fails_none text kept s fault (first_breaks setting_faults (FailsStage text) fault refused)
+Spells-not-IsRefused text kept s fault refused = Spells-fails_no_stage text kept s fault (first_breaks setting_faults (FailsStage text) fault refused)
 
 -- So a text has at most one reading.
 pub one_reading : (text : List ℕ) → IsReadOneWay text
 unfolding IsReadOneWay IsRefused
 one_reading text (Ok kept) (Ok other) spelled s = ap (λ (k : SettingValue). Ok k) (setting_unique text kept other spelled s)
-one_reading text (Ok kept) (Err fault) spelled refused = absurd (spelled_not_refused text kept spelled fault refused)
-one_reading text (Err fault) (Ok kept) refused spelled = absurd (spelled_not_refused text kept spelled fault refused)
+one_reading text (Ok kept) (Err fault) spelled refused = absurd (Spells-not-IsRefused text kept spelled fault refused)
+one_reading text (Err fault) (Ok kept) refused spelled = absurd (Spells-not-IsRefused text kept spelled fault refused)
 one_reading text (Err fault) (Err other) refused r = ap (λ (f : SettingFault). Err f) (first_unique setting_faults (FailsStage text) fault other refused r)
 
 -- A result that satisfies the two clauses is a reading.
-reading_is : (text : List ℕ) (r : Result SettingValue SettingFault) → IfOk r (Spells text) → IfErr r (IsRefused text) → IsReading text r
-reading_is text (Ok kept) spelled refused = spelled
-reading_is text (Err fault) spelled refused = refused
+IsReading-from_clauses : (text : List ℕ) (r : Result SettingValue SettingFault) → IfOk r (Spells text) → IfErr r (IsRefused text) → IsReading text r
+IsReading-from_clauses text (Ok kept) spelled refused = spelled
+IsReading-from_clauses text (Err fault) spelled refused = refused
 
 -- So it is the only one.
-pub only_setting : (text : List ℕ) (r : Result SettingValue SettingFault) → IfOk r (Spells text) → IfErr r (IsRefused text) → (kept : SettingValue) → Spells text kept → r ≡ Ok kept
+pub Ok-from_Spells : (text : List ℕ) (r : Result SettingValue SettingFault) → IfOk r (Spells text) → IfErr r (IsRefused text) → (kept : SettingValue) → Spells text kept → r ≡ Ok kept
 unfolding IsReadOneWay
-only_setting text r spelled refused kept s = one_reading text r (Ok kept) (reading_is text r spelled refused) s
+Ok-from_Spells text r spelled refused kept s = one_reading text r (Ok kept) (IsReading-from_clauses text r spelled refused) s
 
-pub only_refusal : (text : List ℕ) (r : Result SettingValue SettingFault) → IfOk r (Spells text) → IfErr r (IsRefused text) → (fault : SettingFault) → IsRefused text fault → r ≡ Err fault
+pub Err-from_IsRefused : (text : List ℕ) (r : Result SettingValue SettingFault) → IfOk r (Spells text) → IfErr r (IsRefused text) → (fault : SettingFault) → IsRefused text fault → r ≡ Err fault
 unfolding IsReadOneWay
-only_refusal text r spelled refused fault s = one_reading text r (Err fault) (reading_is text r spelled refused) s
+Err-from_IsRefused text r spelled refused fault s = one_reading text r (Err fault) (IsReading-from_clauses text r spelled refused) s

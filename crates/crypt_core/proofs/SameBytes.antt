@@ -1,6 +1,6 @@
--- Serves `same_bytes` in src/same.rt. The loop keeps in `differ` the OR of all byte differences so far; `front_more`
--- shows that it stays 0 exactly if the fronts so far are equal, and `finished` that after the last byte this is the
--- result of `==`.
+-- Serves `same_bytes` in src/same.rt. The loop keeps in `differ` the OR of all byte differences so far;
+-- `differ-zero_iff_fronts_equal` shows that it stays 0 exactly if the fronts so far are equal, and
+-- `differ-zero_is_bytes_eq` that after the last byte this is the result of `==`.
 use Rattle.std.proofs.Common.{◌≡◌, ◌<◌, ◌≤◌, ◌+◌, ◌∙◌, ◌↔◌, ℕ, nat_eq, List, take, length, get_or, bit_or, bit_xor, bytes_eq, refl, sym, ap, arith}
 use Rattle.std.specs.Cmp.{unsigned_Decides}
 use Rattle.std.proofs.lemmas.Bool.Decides.{same_from_decides}
@@ -10,9 +10,9 @@ use Rattle.std.proofs.lemmas.Nat.{and_le_l, and_le_r, le_or_l, le_or_r}
 use lib.Bits.{xor_add_and, xor_self}
 
 -- One more byte: the OR is still 0 exactly if the longer fronts are equal.
-pub front_more : (xs ys : List ℕ) (i differ : ℕ) → i < length xs → i < length ys → differ ≡ 0 ↔ take i xs ≡ take i ys
+pub differ-zero_iff_fronts_equal : (xs ys : List ℕ) (i differ : ℕ) → i < length xs → i < length ys → differ ≡ 0 ↔ take i xs ≡ take i ys
     → bit_or differ (bit_xor (get_or xs i 0) (get_or ys i 0)) ≡ 0 ↔ take (i + 1) xs ≡ take (i + 1) ys
-front_more xs ys i differ inside also so_far =
+differ-zero_iff_fronts_equal xs ys i differ inside also so_far =
     let x = get_or xs i 0 in
     let y = get_or ys i 0 in
     let none : bit_or differ (bit_xor x y) ≡ 0 → take (i + 1) xs ≡ take (i + 1) ys = λ e.
@@ -29,9 +29,9 @@ front_more xs ys i differ inside also so_far =
     (none, same)
 
 -- After the last byte, comparing the OR with 0 gives the same result as `==`.
-pub finished : (xs ys : List ℕ) (i differ : ℕ) → length xs ≡ length ys → length xs ≤ i → differ ≡ 0 ↔ take i xs ≡ take i ys
+pub differ-zero_is_bytes_eq : (xs ys : List ℕ) (i differ : ℕ) → length xs ≡ length ys → length xs ≤ i → differ ≡ 0 ↔ take i xs ≡ take i ys
     → nat_eq differ 0 ≡ bytes_eq xs ys
-finished xs ys i differ long whole so_far =
+differ-zero_is_bytes_eq xs ys i differ long whole so_far =
     let all : differ ≡ 0 ↔ xs ≡ ys = rw (← take_all i xs whole, ← take_all i ys (omega arith)) so_far in
     let test = unsigned_Decides differ 0 in
     let same = bytes_eq-Decides xs ys in

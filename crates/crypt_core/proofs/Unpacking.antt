@@ -12,9 +12,9 @@ use Rattle.std.proofs.lemmas.List.Sums.{sum_by-cons}
 use Rattle.prims_core.specs.Alphabet.{alphabet, character_of, numerals}
 use Rattle.prims_core.proofs.AlphabetFacts.{character_of-injective, value-from_Contains}
 use Rattle.crypt_core.specs.Packing.{packed_group, group_number}
-use Rattle.crypt_core.proofs.DollarFields.{same_front}
+use Rattle.crypt_core.proofs.DollarFields.{append-injective}
 use Rattle.crypt_core.proofs.PackingLemmas.{packed_by}
-use Rattle.crypt_core.proofs.GroupNumbers.{number_of, fits_bytes, bytes_of, joined, length-bytes_of, All-bytes_of, joined-bytes_of}
+use Rattle.crypt_core.proofs.GroupNumbers.{number-from_characters, number_below-iff-last_value_below, bytes_of, joined, length-bytes_of, All-bytes_of, joined-bytes_of}
 
 -- EndsBelow bound text: the value of the last character is below this bound.
 unfoldable pub EndsBelow : ℕ → List ℕ → Type 0
@@ -32,15 +32,15 @@ pub record Unpacks (groups : List (List ℕ)) (text : List ℕ) : Type 0 where
   pub packs : (digest : List ℕ) → map (slice_index digest) (order groups) ≡ bytes → packed_by groups digest ≡ text
 
 -- The bytes of a text that is one group.
-unpacks_one : (places text : List ℕ) → length text ≡ length places + 1 → All (Contains alphabet) text → EndsBelow (4 ^ length places) text
+Unpacks-one_group : (places text : List ℕ) → length text ≡ length places + 1 → All (Contains alphabet) text → EndsBelow (4 ^ length places) text
     → 4 ^ length places ≤ 64 → Unpacks (places ∷ []) text
 unfolding EndsBelow order joined
-unpacks_one places text long all ends few =
+Unpacks-one_group places text long all ends few =
     let k = length places in
-    let number = number_of text all in
+    let number = number-from_characters text all in
     let n = number.0 in
     let numeral : numerals (k + 1) n ≡ text = ap (λ m. numerals m n) (sym long) ∙ number.2 in
-    let top = fits_bytes k n (rw (← long) number.1) in
+    let top = number_below-iff-last_value_below k n (rw (← long) number.1) in
     let place : length text - 1 ≡ k = omega arith in
     let last : character_of top.0 ≡ character_of ends.0 =
     sym top.3 ∙ ap (λ (cs : List ℕ). get_or cs k 0) numeral ∙ ap (λ i. get_or text i 0) (sym place) ∙ ends.2 in
@@ -58,16 +58,16 @@ unpacks_one places text long all ends few =
     }
 
 -- The bytes of a first group and of the others.
-unpacks_more : (places : List ℕ) (groups : List (List ℕ)) (front text : List ℕ) → Unpacks (places ∷ []) front → Unpacks groups text
+Unpacks-cons : (places : List ℕ) (groups : List (List ℕ)) (front text : List ℕ) → Unpacks (places ∷ []) front → Unpacks groups text
     → Unpacks (places ∷ groups) (front ++ text)
 unfolding order
-unpacks_more places groups front text one more = record {
+Unpacks-cons places groups front text one more = record {
   bytes = one.bytes ++ more.bytes;
   are_bytes = All-append (λ b. b < 256) one.bytes more.bytes one.are_bytes more.are_bytes;
   count = omega (arith, one.count, more.count, length-append one.bytes more.bytes, length-append places (order groups), ap length (append-nil places));
   packs = λ digest e.
       let at = slice_index digest in
-      let parts = same_front (map at places) one.bytes (map at (order groups)) more.bytes
+      let parts = append-injective (map at places) one.bytes (map at (order groups)) more.bytes
       (length-map places at ∙ ap length (sym (append-nil places)) ∙ sym one.count)
       (sym (map-append at places (order groups)) ∙ e) in
       let here : packed_by (places ∷ []) digest ≡ front = one.packs digest (ap (map at) (append-nil places) ∙ parts.0) in
@@ -86,16 +86,16 @@ fills bound (places ∷ next ∷ groups) = eqb (length places) 3 && fills bound 
 unfoldable pub text_length : List (List ℕ) → ℕ
 text_length groups = sum_by (λ places. length places + 1) groups
 
-pub unpacks : (bound : ℕ) (groups : List (List ℕ)) (text : List ℕ) → fills bound groups ≡ true → length text ≡ text_length groups
+pub Unpacks-from_fills : (bound : ℕ) (groups : List (List ℕ)) (text : List ℕ) → fills bound groups ≡ true → length text ≡ text_length groups
     → All (Contains alphabet) text → EndsBelow bound text → Unpacks groups text
 unfolding fills EndsBelow text_length
-unpacks bound [] text h long all ends = absurd (cc h)
-unpacks bound (places ∷ []) text h long all ends =
+Unpacks-from_fills bound [] text h long all ends = absurd (cc h)
+Unpacks-from_fills bound (places ∷ []) text h long all ends =
     let parts = and_parts _ _ h in
     let is : 4 ^ length places ≡ bound = eqb-true _ _ parts.0 in
     let few = leb-true bound 64 parts.1 in
-    unpacks_one places text (omega arith) all (rw is ends) (omega arith)
-unpacks bound (places ∷ next ∷ groups) text h long all ends =
+    Unpacks-one_group places text (omega arith) all (rw is ends) (omega arith)
+Unpacks-from_fills bound (places ∷ next ∷ groups) text h long all ends =
     let parts = and_parts _ _ h in
     let three : length places ≡ 3 = eqb-true _ _ parts.0 in
     let front = take 4 text in
@@ -110,6 +110,6 @@ unpacks bound (places ∷ next ∷ groups) text h long all ends =
     let ends_rest : EndsBelow bound rest =
     (ends.0, ends.1, get_or-drop 4 text (length rest - 1) 0 ∙ ap (λ i. get_or text i 0) place ∙ ends.2) in
     subst (Unpacks (places ∷ next ∷ groups)) (take-append-drop 4 text)
-    (unpacks_more places (next ∷ groups) front rest
-    (unpacks_one places front (omega arith) (All-take (Contains alphabet) 4 text all) (rw power (value.0, value.1, sym value.2)) (omega arith))
-    (unpacks bound (next ∷ groups) rest parts.1 (omega arith) (All-drop (Contains alphabet) 4 text all) ends_rest))
+    (Unpacks-cons places (next ∷ groups) front rest
+    (Unpacks-one_group places front (omega arith) (All-take (Contains alphabet) 4 text all) (rw power (value.0, value.1, sym value.2)) (omega arith))
+    (Unpacks-from_fills bound (next ∷ groups) rest parts.1 (omega arith) (All-drop (Contains alphabet) 4 text all) ends_rest))

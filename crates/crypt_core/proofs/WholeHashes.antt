@@ -24,71 +24,71 @@ use Rattle.crypt_core.specs.declared.method.Method.TheVariants as methods
 use Rattle.crypt_core.specs.declared.scheme.Scheme.{Scheme}
 use Rattle.crypt_core.specs.declared.scheme.Scheme.TheVariants.{Md5crypt, Shacrypt, Scrypt}
 use Rattle.crypt_core.specs.declared.scheme.Sha.TheVariants.{Sha256, Sha512}
-use Rattle.crypt_core.proofs.DollarFields.{same_front}
+use Rattle.crypt_core.proofs.DollarFields.{append-injective}
 use Rattle.crypt_core.proofs.OneSetting.{setting_unique}
 
 -- What holds of every digest holds of the digest after the rounds.
-last_digest : (P : List ℕ → Type 0) (h : List ℕ → List ℕ) → ((message : List ℕ) → P (h message))
+digest_after-from_each : (P : List ℕ → Type 0) (h : List ℕ → List ℕ) → ((message : List ℕ) → P (h message))
     → (opening p q : List ℕ) (n : ℕ) → P opening → P (digest_after h opening p q n)
 unfolding digest_after
-last_digest P h each opening p q zero first = first
-last_digest P h each opening p q (suc n) first = each _
+digest_after-from_each P h each opening p q zero first = first
+digest_after-from_each P h each opening p q (suc n) first = each _
 
-is_sha256 : (message : List ℕ) → IsDigest methods.Scrypt (sha256 message)
-is_sha256 message = (length-sha256 message, sha256_bytes message)
+IsDigest-sha256 : (message : List ℕ) → IsDigest methods.Scrypt (sha256 message)
+IsDigest-sha256 message = (length-sha256 message, sha256_bytes message)
 
-is_tag : (key text : List ℕ) → IsDigest methods.Scrypt (hmac_sha256 key text)
+IsDigest-hmac_sha256 : (key text : List ℕ) → IsDigest methods.Scrypt (hmac_sha256 key text)
 unfolding hmac_sha256
-is_tag key text = is_sha256 _
+IsDigest-hmac_sha256 key text = IsDigest-sha256 _
 
 -- scrypt's digest is one block of PBKDF2, which is a single HMAC tag.
-is_block : (password salt : List ℕ) → IsDigest methods.Scrypt (pbkdf2_sha256 password salt 1 32)
+IsDigest-pbkdf2_sha256 : (password salt : List ℕ) → IsDigest methods.Scrypt (pbkdf2_sha256 password salt 1 32)
 unfolding pbkdf2_sha256 block chain
-is_block password salt =
+IsDigest-pbkdf2_sha256 password salt =
     let tag = hmac_sha256 password (salt ++ big_bytes 4 1) in
-    let tagged = is_tag password (salt ++ big_bytes 4 1) in
+    let tagged = IsDigest-hmac_sha256 password (salt ++ big_bytes 4 1) in
     let whole : take 32 (tag ++ []) ≡ tag = ap (take 32) (append-nil tag) ∙ take_all 32 tag (omega (arith, tagged.0)) in
     subst (IsDigest methods.Scrypt) (sym whole) tagged
 
-is_digest : (scheme : Scheme) (password salt : List ℕ) → IsDigest (method_of scheme) (digest_by scheme password salt)
+IsDigest-digest_by : (scheme : Scheme) (password salt : List ℕ) → IsDigest (method_of scheme) (digest_by scheme password salt)
 unfolding md5crypt_digest shacrypt_digest scrypt
-is_digest Md5crypt password salt =
+IsDigest-digest_by Md5crypt password salt =
     let each : (message : List ℕ) → IsDigest methods.Md5crypt _ = λ message. (length-md5 message, md5_bytes message) in
-    last_digest (IsDigest methods.Md5crypt) _ each _ _ _ 1000 (each _)
-is_digest (Shacrypt Sha256 rounds) password salt = last_digest (IsDigest methods.Sha256crypt) _ is_sha256 _ _ _ rounds.count (is_sha256 _)
-is_digest (Shacrypt Sha512 rounds) password salt =
+    digest_after-from_each (IsDigest methods.Md5crypt) _ each _ _ _ 1000 (each _)
+IsDigest-digest_by (Shacrypt Sha256 rounds) password salt = digest_after-from_each (IsDigest methods.Sha256crypt) _ IsDigest-sha256 _ _ _ rounds.count (IsDigest-sha256 _)
+IsDigest-digest_by (Shacrypt Sha512 rounds) password salt =
     let each : (message : List ℕ) → IsDigest methods.Sha512crypt _ = λ message. (length-sha512 message, sha512_bytes message) in
-    last_digest (IsDigest methods.Sha512crypt) _ each _ _ _ rounds.count (each _)
-is_digest (Scrypt cost) password salt = is_block password _
+    digest_after-from_each (IsDigest methods.Sha512crypt) _ each _ _ _ rounds.count (each _)
+IsDigest-digest_by (Scrypt cost) password salt = IsDigest-pbkdf2_sha256 password _
 
 -- A stored hash that some password matches is whole.
-pub fits_whole : (password text : List ℕ) (kept : SettingValue) → Spells text kept → Fits password text → IsWhole text kept
+pub IsWhole-from_Fits : (password text : List ℕ) (kept : SettingValue) → Spells text kept → Fits password text → IsWhole text kept
 unfolding crypt
-fits_whole password text kept spelled fits =
+IsWhole-from_Fits password text kept spelled fits =
     let same : crypt password kept ≡ text = ap (crypt password) (setting_unique text kept fits.0 spelled fits.1) ∙ fits.2 in
     let digest = digest_by kept.scheme password kept.salt in
-    (packed (method_of kept.scheme) digest, (digest, is_digest kept.scheme password kept.salt, refl), sym same)
+    (packed (method_of kept.scheme) digest, (digest, IsDigest-digest_by kept.scheme password kept.salt, refl), sym same)
 
 -- So no password matches a stored hash that is not whole.
-pub unwhole_fits_none : (whole : Bool) (text : List ℕ) (kept : SettingValue) → Spells text kept → IsTrue whole ↔ IsWhole text kept
+pub not_whole-fits_none : (whole : Bool) (text : List ℕ) (kept : SettingValue) → Spells text kept → IsTrue whole ↔ IsWhole text kept
     → ¬ IsTrue whole → (password : List ℕ) → ¬ Fits password text
-unwhole_fits_none whole text kept spelled is lacks password fits = lacks (is.1 (fits_whole password text kept spelled fits))
+not_whole-fits_none whole text kept spelled is lacks password fits = lacks (is.1 (IsWhole-from_Fits password text kept spelled fits))
 
 -- A text that begins with its canonical setting and a `$` is whole exactly if the rest is packed.
-pub whole_if_packed : (text front rest : List ℕ) (kept : SettingValue) (packs : Bool) → front ≡ canonical_text kept ++ dollar ∷ []
+pub IsWhole-iff_packed : (text front rest : List ℕ) (kept : SettingValue) (packs : Bool) → front ≡ canonical_text kept ++ dollar ∷ []
     → text ≡ front ++ rest → IsTrue packs ↔ IsPacked (method_of kept.scheme) rest → IsTrue packs ↔ IsWhole text kept
-whole_if_packed text front rest kept packs is cut decides =
+IsWhole-iff_packed text front rest kept packs is cut decides =
     let canonical = canonical_text kept in
     let whole : text ≡ canonical ++ dollar ∷ rest = rw is at cut ∙ append_assoc canonical (dollar ∷ []) rest in (
       (λ yes. (rest, decides.0 yes, whole)),
       λ found.
-          let tails : dollar ∷ rest ≡ dollar ∷ found.0 = (same_front canonical canonical (dollar ∷ rest) (dollar ∷ found.0) refl (sym whole ∙ found.2)).1 in
+          let tails : dollar ∷ rest ≡ dollar ∷ found.0 = (append-injective canonical canonical (dollar ∷ rest) (dollar ∷ found.0) refl (sym whole ∙ found.2)).1 in
           let same : rest ≡ found.0 = cc tails in
           decides.1 (subst (IsPacked (method_of kept.scheme)) (sym same) found.1),
     )
 
 -- Otherwise it is not whole.
-pub unwhole : (text front : List ℕ) (kept : SettingValue) → front ≡ canonical_text kept ++ dollar ∷ []
+pub not_whole-without_front : (text front : List ℕ) (kept : SettingValue) → front ≡ canonical_text kept ++ dollar ∷ []
     → ((rest : List ℕ) → text ≢ front ++ rest) → ¬ IsWhole text kept
-unwhole text front kept is lacks found =
+not_whole-without_front text front kept is lacks found =
     lacks found.0 (found.2 ∙ sym (append_assoc (canonical_text kept) (dollar ∷ []) _) ∙ ap (λ (x : List ℕ). x ++ found.0) (sym is))

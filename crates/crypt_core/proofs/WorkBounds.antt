@@ -1,8 +1,8 @@
--- Bounds on the work and the cost of a hash. `shacrypt-within` and `scrypt-small` serve the bounds of src/work.rt,
--- `longest_of_64` serves `Scheme::policy_limit`, and `longest` serves the audits of run_core: the longest password, or
--- one of 64 bytes, costs at least as much as any shorter one. Shorter passwords have shorter messages, except for the
--- pieces for the binary digits of the length. There it matters that 1024 and 64 are powers of two: such a length has
--- one digit more than any smaller one.
+-- Bounds on the work and the cost of a hash. `shacrypt_work-within` and `scrypt_work-below_limit` serve the bounds of
+-- src/work.rt, `cost_by-le-at_64` serves `Scheme::policy_limit`, and `cost-le-longest_password` serves the audits of
+-- run_core: the longest password, or one of 64 bytes, costs at least as much as any shorter one. Shorter passwords have
+-- shorter messages, except for the pieces for the binary digits of the length. There it matters that 1024 and 64 are
+-- powers of two: such a length has one digit more than any smaller one.
 use Rattle.std.proofs.Common.{ℕ, zero, suc, ◌+◌, ◌-◌, ◌*◌, ◌/◌, ◌%◌, ◌^◌, ◌<◌, ◌≤◌, Bool, true, false, cond, nat_eq, length, inl, inr, arith, ◌≡◌, refl}
 use Rattle.std.specs.Int.{div_ceil}
 use Rattle.std.proofs.lemmas.Bool.{cases_order}
@@ -23,16 +23,16 @@ use Rattle.crypt_core.proofs.CycleLemmas.{digit_bytes-step}
 -- ---- the work
 
 -- No first byte repeats the salt more often than the greatest byte does.
-pub shacrypt-within : (digest a rounds password salt : ℕ) → a < 256
+pub shacrypt_work-within : (digest a rounds password salt : ℕ) → a < 256
     → IsWithin (shacrypt_work digest a rounds password salt) (shacrypt_work digest greatest_byte rounds password salt)
-shacrypt-within digest a rounds password salt byte =
+shacrypt_work-within digest a rounds password salt byte =
     let times : (16 + a) * salt ≤ (16 + greatest_byte) * salt = mul-le-mul_right salt (omega arith) in
     record { digests = omega arith; bytes = omega arith; mixes = omega arith; table = omega arith; scratch = omega arith }
 
 -- Each count of a hash with scrypt is below the limit.
-pub scrypt-small : (params : ScryptParams) (a password salt : ℕ) → IsBounded params → password ≤ password_limit → salt ≤ scrypt_salt_limit
+pub scrypt_work-below_limit : (params : ScryptParams) (a password salt : ℕ) → IsBounded params → password ≤ password_limit → salt ≤ scrypt_salt_limit
     → IsBelow (work_by (Scrypt params) a password salt) work_limit
-scrypt-small params a password salt most password_short salt_short =
+scrypt_work-below_limit params a password salt most password_short salt_short =
     let digest : key_digests password ≤ 1 = grind (arith, nat_tests) in
     let key : key_digests password * password ≤ 1 * password_limit = mul-le-mul digest password_short in
     let salted : params.r * params.p * salt ≤ 2 ^ 22 * scrypt_salt_limit = mul-le-mul most.parts salt_short in
@@ -41,11 +41,11 @@ scrypt-small params a password salt most password_short salt_short =
 -- ---- the bytes for the binary digits of the length
 
 -- A number below 2 ^ k has at most k digits.
-pub at_most_k : (k one other most n : ℕ) → one ≤ most → other ≤ most → n < 2 ^ k → digit_bytes one other n ≤ k * most
-at_most_k k one other most zero small too below = omega arith
-at_most_k zero one other most (suc n) small too below = absurd (omega (arith, below))
-at_most_k (suc k) one other most (suc n) small too below =
-    let rest = at_most_k k one other most (suc n / 2) small too (omega (arith, below)) in
+pub digit_bytes-le-mul_of_below_pow : (k one other most n : ℕ) → one ≤ most → other ≤ most → n < 2 ^ k → digit_bytes one other n ≤ k * most
+digit_bytes-le-mul_of_below_pow k one other most zero small too below = omega arith
+digit_bytes-le-mul_of_below_pow zero one other most (suc n) small too below = absurd (omega (arith, below))
+digit_bytes-le-mul_of_below_pow (suc k) one other most (suc n) small too below =
+    let rest = digit_bytes-le-mul_of_below_pow k one other most (suc n / 2) small too (omega (arith, below)) in
     omega (arith, digit_bytes-step one other (suc n) (omega arith), rest, piece (nat_eq (suc n % 2) 1))
   where
     piece : (odd : Bool) → cond odd one other ≤ most
@@ -60,48 +60,48 @@ record IsPower (k most : ℕ) : Type 0 where
   wide : 64 ≤ most
 
 -- Such a length has one digit more than any smaller one.
-digits_longest : (k most one n : ℕ) → IsPower k most → one ≤ most → n ≤ most → digit_bytes one n n ≤ digit_bytes one most most
-digits_longest k most one n is small short = elim (cases_order n most) [
+digit_bytes-le-at_power : (k most one n : ℕ) → IsPower k most → one ≤ most → n ≤ most → digit_bytes one n n ≤ digit_bytes one most most
+digit_bytes-le-at_power k most one n is small short = elim (cases_order n most) [
   | inl same ↦ rw same (omega arith)
   | inr other ↦ elim other [
-    | inl below ↦ omega (arith, at_most_k k one n most n small short (rw is.power at below), is.digits one)
+    | inl below ↦ omega (arith, digit_bytes-le-mul_of_below_pow k one n most n small short (rw is.power at below), is.digits one)
     | inr above ↦ absurd (omega (arith, short, above))
   ]
 ]
 
-single_longest : (k most n : ℕ) → IsPower k most → n ≤ most → digit_bytes 1 1 n ≤ digit_bytes 1 1 most
-single_longest k most n is short = elim (cases_order n most) [
+single_digit_bytes-le-at_power : (k most n : ℕ) → IsPower k most → n ≤ most → digit_bytes 1 1 n ≤ digit_bytes 1 1 most
+single_digit_bytes-le-at_power k most n is short = elim (cases_order n most) [
   | inl same ↦ rw same (omega arith)
   | inr other ↦ elim other [
-    | inl below ↦ omega (arith, at_most_k k 1 1 1 n (omega arith) (omega arith) (rw is.power at below), is.single)
+    | inl below ↦ omega (arith, digit_bytes-le-mul_of_below_pow k 1 1 1 n (omega arith) (omega arith) (rw is.power at below), is.single)
     | inr above ↦ absurd (omega (arith, short, above))
   ]
 ]
 
 -- ---- the bytes of the rounds
 
-rounds_longest : (count digest n most salt : ℕ) → n ≤ most → rounds_bytes count digest n salt ≤ rounds_bytes count digest most salt
-rounds_longest count digest n most salt short =
+rounds_bytes-mono_length : (count digest n most salt : ℕ) → n ≤ most → rounds_bytes count digest n salt ≤ rounds_bytes count digest most salt
+rounds_bytes-mono_length count digest n most salt short =
     let once : count * (digest + n) ≤ count * (digest + most) = mul-le-mul_left count (omega (arith, short)) in
     omega (arith, once, mul-le-mul_left (count - div_ceil count 7) short)
 
 -- ---- the cost
 
-by_scheme : (k most : ℕ) (scheme : Scheme) (n salt : ℕ) → IsPower k most → n ≤ most → cost_by scheme n salt ≤ cost_by scheme most salt
-by_scheme k most Md5crypt n salt is short = omega (arith, short, single_longest k most n is short, rounds_longest 1000 16 n most salt short)
-by_scheme k most (Shacrypt Sha256 rounds) n salt is short =
-    omega (arith, short, mul-le-mul short short, digits_longest k most 32 n is (omega (arith, is.wide)) short, rounds_longest rounds.count 32 n most salt short)
-by_scheme k most (Shacrypt Sha512 rounds) n salt is short =
-    omega (arith, short, mul-le-mul short short, digits_longest k most 64 n is is.wide short, rounds_longest rounds.count 64 n most salt short)
-by_scheme k most (Scrypt params) n salt is short =
+cost_by-le-at_power : (k most : ℕ) (scheme : Scheme) (n salt : ℕ) → IsPower k most → n ≤ most → cost_by scheme n salt ≤ cost_by scheme most salt
+cost_by-le-at_power k most Md5crypt n salt is short = omega (arith, short, single_digit_bytes-le-at_power k most n is short, rounds_bytes-mono_length 1000 16 n most salt short)
+cost_by-le-at_power k most (Shacrypt Sha256 rounds) n salt is short =
+    omega (arith, short, mul-le-mul short short, digit_bytes-le-at_power k most 32 n is (omega (arith, is.wide)) short, rounds_bytes-mono_length rounds.count 32 n most salt short)
+cost_by-le-at_power k most (Shacrypt Sha512 rounds) n salt is short =
+    omega (arith, short, mul-le-mul short short, digit_bytes-le-at_power k most 64 n is is.wide short, rounds_bytes-mono_length rounds.count 64 n most salt short)
+cost_by-le-at_power k most (Scrypt params) n salt is short =
     let digest : key_digests n ≤ key_digests most = grind (arith, nat_tests) in
     omega (arith, digest, mul-le-mul digest short)
 
-pub longest : (kept : SettingValue) (n : ℕ) → n ≤ password_limit → cost kept n ≤ cost kept password_limit
-longest kept n short = by_scheme 10 password_limit kept.scheme n (length kept.salt)
+pub cost-le-longest_password : (kept : SettingValue) (n : ℕ) → n ≤ password_limit → cost kept n ≤ cost kept password_limit
+cost-le-longest_password kept n short = cost_by-le-at_power 10 password_limit kept.scheme n (length kept.salt)
     (record { power = refl; digits = λ one. omega arith; single = omega arith; wide = omega arith }) short
 
 -- A password of 64 bytes costs at least as much as any shorter one.
-pub longest_of_64 : (scheme : Scheme) (n salt : ℕ) → n ≤ 64 → cost_by scheme n salt ≤ cost_by scheme 64 salt
-longest_of_64 scheme n salt short = by_scheme 6 64 scheme n salt
+pub cost_by-le-at_64 : (scheme : Scheme) (n salt : ℕ) → n ≤ 64 → cost_by scheme n salt ≤ cost_by scheme 64 salt
+cost_by-le-at_64 scheme n salt short = cost_by-le-at_power 6 64 scheme n salt
     (record { power = refl; digits = λ one. omega arith; single = omega arith; wide = omega arith }) short

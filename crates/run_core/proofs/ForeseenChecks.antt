@@ -13,8 +13,8 @@ use Rattle.crypt_core.specs.Settings.{SettingValue, Spells}
 use Rattle.crypt_core.specs.StoredFields.{IsLocked, IsWhole}
 use Rattle.crypt_core.specs.Work.{cost}
 use Rattle.crypt_core.proofs.Refusals.{one_reading}
-use Rattle.crypt_core.proofs.WholeHashes.{fits_whole}
-use Rattle.crypt_core.proofs.WorkBounds.{longest}
+use Rattle.crypt_core.proofs.WholeHashes.{IsWhole-from_Fits}
+use Rattle.crypt_core.proofs.WorkBounds.{cost-le-longest_password}
 use Rattle.crypt_core.specs.Standings.{IsAbove, IsOverBudget, greatest_cost}
 use Rattle.run_core.specs.Answers.{Answer, Hashing}
 use Rattle.run_core.specs.JobOptions.{given_budget, without_rehash}
@@ -44,7 +44,7 @@ foreseen job field kept line parts spells once within has is costly =
       | inr (spelled, found, spelled_is, found_spells, number_is) ↦
           let fields : spelled ≡ field = cc (spelled_is, other) in
           let one : found ≡ kept = one_setting field found kept once (subst (λ (f : List ℕ). Spells f found) fields found_spells) spells in
-          let most = longest kept (length costly.parts.password) (sound_short Check line costly.parts costly.sound costly.cut) in
+          let most = cost-le-longest_password kept (length costly.parts.password) (sound_short Check line costly.parts costly.sound costly.cut) in
           within (still_above job.budget costly.number (greatest_cost kept) (omega (arith, number_is, ap (λ (s : SettingValue). cost s (length costly.parts.password)) one, most)) costly.above)
     ]
 
@@ -76,10 +76,10 @@ misfits job stream parts field kept Locked made is spells dead (locked, is_locke
     absurd ((spelled-stored field kept spells).1 (subst IsLocked same begins))
 misfits job stream parts field kept Match made is spells dead (found, other, (is_found, found_spells), fits, recent, is_made) =
     let same : found ≡ field = cc (is, is_found) in
-    absurd (dead (fits_whole parts.password field kept spells (subst (Fits parts.password) same (other, found_spells, fits))))
+    absurd (dead (IsWhole-from_Fits parts.password field kept spells (subst (Fits parts.password) same (other, found_spells, fits))))
 misfits job stream parts field kept (Rehashed hash) made is spells dead (found, other, (is_found, found_spells), fits, outdated, is_hash, is_made) =
     let same : found ≡ field = cc (is, is_found) in
-    absurd (dead (fits_whole parts.password field kept spells (subst (Fits parts.password) same (other, found_spells, fits))))
+    absurd (dead (IsWhole-from_Fits parts.password field kept spells (subst (Fits parts.password) same (other, found_spells, fits))))
 misfits job stream parts field kept Misfit made is spells dead comes = refl
 misfits job stream parts field kept (Audited finding) made is spells dead comes = absurd comes
 

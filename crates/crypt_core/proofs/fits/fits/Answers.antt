@@ -1,12 +1,12 @@
 -- The clause `below` of `fits`: the work of every setting that the stored hash spells is below the limit. A stored hash
 -- with an error spells no setting, and one that was compared spells only the setting whose work `matches` has bounded.
 use Rattle.crypt_core.proofs.OneSetting.{setting_unique}
-use Rattle.crypt_core.proofs.Refusals.{spelled_not_refused}
+use Rattle.crypt_core.proofs.Refusals.{Spells-not-IsRefused}
 use Rattle.crypt_core.proofs.fits.fits.Goals as goal
 
 pub returns-in_err-read-clause-below : goal.returns-in_err-read-clause-below
 returns-in_err-read-clause-below c = λ kept spelled.
-    absurd (spelled_not_refused c.args.stored.now kept spelled _ c.in_err-read.ensures.refused)
+    absurd (Spells-not-IsRefused c.args.stored.now kept spelled _ c.in_err-read.ensures.refused)
 
 pub returns-in_err-matches-clause-below : goal.returns-in_err-matches-clause-below
 returns-in_err-matches-clause-below c = λ kept spelled.

@@ -2,7 +2,7 @@
 -- stay within the cost (BytesWithinCost).
 use Rattle.std.proofs.Common.{rules, ◌≡◌, arith}
 use Rattle.crypt_core.specs.Work.{raised_by, work}
-use Rattle.crypt_core.proofs.BytesWithinCost.{bytes_within}
+use Rattle.crypt_core.proofs.BytesWithinCost.{work_bytes-le-cost}
 use Rattle.crypt_core.proofs.hash.digest_of.Goals as goal
 
 pub returns-after-sha-clause-metered : goal.returns-after-sha-clause-metered
@@ -13,6 +13,6 @@ returns-after-sha-clause-metered g c =
     record {
       count = counted;
       below = search rules;
-      within = rw counted (omega (arith, bytes_within password kept));
+      within = rw counted (omega (arith, work_bytes-le-cost password kept));
       refused = tt;
     }

@@ -3,7 +3,7 @@
 use Rattle.std.proofs.Common.{arith, rules, refl}
 use Rattle.std.proofs.lemmas.Nat.{and_mask}
 use Rattle.crypt_core.specs.MadeSalts.{made_salt}
-use Rattle.crypt_core.proofs.MadeSaltLemmas.{made_salt-more, all_made_salt}
+use Rattle.crypt_core.proofs.MadeSaltLemmas.{made_salt-more, in_alphabet-made_salt}
 use Rattle.crypt_core.proofs.made_salt.salt_of.Goals as goal
 
 pub characters-init : goal.characters-init
@@ -17,4 +17,4 @@ characters-preserved c = record {
 }
 
 pub returns-clause-characters : goal.returns-clause-characters
-returns-clause-characters c = rw c.characters.invariant.items (all_made_salt c.args.words c.characters.i)
+returns-clause-characters c = rw c.characters.invariant.items (in_alphabet-made_salt c.args.words c.characters.i)

@@ -8,10 +8,10 @@ use Rattle.crypt_core.specs.Md5crypt.{md5crypt_digest, md5crypt_opening, opening
 use Rattle.crypt_core.specs.Messages.{md5crypt_message, md5crypt_messages, md5crypt_rounds}
 use Rattle.crypt_core.specs.RoundMessage.{round_message, alternate_message}
 use Rattle.crypt_core.specs.Private.Messages.{Strings, with_digest}
-use Rattle.crypt_core.proofs.CycleLemmas.{digit_bytes-few}
-use Rattle.crypt_core.proofs.Md5cryptLemmas.{are_messages, length-message_round, length-opening, message-round, messages-all, messages-in_all, messages-two}
-use Rattle.crypt_core.proofs.MessageLists.{digest_after-more, digest_after-none, length-messages_to, length-alternate, messages-more, round_length-small}
-use Rattle.crypt_core.proofs.CountSums.{digests_in_all, digests_more, two_digests}
+use Rattle.crypt_core.proofs.CycleLemmas.{digit_bytes-le-mul}
+use Rattle.crypt_core.proofs.Md5cryptLemmas.{md5crypt-digests_messages, length-md5crypt_message, length-opening_message, md5crypt_message-round, messages_to-all_rounds, HaveCountAndSum-md5crypt_messages, messages_to-two}
+use Rattle.crypt_core.proofs.MessageLists.{digest_after-more, digest_after-zero, length-messages_to, length-alternate_message, messages_to-more, round_length-le}
+use Rattle.crypt_core.proofs.CountSums.{with_digests-with_work, with_digests-push, with_digests-two}
 use Rattle.crypt_core.proofs.md5crypt.md5crypt.Goals as goal
 
 -- After the opening: the digest, its length, the two counted messages, and the bound on their bytes.
@@ -26,10 +26,10 @@ parts-init c =
     let opened = rw is at c.opening.ensures.count in
     let bytes = ap (λ m. m.bytes) opened in
     let short = c.bytes-password.ensures.password.0 in (
-      c.copy_from_slice.ensures.after ∙ (c.as_slice.ensures.value ∙ ((rw is at c.opening.ensures.digest) ∙ sym (digest_after-none md5 (md5crypt_opening p s) p s))),
+      c.copy_from_slice.ensures.after ∙ (c.as_slice.ensures.value ∙ ((rw is at c.opening.ensures.digest) ∙ sym (digest_after-zero md5 (md5crypt_opening p s) p s))),
       ap length (c.copy_from_slice.ensures.after ∙ c.as_slice.ensures.value) ∙ c.opening.ensures.length,
-      rw (messages-two p s) (two_digests a (with_digest a first) c.opening.new.meter first second refl opened),
-      omega (arith, bytes, length-alternate p s, length-opening p s, digit_bytes-few 1 1 1 (length p) (omega arith) (omega arith), short, c.requires.salt),
+      rw (messages_to-two p s) (with_digests-two a (with_digest a first) c.opening.new.meter first second refl opened),
+      omega (arith, bytes, length-alternate_message p s, length-opening_message p s, digit_bytes-le-mul 1 1 1 (length p) (omega arith) (omega arith), short, c.requires.salt),
     )
 
 pub round-requires-clause-digests_room : goal.round-requires-clause-digests_room
@@ -47,19 +47,19 @@ rounds-preserved c =
     let strings = rw c.bytes-password.ensures.value at c.new-strings.ensures in
     let same =
     ap (λ (x : Strings). round_message i before x.password x.salt) strings
-    ∙ (ap (λ x. round_message i x p s) c.rounds.invariant.0 ∙ sym (message-round p s i)) in
+    ∙ (ap (λ x. round_message i x p s) c.rounds.invariant.0 ∙ sym (md5crypt_message-round p s i)) in
     let later : c.rounds.i + 1 + 2 ≡ c.rounds.i + 2 + 1 = omega arith in
-    let counted = digests_more c.args.meter.now c.rounds.meter c.round.new.meter _ _ c.rounds.invariant.2 c.round.ensures.count in
+    let counted = with_digests-push c.args.meter.now c.rounds.meter c.round.new.meter _ _ c.rounds.invariant.2 c.round.ensures.count in
     let bytes = ap (λ m. m.bytes) c.round.ensures.count in (
-      c.round.ensures.digest ∙ (ap md5 (same ∙ message-round p s i) ∙ sym (digest_after-more md5 (md5crypt_opening p s) p s i)),
+      c.round.ensures.digest ∙ (ap md5 (same ∙ md5crypt_message-round p s i) ∙ sym (digest_after-more md5 (md5crypt_opening p s) p s i)),
       ap length c.round.ensures.digest ∙ length-md5 _,
-      rw (later, messages-more (md5crypt_message p s) (i + 2), ← same) counted,
+      rw (later, messages_to-more (md5crypt_message p s) (i + 2), ← same) counted,
       omega (
         arith,
         bytes,
         ap length same,
-        length-message_round p s i,
-        round_length-small i 16 (length p) (length s),
+        length-md5crypt_message p s i,
+        round_length-le i 16 (length p) (length s),
         c.rounds.invariant.3,
         c.bytes-password.ensures.password.0,
         c.requires.salt,
@@ -77,20 +77,20 @@ returns-clause-count c =
     let p = c.args.password.now in
     let s = c.args.salt.now in
     let last : 50 * c.parts.part + 2 ≡ md5crypt_rounds + 2 = omega arith in
-    let counted = rw (last, messages-all p s) at c.parts.invariant.2 in
-    counted ∙ digests_in_all c.args.meter.now (md5crypt_messages p s) (md5crypt_rounds + 2) _ (messages-in_all p s)
+    let counted = rw (last, messages_to-all_rounds p s) at c.parts.invariant.2 in
+    counted ∙ with_digests-with_work c.args.meter.now (md5crypt_messages p s) (md5crypt_rounds + 2) _ (HaveCountAndSum-md5crypt_messages p s)
 
 pub returns-clause-specified : goal.returns-clause-specified
-returns-clause-specified c = messages-in_all c.args.password.now c.args.salt.now
+returns-clause-specified c = HaveCountAndSum-md5crypt_messages c.args.password.now c.args.salt.now
 
 pub returns-clause-messages : goal.returns-clause-messages
-returns-clause-messages c = are_messages c.args.password.now c.args.salt.now
+returns-clause-messages c = md5crypt-digests_messages c.args.password.now c.args.salt.now
 
 pub returns-clause-each_round : goal.returns-clause-each_round
 returns-clause-each_round c i =
     let p = c.args.password.now in
     let s = c.args.salt.now in
-    digest_after-more md5 (md5crypt_opening p s) p s i ∙ ap md5 (sym (message-round p s i))
+    digest_after-more md5 (md5crypt_opening p s) p s i ∙ ap md5 (sym (md5crypt_message-round p s i))
 
 pub returns-clause-below : goal.returns-clause-below
 returns-clause-below c = omega (arith, ap (λ m. m.bytes) (returns-clause-count c), c.parts.invariant.3)

@@ -7,20 +7,20 @@ use Rattle.std.specs.Prelude.{min}
 use Rattle.crypt_core.specs.Cycle.{digit_pieces}
 use Rattle.crypt_core.specs.Md5crypt.{opening_message}
 use Rattle.crypt_core.specs.Private.Messages.{with_digest}
-use Rattle.crypt_core.proofs.CycleLemmas.{digit_bytes-few}
-use Rattle.crypt_core.proofs.Md5cryptLemmas.{length-digits, length-opening}
-use Rattle.crypt_core.proofs.MessageLists.{length-alternate}
-use Rattle.crypt_core.proofs.CountSums.{bytes_more, digest_counted}
+use Rattle.crypt_core.proofs.CycleLemmas.{digit_bytes-le-mul}
+use Rattle.crypt_core.proofs.Md5cryptLemmas.{length-digit_pieces_of_password, length-opening_message}
+use Rattle.crypt_core.proofs.MessageLists.{length-alternate_message}
+use Rattle.crypt_core.proofs.CountSums.{bytes-add_add, with_digest-from_counts}
 use Rattle.crypt_core.proofs.md5crypt.opening.Goals as goal
 
 -- The code's `min` takes the first byte of the password, or nothing of an empty one.
-first_taken : (p : List ℕ) (n : ℕ) → n ≡ min (length p) 1 → take n p ≡ take 1 p
-first_taken p n is = rw (is, min_comm (length p) 1) (take_min 1 p)
+take-min_one : (p : List ℕ) (n : ℕ) → n ≡ min (length p) 1 → take n p ≡ take 1 p
+take-min_one p n is = rw (is, min_comm (length p) 1) (take_min 1 p)
 
 pub feed_digits-requires : goal.feed_digits-requires
 feed_digits-requires c =
     let p = c.args.password.now in
-    let first = first_taken p c.min.result c.min.ensures in
+    let first = take-min_one p c.min.result c.min.ensures in
     omega (
       arith,
       ap (λ m. m.bytes) c.alternate_digest-alternate.ensures.count,
@@ -31,10 +31,10 @@ feed_digits-requires c =
       c.requires.room.1,
       c.requires.password,
       c.requires.salt,
-      length-alternate p c.args.salt.now,
+      length-alternate_message p c.args.salt.now,
       ap (λ other. length (digit_pieces (0 ∷ []) other (length p))) first,
-      length-digits p,
-      digit_bytes-few 1 1 1 (length p) (omega arith) (omega arith),
+      length-digit_pieces_of_password p,
+      digit_bytes-le-mul 1 1 1 (length p) (omega arith) (omega arith),
       ap length c.row.ensures.prefix,
     )
 
@@ -43,11 +43,11 @@ returns-clause-count c =
     let p = c.args.password.now in
     let s = c.args.salt.now in
     let before = c.alternate_digest-alternate.new.meter in
-    let last = rw (first_taken p c.min.result c.min.ensures) at c.feed_digits.ensures.count in
-    let two = bytes_more before _ c.feed-2.new.meter _ _ _ c.feed.ensures.count c.feed-2.ensures.count refl in
-    let three = bytes_more before _ c.feed-3.new.meter _ _ _ two c.feed-3.ensures.count refl in
-    let four = bytes_more before _ c.feed_cycle.new.meter _ _ _ three c.feed_cycle.ensures.count refl in
-    let five = bytes_more before _ c.feed_digits.new.meter _ _ _ four last refl in
-    digest_counted before c.feed_digits.new.meter c.finish.new.meter (opening_message p s) _ five c.finish.ensures.count
-    (omega (arith, length-opening p s, length-digits p, ap length c.row.ensures.prefix))
+    let last = rw (take-min_one p c.min.result c.min.ensures) at c.feed_digits.ensures.count in
+    let two = bytes-add_add before _ c.feed-2.new.meter _ _ _ c.feed.ensures.count c.feed-2.ensures.count refl in
+    let three = bytes-add_add before _ c.feed-3.new.meter _ _ _ two c.feed-3.ensures.count refl in
+    let four = bytes-add_add before _ c.feed_cycle.new.meter _ _ _ three c.feed_cycle.ensures.count refl in
+    let five = bytes-add_add before _ c.feed_digits.new.meter _ _ _ four last refl in
+    with_digest-from_counts before c.feed_digits.new.meter c.finish.new.meter (opening_message p s) _ five c.finish.ensures.count
+    (omega (arith, length-opening_message p s, length-digit_pieces_of_password p, ap length c.row.ensures.prefix))
     ∙ ap (λ m. with_digest m (opening_message p s)) c.alternate_digest-alternate.ensures.count

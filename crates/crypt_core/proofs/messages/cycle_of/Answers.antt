@@ -1,11 +1,11 @@
 -- The loop of `cycle_of` appends byte i mod length of the digest, as `cycle` defines it, and never exceeds the
 -- capacity.
 use Rattle.std.proofs.Common.{◌∙◌, length, arith, sym, ap, [], ◌++◌, ◌∷◌, get_or, ◌%◌}
-use Rattle.crypt_core.proofs.CycleLemmas.{cycle-more, cycle-none, length-cycle}
+use Rattle.crypt_core.proofs.CycleLemmas.{cycle-more, cycle-zero, length-cycle}
 use Rattle.crypt_core.proofs.messages.cycle_of.Goals as goal
 
 pub loop-i-init : goal.loop-i-init
-loop-i-init c = c.new-bytes.ensures ∙ sym (cycle-none c.args.digest.now)
+loop-i-init c = c.new-bytes.ensures ∙ sym (cycle-zero c.args.digest.now)
 
 pub push-requires : goal.push-requires
 push-requires c = (omega arith, omega (arith, ap length c.loop-i.invariant, length-cycle c.args.digest.now c.loop-i.i))

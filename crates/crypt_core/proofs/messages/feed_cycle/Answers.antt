@@ -3,7 +3,7 @@
 use Rattle.std.proofs.Common.{◌≡◌, ◌+◌, ◌*◌, ◌/◌, ◌%◌, ◌≤◌, length, arith, refl, sym, append_assoc}
 use Rattle.std.proofs.lemmas.Nat.{div-add-mod'}
 use Rattle.std.proofs.Math.Nat.{mod-lt}
-use Rattle.crypt_core.proofs.CycleLemmas.{cycle-turns, cycle-whole}
+use Rattle.crypt_core.proofs.CycleLemmas.{cycle-mul-add, cycle-mul-length}
 use Rattle.crypt_core.proofs.messages.feed_cycle.Goals as goal
 
 pub returns-clause-message : goal.returns-clause-message
@@ -13,5 +13,5 @@ returns-clause-message g c = λ m h.
     let k = c.args.len / w in
     let split : c.args.len ≡ k * w + c.args.len % w = sym (div-add-mod' c.args.len w) in
     let within : c.args.len % w ≤ w = omega (arith, mod-lt c.args.len c.requires.some) in
-    rw (split, cycle-turns d w k (c.args.len % w) refl within, cycle-whole d k, ← append_assoc)
+    rw (split, cycle-mul-add d w k (c.args.len % w) refl within, cycle-mul-length d k, ← append_assoc)
     (c.feed.ensures.message _ (c.feed_repeated.ensures.message m h))

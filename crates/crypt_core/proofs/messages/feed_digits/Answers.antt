@@ -4,13 +4,13 @@
 use Rattle.std.proofs.Common.{◌≡◌, ℕ, ◌/◌, ◌%◌, List, [], ◌++◌, length, arith, refl, sym, ◌∙◌, ap, append_assoc, rules}
 use Rattle.std.proofs.lemmas.List.{append-nil, length-append}
 use Rattle.crypt_core.specs.Cycle.{by_digit, digit_pieces}
-use Rattle.crypt_core.proofs.CycleLemmas.{digit_pieces-step, no_pieces}
-use Rattle.crypt_core.proofs.CountSums.{bytes_more, bytes_none}
+use Rattle.crypt_core.proofs.CycleLemmas.{digit_pieces-step, digit_pieces-zero}
+use Rattle.crypt_core.proofs.CountSums.{bytes-add_add, bytes-add_zero}
 use Rattle.crypt_core.proofs.messages.feed_digits.Goals.{then-rest-eq1, else-rest-eq1}
 use Rattle.crypt_core.proofs.messages.feed_digits.Goals as goal
 
 pub digits-init : goal.digits-init
-digits-init g c = ([], (λ m h. rw append-nil h), refl, bytes_none c.args.meter.now)
+digits-init g c = ([], (λ m h. rw append-nil h), refl, bytes-add_zero c.args.meter.now)
 
 pub feed-requires : goal.feed-requires
 feed-requires g c =
@@ -44,20 +44,20 @@ digits-preserved g c =
       fed ++ piece,
       (λ m h. rw (← append_assoc) (c.feed.ensures.message _ (c.digits.invariant.1 m h))),
       append_assoc fed piece half ∙ split,
-      bytes_more c.args.meter.now c.digits.meter c.feed.new.meter _ _ _ c.digits.invariant.3 c.feed.ensures.count (sym (length-append fed piece)),
+      bytes-add_add c.args.meter.now c.digits.meter c.feed.new.meter _ _ _ c.digits.invariant.3 c.feed.ensures.count (sym (length-append fed piece)),
     )
 
 -- Once the number is 0, all pieces have been fed.
-all_fed : (one other fed all : List ℕ) (n : ℕ) → n ≡ 0 → fed ++ digit_pieces one other n ≡ all → fed ≡ all
-all_fed one other fed all n none e =
-    sym (append-nil fed) ∙ (ap (λ rest. fed ++ rest) (sym (no_pieces one other)) ∙ (ap (λ k. fed ++ digit_pieces one other k) (sym none) ∙ e))
+append-digit_pieces_none_left : (one other fed all : List ℕ) (n : ℕ) → n ≡ 0 → fed ++ digit_pieces one other n ≡ all → fed ≡ all
+append-digit_pieces_none_left one other fed all n none e =
+    sym (append-nil fed) ∙ (ap (λ rest. fed ++ rest) (sym (digit_pieces-zero one other)) ∙ (ap (λ k. fed ++ digit_pieces one other k) (sym none) ∙ e))
 
 pub returns-clause-message : goal.returns-clause-message
 returns-clause-message g c = λ m h.
     let fed = c.digits.invariant.0 in
-    rw (← all_fed c.args.one.now c.args.other.now fed _ c.digits.rest (omega arith) c.digits.invariant.2) (c.digits.invariant.1 m h)
+    rw (← append-digit_pieces_none_left c.args.one.now c.args.other.now fed _ c.digits.rest (omega arith) c.digits.invariant.2) (c.digits.invariant.1 m h)
 
 pub returns-clause-count : goal.returns-clause-count
 returns-clause-count g c =
     let fed = c.digits.invariant.0 in
-    rw (← all_fed c.args.one.now c.args.other.now fed _ c.digits.rest (omega arith) c.digits.invariant.2) c.digits.invariant.3
+    rw (← append-digit_pieces_none_left c.args.one.now c.args.other.now fed _ c.digits.rest (omega arith) c.digits.invariant.2) c.digits.invariant.3

@@ -6,22 +6,22 @@ use Rattle.std.proofs.lemmas.List.{length-append}
 use Rattle.crypt_core.specs.MethodLimits.{packed_len}
 use Rattle.crypt_core.specs.Packing.{packed, packed_group, group_number}
 use Rattle.crypt_core.specs.Private.Groups.{AreGroups, groups_in}
-use Rattle.crypt_core.proofs.PackingLemmas.{all_groups, group_at, group_size, groups_fit, length-packed, packed-drop, packed_by}
+use Rattle.crypt_core.proofs.PackingLemmas.{append-packed_by_none_left, IsGroup-get_or, length-from_IsGroup, AreGroups-groups_of, length-packed_by_method, packed_by-drop, packed_by}
 use Rattle.prims_core.proofs.NumeralFacts.{length-numerals}
 use Rattle.crypt_core.proofs.pack.append_packed.Goals as goal
 
 pub number_of-requires : goal.number_of-requires
 number_of-requires c =
-    let groups : AreGroups (length c.args.digest.now) (groups_in c.row.result.groups.now) = rw (c.row.ensures.groups, c.requires.digest) (groups_fit c.args.method) in
-    group_at _ c.row.result.groups.now c.groups.places-index _ c.groups-test.true groups
+    let groups : AreGroups (length c.args.digest.now) (groups_in c.row.result.groups.now) = rw (c.row.ensures.groups, c.requires.digest) (AreGroups-groups_of c.args.method) in
+    IsGroup-get_or _ c.row.result.groups.now c.groups.places-index _ c.groups-test.true groups
 
 pub put_group-requires-clause-few : goal.put_group-requires-clause-few
 put_group-requires-clause-few c =
     let none : Bor (List ℕ) = record { ref_ptr = (0, 0); now = [] } in
     let table = c.row.result.groups.now in
-    let groups : AreGroups (length c.args.digest.now) (groups_in table) = rw (c.row.ensures.groups, c.requires.digest) (groups_fit c.args.method) in
-    let few = group_size (length c.args.digest.now) (get_or table c.groups.places-index none).now
-    (group_at _ table c.groups.places-index none c.groups-test.true groups) in
+    let groups : AreGroups (length c.args.digest.now) (groups_in table) = rw (c.row.ensures.groups, c.requires.digest) (AreGroups-groups_of c.args.method) in
+    let few = length-from_IsGroup (length c.args.digest.now) (get_or table c.groups.places-index none).now
+    (IsGroup-get_or _ table c.groups.places-index none c.groups-test.true groups) in
     omega (arith, few.1)
 
 pub put_group-requires-clause-room : goal.put_group-requires-clause-room
@@ -32,8 +32,8 @@ put_group-requires-clause-room c =
     let none : Bor (List ℕ) = record { ref_ptr = (0, 0); now = [] } in
     let places = (get_or table i none).now in
     let rest = packed_by (groups_in (drop (i + 1) table)) digest in
-    let lengths = ap length (rw (packed-drop digest table i none c.groups-test.true) at c.groups.invariant) in
-    let whole : length (packed_by (groups_in table) digest) ≡ packed_len c.args.method = rw c.row.ensures.groups (length-packed c.args.method digest) in
+    let lengths = ap length (rw (packed_by-drop digest table i none c.groups-test.true) at c.groups.invariant) in
+    let whole : length (packed_by (groups_in table) digest) ≡ packed_len c.args.method = rw c.row.ensures.groups (length-packed_by_method c.args.method digest) in
     omega (
       arith,
       lengths,
@@ -48,7 +48,7 @@ put_group-requires-clause-room c =
 pub returns-clause-text : goal.returns-clause-text
 unfolding packed
 returns-clause-text c =
-    all_groups c.args.digest.now c.row.result.groups.now c.groups.places-index c.groups.text.items _ c.groups-test.false c.groups.invariant
+    append-packed_by_none_left c.args.digest.now c.row.result.groups.now c.groups.places-index c.groups.text.items _ c.groups-test.false c.groups.invariant
     ∙ ap (λ (groups : List (List ℕ)). c.args.text.now.items ++ packed_by groups c.args.digest.now) c.row.ensures.groups
 
 pub returns-clause-length : goal.returns-clause-length
@@ -56,4 +56,4 @@ unfolding packed
 returns-clause-length c =
     ap length (returns-clause-text c)
     ∙ length-append c.args.text.now.items (packed c.args.method c.args.digest.now)
-    ∙ ap (λ more. length c.args.text.now.items + more) (length-packed c.args.method c.args.digest.now)
+    ∙ ap (λ more. length c.args.text.now.items + more) (length-packed_by_method c.args.method c.args.digest.now)

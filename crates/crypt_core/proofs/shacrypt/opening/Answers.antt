@@ -5,10 +5,10 @@ use Rattle.std.proofs.Common.{◌≤◌, length, arith, refl, ◌∙◌, ap}
 use Rattle.crypt_core.specs.RoundMessage.{alternate_message}
 use Rattle.crypt_core.specs.ShaCrypt.{sha_opening_message}
 use Rattle.crypt_core.specs.Private.Messages.{with_digest}
-use Rattle.crypt_core.proofs.CycleLemmas.{digit_bytes-few, length-digit_pieces}
-use Rattle.crypt_core.proofs.MessageLists.{length-alternate}
-use Rattle.crypt_core.proofs.CountSums.{bytes_more, digest_counted}
-use Rattle.crypt_core.proofs.ShaCryptLemmas.{length-sha_opening}
+use Rattle.crypt_core.proofs.CycleLemmas.{digit_bytes-le-mul, length-digit_pieces}
+use Rattle.crypt_core.proofs.MessageLists.{length-alternate_message}
+use Rattle.crypt_core.proofs.CountSums.{bytes-add_add, with_digest-from_counts}
+use Rattle.crypt_core.proofs.ShaCryptLemmas.{length-sha_opening_message}
 use Rattle.crypt_core.proofs.shacrypt.opening.Goals as goal
 
 pub feed_digits-requires : goal.feed_digits-requires
@@ -25,9 +25,9 @@ feed_digits-requires g c =
       c.requires.room.1,
       c.requires.password,
       c.requires.salt,
-      length-alternate p c.args.salt.now,
+      length-alternate_message p c.args.salt.now,
       length-digit_pieces b p (length p),
-      digit_bytes-few (length b) (length p) password_limit (length p) small c.requires.password,
+      digit_bytes-le-mul (length b) (length p) password_limit (length p) small c.requires.password,
     )
 
 pub returns-clause-count : goal.returns-clause-count
@@ -38,9 +38,9 @@ returns-clause-count g c =
     let b = h (alternate_message p s) in
     let before = c.alternate_digest-alternate.new.meter in
     let last = rw (c.as_slice-b.ensures.value ∙ c.alternate_digest-alternate.ensures.digest) at c.feed_digits.ensures.count in
-    let two = bytes_more before _ c.feed-2.new.meter _ _ _ c.feed.ensures.count c.feed-2.ensures.count refl in
-    let three = bytes_more before _ c.feed_cycle.new.meter _ _ _ two c.feed_cycle.ensures.count refl in
-    let four = bytes_more before _ c.feed_digits.new.meter _ _ _ three last refl in
-    digest_counted before c.feed_digits.new.meter c.finish.new.meter (sha_opening_message h p s) _ four c.finish.ensures.count
-    (omega (arith, length-sha_opening h p s, length-digit_pieces b p (length p)))
+    let two = bytes-add_add before _ c.feed-2.new.meter _ _ _ c.feed.ensures.count c.feed-2.ensures.count refl in
+    let three = bytes-add_add before _ c.feed_cycle.new.meter _ _ _ two c.feed_cycle.ensures.count refl in
+    let four = bytes-add_add before _ c.feed_digits.new.meter _ _ _ three last refl in
+    with_digest-from_counts before c.feed_digits.new.meter c.finish.new.meter (sha_opening_message h p s) _ four c.finish.ensures.count
+    (omega (arith, length-sha_opening_message h p s, length-digit_pieces b p (length p)))
     ∙ ap (λ m. with_digest m (sha_opening_message h p s)) c.alternate_digest-alternate.ensures.count

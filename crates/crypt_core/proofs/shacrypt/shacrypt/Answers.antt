@@ -12,9 +12,9 @@ use Rattle.crypt_core.specs.Messages.{shacrypt_message, shacrypt_messages}
 use Rattle.crypt_core.specs.ShaCrypt.{password_repeated, password_string, salt_repeated, salt_string, sha_opening, sha_opening_message, shacrypt_digest}
 use Rattle.crypt_core.specs.Private.Messages.{Strings, with_digest}
 use Rattle.crypt_core.proofs.CycleLemmas.{length-cycle, length-repeat}
-use Rattle.crypt_core.proofs.MessageLists.{digest_after-more, digest_after-none, length-messages_to, messages-more, round_length-small}
-use Rattle.crypt_core.proofs.CountSums.{digests_in_all, digests_more, four_digests}
-use Rattle.crypt_core.proofs.ShaCryptLemmas.{are_messages, sha_opening_byte-below, length-message_round, message-number, messages-all, messages-four, messages-in_all, round_is, start_bytes}
+use Rattle.crypt_core.proofs.MessageLists.{digest_after-more, digest_after-zero, length-messages_to, messages_to-more, round_length-le}
+use Rattle.crypt_core.proofs.CountSums.{with_digests-with_work, with_digests-push, with_digests-four}
+use Rattle.crypt_core.proofs.ShaCryptLemmas.{shacrypt-digests_messages, sha_opening_byte-below, length-shacrypt_message, shacrypt_message-round, messages_to-all_rounds, messages_to-four, HaveCountAndSum-shacrypt_messages, round_message-same, start_bytes-le-start_limit}
 use Rattle.crypt_core.proofs.shacrypt.shacrypt.Goals as goal
 
 -- Digesting the password as often as it has bytes overflows no count.
@@ -24,7 +24,7 @@ string_of-password_string-requires-clause-bytes_room g c =
     let p = c.bytes-password.result.now in
     let s = c.args.salt.now in
     let short : length p ≤ password_limit = omega (arith, ap length c.bytes-password.ensures.value, c.bytes-password.ensures.password.0) in
-    omega (arith, ap (λ m. m.bytes) c.opening-digest.ensures.count, start_bytes h g.H.Counted.LEN g.met.H.Counted.length_digest p s 0 g.met.H.Counted.at_most_64 short c.requires.salt (omega arith), c.requires.room.1)
+    omega (arith, ap (λ m. m.bytes) c.opening-digest.ensures.count, start_bytes-le-start_limit h g.H.Counted.LEN g.met.H.Counted.length_digest p s 0 g.met.H.Counted.at_most_64 short c.requires.salt (omega arith), c.requires.room.1)
 
 -- Nor does digesting the salt 16 + A[0] times, where A[0] is a byte.
 pub string_of-salt_string-requires-clause-bytes_room : goal.string_of-salt_string-requires-clause-bytes_room
@@ -41,7 +41,7 @@ string_of-salt_string-requires-clause-bytes_room g c =
       ap (λ m. m.bytes) c.opening-digest.ensures.count,
       ap (λ m. m.bytes) c.string_of-password_string.ensures.count,
       length-repeat (length p) p,
-      start_bytes h g.H.Counted.LEN g.met.H.Counted.length_digest p s (16 + c.from-salt_times.result) g.met.H.Counted.at_most_64 short c.requires.salt times,
+      start_bytes-le-start_limit h g.H.Counted.LEN g.met.H.Counted.length_digest p s (16 + c.from-salt_times.result) g.met.H.Counted.at_most_64 short c.requires.salt times,
       c.requires.room.1,
     )
 
@@ -81,10 +81,10 @@ rounds-init g c =
     let short : length p ≤ password_limit = c.bytes-password.ensures.password.0 in
     let byte = sha_opening_byte-below h g.H.Counted.LEN g.met.H.Counted.length_digest p s g.met.H.Counted.at_least_1 g.met.H.Counted.digest_bytes in
     let times : 16 + get_or (sha_opening h p s) 0 0 ≤ 16 + greatest_byte = omega (arith, byte) in (
-      digest ∙ sym (digest_after-none h (sha_opening h p s) (password_string h p) (salt_string h p s)),
+      digest ∙ sym (digest_after-zero h (sha_opening h p s) (password_string h p) (salt_string h p s)),
       c.opening-digest.ensures.length,
-      rw (messages-four h p s)
-          (four_digests a (with_digest a (alternate_message p s)) c.opening-digest.new.meter c.string_of-password_string.new.meter c.string_of-salt_string.new.meter
+      rw (messages_to-four h p s)
+          (with_digests-four a (with_digest a (alternate_message p s)) c.opening-digest.new.meter c.string_of-password_string.new.meter c.string_of-salt_string.new.meter
           (alternate_message p s) (sha_opening_message h p s) (password_repeated p) (salt_repeated h p s) refl opened repeated salted),
       omega (
         arith,
@@ -93,7 +93,7 @@ rounds-init g c =
         ap (λ m. m.bytes) salted,
         length-repeat (length p) p,
         length-repeat (16 + get_or (sha_opening h p s) 0 0) s,
-        start_bytes h g.H.Counted.LEN g.met.H.Counted.length_digest p s (16 + get_or (sha_opening h p s) 0 0) g.met.H.Counted.at_most_64 short c.requires.salt times,
+        start_bytes-le-start_limit h g.H.Counted.LEN g.met.H.Counted.length_digest p s (16 + get_or (sha_opening h p s) 0 0) g.met.H.Counted.at_most_64 short c.requires.salt times,
       ),
     )
 
@@ -123,18 +123,18 @@ returns-clause-count g c =
     let p = c.args.password.now in
     let s = c.args.salt.now in
     let last : c.rounds.i ≡ c.args.rounds = omega arith in
-    let counted = rw (last, messages-all h p s c.args.rounds) at c.rounds.invariant.2 in
+    let counted = rw (last, messages_to-all_rounds h p s c.args.rounds) at c.rounds.invariant.2 in
     counted
-    ∙ digests_in_all c.args.meter.now (shacrypt_messages h p s c.args.rounds) (c.args.rounds + 4) _
-    (messages-in_all h g.H.Counted.LEN g.met.H.Counted.length_digest p s c.args.rounds)
+    ∙ with_digests-with_work c.args.meter.now (shacrypt_messages h p s c.args.rounds) (c.args.rounds + 4) _
+    (HaveCountAndSum-shacrypt_messages h g.H.Counted.LEN g.met.H.Counted.length_digest p s c.args.rounds)
 
 pub returns-clause-specified : goal.returns-clause-specified
 returns-clause-specified g c =
-    messages-in_all g.H.Counted.digest g.H.Counted.LEN g.met.H.Counted.length_digest c.args.password.now c.args.salt.now c.args.rounds
+    HaveCountAndSum-shacrypt_messages g.H.Counted.digest g.H.Counted.LEN g.met.H.Counted.length_digest c.args.password.now c.args.salt.now c.args.rounds
 
 -- Writing a digest over one of the same length replaces all of it.
-replaced : (old new : List ℕ) → length new ≡ length old → refill (length old) old new ≡ new
-replaced old new same = take_at new (drop (length new) old) (length old) same
+refill-whole : (old new : List ℕ) → length new ≡ length old → refill (length old) old new ≡ new
+refill-whole old new same = take_at new (drop (length new) old) (length old) same
 
 -- After one more round, the same four facts. `same` says that the code's message, with its strings for P and S, is that
 -- of the specification.
@@ -154,20 +154,20 @@ rounds-preserved g c =
     let salt_is =
     ap (λ (x : Strings). x.salt) c.new-strings.ensures
     ∙ (c.as_slice-s.ensures.value ∙ rw first at c.string_of-salt_string.ensures.string) in
-    let same = round_is h p s i c.as_mut_slice.result.now strings.password strings.salt digest_is password_is salt_is in
+    let same = round_message-same h p s i c.as_mut_slice.result.now strings.password strings.salt digest_is password_is salt_is in
     let next : c.rounds.i + 1 + 4 ≡ c.rounds.i + 4 + 1 = omega arith in
-    let counted = digests_more c.args.meter.now c.rounds.meter c.round.new.meter _ _ c.rounds.invariant.2 c.round.ensures.count in
+    let counted = with_digests-push c.args.meter.now c.rounds.meter c.round.new.meter _ _ c.rounds.invariant.2 c.round.ensures.count in
     let len = ap length c.round.ensures.digest ∙ g.met.H.Counted.length_digest _ in
-    let all = replaced c.rounds.digest.items c.round.new.digest (len ∙ sym c.rounds.invariant.1) in (
+    let all = refill-whole c.rounds.digest.items c.round.new.digest (len ∙ sym c.rounds.invariant.1) in (
       all ∙ (c.round.ensures.digest ∙ (ap h same ∙ sym (digest_after-more h (sha_opening h p s) (password_string h p) (salt_string h p s) i))),
       ap length all ∙ len,
-      rw (next, messages-more (shacrypt_message h p s) (i + 4), message-number h p s i, ← same) counted,
+      rw (next, messages_to-more (shacrypt_message h p s) (i + 4), shacrypt_message-round h p s i, ← same) counted,
       omega (
         arith,
         ap (λ m. m.bytes) c.round.ensures.count,
-        ap length (same ∙ sym (message-number h p s i)),
-        length-message_round h g.H.Counted.LEN g.met.H.Counted.length_digest p s i,
-        round_length-small i g.H.Counted.LEN (length p) (length s),
+        ap length (same ∙ sym (shacrypt_message-round h p s i)),
+        length-shacrypt_message h g.H.Counted.LEN g.met.H.Counted.length_digest p s i,
+        round_length-le i g.H.Counted.LEN (length p) (length s),
         c.rounds.invariant.3,
         g.met.H.Counted.at_most_64,
         c.bytes-password.ensures.password.0,
@@ -177,14 +177,14 @@ rounds-preserved g c =
 
 pub returns-clause-messages : goal.returns-clause-messages
 returns-clause-messages g c =
-    are_messages g.H.Counted.digest c.args.password.now c.args.salt.now c.args.rounds (omega (arith, c.requires.least_rounds))
+    shacrypt-digests_messages g.H.Counted.digest c.args.password.now c.args.salt.now c.args.rounds (omega (arith, c.requires.least_rounds))
 
 pub returns-clause-each_round : goal.returns-clause-each_round
 returns-clause-each_round g c i =
     let h = g.H.Counted.digest in
     let p = c.args.password.now in
     let s = c.args.salt.now in
-    digest_after-more h (sha_opening h p s) (password_string h p) (salt_string h p s) i ∙ ap h (sym (message-number h p s i))
+    digest_after-more h (sha_opening h p s) (password_string h p) (salt_string h p s) i ∙ ap h (sym (shacrypt_message-round h p s i))
 
 pub returns-clause-below : goal.returns-clause-below
 returns-clause-below g c =

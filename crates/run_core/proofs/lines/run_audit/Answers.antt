@@ -3,7 +3,7 @@
 -- immediate, since the answer to a line to audit does not depend on rehashes.
 use Rattle.run_core.proofs.AuditsSpare.{spares}
 use Rattle.run_core.proofs.ForeseenChecks.{foresees, heeds_limit, refutes}
-use Rattle.crypt_core.proofs.WorkBounds.{longest}
+use Rattle.crypt_core.proofs.WorkBounds.{cost-le-longest_password}
 use Rattle.run_core.proofs.lines.run_audit.Goals as goal
 
 pub returns-clause-hashes_none : goal.returns-clause-hashes_none
@@ -13,7 +13,7 @@ pub returns-clause-allocates_none : goal.returns-clause-allocates_none
 returns-clause-allocates_none g c = (spares c.args.turns c.args.job.now _ _ _ c.answer_lines.ensures.runs.ends).allocates_none
 
 pub returns-clause-longest : goal.returns-clause-longest
-returns-clause-longest g c = longest
+returns-clause-longest g c = cost-le-longest_password
 
 pub returns-clause-foresees : goal.returns-clause-foresees
 returns-clause-foresees g c = foresees c.args.job.now

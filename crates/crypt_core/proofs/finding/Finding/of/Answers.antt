@@ -5,7 +5,7 @@ use Rattle.std.proofs.Common.{ℕ, List, Ok, Err, subst}
 use Rattle.crypt_core.specs.Findings.{JudgesHash}
 use Rattle.crypt_core.specs.Readings.{IsFieldReading, IsReadOneWay}
 use Rattle.crypt_core.specs.declared.stored.StoredField.TheVariants.{Hash}
-use Rattle.crypt_core.proofs.JudgedHashes.{found, judged}
+use Rattle.crypt_core.proofs.JudgedHashes.{Finds-from_JudgesHash, JudgesHash-any_spelled}
 use Rattle.crypt_core.proofs.finding.Finding.of.Goals as goal
 
 pub returns-in-Ok-Hash-clause-finds : goal.returns-in-Ok-Hash-clause-finds
@@ -14,7 +14,7 @@ returns-in-Ok-Hash-clause-finds c =
     let kept = c.in-Ok-Hash.stored.setting in
     let finding = c.of_hash.result in
     let reading : IsFieldReading field (Ok (Hash c.in-Ok-Hash.stored)) = rw c.in-Ok-Hash.field-0-is at c.in-Ok-Hash.ensures.reading in
-    found c.args.new.now c.args.budget field kept finding reading.1.spells
+    Finds-from_JudgesHash c.args.new.now c.args.budget field kept finding reading.1.spells
     (subst (λ (text : List ℕ). JudgesHash c.args.new.now c.args.budget text kept finding) reading.1.is_text c.of_hash.ensures)
 
 pub returns-in-Ok-Hash-clause-judges : goal.returns-in-Ok-Hash-clause-judges
@@ -23,7 +23,7 @@ returns-in-Ok-Hash-clause-judges c kept spells =
     let read = c.in-Ok-Hash.stored.setting in
     let finding = c.of_hash.result in
     let reading : IsFieldReading field (Ok (Hash c.in-Ok-Hash.stored)) = rw c.in-Ok-Hash.field-0-is at c.in-Ok-Hash.ensures.reading in
-    judged c.args.new.now c.args.budget field read kept finding c.in-Ok-Hash.ensures.one_reading reading.1.spells
+    JudgesHash-any_spelled c.args.new.now c.args.budget field read kept finding c.in-Ok-Hash.ensures.one_reading reading.1.spells
     (subst (λ (text : List ℕ). JudgesHash c.args.new.now c.args.budget text read finding) reading.1.is_text c.of_hash.ensures)
     spells
 

@@ -9,14 +9,14 @@ use Rattle.crypt_core.specs.MadeSettings.{IsMakeRefused, TakesRounds}
 use Rattle.crypt_core.specs.Private.Parts.{TakesSalt}
 use Rattle.crypt_core.specs.Schemes.{method_of}
 use Rattle.crypt_core.specs.declared.method.Method.{Method}
-use Rattle.crypt_core.proofs.MadeSettings.{accepted, given, made_method, make_refused_cost, make_refusal_unique, not_accepted, only_make_refusal, taken}
+use Rattle.crypt_core.proofs.MadeSettings.{IsOk-iff_no_broken_rule, IsSetting-given_salt, method_of-made_scheme, make_refused_cost, make_refusal_unique, false-iff_no_broken_rule, Err-from_IsMakeRefused, not-BreaksMake}
 use Rattle.crypt_core.proofs.setting.Setting.make.Goals as goal
 
 pub invariant_of-result : goal.invariant_of-result
 invariant_of-result c =
-    let method_is : method_of c.in_ok-scheme-in-Ok.scheme ≡ c.args.method = ap method_of c.in_ok-scheme-in-Ok.ensures.made ∙ made_method c.args.method c.args.cost in
+    let method_is : method_of c.in_ok-scheme-in-Ok.scheme ≡ c.args.method = ap method_of c.in_ok-scheme-in-Ok.ensures.made ∙ method_of-made_scheme c.args.method c.args.cost in
     let takes : TakesSalt (method_of c.in_ok-scheme-in-Ok.scheme) c.args.salt.now = subst (λ (m : Method). TakesSalt m c.args.salt.now) (sym method_is) c.in-Ok.ensures.ok in
-    given c.in_ok-scheme-in-Ok.scheme c.in-Ok.salt.items c.args.salt.now c.in_ok-scheme-in-Ok.ensures.in_range takes c.in-Ok.ensures.kept
+    IsSetting-given_salt c.in_ok-scheme-in-Ok.scheme c.in-Ok.salt.items c.args.salt.now c.in_ok-scheme-in-Ok.ensures.in_range takes c.in-Ok.ensures.kept
 
 pub returns-in-Err-clause-refused : goal.returns-in-Err-clause-refused
 returns-in-Err-clause-refused c = c.in-Err.ensures.err c.args.cost
@@ -29,19 +29,19 @@ returns-in_err-scheme-in-Ok-clause-refused c =
 
 pub returns-in_err-scheme-in-Ok-clause-accepted : goal.returns-in_err-scheme-in-Ok-clause-accepted
 returns-in_err-scheme-in-Ok-clause-accepted c =
-    accepted c.args.method c.args.cost (Some c.args.salt.now) c.from_residual.result (search rules) (returns-in_err-scheme-in-Ok-clause-refused c)
+    IsOk-iff_no_broken_rule c.args.method c.args.cost (Some c.args.salt.now) c.from_residual.result (search rules) (returns-in_err-scheme-in-Ok-clause-refused c)
 
 pub returns-in_err-scheme-in-Ok-clause-each_refusal : goal.returns-in_err-scheme-in-Ok-clause-each_refusal
 returns-in_err-scheme-in-Ok-clause-each_refusal c =
-    only_make_refusal c.args.method c.args.cost (Some c.args.salt.now) c.from_residual.result (search rules) (returns-in_err-scheme-in-Ok-clause-refused c)
+    Err-from_IsMakeRefused c.args.method c.args.cost (Some c.args.salt.now) c.from_residual.result (search rules) (returns-in_err-scheme-in-Ok-clause-refused c)
 
 pub returns-in_ok-scheme-in-Ok-clause-each_refusal : goal.returns-in_ok-scheme-in-Ok-clause-each_refusal
 returns-in_ok-scheme-in-Ok-clause-each_refusal c =
     let cost : TakesRounds c.args.method c.args.cost = search rules in
-    only_make_refusal c.args.method c.args.cost (Some c.args.salt.now) _ (taken c.args.method c.args.cost c.args.salt.now c.in-Ok.ensures.ok cost) tt
+    Err-from_IsMakeRefused c.args.method c.args.cost (Some c.args.salt.now) _ (not-BreaksMake c.args.method c.args.cost c.args.salt.now c.in-Ok.ensures.ok cost) tt
 
 pub returns-in-Err-clause-accepted : goal.returns-in-Err-clause-accepted
-returns-in-Err-clause-accepted c = not_accepted c.args.method c.args.cost (Some c.args.salt.now) c.in-Err.fault (c.in-Err.ensures.err c.args.cost)
+returns-in-Err-clause-accepted c = false-iff_no_broken_rule c.args.method c.args.cost (Some c.args.salt.now) c.in-Err.fault (c.in-Err.ensures.err c.args.cost)
 
 pub returns-in-Err-clause-each_refusal : goal.returns-in-Err-clause-each_refusal
 returns-in-Err-clause-each_refusal c = λ fault refused.

@@ -2,13 +2,13 @@
 -- (FirstRefusal).
 use Rattle.std.proofs.Common.{All, arith, rules}
 use Rattle.crypt_core.specs.Settings.{IsSettingByte}
-use Rattle.crypt_core.proofs.FirstRefusal.{refused_character, refused_long}
+use Rattle.crypt_core.proofs.FirstRefusal.{refused_bad_character, refused_too_long}
 use Rattle.crypt_core.proofs.setting.read.check_bytes.Goals as goal
 
 pub returns-then-text-gt-SETTING_LIMIT-clause-err : goal.returns-then-text-gt-SETTING_LIMIT-clause-err
-returns-then-text-gt-SETTING_LIMIT-clause-err c = refused_long c.args.text.now (omega arith)
+returns-then-text-gt-SETTING_LIMIT-clause-err c = refused_too_long c.args.text.now (omega arith)
 
 pub returns-then-not-all-clause-err : goal.returns-then-not-all-clause-err
 returns-then-not-all-clause-err c =
     let bad : All IsSettingByte c.args.text.now → ⊥ = search rules in
-    refused_character c.args.text.now (omega arith) bad
+    refused_bad_character c.args.text.now (omega arith) bad

@@ -1,7 +1,7 @@
 -- The clauses `none` and `some` of `number_at`: the text has one field up to its first `$`, so without a `$`, or with
 -- other digits in the field, it has no number, and otherwise this is the number (ParsedParts).
 use Rattle.std.proofs.Common.{◌≡◌, true, take, arith, rules}
-use Rattle.crypt_core.proofs.ParsedParts.{no_number, only_number, number_parts}
+use Rattle.crypt_core.proofs.ParsedParts.{LacksNumber-no_dollar, LacksNumber-bad_digits, append-number_dollar_rest}
 use Rattle.crypt_core.proofs.setting.read.number_at.Goals.{then-end-field-via-then-end-field, then-end-field-via-else-end-field+then-not-is_rounds_number}
 use Rattle.crypt_core.proofs.setting.read.number_at.Goals as goal
 
@@ -9,8 +9,8 @@ pub returns-then-end-field-clause-none : goal.returns-then-end-field-clause-none
 returns-then-end-field-clause-none c =
     let at = c.field_len-end.ensures.field in
     elim c.then-end-field.branch [
-      | then-end-field-via-then-end-field w ↦ no_number c.args.field.now c.field_len-end.result at (omega arith)
-      | then-end-field-via-else-end-field+then-not-is_rounds_number w ↦ only_number c.args.field.now c.field_len-end.result at (λ h. absurd (cc (w.if-not-is_rounds_number.ensures.1 h)))
+      | then-end-field-via-then-end-field w ↦ LacksNumber-no_dollar c.args.field.now c.field_len-end.result at (omega arith)
+      | then-end-field-via-else-end-field+then-not-is_rounds_number w ↦ LacksNumber-bad_digits c.args.field.now c.field_len-end.result at (λ h. absurd (cc (w.if-not-is_rounds_number.ensures.1 h)))
     ]
 
 pub returns-clause-some : goal.returns-clause-some
@@ -18,6 +18,6 @@ returns-clause-some c =
     let proper : c.is_rounds_number.result ≡ true = search rules in (
       take c.field_len-end.result c.args.field.now,
       c.is_rounds_number.ensures.0 proper,
-      number_parts c.args.field.now c.field_len-end.result c.field_len-end.ensures.field (omega arith),
+      append-number_dollar_rest c.args.field.now c.field_len-end.result c.field_len-end.ensures.field (omega arith),
       c.capped_number.ensures,
     )

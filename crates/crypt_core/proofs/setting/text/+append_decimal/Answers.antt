@@ -2,14 +2,14 @@
 -- recursive call, and then the last one (DecimalDigits).
 use Rattle.std.proofs.Common.{◌/◌, length, ap, length-append, arith}
 use Rattle.std.specs.Prelude.{decimal}
-use Rattle.crypt_core.proofs.DecimalDigits.{length-decimal_digit, length-decimal_step, digit_written, step_written}
+use Rattle.crypt_core.proofs.DecimalDigits.{length-decimal_digit, length-decimal_step, append-decimal_digit, append-decimal_step}
 use Rattle.crypt_core.proofs.setting.text.+append_decimal.Goals as goal
 
 pub push-requires : goal.push-requires
 push-requires t c = (omega arith, omega (arith, length-decimal_digit c.args.number c.if-number-lt10.true))
 
 pub returns-then-number-lt10 : goal.returns-then-number-lt10
-returns-then-number-lt10 t c = digit_written c.args.text.now.items c.push.new.self.items c.args.number c.if-number-lt10.true c.push.ensures.items
+returns-then-number-lt10 t c = append-decimal_digit c.args.text.now.items c.push.new.self.items c.args.number c.if-number-lt10.true c.push.ensures.items
 
 pub append_decimal-requires : goal.append_decimal-requires
 append_decimal-requires t c = (omega arith, omega (arith, length-decimal_step c.args.number c.if-number-lt10.false (omega arith)))
@@ -19,4 +19,4 @@ push-requires-2 t c =
     (omega arith, omega (arith, ap length c.append_decimal.ensures, length-append c.args.text.now.items (decimal (c.args.number / 10)), length-decimal_step c.args.number c.if-number-lt10.false (omega arith)))
 
 pub returns : goal.returns
-returns t c = step_written c.args.text.now.items c.append_decimal.new.text.items c.push-2.new.self.items c.args.number c.if-number-lt10.false (omega arith) c.append_decimal.ensures c.push-2.ensures.items
+returns t c = append-decimal_step c.args.text.now.items c.append_decimal.new.text.items c.push-2.new.self.items c.args.number c.if-number-lt10.false (omega arith) c.append_decimal.ensures c.push-2.ensures.items

@@ -4,8 +4,8 @@ use Rattle.std.proofs.Common.{◌≡◌, length, ap, ◌∙◌, arith}
 use Rattle.crypt_core.specs.declared.scheme.Scheme.{Scheme}
 use Rattle.crypt_core.specs.Settings.{cost_part}
 use Rattle.crypt_core.specs.TextLimits.{scrypt_part_len}
-use Rattle.crypt_core.proofs.DistinctNumerals.{length-scrypt_part}
-use Rattle.crypt_core.proofs.MadeSettings.{accepted_numerals}
+use Rattle.crypt_core.proofs.ScryptPartFacts.{length-scrypt_part}
+use Rattle.crypt_core.proofs.MadeSettings.{HasNumerals-from_IsAccepted}
 use Rattle.crypt_core.proofs.setting.text.append_cost.Goals as goal
 
 pub put_group-requires-clause-room : goal.put_group-requires-clause-room
@@ -25,12 +25,12 @@ put_group-requires-in-Scrypt-2-clause-room c =
 
 pub put_group-requires-clause-fits : goal.put_group-requires-clause-fits
 put_group-requires-clause-fits c =
-    omega (arith, c.from.ensures, c.log_n.ensures.number, (accepted_numerals c.in-Scrypt.params c.log_n.ensures.accepted).0)
+    omega (arith, c.from.ensures, c.log_n.ensures.number, (HasNumerals-from_IsAccepted c.in-Scrypt.params c.log_n.ensures.accepted).0)
 
 pub put_group-requires-in-Scrypt-clause-fits : goal.put_group-requires-in-Scrypt-clause-fits
 put_group-requires-in-Scrypt-clause-fits c =
-    omega (arith, c.r.ensures.number, (accepted_numerals c.in-Scrypt.params c.log_n.ensures.accepted).1)
+    omega (arith, c.r.ensures.number, (HasNumerals-from_IsAccepted c.in-Scrypt.params c.log_n.ensures.accepted).1)
 
 pub put_group-requires-in-Scrypt-2-clause-fits : goal.put_group-requires-in-Scrypt-2-clause-fits
 put_group-requires-in-Scrypt-2-clause-fits c =
-    omega (arith, c.p.ensures.number, (accepted_numerals c.in-Scrypt.params c.log_n.ensures.accepted).2)
+    omega (arith, c.p.ensures.number, (HasNumerals-from_IsAccepted c.in-Scrypt.params c.log_n.ensures.accepted).2)

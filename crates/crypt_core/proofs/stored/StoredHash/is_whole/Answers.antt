@@ -5,7 +5,7 @@ use Rattle.std.proofs.Common.{◌≡◌, ◌∷◌, ◌++◌, ◌∙◌, List, [
 use Rattle.std.specs.Cmp.{unsigned_Decides}
 use Rattle.std.proofs.lemmas.Slice.Eq.{strip_prefix_is}
 use Rattle.crypt_core.specs.Settings.{canonical_text, dollar}
-use Rattle.crypt_core.proofs.WholeHashes.{unwhole, unwhole_fits_none, whole_if_packed}
+use Rattle.crypt_core.proofs.WholeHashes.{not_whole-without_front, not_whole-fits_none, IsWhole-iff_packed}
 use Rattle.crypt_core.proofs.stored.StoredHash.is_whole.Goals as goal
 
 pub returns-in-Some-clause-whole : goal.returns-in-Some-clause-whole
@@ -15,7 +15,7 @@ returns-in-Some-clause-whole c =
     let front : c.as_slice.result.now ≡ canonical_text kept ++ dollar ∷ [] =
     c.as_slice.ensures.value ∙ c.push.ensures.items ∙ ap (λ (x : List ℕ). x ++ dollar ∷ []) c.text-front.ensures.canonical in
     rw (← c.self.view_is)
-    (whole_if_packed text c.as_slice.result.now c.in-Some.packed.now kept c.is_packed.result front
+    (IsWhole-iff_packed text c.as_slice.result.now c.in-Some.packed.now kept c.is_packed.result front
     (strip_prefix_is unsigned_Decides text c.as_slice.result.now (Some c.in-Some.packed) c.in-Some.ensures.cases)
     (rw c.method.ensures at c.is_packed.ensures))
 
@@ -23,7 +23,7 @@ pub returns-in-Some-clause-dead : goal.returns-in-Some-clause-dead
 returns-in-Some-clause-dead c =
     let text = c.self.inside.text.now in
     let whole = rw (← c.self.view_is) at (returns-in-Some-clause-whole c) in
-    rw (← c.self.view_is) (unwhole_fits_none c.is_packed.result text c.self.inside.setting c.self.invariant whole)
+    rw (← c.self.view_is) (not_whole-fits_none c.is_packed.result text c.self.inside.setting c.self.invariant whole)
 
 pub returns-in-None-clause-whole : goal.returns-in-None-clause-whole
 returns-in-None-clause-whole c =
@@ -32,10 +32,10 @@ returns-in-None-clause-whole c =
     let front : c.as_slice.result.now ≡ canonical_text kept ++ dollar ∷ [] =
     c.as_slice.ensures.value ∙ c.push.ensures.items ∙ ap (λ (x : List ℕ). x ++ dollar ∷ []) c.text-front.ensures.canonical in
     let lacks = strip_prefix_is unsigned_Decides text c.as_slice.result.now None c.in-None.ensures.cases in
-    rw (← c.self.view_is) ((λ e. absurd (cc e)), λ whole. absurd (unwhole text c.as_slice.result.now kept front lacks whole))
+    rw (← c.self.view_is) ((λ e. absurd (cc e)), λ whole. absurd (not_whole-without_front text c.as_slice.result.now kept front lacks whole))
 
 pub returns-in-None-clause-dead : goal.returns-in-None-clause-dead
 returns-in-None-clause-dead c =
     let text = c.self.inside.text.now in
     let whole = rw (← c.self.view_is) at (returns-in-None-clause-whole c) in
-    rw (← c.self.view_is) (unwhole_fits_none _ text c.self.inside.setting c.self.invariant whole)
+    rw (← c.self.view_is) (not_whole-fits_none _ text c.self.inside.setting c.self.invariant whole)
