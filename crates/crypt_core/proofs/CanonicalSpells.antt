@@ -85,7 +85,7 @@ canonical_length-le (Scrypt n) salt c l = (omega (arith, length-scrypt_part n), 
 
 pub setting_canonical_length-le : (kept : SettingValue) → IsSetting kept
     → (3 + (length (cost_part kept.scheme) + length kept.salt) ≤ canonical_limit) × (3 + (length (cost_part kept.scheme) + length kept.salt) + packed_len (method_of kept.scheme) < hash_limit)
-setting_canonical_length-le kept is = let bounded = setting-in_range kept is in canonical_length-le kept.scheme kept.salt bounded.0 bounded.1
+setting_canonical_length-le kept is_setting = let bounded = setting-in_range kept is_setting in canonical_length-le kept.scheme kept.salt bounded.0 bounded.1
 
 -- ---- digits
 
@@ -275,15 +275,15 @@ pub canonical_spells_before : (text : List ℕ) (kept : SettingValue) (tail : Li
     → Spells (canonical_text kept ++ tail) kept
 canonical_spells_before text kept tail s end tail_bytes short =
     let m : Method = method_of kept.scheme in
-    let front = s.scheme.0 in
-    let all : All IsSettingByte (prefix m ++ (front ++ (s.field ++ s.rest))) = subst (All IsSettingByte) s.scheme.1 s.bytes in
-    let after : All IsSettingByte (front ++ (s.field ++ s.rest)) = setting_bytes-append_right (prefix m) (front ++ (s.field ++ s.rest)) all in
-    let field : All IsSettingByte s.field = setting_bytes-append_left s.field s.rest (setting_bytes-append_right front (s.field ++ s.rest) after) in
-    let salt_front = kept_salt-take kept.scheme s.field kept.salt s.salt in
-    let salt : All IsSettingByte kept.salt = subst (All IsSettingByte) (sym salt_front) (All-take IsSettingByte (salt_limit m) s.field field) in
+    let cost = s.scheme.0 in
+    let text_bytes : All IsSettingByte (prefix m ++ (cost ++ (s.field ++ s.rest))) = subst (All IsSettingByte) s.scheme.1 s.bytes in
+    let after_prefix_bytes : All IsSettingByte (cost ++ (s.field ++ s.rest)) = setting_bytes-append_right (prefix m) (cost ++ (s.field ++ s.rest)) text_bytes in
+    let field_bytes : All IsSettingByte s.field = setting_bytes-append_left s.field s.rest (setting_bytes-append_right cost (s.field ++ s.rest) after_prefix_bytes) in
+    let salt_is_front = kept_salt-take kept.scheme s.field kept.salt s.salt in
+    let salt_bytes : All IsSettingByte kept.salt = subst (All IsSettingByte) (sym salt_is_front) (All-take IsSettingByte (salt_limit m) s.field field_bytes) in
     let bounded = setting-in_range kept (text, s) in
-    Spells-from_parts kept tail bounded.0 bounded.1 salt (IsField-kept_salt kept.scheme s.field s.rest kept.salt tail s.is_field s.salt end)
-    (SpellsCost-canonical kept.scheme (salt_limit m) front s.field s.rest kept.salt tail salt_front end s.scheme.2) (KeepsSalt-itself kept.scheme s.field kept.salt s.salt) tail_bytes short
+    Spells-from_parts kept tail bounded.0 bounded.1 salt_bytes (IsField-kept_salt kept.scheme s.field s.rest kept.salt tail s.is_field s.salt end)
+    (SpellsCost-canonical kept.scheme (salt_limit m) cost s.field s.rest kept.salt tail salt_is_front end s.scheme.2) (KeepsSalt-itself kept.scheme s.field kept.salt s.salt) tail_bytes short
 
 pub canonical_spells : (text : List ℕ) (kept : SettingValue) → Spells text kept → Spells (canonical_text kept) kept
 canonical_spells text kept s =

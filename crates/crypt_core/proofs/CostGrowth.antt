@@ -92,30 +92,30 @@ shacrypt_bytes-le-next digest count n salt small many short =
     omega (arith, digits, wider, rounds, square, small, short)
 
 cost_by-le-next : (scheme : Scheme) (n salt : ℕ) → IsScheme scheme → n < 1024 → cost_by scheme n salt ≤ cost_by scheme (n + 1) salt
-cost_by-le-next Md5crypt n salt is short =
+cost_by-le-next Md5crypt n salt in_range short =
     let digits = digit_bytes-le-next 10 1 1 n (omega (arith, short)) in
     let rounds = rounds_bytes-le-next 1000 16 n salt (omega arith) in
     omega (arith, digits, rounds)
-cost_by-le-next (Shacrypt Sha256 rounds) n salt is short = shacrypt_bytes-le-next 32 rounds.count n salt (omega arith) (omega (arith, is.0)) short
-cost_by-le-next (Shacrypt Sha512 rounds) n salt is short = shacrypt_bytes-le-next 64 rounds.count n salt (omega arith) (omega (arith, is.0)) short
-cost_by-le-next (Scrypt params) n salt is short =
+cost_by-le-next (Shacrypt Sha256 rounds) n salt in_range short = shacrypt_bytes-le-next 32 rounds.count n salt (omega arith) (omega (arith, in_range.0)) short
+cost_by-le-next (Shacrypt Sha512 rounds) n salt in_range short = shacrypt_bytes-le-next 64 rounds.count n salt (omega arith) (omega (arith, in_range.0)) short
+cost_by-le-next (Scrypt params) n salt in_range short =
     let digest : key_digests n ≤ key_digests (n + 1) = grind (arith, nat_tests) in
     let longer : n ≤ n + 1 = omega arith in
     omega (arith, digest, mul-le-mul digest longer)
 
 cost_by-le-add : (scheme : Scheme) (k n salt : ℕ) → IsScheme scheme → n + k ≤ 1024 → cost_by scheme n salt ≤ cost_by scheme (n + k) salt
-cost_by-le-add scheme zero n salt is short =
+cost_by-le-add scheme zero n salt in_range short =
     let same : n + 0 ≡ n = omega arith in
     rw same (omega arith)
-cost_by-le-add scheme (suc k) n salt is short =
+cost_by-le-add scheme (suc k) n salt in_range short =
     let same : n + suc k ≡ (n + k) + 1 = omega arith in
-    let less = cost_by-le-add scheme k n salt is (omega (arith, short)) in
-    let more = cost_by-le-next scheme (n + k) salt is (omega (arith, short)) in
+    let less = cost_by-le-add scheme k n salt in_range (omega (arith, short)) in
+    let more = cost_by-le-next scheme (n + k) salt in_range (omega (arith, short)) in
     rw same (omega (arith, less, more))
 
 -- The cost is monotone in the length of the password.
 pub cost_by-mono : (scheme : Scheme) (n most salt : ℕ) → IsScheme scheme → n ≤ most → most ≤ password_limit
     → cost_by scheme n salt ≤ cost_by scheme most salt
-cost_by-mono scheme n most salt is less short =
+cost_by-mono scheme n most salt in_range less short =
     let same : most ≡ n + (most - n) = omega (arith, less) in
-    rw same (cost_by-le-add scheme (most - n) n salt is (omega (arith, less, short)))
+    rw same (cost_by-le-add scheme (most - n) n salt in_range (omega (arith, less, short)))

@@ -61,9 +61,9 @@ fitting-within_limit digest limit len n opened few =
 opening-within_limit : (digest limit len n : ℕ) → n ≤ fitting digest limit len → 0 < n → shacrypt_bytes digest 255 0 len 16 ≤ limit
 opening-within_limit digest limit len n few some = elim (cases_lt limit (shacrypt_bytes digest 255 0 len 16)) [
   | inl less ↦
-      let none : limit - shacrypt_bytes digest 255 0 len 16 ≡ 0 = omega (arith, less) in
-      let nothing : fitting digest limit len ≡ 0 = rw none (omega arith) in
-      absurd (omega (arith, nothing, few, some))
+      let nothing_left : limit - shacrypt_bytes digest 255 0 len 16 ≡ 0 = omega (arith, less) in
+      let none_fitting : fitting digest limit len ≡ 0 = rw nothing_left (omega arith) in
+      absurd (omega (arith, none_fitting, few, some))
   | inr enough ↦ enough
 ]
 
@@ -98,24 +98,24 @@ above_limit-from_fitting_above digest limit len count many above = elim (cases_l
 -- The fitting rounds never replace the policy's: the policy's scheme isn't outdated by theirs.
 pub is_outdated_by-fewer_rounds : (scheme : Scheme) (limit len : ℕ) → IsScheme scheme → limit < new_cost scheme len
     → IfSome (fewer_rounds scheme limit len) (λ fewer. is_outdated_by scheme fewer ≡ false)
-is_outdated_by-fewer_rounds Md5crypt limit len is above = tt
-is_outdated_by-fewer_rounds (Shacrypt Sha256 rounds) limit len is above =
-    go (nat_le (shacrypt_bytes 32 255 (clamped (fitting 32 limit len)) len 16) limit) (clamped_fitting-le 32 limit len rounds.count (omega (arith, is.0)) above)
+is_outdated_by-fewer_rounds Md5crypt limit len in_range above = tt
+is_outdated_by-fewer_rounds (Shacrypt Sha256 rounds) limit len in_range above =
+    go (nat_le (shacrypt_bytes 32 255 (clamped (fitting 32 limit len)) len 16) limit) (clamped_fitting-le 32 limit len rounds.count (omega (arith, in_range.0)) above)
   where
     go : (within : Bool) → clamped (fitting 32 limit len) ≤ rounds.count
         → IfSome (if within then Some (Shacrypt Sha256 (record { count = clamped (fitting 32 limit len); is_written = true })) else None)
         (λ fewer. is_outdated_by (Shacrypt Sha256 rounds) fewer ≡ false)
     go true less = grind (arith, nat_tests, less)
     go false less = tt
-is_outdated_by-fewer_rounds (Shacrypt Sha512 rounds) limit len is above =
-    go (nat_le (shacrypt_bytes 64 255 (clamped (fitting 64 limit len)) len 16) limit) (clamped_fitting-le 64 limit len rounds.count (omega (arith, is.0)) above)
+is_outdated_by-fewer_rounds (Shacrypt Sha512 rounds) limit len in_range above =
+    go (nat_le (shacrypt_bytes 64 255 (clamped (fitting 64 limit len)) len 16) limit) (clamped_fitting-le 64 limit len rounds.count (omega (arith, in_range.0)) above)
   where
     go : (within : Bool) → clamped (fitting 64 limit len) ≤ rounds.count
         → IfSome (if within then Some (Shacrypt Sha512 (record { count = clamped (fitting 64 limit len); is_written = true })) else None)
         (λ fewer. is_outdated_by (Shacrypt Sha512 rounds) fewer ≡ false)
     go true less = grind (arith, nat_tests, less)
     go false less = tt
-is_outdated_by-fewer_rounds (Scrypt params) limit len is above = tt
+is_outdated_by-fewer_rounds (Scrypt params) limit len in_range above = tt
 
 -- The fitting rounds are within the limit, and the method is the same.
 pub fewer_rounds-within_limit : (scheme : Scheme) (limit len : ℕ)
@@ -134,22 +134,22 @@ fewer_rounds-within_limit (Scrypt params) limit len = tt
 -- If the fitting rounds cost more than the limit, every other number of rounds does too.
 NeverFits-from_none : (scheme : Scheme) (limit len : ℕ) → IsScheme scheme → limit < new_cost scheme len → fewer_rounds scheme limit len ≡ None
     → NeverFits scheme limit len
-NeverFits-from_none Md5crypt limit len is above none = above
-NeverFits-from_none (Shacrypt Sha256 rounds) limit len is above none = λ other range. elim (cases_lt limit
+NeverFits-from_none Md5crypt limit len in_range above none = above
+NeverFits-from_none (Shacrypt Sha256 rounds) limit len in_range above none = λ other range. elim (cases_lt limit
     (shacrypt_bytes 32 255 (clamped (fitting 32 limit len)) len 16)) [
       | inl more ↦ above_limit-from_fitting_above 32 limit len other.count (omega (arith, range.0)) more
       | inr less ↦
           let test : nat_le (shacrypt_bytes 32 255 (clamped (fitting 32 limit len)) len 16) limit ≡ true = grind (arith, nat_tests, less) in
           absurd (cc (rw test at none))
     ]
-NeverFits-from_none (Shacrypt Sha512 rounds) limit len is above none = λ other range. elim (cases_lt limit
+NeverFits-from_none (Shacrypt Sha512 rounds) limit len in_range above none = λ other range. elim (cases_lt limit
     (shacrypt_bytes 64 255 (clamped (fitting 64 limit len)) len 16)) [
       | inl more ↦ above_limit-from_fitting_above 64 limit len other.count (omega (arith, range.0)) more
       | inr less ↦
           let test : nat_le (shacrypt_bytes 64 255 (clamped (fitting 64 limit len)) len 16) limit ≡ true = grind (arith, nat_tests, less) in
           absurd (cc (rw test at none))
     ]
-NeverFits-from_none (Scrypt params) limit len is above none = above
+NeverFits-from_none (Scrypt params) limit len in_range above none = above
 
 -- ---- a policy's own limit
 
@@ -173,12 +173,12 @@ policy_limit-not-NeverFits Md5crypt limit len short least never =
     let floor = limit_floor-le-policy_limit Md5crypt in
     absurd (omega (arith, digits, never, least, short, floor))
 policy_limit-not-NeverFits (Shacrypt Sha256 rounds) limit len short least never =
-    let more = never fewest (refl, λ is. absurd (cc is)) in
+    let more = never fewest (refl, λ written. absurd (cc written)) in
     let less = fewest_rounds-le-limit_floor 32 len (omega arith) short in
     let floor = limit_floor-le-policy_limit (Shacrypt Sha256 rounds) in
     absurd (omega (arith, more, less, least, floor))
 policy_limit-not-NeverFits (Shacrypt Sha512 rounds) limit len short least never =
-    let more = never fewest (refl, λ is. absurd (cc is)) in
+    let more = never fewest (refl, λ written. absurd (cc written)) in
     let less = fewest_rounds-le-limit_floor 64 len (omega arith) short in
     let floor = limit_floor-le-policy_limit (Shacrypt Sha512 rounds) in
     absurd (omega (arith, more, less, least, floor))
@@ -191,15 +191,15 @@ policy_limit-not-NeverFits (Scrypt params) limit len short least never =
 -- So with that limit the fitting rounds are within it.
 pub IsSome-fewer_rounds : (scheme : Scheme) (limit len : ℕ) → IsScheme scheme → limit < new_cost scheme len → len ≤ 1024 → policy_limit scheme ≤ limit
     → IsSome (fewer_rounds scheme limit len)
-IsSome-fewer_rounds scheme limit len is above short least = go (fewer_rounds scheme limit len) refl where
+IsSome-fewer_rounds scheme limit len in_range above short least = go (fewer_rounds scheme limit len) refl where
   go : (fewer : Option Scheme) → fewer_rounds scheme limit len ≡ fewer → IsSome fewer
   go (Some fewer) e = refl
-  go None e = absurd (policy_limit-not-NeverFits scheme limit len short least (NeverFits-from_none scheme limit len is above e))
+  go None e = absurd (policy_limit-not-NeverFits scheme limit len short least (NeverFits-from_none scheme limit len in_range above e))
 
 -- `fewer_rounds` returns none only if no rounds fit.
 pub IfNone-fewer_rounds : (scheme : Scheme) (limit len : ℕ) → IsScheme scheme → limit < new_cost scheme len
     → IfNone (fewer_rounds scheme limit len) (NeverFits scheme limit len)
-IfNone-fewer_rounds scheme limit len is above = go (fewer_rounds scheme limit len) refl where
+IfNone-fewer_rounds scheme limit len in_range above = go (fewer_rounds scheme limit len) refl where
   go : (fewer : Option Scheme) → fewer_rounds scheme limit len ≡ fewer → IfNone fewer (NeverFits scheme limit len)
   go (Some fewer) e = tt
-  go None e = NeverFits-from_none scheme limit len is above e
+  go None e = NeverFits-from_none scheme limit len in_range above e

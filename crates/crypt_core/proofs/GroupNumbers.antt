@@ -42,12 +42,12 @@ numerals-last (suc k) n small =
     let next : suc k + 1 ≡ suc (k + 1) = omega arith in
     let more : 64 ^ (suc k + 1) ≡ 64 ^ (k + 1) * 64 = rw next (pow-suc 64 (k + 1)) in
     let rest = numerals-last k (n / 64) (omega arith) in
-    let from = mul-factor_out (64 ^ k) (64 ^ suc k) 64 rest.0 power in
-    let to = mul-factor_out (64 ^ k) (64 ^ suc k) 64 (rest.0 + 1) power in (
+    let low_bound = mul-factor_out (64 ^ k) (64 ^ suc k) 64 rest.0 power in
+    let high_bound = mul-factor_out (64 ^ k) (64 ^ suc k) 64 (rest.0 + 1) power in (
       rest.0,
       rest.1,
-      omega (arith, from, rest.2),
-      omega (arith, to, rest.3),
+      omega (arith, low_bound, rest.2),
+      omega (arith, high_bound, rest.3),
       ap (λ (cs : List ℕ). get_or cs (suc k) 0) (numerals-add_one (suc k + 1) (k + 1) n (omega arith)) ∙ rest.4,
     )
 
@@ -55,16 +55,16 @@ numerals-last (suc k) n small =
 pub number_below-iff-last_value_below : (k n : ℕ) → n < 64 ^ (k + 1)
     → (v : ℕ) × (v < 64) × (n < 256 ^ k ↔ v < 4 ^ k) × (get_or (numerals (k + 1) n) k 0 ≡ character_of v)
 number_below-iff-last_value_below k n small =
-    let top = numerals-last k n small in
+    let last = numerals-last k n small in
     let power : 256 ^ k ≡ 64 ^ k * 4 ^ k = mul-pow 64 4 k in
-    let below : n < 256 ^ k → top.0 < 4 ^ k = λ less.
-    elim (cases_lt top.0 (4 ^ k)) [
+    let below : n < 256 ^ k → last.0 < 4 ^ k = λ less.
+    elim (cases_lt last.0 (4 ^ k)) [
       | inl low ↦ low
-      | inr high ↦ let up : 64 ^ k * 4 ^ k ≤ 64 ^ k * top.0 = mul-le-mul_left (64 ^ k) high in omega arith
+      | inr high ↦ let up : 64 ^ k * 4 ^ k ≤ 64 ^ k * last.0 = mul-le-mul_left (64 ^ k) high in omega arith
     ] in
-    let fits : top.0 < 4 ^ k → n < 256 ^ k = λ less.
-    let up : 64 ^ k * (top.0 + 1) ≤ 64 ^ k * 4 ^ k = mul-le-mul_left (64 ^ k) (omega arith) in omega arith in
-    (top.0, top.1, (below, fits), top.4)
+    let fits : last.0 < 4 ^ k → n < 256 ^ k = λ less.
+    let up : 64 ^ k * (last.0 + 1) ≤ 64 ^ k * 4 ^ k = mul-le-mul_left (64 ^ k) (omega arith) in omega arith in
+    (last.0, last.1, (below, fits), last.4)
 
 -- ---- the bytes of a number
 

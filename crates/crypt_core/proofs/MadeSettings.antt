@@ -69,8 +69,8 @@ IsSetting-from_parts scheme salt c short all =
 
 -- The same for a salt that the method accepts, kept whole.
 pub IsSetting-given_salt : (scheme : Scheme) (kept salt : List ℕ) → IsScheme scheme → TakesSalt (method_of scheme) salt → kept ≡ salt → IsSetting (record { scheme = scheme; salt = kept })
-IsSetting-given_salt scheme kept salt c takes is =
-    subst (λ (xs : List ℕ). IsSetting (record { scheme = scheme; salt = xs })) (sym is) (IsSetting-from_parts scheme salt c takes.short takes.characters)
+IsSetting-given_salt scheme kept salt c takes kept_is_salt =
+    subst (λ (xs : List ℕ). IsSetting (record { scheme = scheme; salt = xs })) (sym kept_is_salt) (IsSetting-from_parts scheme salt c takes.short takes.characters)
 
 -- ---- what is made
 

@@ -66,14 +66,14 @@ unfolding packed fills is_place index_in order text_length EndsBelow
 IsPacked-from_checks m text long all v below last =
     let n = digest_len m in
     let places = order (groups_of m) in
-    let sum = eqb-true _ _ (each_method (λ o. eqb (text_length (groups_of o)) (packed_len o)) refl m) in
-    let count = eqb-true _ _ (each_method (λ o. eqb (length (order (groups_of o))) (digest_len o)) refl m) in
-    let found = Unpacks-from_fills (last_value_limit m) (groups_of m) text (each_method (λ o. fills (last_value_limit o) (groups_of o)) refl m) (long ∙ sym sum) all (v, below, last) in
-    let each = each_method (λ o. list_all (is_place (digest_len o) (order (groups_of o))) (range_with_len 0 (digest_len o))) refl m in
-    let digest = digest_with n places found.bytes in (
+    let lengths_add_up = eqb-true _ _ (each_method (λ o. eqb (text_length (groups_of o)) (packed_len o)) refl m) in
+    let index_count = eqb-true _ _ (each_method (λ o. eqb (length (order (groups_of o))) (digest_len o)) refl m) in
+    let unpacked = Unpacks-from_fills (last_value_limit m) (groups_of m) text (each_method (λ o. fills (last_value_limit o) (groups_of o)) refl m) (long ∙ sym lengths_add_up) all (v, below, last) in
+    let each_index_once = each_method (λ o. list_all (is_place (digest_len o) (order (groups_of o))) (range_with_len 0 (digest_len o))) refl m in
+    let digest = digest_with n places unpacked.bytes in (
       digest,
-      digest_with-is_digest n places found.bytes found.are_bytes,
-      sym (found.packs digest (map-digest_with n places found.bytes count each found.count)),
+      digest_with-is_digest n places unpacked.bytes unpacked.are_bytes,
+      sym (unpacked.packs digest (map-digest_with n places unpacked.bytes index_count each_index_once unpacked.count)),
     )
 
 -- ---- the other way
@@ -94,23 +94,23 @@ EndsBelow-packed_by : (bound : ℕ) (groups : List (List ℕ)) (digest : List �
 unfolding fills EndsBelow
 EndsBelow-packed_by bound [] digest h all = absurd (cc h)
 EndsBelow-packed_by bound (places ∷ []) digest h all =
-    let parts = and_parts _ _ h in
-    let is : 4 ^ length places ≡ bound = eqb-true _ _ parts.0 in
-    let few = leb-true bound 64 parts.1 in
+    let tests = and_parts _ _ h in
+    let bound_is : 4 ^ length places ≡ bound = eqb-true _ _ tests.0 in
+    let bound_small = leb-true bound 64 tests.1 in
     let k = length places in
     let n = group_number digest places in
-    let small : n < 256 ^ k = omega (arith, fold_bytes-below digest places 0 1 all (omega arith)) in
+    let number_below : n < 256 ^ k = omega (arith, fold_bytes-below digest places 0 1 all (omega arith)) in
     let power : 256 ^ k ≡ 64 ^ k * 4 ^ k = mul-pow 64 4 k in
     let more : 64 ^ (k + 1) ≡ 64 ^ k * 64 = rw add-one (pow-suc 64 k) in
     let up : 64 ^ k * 4 ^ k ≤ 64 ^ k * 64 = mul-le-mul_left (64 ^ k) (omega arith) in
-    let top = number_below-iff-last_value_below k n (omega arith) in
+    let last = number_below-iff-last_value_below k n (omega arith) in
     let text = packed_group digest places in
     let long : length text ≡ k + 1 = length-numerals (k + 1) n in
     let place : length text - 1 ≡ k = omega arith in
-    rw (append-nil text) (omega arith, (top.0, omega (arith, top.2.0 small), rw place top.3))
+    rw (append-nil text) (omega arith, (last.0, omega (arith, last.2.0 number_below), rw place last.3))
 EndsBelow-packed_by bound (places ∷ next ∷ groups) digest h all =
-    let parts = and_parts _ _ h in
-    let rest = EndsBelow-packed_by bound (next ∷ groups) digest parts.1 all in
+    let tests = and_parts _ _ h in
+    let rest = EndsBelow-packed_by bound (next ∷ groups) digest tests.1 all in
     let front = packed_group digest places in
     let text = packed_by (next ∷ groups) digest in
     let long = length-append front text in
@@ -134,9 +134,9 @@ pub last_value-from_IsPacked : (m : Method) (text : List ℕ) (v : ℕ) → IsPa
     → v < last_value_limit m
 unfolding packed fills EndsBelow
 last_value-from_IsPacked m text v is below last =
-    let fill = each_method (λ o. fills (last_value_limit o) (groups_of o) && nat_le (last_value_limit o) 64) refl m in
-    let parts = and_parts _ _ fill in
-    let few = leb-true _ _ parts.1 in
-    let ends = (EndsBelow-packed_by (last_value_limit m) (groups_of m) is.0 parts.0 is.1.1).1 in
-    let same : v ≡ ends.0 = character_of-injective v ends.0 below (omega (arith, ends.1)) (sym last ∙ ap (λ (cs : List ℕ). get_or cs (length cs - 1) 0) is.2 ∙ ends.2) in
+    let groups_fill = each_method (λ o. fills (last_value_limit o) (groups_of o) && nat_le (last_value_limit o) 64) refl m in
+    let tests = and_parts _ _ groups_fill in
+    let limit_small = leb-true _ _ tests.1 in
+    let ends = (EndsBelow-packed_by (last_value_limit m) (groups_of m) is.0 tests.0 is.1.1).1 in
+    let value_is : v ≡ ends.0 = character_of-injective v ends.0 below (omega (arith, ends.1)) (sym last ∙ ap (λ (cs : List ℕ). get_or cs (length cs - 1) 0) is.2 ∙ ends.2) in
     omega (arith, ends.1)

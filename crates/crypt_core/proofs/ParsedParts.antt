@@ -49,14 +49,14 @@ IsEndOfField-drop (x ∷ xs) (suc n) here = IsEndOfField-drop xs n (λ below. he
 
 pub HasField-first_dollar : (xs : List ℕ) (n : ℕ) → n ≡ unwrap_or (position is_dollar xs) (length xs) → HasField xs (take n xs)
 HasField-first_dollar xs n found =
-    let is : n ≡ position_or_len is_dollar xs = found ∙ unwrap_or-position is_dollar xs in (
+    let n_is_position : n ≡ position_or_len is_dollar xs = found ∙ unwrap_or-position is_dollar xs in (
       drop n xs,
       sym (take-append-drop n xs),
       (
         All-from_get_or (λ b. b ≢ dollar) (take n xs) 0 (λ i lt same.
             let below : i < n = omega (arith, lt, length-take n xs) in
-            eqb-false _ _ (fails_before_first is_dollar xs i 0 (omega (arith, below, is))) (sym (get_or-take n xs i 0 below) ∙ same)),
-        end_of_field-cases (drop n xs) (IsEndOfField-drop xs n (λ below. eqb-true _ _ (ap (λ (k : ℕ). is_dollar (get_or xs k 0)) is ∙ passes_at_first is_dollar xs 0 (omega (arith, below, is))))),
+            eqb-false _ _ (fails_before_first is_dollar xs i 0 (omega (arith, below, n_is_position))) (sym (get_or-take n xs i 0 below) ∙ same)),
+        end_of_field-cases (drop n xs) (IsEndOfField-drop xs n (λ below. eqb-true _ _ (ap (λ (k : ℕ). is_dollar (get_or xs k 0)) n_is_position ∙ passes_at_first is_dollar xs 0 (omega (arith, below, n_is_position))))),
       ),
     )
 
@@ -80,12 +80,12 @@ take-drop_rest xs k = ap (λ (n : ℕ). take n (drop k xs)) (sym (length-drop k 
 -- The text is the field, its `$`, and what follows that.
 pub append-number_dollar_rest : (xs : List ℕ) (n : ℕ) → HasField xs (take n xs) → n < length xs → xs ≡ take n xs ++ (dollar ∷ take (length xs - (n + 1)) (drop (n + 1) xs))
 append-number_dollar_rest xs n h below =
-    let rest : h.0 ≡ drop n xs = append_cancel_left (take n xs) h.0 (drop n xs) (sym h.1 ∙ sym (take-append-drop n xs)) in
-    let next : drop n xs ≡ get_or xs n 0 ∷ drop (suc n) xs = drop-cons xs n 0 below in
-    let here : get_or xs n 0 ≡ dollar = subst IsEndOfField (rest ∙ next) (IsEndOfField-from_cases h.0 h.2.1) in
+    let rest_is : h.0 ≡ drop n xs = append_cancel_left (take n xs) h.0 (drop n xs) (sym h.1 ∙ sym (take-append-drop n xs)) in
+    let drop_is : drop n xs ≡ get_or xs n 0 ∷ drop (suc n) xs = drop-cons xs n 0 below in
+    let dollar_here : get_or xs n 0 ≡ dollar = subst IsEndOfField (rest_is ∙ drop_is) (IsEndOfField-from_cases h.0 h.2.1) in
     sym (take-append-drop n xs)
     ∙ ap (λ (t : List ℕ). take n xs ++ t)
-    (next ∙ ap (λ (c : ℕ). c ∷ drop (suc n) xs) here ∙ ap (λ (k : ℕ). dollar ∷ drop k xs) (sym (add-one n)) ∙ ap (λ (t : List ℕ). dollar ∷ t) (sym (take-drop_rest xs (n + 1))))
+    (drop_is ∙ ap (λ (c : ℕ). c ∷ drop (suc n) xs) dollar_here ∙ ap (λ (k : ℕ). dollar ∷ drop k xs) (sym (add-one n)) ∙ ap (λ (t : List ℕ). dollar ∷ t) (sym (take-drop_rest xs (n + 1))))
 
 pub digit_range : (ds : List ℕ) (i : ℕ) → IsRoundsNumber ds → i < length ds → (48 ≤ get_or ds i 0) × (get_or ds i 0 ≤ 57)
 digit_range [] i number lt = absurd number
@@ -94,9 +94,9 @@ digit_range (d ∷ ds) (suc i) number lt = number.2 i 0 (omega arith)
 
 -- One more digit, capped.
 pub capped_value-more : (ds : List ℕ) (i number digit : ℕ) → i < length ds → IsRoundsNumber ds → digit ≡ get_or ds i 0 → number ≡ min (digits_value 10 (take i ds)) max_rounds → min (number * 10 + (digit - 48)) max_rounds ≡ min (digits_value 10 (take (i + 1) ds)) max_rounds
-capped_value-more ds i number digit lt is_number is so_far =
+capped_value-more ds i number digit lt is_number digit_is so_far =
     let range = digit_range ds i is_number lt in
-    omega (arith, digits_value_more 10 ds i lt, digit_value_digit (get_or ds i 0) range, range, is, so_far)
+    omega (arith, digits_value_more 10 ds i lt, digit_value_digit (get_or ds i 0) range, range, digit_is, so_far)
 
 -- ---- the characters of scrypt's cost part
 

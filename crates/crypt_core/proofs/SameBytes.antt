@@ -15,18 +15,18 @@ pub differ-zero_iff_fronts_equal : (xs ys : List ℕ) (i differ : ℕ) → i < l
 differ-zero_iff_fronts_equal xs ys i differ inside also so_far =
     let x = get_or xs i 0 in
     let y = get_or ys i 0 in
-    let none : bit_or differ (bit_xor x y) ≡ 0 → take (i + 1) xs ≡ take (i + 1) ys = λ e.
+    let equal_if_zero : bit_or differ (bit_xor x y) ≡ 0 → take (i + 1) xs ≡ take (i + 1) ys = λ e.
     let before : differ ≡ 0 = omega (arith, le_or_l differ (bit_xor x y), e) in
     let here : bit_xor x y ≡ 0 = omega (arith, le_or_r differ (bit_xor x y), e) in
     let same : x ≡ y = omega (arith, xor_add_and x y, and_le_l x y, and_le_r x y, here) in
     take_more_same xs ys i 0 inside also (so_far.0 before) same in
-    let same : take (i + 1) xs ≡ take (i + 1) ys → bit_or differ (bit_xor x y) ≡ 0 = λ e.
+    let zero_if_equal : take (i + 1) xs ≡ take (i + 1) ys → bit_or differ (bit_xor x y) ≡ 0 = λ e.
     let fronts : take i xs ≡ take i ys =
     sym (take-take i (i + 1) xs (omega arith)) ∙ ap (λ (l : List ℕ). take i l) e ∙ take-take i (i + 1) ys (omega arith) in
     let before : differ ≡ 0 = so_far.1 fronts in
     let here : x ≡ y = sym (get_or-take (i + 1) xs i 0 (omega arith)) ∙ ap (λ (l : List ℕ). get_or l i 0) e ∙ get_or-take (i + 1) ys i 0 (omega arith) in
     rw (before, here, xor_self y) refl in
-    (none, same)
+    (equal_if_zero, zero_if_equal)
 
 -- After the last byte, comparing the OR with 0 gives the same result as `==`.
 pub differ-zero_is_bytes_eq : (xs ys : List ℕ) (i differ : ℕ) → length xs ≡ length ys → length xs ≤ i → differ ≡ 0 ↔ take i xs ≡ take i ys

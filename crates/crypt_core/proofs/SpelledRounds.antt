@@ -60,8 +60,8 @@ clamped-min n = omega arith
 
 -- A well-formed `rounds=` field spells the rounds of its number, clamped.
 pub SpellsRounds-written_field : (after field digits rest : List ℕ) (number : ℕ) (r : Rounds) → after ≡ rounds_word ++ field → IsRoundsNumber digits → field ≡ digits ++ (dollar ∷ rest) → number ≡ min (digits_value 10 digits) max_rounds → r ≡ record { count = clamped number; is_written = true } → (part : List ℕ) × (after ≡ part ++ rest) × SpellsRounds r part rest
-SpellsRounds-written_field after field digits rest number r begins is_number parts is made = (
+SpellsRounds-written_field after field digits rest number r begins is_number parts number_is rounds_are = (
   rounds_field digits,
   begins ∙ ap (λ (x : List ℕ). rounds_word ++ x) parts ∙ sym (rounds_field-append digits rest),
-  subst (λ (s : Rounds). SpellsRounds s (rounds_field digits) rest) (sym made) (digits, is_number, refl, ap clamped is ∙ clamped-min (digits_value 10 digits)),
+  subst (λ (s : Rounds). SpellsRounds s (rounds_field digits) rest) (sym rounds_are) (digits, is_number, refl, ap clamped number_is ∙ clamped-min (digits_value 10 digits)),
 )

@@ -40,21 +40,21 @@ Unpacks-one_group places text long all ends few =
     let number = number-from_characters text all in
     let n = number.0 in
     let numeral : numerals (k + 1) n ≡ text = ap (λ m. numerals m n) (sym long) ∙ number.2 in
-    let top = number_below-iff-last_value_below k n (rw (← long) number.1) in
-    let place : length text - 1 ≡ k = omega arith in
-    let last : character_of top.0 ≡ character_of ends.0 =
-    sym top.3 ∙ ap (λ (cs : List ℕ). get_or cs k 0) numeral ∙ ap (λ i. get_or text i 0) (sym place) ∙ ends.2 in
-    let same : top.0 ≡ ends.0 = character_of-injective top.0 ends.0 top.1 (omega (arith, ends.1)) last in
-    let small : n < 256 ^ k = top.2.1 (omega (arith, ends.1)) in
+    let last_value = number_below-iff-last_value_below k n (rw (← long) number.1) in
+    let last_index : length text - 1 ≡ k = omega arith in
+    let same_character : character_of last_value.0 ≡ character_of ends.0 =
+    sym last_value.3 ∙ ap (λ (cs : List ℕ). get_or cs k 0) numeral ∙ ap (λ i. get_or text i 0) (sym last_index) ∙ ends.2 in
+    let same_value : last_value.0 ≡ ends.0 = character_of-injective last_value.0 ends.0 last_value.1 (omega (arith, ends.1)) same_character in
+    let number_below : n < 256 ^ k = last_value.2.1 (omega (arith, ends.1)) in
     record {
       bytes = bytes_of k n;
       are_bytes = All-bytes_of k n;
       count = length-bytes_of k n ∙ ap length (sym (append-nil places));
       packs = λ digest e.
-          let here : map (slice_index digest) places ≡ bytes_of k n = ap (map (slice_index digest)) (sym (append-nil places)) ∙ e in
-          let value : group_number digest places ≡ n =
-          sym (fold-map (λ number byte. number * 256 + byte) (slice_index digest) 0 places) ∙ ap joined here ∙ joined-bytes_of k n small in
-          append-nil (packed_group digest places) ∙ ap (numerals (k + 1)) value ∙ numeral;
+          let bytes_at_places : map (slice_index digest) places ≡ bytes_of k n = ap (map (slice_index digest)) (sym (append-nil places)) ∙ e in
+          let number_is : group_number digest places ≡ n =
+          sym (fold-map (λ number byte. number * 256 + byte) (slice_index digest) 0 places) ∙ ap joined bytes_at_places ∙ joined-bytes_of k n number_below in
+          append-nil (packed_group digest places) ∙ ap (numerals (k + 1)) number_is ∙ numeral;
     }
 
 -- The bytes of a first group and of the others.
@@ -91,13 +91,13 @@ pub Unpacks-from_fills : (bound : ℕ) (groups : List (List ℕ)) (text : List �
 unfolding fills EndsBelow text_length
 Unpacks-from_fills bound [] text h long all ends = absurd (cc h)
 Unpacks-from_fills bound (places ∷ []) text h long all ends =
-    let parts = and_parts _ _ h in
-    let is : 4 ^ length places ≡ bound = eqb-true _ _ parts.0 in
-    let few = leb-true bound 64 parts.1 in
-    Unpacks-one_group places text (omega arith) all (rw is ends) (omega arith)
+    let tests = and_parts _ _ h in
+    let bound_is : 4 ^ length places ≡ bound = eqb-true _ _ tests.0 in
+    let few = leb-true bound 64 tests.1 in
+    Unpacks-one_group places text (omega arith) all (rw bound_is ends) (omega arith)
 Unpacks-from_fills bound (places ∷ next ∷ groups) text h long all ends =
-    let parts = and_parts _ _ h in
-    let three : length places ≡ 3 = eqb-true _ _ parts.0 in
+    let tests = and_parts _ _ h in
+    let three : length places ≡ 3 = eqb-true _ _ tests.0 in
     let front = take 4 text in
     let rest = drop 4 text in
     let sum = sum_by-cons (λ (ps : List ℕ). length ps + 1) places (next ∷ groups) in
@@ -106,10 +106,10 @@ Unpacks-from_fills bound (places ∷ next ∷ groups) text h long all ends =
     let rest_long : length rest ≡ length text - 4 = length-drop 4 text in
     let value = value-from_Contains (get_or front (length front - 1) 0) (All-take (Contains alphabet) 4 text all (length front - 1) 0 (omega arith)) in
     let power : 4 ^ length places ≡ 64 = ap (λ k. 4 ^ k) three in
-    let place : 4 + (length rest - 1) ≡ length text - 1 = omega arith in
+    let last_index : 4 + (length rest - 1) ≡ length text - 1 = omega arith in
     let ends_rest : EndsBelow bound rest =
-    (ends.0, ends.1, get_or-drop 4 text (length rest - 1) 0 ∙ ap (λ i. get_or text i 0) place ∙ ends.2) in
+    (ends.0, ends.1, get_or-drop 4 text (length rest - 1) 0 ∙ ap (λ i. get_or text i 0) last_index ∙ ends.2) in
     subst (Unpacks (places ∷ next ∷ groups)) (take-append-drop 4 text)
     (Unpacks-cons places (next ∷ groups) front rest
     (Unpacks-one_group places front (omega arith) (All-take (Contains alphabet) 4 text all) (rw power (value.0, value.1, sym value.2)) (omega arith))
-    (Unpacks-from_fills bound (next ∷ groups) rest parts.1 (omega arith) (All-drop (Contains alphabet) 4 text all) ends_rest))
+    (Unpacks-from_fills bound (next ∷ groups) rest tests.1 (omega arith) (All-drop (Contains alphabet) 4 text all) ends_rest))

@@ -65,30 +65,30 @@ IsDigest-digest_by (Scrypt cost) password salt = IsDigest-pbkdf2_sha256 password
 pub IsWhole-from_Fits : (password text : List ℕ) (kept : SettingValue) → Spells text kept → Fits password text → IsWhole text kept
 unfolding crypt
 IsWhole-from_Fits password text kept spelled fits =
-    let same : crypt password kept ≡ text = ap (crypt password) (setting_unique text kept fits.0 spelled fits.1) ∙ fits.2 in
+    let hash_is_text : crypt password kept ≡ text = ap (crypt password) (setting_unique text kept fits.0 spelled fits.1) ∙ fits.2 in
     let digest = digest_by kept.scheme password kept.salt in
-    (packed (method_of kept.scheme) digest, (digest, IsDigest-digest_by kept.scheme password kept.salt, refl), sym same)
+    (packed (method_of kept.scheme) digest, (digest, IsDigest-digest_by kept.scheme password kept.salt, refl), sym hash_is_text)
 
 -- So no password matches a stored hash that is not whole.
 pub not_whole-fits_none : (whole : Bool) (text : List ℕ) (kept : SettingValue) → Spells text kept → IsTrue whole ↔ IsWhole text kept
     → ¬ IsTrue whole → (password : List ℕ) → ¬ Fits password text
-not_whole-fits_none whole text kept spelled is lacks password fits = lacks (is.1 (IsWhole-from_Fits password text kept spelled fits))
+not_whole-fits_none whole text kept spelled decides lacks password fits = lacks (decides.1 (IsWhole-from_Fits password text kept spelled fits))
 
 -- A text that begins with its canonical setting and a `$` is whole exactly if the rest is packed.
 pub IsWhole-iff_packed : (text front rest : List ℕ) (kept : SettingValue) (packs : Bool) → front ≡ canonical_text kept ++ dollar ∷ []
     → text ≡ front ++ rest → IsTrue packs ↔ IsPacked (method_of kept.scheme) rest → IsTrue packs ↔ IsWhole text kept
-IsWhole-iff_packed text front rest kept packs is cut decides =
+IsWhole-iff_packed text front rest kept packs front_is cut decides =
     let canonical = canonical_text kept in
-    let whole : text ≡ canonical ++ dollar ∷ rest = rw is at cut ∙ append_assoc canonical (dollar ∷ []) rest in (
+    let whole : text ≡ canonical ++ dollar ∷ rest = rw front_is at cut ∙ append_assoc canonical (dollar ∷ []) rest in (
       (λ yes. (rest, decides.0 yes, whole)),
       λ found.
           let tails : dollar ∷ rest ≡ dollar ∷ found.0 = (append-injective canonical canonical (dollar ∷ rest) (dollar ∷ found.0) refl (sym whole ∙ found.2)).1 in
-          let same : rest ≡ found.0 = cc tails in
-          decides.1 (subst (IsPacked (method_of kept.scheme)) (sym same) found.1),
+          let rest_is : rest ≡ found.0 = cc tails in
+          decides.1 (subst (IsPacked (method_of kept.scheme)) (sym rest_is) found.1),
     )
 
 -- Otherwise it is not whole.
 pub not_whole-without_front : (text front : List ℕ) (kept : SettingValue) → front ≡ canonical_text kept ++ dollar ∷ []
     → ((rest : List ℕ) → text ≢ front ++ rest) → ¬ IsWhole text kept
-not_whole-without_front text front kept is lacks found =
-    lacks found.0 (found.2 ∙ sym (append_assoc (canonical_text kept) (dollar ∷ []) _) ∙ ap (λ (x : List ℕ). x ++ found.0) (sym is))
+not_whole-without_front text front kept front_is lacks found =
+    lacks found.0 (found.2 ∙ sym (append_assoc (canonical_text kept) (dollar ∷ []) _) ∙ ap (λ (x : List ℕ). x ++ found.0) (sym front_is))

@@ -42,15 +42,15 @@ scrypt_work-below_limit params a password salt most password_short salt_short =
 
 -- A number below 2 ^ k has at most k digits.
 pub digit_bytes-le-mul_of_below_pow : (k one other most n : ℕ) → one ≤ most → other ≤ most → n < 2 ^ k → digit_bytes one other n ≤ k * most
-digit_bytes-le-mul_of_below_pow k one other most zero small too below = omega arith
-digit_bytes-le-mul_of_below_pow zero one other most (suc n) small too below = absurd (omega (arith, below))
-digit_bytes-le-mul_of_below_pow (suc k) one other most (suc n) small too below =
-    let rest = digit_bytes-le-mul_of_below_pow k one other most (suc n / 2) small too (omega (arith, below)) in
+digit_bytes-le-mul_of_below_pow k one other most zero one_le other_le below = omega arith
+digit_bytes-le-mul_of_below_pow zero one other most (suc n) one_le other_le below = absurd (omega (arith, below))
+digit_bytes-le-mul_of_below_pow (suc k) one other most (suc n) one_le other_le below =
+    let rest = digit_bytes-le-mul_of_below_pow k one other most (suc n / 2) one_le other_le (omega (arith, below)) in
     omega (arith, digit_bytes-step one other (suc n) (omega arith), rest, piece (nat_eq (suc n % 2) 1))
   where
     piece : (odd : Bool) → cond odd one other ≤ most
-    piece true = small
-    piece false = too
+    piece true = one_le
+    piece false = other_le
 
 -- IsPower k most: the length `most` is 2 ^ k, so its highest binary digit is its only 1.
 record IsPower (k most : ℕ) : Type 0 where
@@ -61,19 +61,19 @@ record IsPower (k most : ℕ) : Type 0 where
 
 -- Such a length has one digit more than any smaller one.
 digit_bytes-le-at_power : (k most one n : ℕ) → IsPower k most → one ≤ most → n ≤ most → digit_bytes one n n ≤ digit_bytes one most most
-digit_bytes-le-at_power k most one n is small short = elim (cases_order n most) [
+digit_bytes-le-at_power k most one n is_power small short = elim (cases_order n most) [
   | inl same ↦ rw same (omega arith)
   | inr other ↦ elim other [
-    | inl below ↦ omega (arith, digit_bytes-le-mul_of_below_pow k one n most n small short (rw is.power at below), is.digits one)
+    | inl below ↦ omega (arith, digit_bytes-le-mul_of_below_pow k one n most n small short (rw is_power.power at below), is_power.digits one)
     | inr above ↦ absurd (omega (arith, short, above))
   ]
 ]
 
 single_digit_bytes-le-at_power : (k most n : ℕ) → IsPower k most → n ≤ most → digit_bytes 1 1 n ≤ digit_bytes 1 1 most
-single_digit_bytes-le-at_power k most n is short = elim (cases_order n most) [
+single_digit_bytes-le-at_power k most n is_power short = elim (cases_order n most) [
   | inl same ↦ rw same (omega arith)
   | inr other ↦ elim other [
-    | inl below ↦ omega (arith, digit_bytes-le-mul_of_below_pow k 1 1 1 n (omega arith) (omega arith) (rw is.power at below), is.single)
+    | inl below ↦ omega (arith, digit_bytes-le-mul_of_below_pow k 1 1 1 n (omega arith) (omega arith) (rw is_power.power at below), is_power.single)
     | inr above ↦ absurd (omega (arith, short, above))
   ]
 ]
@@ -88,12 +88,12 @@ rounds_bytes-mono_length count digest n most salt short =
 -- ---- the cost
 
 cost_by-le-at_power : (k most : ℕ) (scheme : Scheme) (n salt : ℕ) → IsPower k most → n ≤ most → cost_by scheme n salt ≤ cost_by scheme most salt
-cost_by-le-at_power k most Md5crypt n salt is short = omega (arith, short, single_digit_bytes-le-at_power k most n is short, rounds_bytes-mono_length 1000 16 n most salt short)
-cost_by-le-at_power k most (Shacrypt Sha256 rounds) n salt is short =
-    omega (arith, short, mul-le-mul short short, digit_bytes-le-at_power k most 32 n is (omega (arith, is.wide)) short, rounds_bytes-mono_length rounds.count 32 n most salt short)
-cost_by-le-at_power k most (Shacrypt Sha512 rounds) n salt is short =
-    omega (arith, short, mul-le-mul short short, digit_bytes-le-at_power k most 64 n is is.wide short, rounds_bytes-mono_length rounds.count 64 n most salt short)
-cost_by-le-at_power k most (Scrypt params) n salt is short =
+cost_by-le-at_power k most Md5crypt n salt is_power short = omega (arith, short, single_digit_bytes-le-at_power k most n is_power short, rounds_bytes-mono_length 1000 16 n most salt short)
+cost_by-le-at_power k most (Shacrypt Sha256 rounds) n salt is_power short =
+    omega (arith, short, mul-le-mul short short, digit_bytes-le-at_power k most 32 n is_power (omega (arith, is_power.wide)) short, rounds_bytes-mono_length rounds.count 32 n most salt short)
+cost_by-le-at_power k most (Shacrypt Sha512 rounds) n salt is_power short =
+    omega (arith, short, mul-le-mul short short, digit_bytes-le-at_power k most 64 n is_power is_power.wide short, rounds_bytes-mono_length rounds.count 64 n most salt short)
+cost_by-le-at_power k most (Scrypt params) n salt is_power short =
     let digest : key_digests n ≤ key_digests most = grind (arith, nat_tests) in
     omega (arith, digest, mul-le-mul digest short)
 

@@ -22,14 +22,14 @@ parts-init c =
     let a = c.args.meter.now in
     let first = alternate_message p s in
     let second = opening_message p s in
-    let is = c.bytes-password.ensures.value in
-    let opened = rw is at c.opening.ensures.count in
-    let bytes = ap (λ m. m.bytes) opened in
-    let short = c.bytes-password.ensures.password.0 in (
-      c.copy_from_slice.ensures.after ∙ (c.as_slice.ensures.value ∙ ((rw is at c.opening.ensures.digest) ∙ sym (digest_after-zero md5 (md5crypt_opening p s) p s))),
+    let bytes_are_password = c.bytes-password.ensures.value in
+    let opening_counted = rw bytes_are_password at c.opening.ensures.count in
+    let opening_bytes = ap (λ m. m.bytes) opening_counted in
+    let password_short = c.bytes-password.ensures.password.0 in (
+      c.copy_from_slice.ensures.after ∙ (c.as_slice.ensures.value ∙ ((rw bytes_are_password at c.opening.ensures.digest) ∙ sym (digest_after-zero md5 (md5crypt_opening p s) p s))),
       ap length (c.copy_from_slice.ensures.after ∙ c.as_slice.ensures.value) ∙ c.opening.ensures.length,
-      rw (messages_to-two p s) (with_digests-two a (with_digest a first) c.opening.new.meter first second refl opened),
-      omega (arith, bytes, length-alternate_message p s, length-opening_message p s, digit_bytes-le-mul 1 1 1 (length p) (omega arith) (omega arith), short, c.requires.salt),
+      rw (messages_to-two p s) (with_digests-two a (with_digest a first) c.opening.new.meter first second refl opening_counted),
+      omega (arith, opening_bytes, length-alternate_message p s, length-opening_message p s, digit_bytes-le-mul 1 1 1 (length p) (omega arith) (omega arith), password_short, c.requires.salt),
     )
 
 pub round-requires-clause-digests_room : goal.round-requires-clause-digests_room
@@ -37,7 +37,7 @@ round-requires-clause-digests_room c =
     let digests = ap (λ m. m.digests) c.rounds.invariant.2 in
     omega (arith, digests, length-messages_to (md5crypt_message c.args.password.now c.args.salt.now) (c.rounds.i + 2), c.requires.room.0)
 
--- After one more round, the same four facts. `same` says that the code's message is that of the definition.
+-- After one more round, the same four facts. `message_is` says that the code's message is that of the definition.
 pub rounds-preserved : goal.rounds-preserved
 rounds-preserved c =
     let p = c.args.password.now in
@@ -45,19 +45,19 @@ rounds-preserved c =
     let i = c.rounds.i in
     let before = c.rounds.digest in
     let strings = rw c.bytes-password.ensures.value at c.new-strings.ensures in
-    let same =
+    let message_is =
     ap (λ (x : Strings). round_message i before x.password x.salt) strings
     ∙ (ap (λ x. round_message i x p s) c.rounds.invariant.0 ∙ sym (md5crypt_message-round p s i)) in
-    let later : c.rounds.i + 1 + 2 ≡ c.rounds.i + 2 + 1 = omega arith in
-    let counted = with_digests-push c.args.meter.now c.rounds.meter c.round.new.meter _ _ c.rounds.invariant.2 c.round.ensures.count in
-    let bytes = ap (λ m. m.bytes) c.round.ensures.count in (
-      c.round.ensures.digest ∙ (ap md5 (same ∙ md5crypt_message-round p s i) ∙ sym (digest_after-more md5 (md5crypt_opening p s) p s i)),
+    let next_number : c.rounds.i + 1 + 2 ≡ c.rounds.i + 2 + 1 = omega arith in
+    let messages_counted = with_digests-push c.args.meter.now c.rounds.meter c.round.new.meter _ _ c.rounds.invariant.2 c.round.ensures.count in
+    let round_bytes = ap (λ m. m.bytes) c.round.ensures.count in (
+      c.round.ensures.digest ∙ (ap md5 (message_is ∙ md5crypt_message-round p s i) ∙ sym (digest_after-more md5 (md5crypt_opening p s) p s i)),
       ap length c.round.ensures.digest ∙ length-md5 _,
-      rw (later, messages_to-more (md5crypt_message p s) (i + 2), ← same) counted,
+      rw (next_number, messages_to-more (md5crypt_message p s) (i + 2), ← message_is) messages_counted,
       omega (
         arith,
-        bytes,
-        ap length same,
+        round_bytes,
+        ap length message_is,
         length-md5crypt_message p s i,
         round_length-le i 16 (length p) (length s),
         c.rounds.invariant.3,
@@ -69,16 +69,16 @@ rounds-preserved c =
 pub returns-clause-digest : goal.returns-clause-digest
 unfolding md5crypt_digest
 returns-clause-digest c =
-    let last : 50 * c.parts.part ≡ md5crypt_rounds = omega arith in
-    rw last at c.parts.invariant.0
+    let last_round : 50 * c.parts.part ≡ md5crypt_rounds = omega arith in
+    rw last_round at c.parts.invariant.0
 
 pub returns-clause-count : goal.returns-clause-count
 returns-clause-count c =
     let p = c.args.password.now in
     let s = c.args.salt.now in
-    let last : 50 * c.parts.part + 2 ≡ md5crypt_rounds + 2 = omega arith in
-    let counted = rw (last, messages_to-all_rounds p s) at c.parts.invariant.2 in
-    counted ∙ with_digests-with_work c.args.meter.now (md5crypt_messages p s) (md5crypt_rounds + 2) _ (HaveCountAndSum-md5crypt_messages p s)
+    let last_message : 50 * c.parts.part + 2 ≡ md5crypt_rounds + 2 = omega arith in
+    let messages_counted = rw (last_message, messages_to-all_rounds p s) at c.parts.invariant.2 in
+    messages_counted ∙ with_digests-with_work c.args.meter.now (md5crypt_messages p s) (md5crypt_rounds + 2) _ (HaveCountAndSum-md5crypt_messages p s)
 
 pub returns-clause-specified : goal.returns-clause-specified
 returns-clause-specified c = HaveCountAndSum-md5crypt_messages c.args.password.now c.args.salt.now

@@ -15,7 +15,7 @@ use Rattle.crypt_core.proofs.md5crypt.opening.Goals as goal
 
 -- The code's `min` takes the first byte of the password, or nothing of an empty one.
 take-min_one : (p : List ℕ) (n : ℕ) → n ≡ min (length p) 1 → take n p ≡ take 1 p
-take-min_one p n is = rw (is, min_comm (length p) 1) (take_min 1 p)
+take-min_one p n n_is_min = rw (n_is_min, min_comm (length p) 1) (take_min 1 p)
 
 pub feed_digits-requires : goal.feed_digits-requires
 feed_digits-requires c =

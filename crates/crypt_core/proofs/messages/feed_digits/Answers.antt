@@ -20,13 +20,13 @@ feed-requires g c =
     let piece = by_digit one other (n % 2) in
     let half = digit_pieces one other (n / 2) in
     let fed = c.digits.invariant.0 in
-    let bytes = ap (λ m. m.bytes) c.digits.invariant.3 in
-    let all = ap length (rw (digit_pieces-step one other n c.digits-test.true) at c.digits.invariant.2) in
+    let fed_bytes = ap (λ m. m.bytes) c.digits.invariant.3 in
+    let all_bytes = ap length (rw (digit_pieces-step one other n c.digits-test.true) at c.digits.invariant.2) in
     let piece_is : c.if-rest-eq1.piece.now ≡ piece = elim c.if-rest-eq1.branch [
       | then-rest-eq1 w ↦ search rules
       | else-rest-eq1 w ↦ search rules
     ] in
-    rw piece_is (omega (arith, bytes, all, c.requires, length-append fed (piece ++ half), length-append piece half))
+    rw piece_is (omega (arith, fed_bytes, all_bytes, c.requires, length-append fed (piece ++ half), length-append piece half))
 
 pub digits-preserved : goal.digits-preserved
 digits-preserved g c =

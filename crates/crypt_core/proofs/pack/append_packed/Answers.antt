@@ -12,17 +12,17 @@ use Rattle.crypt_core.proofs.pack.append_packed.Goals as goal
 
 pub number_of-requires : goal.number_of-requires
 number_of-requires c =
-    let groups : AreGroups (length c.args.digest.now) (groups_in c.row.result.groups.now) = rw (c.row.ensures.groups, c.requires.digest) (AreGroups-groups_of c.args.method) in
-    IsGroup-get_or _ c.row.result.groups.now c.groups.places-index _ c.groups-test.true groups
+    let are_groups : AreGroups (length c.args.digest.now) (groups_in c.row.result.groups.now) = rw (c.row.ensures.groups, c.requires.digest) (AreGroups-groups_of c.args.method) in
+    IsGroup-get_or _ c.row.result.groups.now c.groups.places-index _ c.groups-test.true are_groups
 
 pub put_group-requires-clause-few : goal.put_group-requires-clause-few
 put_group-requires-clause-few c =
     let none : Bor (List ℕ) = record { ref_ptr = (0, 0); now = [] } in
     let table = c.row.result.groups.now in
-    let groups : AreGroups (length c.args.digest.now) (groups_in table) = rw (c.row.ensures.groups, c.requires.digest) (AreGroups-groups_of c.args.method) in
-    let few = length-from_IsGroup (length c.args.digest.now) (get_or table c.groups.places-index none).now
-    (IsGroup-get_or _ table c.groups.places-index none c.groups-test.true groups) in
-    omega (arith, few.1)
+    let are_groups : AreGroups (length c.args.digest.now) (groups_in table) = rw (c.row.ensures.groups, c.requires.digest) (AreGroups-groups_of c.args.method) in
+    let group_length = length-from_IsGroup (length c.args.digest.now) (get_or table c.groups.places-index none).now
+    (IsGroup-get_or _ table c.groups.places-index none c.groups-test.true are_groups) in
+    omega (arith, group_length.1)
 
 pub put_group-requires-clause-room : goal.put_group-requires-clause-room
 put_group-requires-clause-room c =
@@ -32,12 +32,12 @@ put_group-requires-clause-room c =
     let none : Bor (List ℕ) = record { ref_ptr = (0, 0); now = [] } in
     let places = (get_or table i none).now in
     let rest = packed_by (groups_in (drop (i + 1) table)) digest in
-    let lengths = ap length (rw (packed_by-drop digest table i none c.groups-test.true) at c.groups.invariant) in
-    let whole : length (packed_by (groups_in table) digest) ≡ packed_len c.args.method = rw c.row.ensures.groups (length-packed_by_method c.args.method digest) in
+    let text_lengths = ap length (rw (packed_by-drop digest table i none c.groups-test.true) at c.groups.invariant) in
+    let packed_length : length (packed_by (groups_in table) digest) ≡ packed_len c.args.method = rw c.row.ensures.groups (length-packed_by_method c.args.method digest) in
     omega (
       arith,
-      lengths,
-      whole,
+      text_lengths,
+      packed_length,
       c.requires.room,
       length-append c.args.text.now.items (packed_by (groups_in table) digest),
       length-append c.groups.text.items (packed_group digest places ++ rest),

@@ -23,8 +23,8 @@ string_of-password_string-requires-clause-bytes_room g c =
     let h = g.H.Counted.digest in
     let p = c.bytes-password.result.now in
     let s = c.args.salt.now in
-    let short : length p ≤ password_limit = omega (arith, ap length c.bytes-password.ensures.value, c.bytes-password.ensures.password.0) in
-    omega (arith, ap (λ m. m.bytes) c.opening-digest.ensures.count, start_bytes-le-start_limit h g.H.Counted.LEN g.met.H.Counted.length_digest p s 0 g.met.H.Counted.at_most_64 short c.requires.salt (omega arith), c.requires.room.1)
+    let password_short : length p ≤ password_limit = omega (arith, ap length c.bytes-password.ensures.value, c.bytes-password.ensures.password.0) in
+    omega (arith, ap (λ m. m.bytes) c.opening-digest.ensures.count, start_bytes-le-start_limit h g.H.Counted.LEN g.met.H.Counted.length_digest p s 0 g.met.H.Counted.at_most_64 password_short c.requires.salt (omega arith), c.requires.room.1)
 
 -- Nor does digesting the salt 16 + A[0] times, where A[0] is a byte.
 pub string_of-salt_string-requires-clause-bytes_room : goal.string_of-salt_string-requires-clause-bytes_room
@@ -32,16 +32,16 @@ string_of-salt_string-requires-clause-bytes_room g c =
     let h = g.H.Counted.digest in
     let p = c.bytes-password.result.now in
     let s = c.args.salt.now in
-    let short : length p ≤ password_limit = omega (arith, ap length c.bytes-password.ensures.value, c.bytes-password.ensures.password.0) in
-    let first = c.from-salt_times.ensures ∙ ap (λ xs. get_or xs 0 0) (c.as_slice.ensures.value ∙ c.opening-digest.ensures.digest) in
-    let byte = sha_opening_byte-below h g.H.Counted.LEN g.met.H.Counted.length_digest p s g.met.H.Counted.at_least_1 g.met.H.Counted.digest_bytes in
-    let times : 16 + c.from-salt_times.result ≤ 16 + greatest_byte = omega (arith, first, byte) in
+    let password_short : length p ≤ password_limit = omega (arith, ap length c.bytes-password.ensures.value, c.bytes-password.ensures.password.0) in
+    let first_byte = c.from-salt_times.ensures ∙ ap (λ xs. get_or xs 0 0) (c.as_slice.ensures.value ∙ c.opening-digest.ensures.digest) in
+    let first_byte_below = sha_opening_byte-below h g.H.Counted.LEN g.met.H.Counted.length_digest p s g.met.H.Counted.at_least_1 g.met.H.Counted.digest_bytes in
+    let times_le : 16 + c.from-salt_times.result ≤ 16 + greatest_byte = omega (arith, first_byte, first_byte_below) in
     omega (
       arith,
       ap (λ m. m.bytes) c.opening-digest.ensures.count,
       ap (λ m. m.bytes) c.string_of-password_string.ensures.count,
       length-repeat (length p) p,
-      start_bytes-le-start_limit h g.H.Counted.LEN g.met.H.Counted.length_digest p s (16 + c.from-salt_times.result) g.met.H.Counted.at_most_64 short c.requires.salt times,
+      start_bytes-le-start_limit h g.H.Counted.LEN g.met.H.Counted.length_digest p s (16 + c.from-salt_times.result) g.met.H.Counted.at_most_64 password_short c.requires.salt times_le,
       c.requires.room.1,
     )
 
@@ -72,28 +72,28 @@ rounds-init g c =
     let a = c.args.meter.now in
     let p = c.args.password.now in
     let s = c.args.salt.now in
-    let is = c.bytes-password.ensures.value in
-    let opened = rw is at c.opening-digest.ensures.count in
-    let digest = rw is at c.opening-digest.ensures.digest in
-    let repeated = rw is at c.string_of-password_string.ensures.count in
-    let first = c.from-salt_times.ensures ∙ ap (λ xs. get_or xs 0 0) (c.as_slice.ensures.value ∙ digest) in
-    let salted = rw first at c.string_of-salt_string.ensures.count in
-    let short : length p ≤ password_limit = c.bytes-password.ensures.password.0 in
-    let byte = sha_opening_byte-below h g.H.Counted.LEN g.met.H.Counted.length_digest p s g.met.H.Counted.at_least_1 g.met.H.Counted.digest_bytes in
-    let times : 16 + get_or (sha_opening h p s) 0 0 ≤ 16 + greatest_byte = omega (arith, byte) in (
-      digest ∙ sym (digest_after-zero h (sha_opening h p s) (password_string h p) (salt_string h p s)),
+    let bytes_are_password = c.bytes-password.ensures.value in
+    let opening_counted = rw bytes_are_password at c.opening-digest.ensures.count in
+    let digest_is_opening = rw bytes_are_password at c.opening-digest.ensures.digest in
+    let password_string_counted = rw bytes_are_password at c.string_of-password_string.ensures.count in
+    let first_byte = c.from-salt_times.ensures ∙ ap (λ xs. get_or xs 0 0) (c.as_slice.ensures.value ∙ digest_is_opening) in
+    let salt_string_counted = rw first_byte at c.string_of-salt_string.ensures.count in
+    let password_short : length p ≤ password_limit = c.bytes-password.ensures.password.0 in
+    let first_byte_below = sha_opening_byte-below h g.H.Counted.LEN g.met.H.Counted.length_digest p s g.met.H.Counted.at_least_1 g.met.H.Counted.digest_bytes in
+    let times_le : 16 + get_or (sha_opening h p s) 0 0 ≤ 16 + greatest_byte = omega (arith, first_byte_below) in (
+      digest_is_opening ∙ sym (digest_after-zero h (sha_opening h p s) (password_string h p) (salt_string h p s)),
       c.opening-digest.ensures.length,
       rw (messages_to-four h p s)
           (with_digests-four a (with_digest a (alternate_message p s)) c.opening-digest.new.meter c.string_of-password_string.new.meter c.string_of-salt_string.new.meter
-          (alternate_message p s) (sha_opening_message h p s) (password_repeated p) (salt_repeated h p s) refl opened repeated salted),
+          (alternate_message p s) (sha_opening_message h p s) (password_repeated p) (salt_repeated h p s) refl opening_counted password_string_counted salt_string_counted),
       omega (
         arith,
-        ap (λ m. m.bytes) opened,
-        ap (λ m. m.bytes) repeated,
-        ap (λ m. m.bytes) salted,
+        ap (λ m. m.bytes) opening_counted,
+        ap (λ m. m.bytes) password_string_counted,
+        ap (λ m. m.bytes) salt_string_counted,
         length-repeat (length p) p,
         length-repeat (16 + get_or (sha_opening h p s) 0 0) s,
-        start_bytes-le-start_limit h g.H.Counted.LEN g.met.H.Counted.length_digest p s (16 + get_or (sha_opening h p s) 0 0) g.met.H.Counted.at_most_64 short c.requires.salt times,
+        start_bytes-le-start_limit h g.H.Counted.LEN g.met.H.Counted.length_digest p s (16 + get_or (sha_opening h p s) 0 0) g.met.H.Counted.at_most_64 password_short c.requires.salt times_le,
       ),
     )
 
@@ -114,17 +114,17 @@ returns-clause-digest g c =
     let h = g.H.Counted.digest in
     let p = c.args.password.now in
     let s = c.args.salt.now in
-    let last : c.rounds.i ≡ c.args.rounds = omega arith in
-    rw last at c.rounds.invariant.0
+    let last_round : c.rounds.i ≡ c.args.rounds = omega arith in
+    rw last_round at c.rounds.invariant.0
 
 pub returns-clause-count : goal.returns-clause-count
 returns-clause-count g c =
     let h = g.H.Counted.digest in
     let p = c.args.password.now in
     let s = c.args.salt.now in
-    let last : c.rounds.i ≡ c.args.rounds = omega arith in
-    let counted = rw (last, messages_to-all_rounds h p s c.args.rounds) at c.rounds.invariant.2 in
-    counted
+    let last_round : c.rounds.i ≡ c.args.rounds = omega arith in
+    let messages_counted = rw (last_round, messages_to-all_rounds h p s c.args.rounds) at c.rounds.invariant.2 in
+    messages_counted
     ∙ with_digests-with_work c.args.meter.now (shacrypt_messages h p s c.args.rounds) (c.args.rounds + 4) _
     (HaveCountAndSum-shacrypt_messages h g.H.Counted.LEN g.met.H.Counted.length_digest p s c.args.rounds)
 
@@ -136,36 +136,36 @@ returns-clause-specified g c =
 refill-whole : (old new : List ℕ) → length new ≡ length old → refill (length old) old new ≡ new
 refill-whole old new same = take_at new (drop (length new) old) (length old) same
 
--- After one more round, the same four facts. `same` says that the code's message, with its strings for P and S, is that
--- of the specification.
+-- After one more round, the same four facts. `message_is` says that the code's message, with its strings for P and S,
+-- is that of the specification.
 pub rounds-preserved : goal.rounds-preserved
 rounds-preserved g c =
     let h = g.H.Counted.digest in
     let p = c.args.password.now in
     let s = c.args.salt.now in
     let i = c.rounds.i in
-    let is = c.bytes-password.ensures.value in
+    let bytes_are_password = c.bytes-password.ensures.value in
     let strings = c.new-strings.result in
-    let first = c.from-salt_times.ensures ∙ ap (λ xs. get_or xs 0 0) (c.as_slice.ensures.value ∙ rw is at c.opening-digest.ensures.digest) in
+    let first_byte = c.from-salt_times.ensures ∙ ap (λ xs. get_or xs 0 0) (c.as_slice.ensures.value ∙ rw bytes_are_password at c.opening-digest.ensures.digest) in
     let digest_is = c.as_mut_slice.ensures.value ∙ c.rounds.invariant.0 in
     let password_is =
     ap (λ (x : Strings). x.password) c.new-strings.ensures
-    ∙ (c.as_slice-p.ensures.value ∙ rw is at c.string_of-password_string.ensures.string) in
+    ∙ (c.as_slice-p.ensures.value ∙ rw bytes_are_password at c.string_of-password_string.ensures.string) in
     let salt_is =
     ap (λ (x : Strings). x.salt) c.new-strings.ensures
-    ∙ (c.as_slice-s.ensures.value ∙ rw first at c.string_of-salt_string.ensures.string) in
-    let same = round_message-same h p s i c.as_mut_slice.result.now strings.password strings.salt digest_is password_is salt_is in
-    let next : c.rounds.i + 1 + 4 ≡ c.rounds.i + 4 + 1 = omega arith in
-    let counted = with_digests-push c.args.meter.now c.rounds.meter c.round.new.meter _ _ c.rounds.invariant.2 c.round.ensures.count in
-    let len = ap length c.round.ensures.digest ∙ g.met.H.Counted.length_digest _ in
-    let all = refill-whole c.rounds.digest.items c.round.new.digest (len ∙ sym c.rounds.invariant.1) in (
-      all ∙ (c.round.ensures.digest ∙ (ap h same ∙ sym (digest_after-more h (sha_opening h p s) (password_string h p) (salt_string h p s) i))),
-      ap length all ∙ len,
-      rw (next, messages_to-more (shacrypt_message h p s) (i + 4), shacrypt_message-round h p s i, ← same) counted,
+    ∙ (c.as_slice-s.ensures.value ∙ rw first_byte at c.string_of-salt_string.ensures.string) in
+    let message_is = round_message-same h p s i c.as_mut_slice.result.now strings.password strings.salt digest_is password_is salt_is in
+    let next_number : c.rounds.i + 1 + 4 ≡ c.rounds.i + 4 + 1 = omega arith in
+    let messages_counted = with_digests-push c.args.meter.now c.rounds.meter c.round.new.meter _ _ c.rounds.invariant.2 c.round.ensures.count in
+    let digest_length = ap length c.round.ensures.digest ∙ g.met.H.Counted.length_digest _ in
+    let digest_replaced = refill-whole c.rounds.digest.items c.round.new.digest (digest_length ∙ sym c.rounds.invariant.1) in (
+      digest_replaced ∙ (c.round.ensures.digest ∙ (ap h message_is ∙ sym (digest_after-more h (sha_opening h p s) (password_string h p) (salt_string h p s) i))),
+      ap length digest_replaced ∙ digest_length,
+      rw (next_number, messages_to-more (shacrypt_message h p s) (i + 4), shacrypt_message-round h p s i, ← message_is) messages_counted,
       omega (
         arith,
         ap (λ m. m.bytes) c.round.ensures.count,
-        ap length (same ∙ sym (shacrypt_message-round h p s i)),
+        ap length (message_is ∙ sym (shacrypt_message-round h p s i)),
         length-shacrypt_message h g.H.Counted.LEN g.met.H.Counted.length_digest p s i,
         round_length-le i g.H.Counted.LEN (length p) (length s),
         c.rounds.invariant.3,

@@ -13,21 +13,21 @@ use Rattle.crypt_core.proofs.CostGrowth.{cost_by-mono}
 use Rattle.crypt_core.proofs.scheme.Scheme.longest_within.Goals as goal
 
 new_cost-mono : (scheme : Scheme) (n most : ℕ) → IsScheme scheme → n ≤ most → most ≤ password_limit → new_cost scheme n ≤ new_cost scheme most
-new_cost-mono scheme n most is less short = cost_by-mono scheme n most (method_row (method_of scheme)).made_salt_length is less short
+new_cost-mono scheme n most in_range less short = cost_by-mono scheme n most (method_row (method_of scheme)).made_salt_length in_range less short
 
 -- If a length is within the limit and the next one isn't, exactly the lengths up to it are within.
 within-iff_le : (scheme : Scheme) (limit within above : ℕ) → IsScheme scheme → above ≡ within + 1 → within ≤ password_limit
     → new_cost scheme within ≤ limit → (above ≤ password_limit → limit < new_cost scheme above)
     → (len : ℕ) → len ≤ password_limit → (new_cost scheme len ≤ limit ↔ len ≤ within)
-within-iff_le scheme limit within above is next most low high len short = (
+within-iff_le scheme limit within above in_range next most low high len short = (
   λ fits. elim (cases_lt within len) [
     | inl longer ↦
-        let more = new_cost-mono scheme above len is (omega (arith, next, longer)) short in
+        let more = new_cost-mono scheme above len in_range (omega (arith, next, longer)) short in
         let beyond = high (omega (arith, next, longer, short)) in
         absurd (omega (arith, more, beyond, fits))
     | inr less ↦ less
   ],
-  λ less. let more = new_cost-mono scheme len within is less most in omega (arith, more, low),
+  λ less. let more = new_cost-mono scheme len within in_range less most in omega (arith, more, low),
 )
 
 pub returns-then-new_cost-limit : goal.returns-then-new_cost-limit
@@ -37,8 +37,8 @@ returns-then-new_cost-limit c = λ len short.
 
 pub returns : goal.returns
 returns c =
-    let is = c.lengths.invariant in (
-      omega (arith, is.order, is.most),
+    let ends = c.lengths.invariant in (
+      omega (arith, ends.order, ends.most),
       within-iff_le c.args.self.now c.args.limit c.lengths.within c.lengths.above c.new_cost.ensures.in_range
-          (omega (arith, is.order)) (omega (arith, is.order, is.most)) is.within is.above,
+          (omega (arith, ends.order)) (omega (arith, ends.order, ends.most)) ends.within ends.above,
     )

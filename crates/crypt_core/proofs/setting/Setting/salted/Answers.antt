@@ -12,10 +12,10 @@ use Rattle.crypt_core.proofs.setting.Setting.salted.Goals as goal
 pub invariant_of-result : goal.invariant_of-result
 invariant_of-result c =
     let copied : c.unwrap.result.items ≡ c.as_slice.result.now = search rules in
-    let is : c.unwrap.result.items ≡ c.salt_of-salt.result.items = copied ∙ c.as_slice.ensures.value in
+    let salt_is_drawn : c.unwrap.result.items ≡ c.salt_of-salt.result.items = copied ∙ c.as_slice.ensures.value in
     let len : length c.salt_of-salt.result.items ≡ made_salt_length c.method.result = c.salt_of-salt.ensures.length ∙ c.made_salt_length.ensures.length in
-    let few : length c.unwrap.result.items ≤ salt_limit c.method.result = omega (arith, ap length is, len, made_salt_length-le-salt_limit c.method.result) in
+    let few : length c.unwrap.result.items ≤ salt_limit c.method.result = omega (arith, ap length salt_is_drawn, len, made_salt_length-le-salt_limit c.method.result) in
     let short : length c.unwrap.result.items ≤ salt_limit (method_of c.args.scheme) =
     subst (λ (m : Method). length c.unwrap.result.items ≤ salt_limit m) c.method.ensures.method few in
-    let characters : All (Contains alphabet) c.unwrap.result.items = rw is c.salt_of-salt.ensures.characters in
+    let characters : All (Contains alphabet) c.unwrap.result.items = rw salt_is_drawn c.salt_of-salt.ensures.characters in
     IsSetting-from_parts c.args.scheme c.unwrap.result.items c.method.ensures.in_range short characters
