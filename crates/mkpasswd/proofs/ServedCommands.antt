@@ -19,7 +19,7 @@ use Rattle.mkpasswd.specs.declared.fault.Fault.TheVariants.{Start, Usage, Run}
 use Rattle.run_core.specs.declared.fault.RunFault.{RunFault}
 use Rattle.mkpasswd.specs.declared.fault.UsageFault.{UsageFault}
 use Rattle.mkpasswd.specs.declared.fault.UsageFault.TheVariants.{Parse, OutOfMemory as NoMemory}
-use Rattle.run_core.proofs.SentTexts.{as_tally, shows-tally}
+use Rattle.run_core.proofs.SentTexts.{as_tally, Shows-as_tally}
 use Rattle.mkpasswd.specs.declared.plan.Plan.{Plan}
 use Rattle.run_core.specs.declared.tally.Tally.{Tally}
 
@@ -30,7 +30,7 @@ module _ {T : Type 0} where
   pub is_told : {A : Type 0} (fault : Fault) (old new : Device T) (line : List ℕ) (turns : ℕ) (result : Result A RunFault)
       → line ≡ fault_line fault → turns ≡ length line → Shows turns old new line result → IsTold fault old new
   is_told {A} fault old new line turns result line_is turns_is shows =
-      let tallied : Shows turns old new line (as_tally result) = shows-tally turns old new line result shows in
+      let tallied : Shows turns old new line (as_tally result) = Shows-as_tally turns old new line result shows in
       let shown : Shows (length line) old new line (as_tally result) = rw turns_is at tallied in
       (as_tally result, rw line_is at shown)
 

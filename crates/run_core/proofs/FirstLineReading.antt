@@ -1,7 +1,8 @@
 -- Serves the clause `read` of `read_first_line` (one/password.rt). `IsReading` is the invariant of its loop: the front
--- of the buffer holds what was read, without a line feed. One lemma shows how a `fetch` keeps it (`reading-more`), and
--- one for each exit of the loop shows what is known there: a line feed was found, the input ended, reading stopped, or
--- the buffer is full. `Reads-trans` and `stops-later`, which join two steps of reading, serve `LineReading` too.
+-- of the buffer holds what was read, without a line feed. One lemma shows how a `fetch` keeps it (`IsReading-fetched`),
+-- and one for each exit of the loop shows what is known there: a line feed was found, the input ended, reading stopped,
+-- or the buffer is full. `Reads-trans` and `StopsFetching-after_unfailed`, which join two steps of reading, serve
+-- `LineReading` too.
 use Rattle.std.proofs.Common.{◌≡◌, ◌≢◌, ℕ, ◌+◌, ◌-◌, ◌≤◌, ◌<◌, List, [], ◌++◌, length, take, drop, eqb, Some, None, Ok, Err, sym, ap, subst, ◌∙◌, append-nil, arith, inl, inr}
 use Rattle.std.specs.List.{position, slice_range}
 use Rattle.std.proofs.KnownBytes.{Consumes-trans}
@@ -12,11 +13,11 @@ use Rattle.run_core.specs.Input.{first_line, Reads}
 use Rattle.run_core.specs.Private.Deliveries.{IsUnfailed}
 use Rattle.run_core.specs.Private.Fetching.{Fetches, FindsLine, IsUndecided, StopsFetching, buffer_size}
 use Rattle.run_core.specs.declared.fault.RunFault.{RunFault}
-use Rattle.run_core.proofs.LineFeeds.{feed_at, feed_at-append, first_line-is, first_line-whole, has_feed, lacks_feed, position-feed, position-none}
-use Rattle.run_core.proofs.MovedBytes.{moves-trans}
+use Rattle.run_core.proofs.LineFeeds.{feed_at, feed_at-append, first_line-take, first_line-whole, Contains-feed_at, not_Contains-feed_at, position-Some, position-None}
+use Rattle.run_core.proofs.MovedBytes.{MovesBytes-trans}
 
-piece_is : (next : List ℕ) (filled count : ℕ) → slice_range next filled (filled + count) ≡ take count (drop filled next)
-piece_is next filled count = ap (λ n. take n (drop filled next)) (omega arith)
+slice_range-take-drop : (next : List ℕ) (filled count : ℕ) → slice_range next filled (filled + count) ≡ take count (drop filled next)
+slice_range-take-drop next filled count = ap (λ n. take n (drop filled next)) (omega arith)
 
 module _ {I : Type 0} where
   -- the loop's invariant: the first `filled` bytes of the buffer were read and contain no line feed; no call failed,
@@ -50,7 +51,7 @@ module _ {I : Type 0} where
     pub fetched : Fetches left mid new (drop filled next) (Ok count)
 
   -- after that `fetch`, the first `filled + count` bytes of the buffer are all that was read
-  read_so_far : (old mid new : Device I) (buffer next : List ℕ) (filled count turns left : ℕ)
+  Reads_from_HasFetched : (old mid new : Device I) (buffer next : List ℕ) (filled count turns left : ℕ)
       → HasFetched old mid new buffer next filled count turns left
       → (filled + count ≤ buffer_size)
       × (take (filled + count) next ≡ take filled next ++ take count (drop filled next))
@@ -58,7 +59,7 @@ module _ {I : Type 0} where
       × (length (take count (drop filled next)) ≡ count)
       × (feed_at (take filled next) ≡ filled)
       × Reads old new (take (filled + count) next)
-  read_so_far old mid new buffer next filled count turns left h =
+  Reads_from_HasFetched old mid new buffer next filled count turns left h =
       let piece = take count (drop filled next) in
       let size = h.size in
       let room = h.room in
@@ -75,15 +76,15 @@ module _ {I : Type 0} where
       )
 
   -- exit: the new bytes contain a line feed, which ends the first line
-  pub reading-found : (old mid new : Device I) (buffer next : List ℕ) (filled count turns left left_new at : ℕ)
+  pub FindsLine-line_feed : (old mid new : Device I) (buffer next : List ℕ) (filled count turns left left_new at : ℕ)
       → HasFetched old mid new buffer next filled count turns left
       → position (λ b. eqb b 10) (slice_range next filled (filled + count)) ≡ Some at
       → (bytes : List ℕ) × Reads old new bytes × FindsLine old new bytes left_new next (Ok (filled + at))
-  reading-found old mid new buffer next filled count turns left left_new at h found =
-      let so_far = read_so_far old mid new buffer next filled count turns left h in
+  FindsLine-line_feed old mid new buffer next filled count turns left left_new at h found =
+      let so_far = Reads_from_HasFetched old mid new buffer next filled count turns left h in
       let bytes = take (filled + count) next in
       let piece = take count (drop filled next) in
-      let place = position-feed piece at (rw piece_is at found) in
+      let place = position-Some piece at (rw slice_range-take-drop at found) in
       let feed : feed_at bytes ≡ filled + at =
       ap feed_at so_far.1 ∙ feed_at-append (take filled next) piece (so_far.4 ∙ sym so_far.2) ∙ omega (arith, so_far.2, place.0) in
       let below : filled + at < filled + count = omega (arith, place.1, so_far.3) in
@@ -92,34 +93,34 @@ module _ {I : Type 0} where
         so_far.5,
         (
           h.fetched.1 ∙ h.before.unfailed,
-          inl (has_feed bytes (omega (arith, feed, below, size))),
+          inl (Contains-feed_at bytes (omega (arith, feed, below, size))),
           (let long = h.size in omega (arith, long, so_far.0, below)),
-          sym (first_line-is bytes ∙ ap (λ n. take n bytes) feed ∙ take-take (filled + at) (filled + count) next (omega (arith, below))),
+          sym (first_line-take bytes ∙ ap (λ n. take n bytes) feed ∙ take-take (filled + at) (filled + count) next (omega (arith, below))),
         ),
       )
 
   -- without a line feed in the new bytes, there is none in all that was read
-  still_none : (old mid new : Device I) (buffer next : List ℕ) (filled count turns left : ℕ)
+  feed_at-fetched : (old mid new : Device I) (buffer next : List ℕ) (filled count turns left : ℕ)
       → HasFetched old mid new buffer next filled count turns left
       → position (λ b. eqb b 10) (slice_range next filled (filled + count)) ≡ None
       → feed_at (take (filled + count) next) ≡ filled + count
-  still_none old mid new buffer next filled count turns left h none =
-      let so_far = read_so_far old mid new buffer next filled count turns left h in
+  feed_at-fetched old mid new buffer next filled count turns left h none =
+      let so_far = Reads_from_HasFetched old mid new buffer next filled count turns left h in
       let piece = take count (drop filled next) in
-      let in_piece = position-none piece (rw piece_is at none) in
+      let in_piece = position-None piece (rw slice_range-take-drop at none) in
       ap feed_at so_far.1 ∙ feed_at-append (take filled next) piece (so_far.4 ∙ sym so_far.2) ∙ omega (arith, so_far.2, so_far.3, in_piece)
 
   -- exit: no byte was read, so the input is at its end, and all that was read is the first line
-  pub reading-end : (old mid new : Device I) (buffer next : List ℕ) (filled count turns left left_new : ℕ)
+  pub FindsLine-end_of_input : (old mid new : Device I) (buffer next : List ℕ) (filled count turns left left_new : ℕ)
       → HasFetched old mid new buffer next filled count turns left
       → position (λ b. eqb b 10) (slice_range next filled (filled + count)) ≡ None → count ≡ 0
       → (bytes : List ℕ) × Reads old new bytes × FindsLine old new bytes left_new next (Ok filled)
-  reading-end old mid new buffer next filled count turns left left_new h none ended =
-      let so_far = read_so_far old mid new buffer next filled count turns left h in
+  FindsLine-end_of_input old mid new buffer next filled count turns left left_new h none ended =
+      let so_far = Reads_from_HasFetched old mid new buffer next filled count turns left h in
       let bytes = take (filled + count) next in
       let long = h.size in
       let size : length bytes ≡ filled + count = length-take-le (filled + count) next (omega (arith, long, so_far.0)) in
-      let whole : first_line bytes ≡ bytes = first_line-whole bytes (still_none old mid new buffer next filled count turns left h none ∙ sym size) in (
+      let whole : first_line bytes ≡ bytes = first_line-whole bytes (feed_at-fetched old mid new buffer next filled count turns left h none ∙ sym size) in (
         bytes,
         so_far.5,
         (
@@ -131,37 +132,37 @@ module _ {I : Type 0} where
       )
 
   -- the invariant is kept: some bytes were read, and they contain no line feed
-  pub reading-more : (old mid new : Device I) (buffer next : List ℕ) (filled count turns left left_new : ℕ)
+  pub IsReading-fetched : (old mid new : Device I) (buffer next : List ℕ) (filled count turns left left_new : ℕ)
       → HasFetched old mid new buffer next filled count turns left
       → position (λ b. eqb b 10) (slice_range next filled (filled + count)) ≡ None → count ≢ 0
       → left_new ≡ left - 1 → new.calls + left_new ≡ mid.calls + left
       → IsReading old new next (filled + count) turns left_new
-  reading-more old mid new buffer next filled count turns left left_new h none some took calls =
-      let so_far = read_so_far old mid new buffer next filled count turns left h in
+  IsReading-fetched old mid new buffer next filled count turns left left_new h none some took calls =
+      let so_far = Reads_from_HasFetched old mid new buffer next filled count turns left h in
       let before_calls = h.before.calls in
       record {
         size = h.size;
         within = so_far.0;
         reads = so_far.5;
-        no_line_feed = still_none old mid new buffer next filled count turns left h none;
+        no_line_feed = feed_at-fetched old mid new buffer next filled count turns left h none;
         unfailed = h.fetched.1 ∙ h.before.unfailed;
         calls = omega (arith, before_calls, calls);
         fewer = (let were_fewer = h.before.fewer in omega (arith, were_fewer, took));
-        moves = moves-trans 0 old mid new h.before.moves (h.fetched.4 some);
+        moves = MovesBytes-trans 0 old mid new h.before.moves (h.fetched.4 some);
       }
 
-  undecided : (old mid : Device I) (buffer : List ℕ) (filled turns left : ℕ)
+  IsUndecided_from_IsReading : (old mid : Device I) (buffer : List ℕ) (filled turns left : ℕ)
       → IsReading old mid buffer filled turns left → filled < buffer_size → IsUndecided (take filled buffer)
-  undecided old mid buffer filled turns left before room =
+  IsUndecided_from_IsReading old mid buffer filled turns left before room =
       let long = before.size in
       let size : length (take filled buffer) ≡ filled = length-take-le filled buffer (omega (arith, long, room)) in
-      (lacks_feed _ (before.no_line_feed ∙ sym size), omega (arith, size, room))
+      (not_Contains-feed_at _ (before.no_line_feed ∙ sym size), omega (arith, size, room))
 
   -- if reading stops after steps that did not fail, it stops as seen from the start too
-  pub stops-later : (old mid new : Device I) (left left_new : ℕ) (fault : RunFault) → IsUnfailed old mid → MovesBytes 0 old mid
+  pub StopsFetching-after_unfailed : (old mid new : Device I) (left left_new : ℕ) (fault : RunFault) → IsUnfailed old mid → MovesBytes 0 old mid
       → StopsFetching left mid new fault → left_new ≡ left - 1 → StopsFetching left_new old new fault
-  stops-later old mid new left left_new fault unfailed moves stops took = (
-    moves-trans 0 old mid new moves stops.0,
+  StopsFetching-after_unfailed old mid new left left_new fault unfailed moves stops took = (
+    MovesBytes-trans 0 old mid new moves stops.0,
     elim stops.1 [
       | inl (is, failed) ↦ inl (is, omega (arith, unfailed, failed))
       | inr (is, still, none) ↦ inr (is, still ∙ unfailed, omega (arith, took, none))
@@ -169,24 +170,24 @@ module _ {I : Type 0} where
   )
 
   -- exit: a `fetch` failed, or no I/O call was left for it
-  pub reading-cut : (old mid new : Device I) (buffer next : List ℕ) (filled turns left left_new : ℕ) (fault : RunFault)
+  pub FindsLine-stopped : (old mid new : Device I) (buffer next : List ℕ) (filled turns left left_new : ℕ) (fault : RunFault)
       → IsReading old mid buffer filled turns left → filled < buffer_size
       → Fetches left mid new (drop filled next) (Err fault) → left_new ≡ left - 1
       → (bytes : List ℕ) × Reads old new bytes × FindsLine old new bytes left_new next (Err fault)
-  reading-cut old mid new buffer next filled turns left left_new fault before room fetched took = (
+  FindsLine-stopped old mid new buffer next filled turns left left_new fault before room fetched took = (
     take filled buffer,
     subst (Reads old new) (append-nil _) (Reads-trans old mid new _ [] before.reads fetched.0),
     (
-      undecided old mid buffer filled turns left before room,
-      stops-later old mid new left left_new fault before.unfailed before.moves fetched.1 took,
+      IsUndecided_from_IsReading old mid buffer filled turns left before room,
+      StopsFetching-after_unfailed old mid new left left_new fault before.unfailed before.moves fetched.1 took,
     ),
   )
 
   -- exit: the buffer is full, so the first line is too long for a password
-  pub reading-full : (old mid : Device I) (buffer : List ℕ) (filled turns left : ℕ)
+  pub FindsLine-full_buffer : (old mid : Device I) (buffer : List ℕ) (filled turns left : ℕ)
       → IsReading old mid buffer filled turns left → buffer_size ≤ filled
       → (bytes : List ℕ) × Reads old mid bytes × FindsLine old mid bytes left buffer (Ok filled)
-  reading-full old mid buffer filled turns left before full =
+  FindsLine-full_buffer old mid buffer filled turns left before full =
       let bytes = take filled buffer in
       let long = before.size in
       let within = before.within in

@@ -1,7 +1,7 @@
 -- Serves the clauses `runs` of `run_one` and of `answer_lines`, at their ends: once all answers are written, and
 -- `finish_both` has flushed both outputs or failed to, the run has finished (`Finishes`). A flush keeps the contents of
 -- an output and its count of bytes, so what the output has taken stays the same, and only its flushes and failures
--- change (`takes-flushed`, `takes-unflushed`).
+-- change (`Takes-IsFinished`, `Takes-IsUnfinished`).
 use Rattle.std.proofs.Common.{◌≡◌, ℕ, List, Option, Some, None, Ok, Err, ◌∙◌, arith, inl, inr}
 use Rattle.std.specs.Io.KnownBytes.{Appends, Keeps}
 use Rattle.run_core.specs.Answers.{Answer, fault_texts, hashings_of, tally_of, texts}
@@ -14,33 +14,33 @@ use Rattle.run_core.specs.declared.tally.Tally.{Tally}
 
 -- ---- one output
 
-keeps-appended : (old mid new : Option (List ℕ)) (bs : List ℕ) → Appends old mid bs → Keeps mid new → Appends old new bs
-keeps-appended None mid new bs a k = tt
-keeps-appended (Some xs) None new bs a k = absurd a
-keeps-appended (Some xs) (Some ys) None bs a k = absurd k
-keeps-appended (Some xs) (Some ys) (Some zs) bs a k = k ∙ a
+Appends-Keeps : (old mid new : Option (List ℕ)) (bs : List ℕ) → Appends old mid bs → Keeps mid new → Appends old new bs
+Appends-Keeps None mid new bs a k = tt
+Appends-Keeps (Some xs) None new bs a k = absurd a
+Appends-Keeps (Some xs) (Some ys) None bs a k = absurd k
+Appends-Keeps (Some xs) (Some ys) (Some zs) bs a k = k ∙ a
 
 module _ {T : Type 0} where
-  pub takes-flushed : (old mid new : Device T) (bytes : List ℕ) → Takes 0 0 old mid bytes → IsFinished mid new → Takes 0 1 old new bytes
-  takes-flushed old mid new bytes takes finished =
+  pub Takes-IsFinished : (old mid new : Device T) (bytes : List ℕ) → Takes 0 0 old mid bytes → IsFinished mid new → Takes 0 1 old new bytes
+  Takes-IsFinished old mid new bytes takes finished =
       let tried = takes.tried in
       let tried_now = finished.flushed.flushes in
       record {
-        shown = keeps-appended _ mid.shown _ bytes takes.shown finished.kept.shown;
+        shown = Appends-Keeps _ mid.shown _ bytes takes.shown finished.kept.shown;
         counted = finished.kept.bytes ∙ takes.counted;
         failed = finished.unfailed ∙ takes.failed;
         tried = omega (arith, tried, tried_now);
         flushed = finished.flushed.flushed;
       }
 
-  pub takes-unflushed : (old mid new : Device T) (bytes : List ℕ) → Takes 0 0 old mid bytes → IsUnfinished mid new → Takes 1 1 old new bytes
-  takes-unflushed old mid new bytes takes unfinished =
+  pub Takes-IsUnfinished : (old mid new : Device T) (bytes : List ℕ) → Takes 0 0 old mid bytes → IsUnfinished mid new → Takes 1 1 old new bytes
+  Takes-IsUnfinished old mid new bytes takes unfinished =
       let failed = takes.failed in
       let failed_now = unfinished.failed in
       let tried = takes.tried in
       let tried_now = unfinished.flush_failed.flushes in
       record {
-        shown = keeps-appended _ mid.shown _ bytes takes.shown unfinished.kept.shown;
+        shown = Appends-Keeps _ mid.shown _ bytes takes.shown unfinished.kept.shown;
         counted = unfinished.kept.bytes ∙ takes.counted;
         failed = omega (arith, failed, failed_now);
         tried = omega (arith, tried, tried_now);
@@ -56,41 +56,41 @@ module _ {I O E : Type 0} where
     pub after : IsAfter (hashings_of answers) old mid
 
   -- the state of the run after the flushes
-  abbrev pub flushed : RunState I O E → Device O → Device E → RunState I O E
-  flushed mid out faults = run_state mid.input out faults mid.stream mid.counts
+  abbrev pub state_after_flushes : RunState I O E → Device O → Device E → RunState I O E
+  state_after_flushes mid out faults = run_state mid.input out faults mid.stream mid.counts
 
   -- both flushes succeeded
-  pub finishes : (answers : List Answer) (old mid : RunState I O E) (out : Device O) (faults : Device E) (tally : Tally) {A : Type 0} (done : A)
+  pub Finishes-flushed : (answers : List Answer) (old mid : RunState I O E) (out : Device O) (faults : Device E) (tally : Tally) {A : Type 0} (done : A)
       → HasAnswered answers old mid → tally ≡ tally_of answers
       → FinishesBoth mid.out mid.faults out faults (Ok done)
-      → Finishes answers old (flushed mid out faults) (Ok tally)
-  finishes answers old mid out faults tally done answered is flushes = (
+      → Finishes answers old (state_after_flushes mid out faults) (Ok tally)
+  Finishes-flushed answers old mid out faults tally done answered is flushes = (
     is,
     record {
       of_input = answered.takes.of_input;
-      text = takes-flushed old.out mid.out out (texts answers) answered.takes.text flushes.0;
-      fault_text = takes-flushed old.faults mid.faults faults (fault_texts answers) answered.takes.fault_text flushes.1;
+      text = Takes-IsFinished old.out mid.out out (texts answers) answered.takes.text flushes.0;
+      fault_text = Takes-IsFinished old.faults mid.faults faults (fault_texts answers) answered.takes.fault_text flushes.1;
     },
     record { stream = answered.after.stream; counts = answered.after.counts },
   )
 
   -- a flush failed
-  pub finishes-with_fault : (answers : List Answer) (old mid : RunState I O E) (out : Device O) (faults : Device E) (A : Type 0) (fault : RunFault)
+  pub Finishes-flush_failed : (answers : List Answer) (old mid : RunState I O E) (out : Device O) (faults : Device E) (A : Type 0) (fault : RunFault)
       → HasAnswered answers old mid
       → FinishesBoth mid.out mid.faults out faults {A = A} (Err fault)
-      → Finishes answers old (flushed mid out faults) (Err fault)
-  finishes-with_fault answers old mid out faults A fault answered (is, flushes) = (
+      → Finishes answers old (state_after_flushes mid out faults) (Err fault)
+  Finishes-flush_failed answers old mid out faults A fault answered (is, flushes) = (
     is,
     elim flushes [
       | inl (first, same) ↦ inl (record {
         of_input = answered.takes.of_input;
-        text = takes-unflushed old.out mid.out out (texts answers) answered.takes.text first;
+        text = Takes-IsUnfinished old.out mid.out out (texts answers) answered.takes.text first;
         fault_text = rw same answered.takes.fault_text;
       })
       | inr (first, second) ↦ inr (record {
         of_input = answered.takes.of_input;
-        text = takes-flushed old.out mid.out out (texts answers) answered.takes.text first;
-        fault_text = takes-unflushed old.faults mid.faults faults (fault_texts answers) answered.takes.fault_text second;
+        text = Takes-IsFinished old.out mid.out out (texts answers) answered.takes.text first;
+        fault_text = Takes-IsUnfinished old.faults mid.faults faults (fault_texts answers) answered.takes.fault_text second;
       })
     ],
     record { stream = answered.after.stream; counts = answered.after.counts },

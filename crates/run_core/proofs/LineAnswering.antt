@@ -25,46 +25,46 @@ texts-push answers next = flat_map-append _ answers (next ∷ [])
 pub fault_texts-push : (answers : List Answer) (next : Answer) → fault_texts (answers ++ next ∷ []) ≡ fault_texts answers ++ fault_texts (next ∷ [])
 fault_texts-push answers next = flat_map-append _ answers (next ∷ [])
 
-hashings-push : (answers : List Answer) (next : Answer) → hashings_of (answers ++ next ∷ []) ≡ hashings_of answers ++ next.hashings
-hashings-push answers next =
+hashings_of-push : (answers : List Answer) (next : Answer) → hashings_of (answers ++ next ∷ []) ≡ hashings_of answers ++ next.hashings
+hashings_of-push answers next =
     flat_map-append (λ (answer : Answer). answer.hashings) answers (next ∷ []) ∙ ap (λ (made : List Hashing). hashings_of answers ++ made) (append-nil next.hashings)
 
-pub stream-push : (stream : Stream) (answers : List Answer) (next : Answer)
+pub stream_left-push : (stream : Stream) (answers : List Answer) (next : Answer)
     → stream_left stream (hashings_of (answers ++ next ∷ [])) ≡ stream_left (stream_left stream (hashings_of answers)) next.hashings
-stream-push stream answers next =
-    ap (stream_left stream) (hashings-push answers next) ∙ fold-append _ stream (hashings_of answers) next.hashings
+stream_left-push stream answers next =
+    ap (stream_left stream) (hashings_of-push answers next) ∙ fold-append _ stream (hashings_of answers) next.hashings
 
-pub counts-push : (counts : Work) (answers : List Answer) (next : Answer)
+pub after_work-push : (counts : Work) (answers : List Answer) (next : Answer)
     → after_work counts (hashings_of (answers ++ next ∷ [])) ≡ after_work (after_work counts (hashings_of answers)) next.hashings
-counts-push counts answers next =
-    ap (after_work counts) (hashings-push answers next) ∙ fold-append _ counts (hashings_of answers) next.hashings
+after_work-push counts answers next =
+    ap (after_work counts) (hashings_of-push answers next) ∙ fold-append _ counts (hashings_of answers) next.hashings
 
-count-one : (seen : Answer → Bool) (next : Answer) → count_by seen (next ∷ []) ≡ as_count (seen next)
-count-one seen next = zero-add (as_count (seen next))
+count_by-single : (seen : Answer → Bool) (next : Answer) → count_by seen (next ∷ []) ≡ as_count (seen next)
+count_by-single seen next = zero-add (as_count (seen next))
 
-count-push : (seen : Answer → Bool) (answers : List Answer) (next : Answer)
+count_by-push : (seen : Answer → Bool) (answers : List Answer) (next : Answer)
     → count_by seen (answers ++ next ∷ []) ≡ count_by seen answers + as_count (seen next)
-count-push seen answers next = sum_by-append _ answers (next ∷ []) ∙ ap (λ (n : ℕ). count_by seen answers + n) (count-one seen next)
+count_by-push seen answers next = sum_by-append _ answers (next ∷ []) ∙ ap (λ (n : ℕ). count_by seen answers + n) (count_by-single seen next)
 
-same_tally : (a b c d e f : ℕ) → a ≡ d → b ≡ e → c ≡ f
+Tally-eq : (a b c d e f : ℕ) → a ≡ d → b ≡ e → c ≡ f
     → ◌≡◌ {A = Tally} (record { lines = a; refused = b; misfits = c }) (record { lines = d; refused = e; misfits = f })
-same_tally a b c d e f one two three = cc
+Tally-eq a b c d e f one two three = cc
 
 -- the tally counts one more line
-pub tally-push : (answers : List Answer) (next : Answer) → tally_of (answers ++ next ∷ []) ≡ counted (tally_of answers) next.outcome
-tally-push answers next = same_tally _ _ _ _ _ _ (length-append answers (next ∷ []))
-    (count-push (λ (answer : Answer). is_refusal answer.outcome) answers next) (count-push (λ (answer : Answer). is_misfit answer.outcome) answers next)
+pub tally_of-push : (answers : List Answer) (next : Answer) → tally_of (answers ++ next ∷ []) ≡ counted (tally_of answers) next.outcome
+tally_of-push answers next = Tally-eq _ _ _ _ _ _ (length-append answers (next ∷ []))
+    (count_by-push (λ (answer : Answer). is_refusal answer.outcome) answers next) (count_by-push (λ (answer : Answer). is_misfit answer.outcome) answers next)
 
 -- ---- the answers to lines
 
 -- each line has one answer
-pub same-length : (kind : Kind) (job : Job) (number : ℕ) (lines : List (List ℕ)) (stream : Stream) (answers : List Answer)
+pub length_from_AreAnswers : (kind : Kind) (job : Job) (number : ℕ) (lines : List (List ℕ)) (stream : Stream) (answers : List Answer)
     → AreAnswers kind job number lines stream answers → length answers ≡ length lines
-same-length kind job number [] stream [] are = refl
-same-length kind job number (line ∷ lines) stream (answer ∷ answers) are =
-    ap (λ (n : ℕ). suc n) (same-length kind job (number + 1) lines (stream_left stream answer.hashings) answers are.1)
-same-length kind job number [] stream (answer ∷ answers) are = absurd are
-same-length kind job number (line ∷ lines) stream [] are = absurd are
+length_from_AreAnswers kind job number [] stream [] are = refl
+length_from_AreAnswers kind job number (line ∷ lines) stream (answer ∷ answers) are =
+    ap (λ (n : ℕ). suc n) (length_from_AreAnswers kind job (number + 1) lines (stream_left stream answer.hashings) answers are.1)
+length_from_AreAnswers kind job number [] stream (answer ∷ answers) are = absurd are
+length_from_AreAnswers kind job number (line ∷ lines) stream [] are = absurd are
 
 -- answers to lines, and the answer to the next line, are the answers to all of them
 pub AreAnswers-push : (kind : Kind) (job : Job) (number : ℕ) (lines : List (List ℕ)) (line : List ℕ) (stream : Stream) (answers : List Answer) (next : Answer)

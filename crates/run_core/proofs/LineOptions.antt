@@ -29,35 +29,35 @@ use Rattle.run_core.specs.declared.line.Kind.{Kind}
 use Rattle.run_core.specs.declared.line.Kind.TheVariants.{Batch, Audit}
 use Rattle.run_core.specs.declared.line.LineFault.TheVariants.{OverBudget}
 use Rattle.run_core.specs.declared.tally.Tally.{Tally}
-use Rattle.run_core.proofs.LineOutcomes.{unstored-cheap}
+use Rattle.run_core.proofs.LineOutcomes.{not_IsCostly-unstored}
 use Rattle.run_core.proofs.LineRules.{sound_not_refused}
 
 -- ---- lines
 
 -- without a budget no line is costly
-free : (kind : Kind) (job : Job) (line : List ℕ) → ¬ IsCostly kind (without_budget job) line
-free kind job line costly = costly.above
+not_IsCostly-without_budget : (kind : Kind) (job : Job) (line : List ℕ) → ¬ IsCostly kind (without_budget job) line
+not_IsCostly-without_budget kind job line costly = costly.above
 
 -- a budget does not change what a line with these parts comes to
-comes-budgeted : (job : Job) (parts : Parts) (stream : Stream) (outcome : Outcome) (made : List Hashing)
+ComesTo-without_budget : (job : Job) (parts : Parts) (stream : Stream) (outcome : Outcome) (made : List Hashing)
     → ComesTo job parts stream outcome made ↔ ComesTo (without_budget job) parts stream outcome made
-comes-budgeted job parts stream (Hashed hash) made = ((λ comes. comes), λ comes. comes)
-comes-budgeted job parts stream outcome made = ((λ comes. comes), λ comes. comes)
+ComesTo-without_budget job parts stream (Hashed hash) made = ((λ comes. comes), λ comes. comes)
+ComesTo-without_budget job parts stream outcome made = ((λ comes. comes), λ comes. comes)
 
 module _ (kind : Kind) (job : Job) (number : ℕ) (line : List ℕ) (stream : Stream) (answer : Answer) where
   -- an answer to a line that is not costly is an answer without the budget
-  answer-without : ¬ IsCostly kind job line → IsPasswordAnswer kind job number line stream answer → IsPasswordAnswer kind (without_budget job) number line stream answer
-  answer-without cheap (inl refused) = inl refused
-  answer-without cheap (inr (inl (costly, is))) = absurd (cheap costly)
-  answer-without cheap (inr (inr (sound, within, parts, cut, outcome, comes, is))) =
-      inr (inr (sound, free kind job line, parts, cut, outcome, (comes-budgeted job parts stream outcome answer.hashings).0 comes, is))
+  IsPasswordAnswer-drop_budget : ¬ IsCostly kind job line → IsPasswordAnswer kind job number line stream answer → IsPasswordAnswer kind (without_budget job) number line stream answer
+  IsPasswordAnswer-drop_budget cheap (inl refused) = inl refused
+  IsPasswordAnswer-drop_budget cheap (inr (inl (costly, is))) = absurd (cheap costly)
+  IsPasswordAnswer-drop_budget cheap (inr (inr (sound, within, parts, cut, outcome, comes, is))) =
+      inr (inr (sound, not_IsCostly-without_budget kind job line, parts, cut, outcome, (ComesTo-without_budget job parts stream outcome answer.hashings).0 comes, is))
 
   -- an answer without the budget to a line that is not costly is an answer with it
-  answer-within : ¬ IsCostly kind job line → IsPasswordAnswer kind (without_budget job) number line stream answer → IsPasswordAnswer kind job number line stream answer
-  answer-within cheap (inl refused) = inl refused
-  answer-within cheap (inr (inl (costly, is))) = absurd costly.above
-  answer-within cheap (inr (inr (sound, within, parts, cut, outcome, comes, is))) =
-      inr (inr (sound, cheap, parts, cut, outcome, (comes-budgeted job parts stream outcome answer.hashings).1 comes, is))
+  IsPasswordAnswer-add_budget : ¬ IsCostly kind job line → IsPasswordAnswer kind (without_budget job) number line stream answer → IsPasswordAnswer kind job number line stream answer
+  IsPasswordAnswer-add_budget cheap (inl refused) = inl refused
+  IsPasswordAnswer-add_budget cheap (inr (inl (costly, is))) = absurd costly.above
+  IsPasswordAnswer-add_budget cheap (inr (inr (sound, within, parts, cut, outcome, comes, is))) =
+      inr (inr (sound, cheap, parts, cut, outcome, (ComesTo-without_budget job parts stream outcome answer.hashings).1 comes, is))
 
   -- a costly line is refused for its cost
   costly-refused : IsCostly kind job line → IsPasswordAnswer kind job number line stream answer → answer ≡ refusal number OverBudget
@@ -70,42 +70,42 @@ only_refuses Audit job unaudited = absurd (unaudited refl)
 only_refuses kind job unaudited = record {
   costly = costly-refused kind job;
   others = λ number line stream answer cheap.
-      (answer-without kind job number line stream answer cheap, answer-within kind job number line stream answer cheap);
-  unhashed = unstored-cheap kind job;
+      (IsPasswordAnswer-drop_budget kind job number line stream answer cheap, IsPasswordAnswer-add_budget kind job number line stream answer cheap);
+  unhashed = not_IsCostly-unstored kind job;
 }
 
 -- ---- a single password
 
 -- the run ends as it does without a budget and without rehashes
-unoptioned : {I O E : Type 0} (turns : ℕ) (job : Job) (from : PasswordFrom) (old new : RunState I O E) (result : Result Tally RunFault)
+EndsOne-without_options : {I O E : Type 0} (turns : ℕ) (job : Job) (from : PasswordFrom) (old new : RunState I O E) (result : Result Tally RunFault)
     → EndsOne turns job from old new result → EndsOne turns (without_rehash (without_budget job)) from old new result
-unoptioned turns job (Word word) old new result ends = ends
-unoptioned turns job Input old new result ends = ends
+EndsOne-without_options turns job (Word word) old new result ends = ends
+EndsOne-without_options turns job Input old new result ends = ends
 
 pub runs_one : {I O E : Type 0} (turns : ℕ) (job : Job) (from : PasswordFrom) (old new : RunState I O E) (result : Result Tally RunFault)
     → EndsOne turns job from old new result → IsWithinTurns turns old new → RunsOne turns job from old new result
 runs_one turns job from old new result ends within = record {
   ends = ends;
-  options = unoptioned turns job from old new result ends;
+  options = EndsOne-without_options turns job from old new result ends;
   within_turns = within;
 }
 
 -- ---- rehashes
 
 -- a check with rehashes costs at least as much as one without
-same_or_more : (job : Job) (kept : SettingValue) (password : ℕ)
+check_cost-without_rehash-le : (job : Job) (kept : SettingValue) (password : ℕ)
     → check_cost (without_rehash job) kept password ≤ check_cost job kept password
-same_or_more job kept password = omega arith
+check_cost-without_rehash-le job kept password = omega arith
 
 -- a higher cost is above a budget if a lower one is
-pub still_above : (budget : Option ℕ) (number more : ℕ) → number ≤ more → IsAbove budget number → IsAbove budget more
-still_above None number more at_most above = above
-still_above (Some budget) number more at_most above = omega (arith, at_most, above)
+pub IsAbove-le : (budget : Option ℕ) (number more : ℕ) → number ≤ more → IsAbove budget number → IsAbove budget more
+IsAbove-le None number more at_most above = above
+IsAbove-le (Some budget) number more at_most above = omega (arith, at_most, above)
 
 module _ (kind : Kind) (job : Job) (line : List ℕ) (stream : Stream) where
   -- a line that is costly without rehashes is costly with them
-  costly-renewed : IsCostly kind (without_rehash job) line → IsCostly kind job line
-  costly-renewed costly = elim costly.cost [
+  IsCostly-add_rehash : IsCostly kind (without_rehash job) line → IsCostly kind job line
+  IsCostly-add_rehash costly = elim costly.cost [
     | inl made ↦ record { parts = costly.parts; sound = costly.sound; cut = costly.cut; number = costly.number; cost = inl made; above = costly.above }
     | inr (field, kept, has, spells, is) ↦ record {
       parts = costly.parts;
@@ -113,19 +113,19 @@ module _ (kind : Kind) (job : Job) (line : List ℕ) (stream : Stream) where
       cut = costly.cut;
       number = check_cost job kept (length costly.parts.password);
       cost = inr (field, kept, has, spells, refl);
-      above = still_above job.budget costly.number _ (rw is (same_or_more job kept (length costly.parts.password))) costly.above;
+      above = IsAbove-le job.budget costly.number _ (rw is (check_cost-without_rehash-le job kept (length costly.parts.password))) costly.above;
     }
   ]
 
-  module _ (still : ¬ IsRenewable kind job line) where
+  module _ (not_renewable : ¬ IsRenewable kind job line) where
     -- if the line is not renewable, but its password matches or it is costly, then the setting in its field is not out
     -- of date
-    recent : (parts : Parts) (field : List ℕ) (kept : SettingValue) → IsSound kind line → HasParts kind line parts → HasSetting parts field kept
+    is_outdated-not_renewable : (parts : Parts) (field : List ℕ) (kept : SettingValue) → IsSound kind line → HasParts kind line parts → HasSetting parts field kept
         → (crypt parts.password kept ≡ field) ⊎ IsCostly kind job line → is_outdated job kept ≡ false
-    recent parts field kept sound cut spelled why = go (is_outdated job kept) refl
+    is_outdated-not_renewable parts field kept sound cut spelled why = go (is_outdated job kept) refl
       where
         go : (outdated : Bool) → is_outdated job kept ≡ outdated → is_outdated job kept ≡ false
-        go true is = absurd (still (record {
+        go true is = absurd (not_renewable (record {
           parts = parts;
           field = field;
           kept = kept;
@@ -138,13 +138,13 @@ module _ (kind : Kind) (job : Job) (line : List ℕ) (stream : Stream) where
         go false is = is
 
     -- the check of a hash that is not out of date costs the same with and without rehashes
-    same_check_cost : (kept : SettingValue) (password : ℕ) → is_outdated job kept ≡ false
+    check_cost-not_outdated : (kept : SettingValue) (password : ℕ) → is_outdated job kept ≡ false
         → check_cost job kept password ≡ check_cost (without_rehash job) kept password
-    same_check_cost kept password is = rw is refl
+    check_cost-not_outdated kept password is = rw is refl
 
     -- a line that is costly with rehashes, but not renewable, is costly without them
-    costly-unrenewed : IsCostly kind job line → IsCostly kind (without_rehash job) line
-    costly-unrenewed costly = record {
+    IsCostly-drop_rehash : IsCostly kind job line → IsCostly kind (without_rehash job) line
+    IsCostly-drop_rehash costly = record {
       parts = costly.parts;
       sound = costly.sound;
       cut = costly.cut;
@@ -152,48 +152,48 @@ module _ (kind : Kind) (job : Job) (line : List ℕ) (stream : Stream) where
       cost = elim costly.cost [
         | inl made ↦ inl made
         | inr (field, kept, has, spells, is) ↦
-            inr (field, kept, has, spells, is ∙ same_check_cost kept _ (recent costly.parts field kept costly.sound costly.cut (has, spells) (inr costly)))
+            inr (field, kept, has, spells, is ∙ check_cost-not_outdated kept _ (is_outdated-not_renewable costly.parts field kept costly.sound costly.cut (has, spells) (inr costly)))
       ];
       above = costly.above;
     }
 
     -- it comes to the same outcome, which is never `Rehashed`
-    comes-renewed : (parts : Parts) (outcome : Outcome) (made : List Hashing) → IsSound kind line → HasParts kind line parts
+    ComesTo-without_rehash : (parts : Parts) (outcome : Outcome) (made : List Hashing) → IsSound kind line → HasParts kind line parts
         → ComesTo job parts stream outcome made ↔ ComesTo (without_rehash job) parts stream outcome made
-    comes-renewed parts (Hashed hash) made sound cut = ((λ comes. comes), λ comes. comes)
-    comes-renewed parts NoHash made sound cut = ((λ comes. comes), λ comes. comes)
-    comes-renewed parts Locked made sound cut = ((λ comes. comes), λ comes. comes)
-    comes-renewed parts Match made sound cut = (
+    ComesTo-without_rehash parts (Hashed hash) made sound cut = ((λ comes. comes), λ comes. comes)
+    ComesTo-without_rehash parts NoHash made sound cut = ((λ comes. comes), λ comes. comes)
+    ComesTo-without_rehash parts Locked made sound cut = ((λ comes. comes), λ comes. comes)
+    ComesTo-without_rehash parts Match made sound cut = (
       (λ (field, kept, spelled, same, new, is). (field, kept, spelled, same, refl, is)),
-      λ (field, kept, spelled, same, new, is). (field, kept, spelled, same, recent parts field kept sound cut spelled (inl same), is),
+      λ (field, kept, spelled, same, new, is). (field, kept, spelled, same, is_outdated-not_renewable parts field kept sound cut spelled (inl same), is),
     )
-    comes-renewed parts (Rehashed hash) made sound cut = (
-      (λ (field, kept, spelled, same, outdated, is_new, is). absurd (true≢false (sym outdated ∙ recent parts field kept sound cut spelled (inl same)))),
+    ComesTo-without_rehash parts (Rehashed hash) made sound cut = (
+      (λ (field, kept, spelled, same, outdated, is_new, is). absurd (true≢false (sym outdated ∙ is_outdated-not_renewable parts field kept sound cut spelled (inl same)))),
       λ (field, kept, spelled, same, outdated, is_new, is). absurd (true≢false (sym outdated)),
     )
-    comes-renewed parts Misfit made sound cut = ((λ comes. comes), λ comes. comes)
-    comes-renewed parts (Audited finding) made sound cut = ((λ comes. comes), λ comes. comes)
+    ComesTo-without_rehash parts Misfit made sound cut = ((λ comes. comes), λ comes. comes)
+    ComesTo-without_rehash parts (Audited finding) made sound cut = ((λ comes. comes), λ comes. comes)
 
-    answer-unrenewed : (number : ℕ) (answer : Answer) → IsPasswordAnswer kind job number line stream answer → IsPasswordAnswer kind (without_rehash job) number line stream answer
-    answer-unrenewed number answer (inl refused) = inl refused
-    answer-unrenewed number answer (inr (inl (costly, is))) = inr (inl (costly-unrenewed costly, is))
-    answer-unrenewed number answer (inr (inr (sound, cheap, parts, cut, outcome, comes, is))) =
-        inr (inr (sound, (λ costly. cheap (costly-renewed costly)), parts, cut, outcome, (comes-renewed parts outcome answer.hashings sound cut).0 comes, is))
+    IsPasswordAnswer-drop_rehash : (number : ℕ) (answer : Answer) → IsPasswordAnswer kind job number line stream answer → IsPasswordAnswer kind (without_rehash job) number line stream answer
+    IsPasswordAnswer-drop_rehash number answer (inl refused) = inl refused
+    IsPasswordAnswer-drop_rehash number answer (inr (inl (costly, is))) = inr (inl (IsCostly-drop_rehash costly, is))
+    IsPasswordAnswer-drop_rehash number answer (inr (inr (sound, cheap, parts, cut, outcome, comes, is))) =
+        inr (inr (sound, (λ costly. cheap (IsCostly-add_rehash costly)), parts, cut, outcome, (ComesTo-without_rehash parts outcome answer.hashings sound cut).0 comes, is))
 
-    answer-renewed : (number : ℕ) (answer : Answer) → IsPasswordAnswer kind (without_rehash job) number line stream answer → IsPasswordAnswer kind job number line stream answer
-    answer-renewed number answer (inl refused) = inl refused
-    answer-renewed number answer (inr (inl (costly, is))) = inr (inl (costly-renewed costly, is))
-    answer-renewed number answer (inr (inr (sound, cheap, parts, cut, outcome, comes, is))) =
-        inr (inr (sound, (λ costly. cheap (costly-unrenewed costly)), parts, cut, outcome, (comes-renewed parts outcome answer.hashings sound cut).1 comes, is))
+    IsPasswordAnswer-add_rehash : (number : ℕ) (answer : Answer) → IsPasswordAnswer kind (without_rehash job) number line stream answer → IsPasswordAnswer kind job number line stream answer
+    IsPasswordAnswer-add_rehash number answer (inl refused) = inl refused
+    IsPasswordAnswer-add_rehash number answer (inr (inl (costly, is))) = inr (inl (IsCostly-add_rehash costly, is))
+    IsPasswordAnswer-add_rehash number answer (inr (inr (sound, cheap, parts, cut, outcome, comes, is))) =
+        inr (inr (sound, (λ costly. cheap (IsCostly-drop_rehash costly)), parts, cut, outcome, (ComesTo-without_rehash parts outcome answer.hashings sound cut).1 comes, is))
 
 pub only_renews : (kind : Kind) (job : Job) → kind ≢ Audit → OnlyRenews kind job
 only_renews Audit job unaudited = absurd (unaudited refl)
-only_renews kind job unaudited = λ number line stream answer still.
-    (answer-unrenewed kind job line stream still number answer, answer-renewed kind job line stream still number answer)
+only_renews kind job unaudited = λ number line stream answer not_renewable.
+    (IsPasswordAnswer-drop_rehash kind job line stream not_renewable number answer, IsPasswordAnswer-add_rehash kind job line stream not_renewable number answer)
 
 -- a line to hash has no field, so it is never renewable
-batch-still : (job : Job) (line : List ℕ) → ¬ IsRenewable Batch job line
-batch-still job line renewable = none-some renewable.field (sym renewable.cut.1 ∙ renewable.spelled.0)
+not_IsRenewable-batch : (job : Job) (line : List ℕ) → ¬ IsRenewable Batch job line
+not_IsRenewable-batch job line renewable = none-some renewable.field (sym renewable.cut.1 ∙ renewable.spelled.0)
 
 pub batch_renews_none : (job : Job) → RenewsNone Batch job
-batch_renews_none job number line stream answer = only_renews Batch job (λ same. cc) number line stream answer (batch-still job line)
+batch_renews_none job number line stream answer = only_renews Batch job (λ same. cc) number line stream answer (not_IsRenewable-batch job line)

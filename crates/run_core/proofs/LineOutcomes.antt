@@ -1,9 +1,9 @@
 -- Serves the clause `settles` of `outcome_of`, and through it `decides` of `answer_line`. The clauses of the functions
 -- that hash speak of a password and of a field as it was read (`Settles`); the public ones speak of the line
--- (`IsAnswer`), its cost (`IsCostly`) and its outcome (`ComesTo`). `concludes` leads from the first to the second. The
--- key step is that the parts of a line are unique and that a field spells at most one setting, so the cost that was
--- compared with the budget is the line's only cost. `would_check` gives the outcome that a check would have had, for
--- the clause `settles` of `check_within_budget` if scrypt could not allocate memory.
+-- (`IsAnswer`), its cost (`IsCostly`) and its outcome (`ComesTo`). `Concludes_from_Settles` leads from the first to the
+-- second. The key step is that the parts of a line are unique and that a field spells at most one setting, so the cost
+-- that was compared with the budget is the line's only cost. `would_check` gives the outcome that a check would have
+-- had, for the clause `settles` of `check_within_budget` if scrypt could not allocate memory.
 use Rattle.std.proofs.Common.{◌≡◌, ℕ, Bool, true, false, List, [], ◌∷◌, ◌++◌, codes, slice_index, length, Option, Some, None, inl, inr, refl, sym, ap, subst, ◌∙◌, true≢false, arith}
 use Rattle.std.specs.Prelude.{◌≢◌, Result, Ok, Err}
 use Rattle.std.specs.Bool.{Decides}
@@ -41,22 +41,22 @@ use Rattle.run_core.specs.declared.line.Kind.{Kind}
 use Rattle.run_core.specs.declared.line.Kind.TheVariants.{Batch, Check, Audit}
 use Rattle.run_core.specs.declared.line.LineFault.{LineFault}
 use Rattle.run_core.specs.declared.line.LineFault.TheVariants.{OverBudget}
-use Rattle.run_core.proofs.OneCut.{parts_unique}
+use Rattle.run_core.proofs.UniqueParts.{parts_unique}
 
 -- ---- what a line costs
 
-pub above_none : (budget : Option ℕ) → ¬ IsAbove budget 0
-above_none None above = above
-above_none (Some budget) above = omega arith
+pub not_IsAbove-zero : (budget : Option ℕ) → ¬ IsAbove budget 0
+not_IsAbove-zero None above = above
+not_IsAbove-zero (Some budget) above = omega arith
 
 abbrev parts_with : List ℕ → List ℕ → Option (List ℕ) → Parts
 parts_with name password field = record { name = name; field = field; password = password }
 
 -- a line whose cost is above the budget is costly
-costly_by : (kind : Kind) (job : Job) (line name password : List ℕ) (field : Option (List ℕ)) (stored : Option StoredField)
+IsCostly_from_parts : (kind : Kind) (job : Job) (line name password : List ℕ) (field : Option (List ℕ)) (stored : Option StoredField)
     → HasSoundParts kind line (parts_with name password field) → IsFieldOf field stored
     → IsAbove job.budget (field_cost job stored (length password)) → IsCostly kind job line
-costly_by kind job line name password None None taken of above = record {
+IsCostly_from_parts kind job line name password None None taken of above = record {
   parts = parts_with name password None;
   sound = taken.sound;
   cut = taken.cut;
@@ -64,9 +64,9 @@ costly_by kind job line name password None None taken of above = record {
   cost = inl (refl, refl);
   above = above;
 }
-costly_by kind job line name password (Some field) (Some fields.Empty) taken of above = absurd (above_none job.budget above)
-costly_by kind job line name password (Some field) (Some fields.Locked) taken of above = absurd (above_none job.budget above)
-costly_by kind job line name password (Some field) (Some (fields.Hash stored)) taken of above = record {
+IsCostly_from_parts kind job line name password (Some field) (Some fields.Empty) taken of above = absurd (not_IsAbove-zero job.budget above)
+IsCostly_from_parts kind job line name password (Some field) (Some fields.Locked) taken of above = absurd (not_IsAbove-zero job.budget above)
+IsCostly_from_parts kind job line name password (Some field) (Some (fields.Hash stored)) taken of above = record {
   parts = parts_with name password (Some field);
   sound = taken.sound;
   cut = taken.cut;
@@ -74,24 +74,24 @@ costly_by kind job line name password (Some field) (Some (fields.Hash stored)) t
   cost = inr (field, stored.setting, refl, of.0.1.spells, refl);
   above = above;
 }
-costly_by kind job line name password None (Some stored) taken of above = absurd of
-costly_by kind job line name password (Some field) None taken of above = absurd of
+IsCostly_from_parts kind job line name password None (Some stored) taken of above = absurd of
+IsCostly_from_parts kind job line name password (Some field) None taken of above = absurd of
 
-costly : (kind : Kind) (job : Job) (line name password : List ℕ) (stored : Option StoredField) → IsLine kind line name password stored
+IsCostly_from_line : (kind : Kind) (job : Job) (line name password : List ℕ) (stored : Option StoredField) → IsLine kind line name password stored
     → IsAbove job.budget (field_cost job stored (length password)) → IsCostly kind job line
-costly kind job line name password stored is above = costly_by kind job line name password is.field stored is.taken is.field_of above
+IsCostly_from_line kind job line name password stored is above = IsCostly_from_parts kind job line name password is.field stored is.taken is.field_of above
 
 -- a field spells at most one setting
-pub one_setting : (field : List ℕ) (one other : SettingValue) → IsReadOneWay field → Spells field one → Spells field other → one ≡ other
+pub Spells-unique : (field : List ℕ) (one other : SettingValue) → IsReadOneWay field → Spells field one → Spells field other → one ≡ other
 unfolding IsReadOneWay
-one_setting field one other once spells spells_other =
+Spells-unique field one other once spells spells_other =
     let both : Ok one ≡ Ok other = once (Ok one) (Ok other) spells spells_other in
     cc
 
 -- a line without a field whose cost is not above the budget is not costly
-cheap_unfielded : (kind : Kind) (job : Job) (line name password : List ℕ) → HasSoundParts kind line (parts_with name password None)
+not_IsCostly-no_field : (kind : Kind) (job : Job) (line name password : List ℕ) → HasSoundParts kind line (parts_with name password None)
     → ¬ IsAbove job.budget (made_cost_by job.maker (length password)) → ¬ IsCostly kind job line
-cheap_unfielded kind job line name password taken within costly =
+not_IsCostly-no_field kind job line name password taken within costly =
     let same = parts_unique kind line costly.parts (parts_with name password None) costly.cut taken.cut in
     elim costly.cost [
       | inl made ↦ within (subst (λ (n : ℕ). IsAbove job.budget n)
@@ -100,169 +100,169 @@ cheap_unfielded kind job line name password taken within costly =
     ]
 
 -- nor is a line with a stored hash, if the cost of its check is not above the budget
-cheap_stored : (kind : Kind) (job : Job) (line name password field : List ℕ) (stored : StoredHash)
+not_IsCostly-stored : (kind : Kind) (job : Job) (line name password field : List ℕ) (stored : StoredHash)
     → HasSoundParts kind line (parts_with name password (Some field)) → Spells field stored.setting → IsReadOneWay field
     → ¬ IsAbove job.budget (check_cost job stored.setting (length password)) → ¬ IsCostly kind job line
-cheap_stored kind job line name password field stored taken spells once within costly =
+not_IsCostly-stored kind job line name password field stored taken spells once within costly =
     let same = parts_unique kind line costly.parts (parts_with name password (Some field)) costly.cut taken.cut in
     let other = ap (λ (p : Parts). p.field) same in
     elim costly.cost [
       | inl made ↦ absurd (none-some field (sym made.0 ∙ other))
       | inr spelled ↦
           let fields_are : spelled.0 ≡ field = cc (spelled.2, other) in
-          let one : spelled.1 ≡ stored.setting = one_setting field spelled.1 stored.setting once (subst (λ (f : List ℕ). Spells f spelled.1) fields_are spelled.3) spells in
+          let one : spelled.1 ≡ stored.setting = Spells-unique field spelled.1 stored.setting once (subst (λ (f : List ℕ). Spells f spelled.1) fields_are spelled.3) spells in
           within (subst (λ (n : ℕ). IsAbove job.budget n)
           (spelled.4 ∙ ap (λ (p : Parts). check_cost job spelled.1 (length p.password)) same ∙ ap (λ (s : SettingValue). check_cost job s (length password)) one) costly.above)
     ]
 
 -- ---- a field that spells no setting
 
--- a field that spells a setting begins with `$`, so it is neither empty nor locked (`spelled-stored`)
-first_of_prefix : (method : Method) (rest : List ℕ) → slice_index (prefix method ++ rest) 0 ≡ 36
-first_of_prefix Md5crypt rest = refl
-first_of_prefix method rest = refl
+-- a field that spells a setting begins with `$`, so it is neither empty nor locked (`IsStored_from_Spells`)
+prefix-first_byte : (method : Method) (rest : List ℕ) → slice_index (prefix method ++ rest) 0 ≡ 36
+prefix-first_byte Md5crypt rest = refl
+prefix-first_byte method rest = refl
 
-first_is_dollar : (field : List ℕ) (kept : SettingValue) → Spells field kept → slice_index field 0 ≡ 36
-first_is_dollar field kept spells =
-    ap (λ (text : List ℕ). slice_index text 0) spells.scheme.1 ∙ first_of_prefix (method_of kept.scheme) (spells.scheme.0 ++ (spells.field ++ spells.rest))
+Spells-first_byte : (field : List ℕ) (kept : SettingValue) → Spells field kept → slice_index field 0 ≡ 36
+Spells-first_byte field kept spells =
+    ap (λ (text : List ℕ). slice_index text 0) spells.scheme.1 ∙ prefix-first_byte (method_of kept.scheme) (spells.scheme.0 ++ (spells.field ++ spells.rest))
 
-begins_with : (field front : List ℕ) (first : ℕ) → ((rest : List ℕ) → slice_index (front ++ rest) 0 ≡ first) → BeginsWith field front → slice_index field 0 ≡ first
-begins_with field front first starts begins = ap (λ (text : List ℕ). slice_index text 0) begins.1 ∙ starts begins.0
+BeginsWith-first_byte : (field front : List ℕ) (first : ℕ) → ((rest : List ℕ) → slice_index (front ++ rest) 0 ≡ first) → BeginsWith field front → slice_index field 0 ≡ first
+BeginsWith-first_byte field front first starts begins = ap (λ (text : List ℕ). slice_index text 0) begins.1 ∙ starts begins.0
 
-pub spelled-stored : (field : List ℕ) (kept : SettingValue) → Spells field kept → IsStored field
-spelled-stored field kept spells =
-    let dollar = first_is_dollar field kept spells in (
+pub IsStored_from_Spells : (field : List ℕ) (kept : SettingValue) → Spells field kept → IsStored field
+IsStored_from_Spells field kept spells =
+    let dollar = Spells-first_byte field kept spells in (
       λ empty. let no_byte = ap (λ (text : List ℕ). slice_index text 0) empty in absurd (omega (arith, dollar, no_byte)),
       λ is_locked. elim is_locked [
-        | inl bang ↦ let other = begins_with field (codes "!") 33 (λ rest. refl) bang in absurd (omega (arith, dollar, other))
-        | inr star ↦ let other = begins_with field (codes "*") 42 (λ rest. refl) star in absurd (omega (arith, dollar, other))
+        | inl bang ↦ let other = BeginsWith-first_byte field (codes "!") 33 (λ rest. refl) bang in absurd (omega (arith, dollar, other))
+        | inr star ↦ let other = BeginsWith-first_byte field (codes "*") 42 (λ rest. refl) star in absurd (omega (arith, dollar, other))
       ],
     )
 
 -- a line whose field is empty or locked costs nothing
-pub unstored-cheap : (kind : Kind) (job : Job) (line : List ℕ) (parts : Parts) (field : List ℕ) → HasParts kind line parts
+pub not_IsCostly-unstored : (kind : Kind) (job : Job) (line : List ℕ) (parts : Parts) (field : List ℕ) → HasParts kind line parts
     → parts.field ≡ Some field → ¬ IsStored field → ¬ IsCostly kind job line
-unstored-cheap kind job line parts field has is unstored costly =
+not_IsCostly-unstored kind job line parts field has is unstored costly =
     let same = ap (λ (p : Parts). p.field) (parts_unique kind line costly.parts parts costly.cut has) in
     elim costly.cost [
       | inl made ↦ absurd (none-some field (sym made.0 ∙ (same ∙ is)))
       | inr spelled ↦
           let fields : spelled.0 ≡ field = cc (spelled.2, same, is) in
-          unstored (subst IsStored fields (spelled-stored spelled.0 spelled.1 spelled.3))
+          unstored (subst IsStored fields (IsStored_from_Spells spelled.0 spelled.1 spelled.3))
     ]
 
 -- ---- what it comes to
 
-comes-stored : (job : Job) (stream : Stream) (name password field : List ℕ) (stored : StoredHash) (hashings : List Hashing) (outcome : Outcome)
+ComesTo_from_IsChecked : (job : Job) (stream : Stream) (name password field : List ℕ) (stored : StoredHash) (hashings : List Hashing) (outcome : Outcome)
     → stored.text ≡ field → Spells field stored.setting → IsChecked job password stored stream hashings outcome
     → ComesTo job (parts_with name password (Some field)) stream outcome hashings
-comes-stored job stream name password field stored hashings Misfit is spells checked =
+ComesTo_from_IsChecked job stream name password field stored hashings Misfit is spells checked =
     (field, stored.setting, (refl, spells), (λ equal. checked.0 (equal ∙ sym is)), checked.1)
-comes-stored job stream name password field stored hashings Match is spells checked =
+ComesTo_from_IsChecked job stream name password field stored hashings Match is spells checked =
     (field, stored.setting, (refl, spells), checked.0 ∙ is, checked.1, checked.2)
-comes-stored job stream name password field stored hashings (Rehashed hash) is spells checked =
+ComesTo_from_IsChecked job stream name password field stored hashings (Rehashed hash) is spells checked =
     (field, stored.setting, (refl, spells), checked.0 ∙ is, checked.1, checked.2, checked.3)
-comes-stored job stream name password field stored hashings outcome is spells checked = absurd checked
+ComesTo_from_IsChecked job stream name password field stored hashings outcome is spells checked = absurd checked
 
 -- a line within the budget is not costly, and comes to the outcome that was settled for its password and its field
-settled_by : (kind : Kind) (job : Job) (line : List ℕ) (stream : Stream) (name password : List ℕ) (field : Option (List ℕ)) (stored : Option StoredField)
+ComesTo_from_IsSettled : (kind : Kind) (job : Job) (line : List ℕ) (stream : Stream) (name password : List ℕ) (field : Option (List ℕ)) (stored : Option StoredField)
     (hashings : List Hashing) (outcome : Outcome) → HasSoundParts kind line (parts_with name password field) → IsFieldOf field stored
     → ¬ IsAbove job.budget (field_cost job stored (length password))
     → IsSettled job password stored stream hashings outcome
     → (¬ IsCostly kind job line) × ComesTo job (parts_with name password field) stream outcome hashings
-settled_by kind job line stream name password None None hashings outcome taken of within settled = (
-  cheap_unfielded kind job line name password taken within,
+ComesTo_from_IsSettled kind job line stream name password None None hashings outcome taken of within settled = (
+  not_IsCostly-no_field kind job line name password taken within,
   subst (λ (o : Outcome). ComesTo job (parts_with name password None) stream o hashings) (sym settled.0) (refl, refl, settled.1),
 )
-settled_by kind job line stream name password (Some field) (Some fields.Empty) hashings outcome taken of within settled = (
-  unstored-cheap kind job line (parts_with name password (Some field)) field taken.cut refl (λ is_stored. is_stored.0 of.0),
+ComesTo_from_IsSettled kind job line stream name password (Some field) (Some fields.Empty) hashings outcome taken of within settled = (
+  not_IsCostly-unstored kind job line (parts_with name password (Some field)) field taken.cut refl (λ is_stored. is_stored.0 of.0),
   subst (λ (o : Outcome). ComesTo job (parts_with name password (Some field)) stream o hashings) (sym settled.0) (ap Some of.0, settled.1),
 )
-settled_by kind job line stream name password (Some field) (Some fields.Locked) hashings outcome taken of within settled = (
-  unstored-cheap kind job line (parts_with name password (Some field)) field taken.cut refl (λ is_stored. is_stored.1 of.0),
+ComesTo_from_IsSettled kind job line stream name password (Some field) (Some fields.Locked) hashings outcome taken of within settled = (
+  not_IsCostly-unstored kind job line (parts_with name password (Some field)) field taken.cut refl (λ is_stored. is_stored.1 of.0),
   subst (λ (o : Outcome). ComesTo job (parts_with name password (Some field)) stream o hashings) (sym settled.0) (field, refl, of.0, settled.1),
 )
-settled_by kind job line stream name password (Some field) (Some (fields.Hash stored)) hashings outcome taken of within settled = (
-  cheap_stored kind job line name password field stored taken of.0.1.spells of.1 within,
-  comes-stored job stream name password field stored hashings outcome of.0.1.is_text of.0.1.spells settled,
+ComesTo_from_IsSettled kind job line stream name password (Some field) (Some (fields.Hash stored)) hashings outcome taken of within settled = (
+  not_IsCostly-stored kind job line name password field stored taken of.0.1.spells of.1 within,
+  ComesTo_from_IsChecked job stream name password field stored hashings outcome of.0.1.is_text of.0.1.spells settled,
 )
-settled_by kind job line stream name password None (Some stored) hashings outcome taken of within settled = absurd of
-settled_by kind job line stream name password (Some field) None hashings outcome taken of within settled = absurd of
+ComesTo_from_IsSettled kind job line stream name password None (Some stored) hashings outcome taken of within settled = absurd of
+ComesTo_from_IsSettled kind job line stream name password (Some field) None hashings outcome taken of within settled = absurd of
 
 -- ---- the answer
 
 -- a line that breaks a rule is answered with its refusal, for each kind of run
-pub refused_answer : (kind : Kind) (job : Job) (number : ℕ) (line : List ℕ) (stream : Stream) (fault : LineFault) → IsLineRefused kind line fault
+pub IsAnswer-refusal : (kind : Kind) (job : Job) (number : ℕ) (line : List ℕ) (stream : Stream) (fault : LineFault) → IsLineRefused kind line fault
     → IsAnswer kind job number line stream (refusal number fault)
-refused_answer Audit job number line stream fault refused = inl (fault, refused, refl)
-refused_answer kind job number line stream fault refused = inl (fault, refused, refl)
+IsAnswer-refusal Audit job number line stream fault refused = inl (fault, refused, refl)
+IsAnswer-refusal kind job number line stream fault refused = inl (fault, refused, refl)
 
 -- a line that is not to be audited has the answer for its password
-password_answer : (kind : Kind) (job : Job) (number : ℕ) (line : List ℕ) (stream : Stream) (answer : Answer) → kind ≢ Audit
+IsAnswer-password : (kind : Kind) (job : Job) (number : ℕ) (line : List ℕ) (stream : Stream) (answer : Answer) → kind ≢ Audit
     → IsPasswordAnswer kind job number line stream answer → IsAnswer kind job number line stream answer
-password_answer Audit job number line stream answer other is = absurd (other refl)
-password_answer kind job number line stream answer other is = is
+IsAnswer-password Audit job number line stream answer other is = absurd (other refl)
+IsAnswer-password kind job number line stream answer other is = is
 
 -- a line to audit is answered with what the audit finds in its field
-pub audit_answer : (kind : Kind) (job : Job) (number : ℕ) (line : List ℕ) (stream : Stream) (parts : Parts) (field : List ℕ) (finding : Finding) → kind ≡ Audit
+pub IsAnswer-audit : (kind : Kind) (job : Job) (number : ℕ) (line : List ℕ) (stream : Stream) (parts : Parts) (field : List ℕ) (finding : Finding) → kind ≡ Audit
     → HasSoundParts kind line parts → parts.field ≡ Some field → Finds job.maker.scheme (given_budget job) field finding
     → IsAnswer kind job number line stream (answer_of job parts.name (Audited finding) [])
-audit_answer Audit job number line stream parts field finding is taken fielded finds =
+IsAnswer-audit Audit job number line stream parts field finding is taken fielded finds =
     inr (taken.sound, parts, taken.cut, field, fielded, finding, finds, refl)
-audit_answer Batch job number line stream parts field finding is taken fielded finds = absurd cc
-audit_answer Check job number line stream parts field finding is taken fielded finds = absurd cc
+IsAnswer-audit Batch job number line stream parts field finding is taken fielded finds = absurd cc
+IsAnswer-audit Check job number line stream parts field finding is taken fielded finds = absurd cc
 
 -- a line within the budget is answered with the outcome that was settled for it
-decided : (kind : Kind) (job : Job) (number : ℕ) (line : List ℕ) (stream : Stream) (name password : List ℕ) (stored : Option StoredField)
+IsPasswordAnswer_from_IsSettled : (kind : Kind) (job : Job) (number : ℕ) (line : List ℕ) (stream : Stream) (name password : List ℕ) (stored : Option StoredField)
     (hashings : List Hashing) (outcome : Outcome) → IsLine kind line name password stored
     → ¬ IsAbove job.budget (field_cost job stored (length password))
     → IsSettled job password stored stream hashings outcome → IsPasswordAnswer kind job number line stream (answer_of job name outcome hashings)
-decided kind job number line stream name password stored hashings outcome is within settled =
-    let comes = settled_by kind job line stream name password is.field stored hashings outcome is.taken is.field_of within settled in
+IsPasswordAnswer_from_IsSettled kind job number line stream name password stored hashings outcome is within settled =
+    let comes = ComesTo_from_IsSettled kind job line stream name password is.field stored hashings outcome is.taken is.field_of within settled in
     inr (inr (is.taken.sound, comes.0, parts_with name password is.field, is.taken.cut, outcome, comes.1, refl))
 
 -- what the step for a password and a field returned is right for the line
-pub concludes : (kind : Kind) (job : Job) (line name password : List ℕ) (stored : Option StoredField) (stream : Stream) (before after : Work) (new_stream : Stream)
+pub Concludes_from_Settles : (kind : Kind) (job : Job) (line name password : List ℕ) (stored : Option StoredField) (stream : Stream) (before after : Work) (new_stream : Stream)
     (result : Result (Result Outcome LineFault) HashFault) → IsLine kind line name password stored
     → Settles job password stored stream before after new_stream result → Concludes kind job line name stream before after new_stream result
-concludes kind job line name password stored stream before after new_stream (Ok (Ok outcome)) is (within, hashings, settled, counts, left) = (
+Concludes_from_Settles kind job line name password stored stream before after new_stream (Ok (Ok outcome)) is (within, hashings, settled, counts, left) = (
   hashings,
-  (λ number. password_answer kind job number line stream (answer_of job name outcome hashings) is.unaudited
-      (decided kind job number line stream name password stored hashings outcome is within settled)),
+  (λ number. IsAnswer-password kind job number line stream (answer_of job name outcome hashings) is.unaudited
+      (IsPasswordAnswer_from_IsSettled kind job number line stream name password stored hashings outcome is within settled)),
   counts,
   left,
 )
-concludes kind job line name password stored stream before after new_stream (Ok (Err fault)) is (above, over, counts, left) = (
+Concludes_from_Settles kind job line name password stored stream before after new_stream (Ok (Err fault)) is (above, over, counts, left) = (
   (λ number. subst (λ (f : LineFault). IsAnswer kind job number line stream (refusal number f)) (sym over)
-      (password_answer kind job number line stream (refusal number OverBudget) is.unaudited
-      (inr (inl (costly kind job line name password stored is above, refl))))),
+      (IsAnswer-password kind job number line stream (refusal number OverBudget) is.unaudited
+      (inr (inl (IsCostly_from_line kind job line name password stored is above, refl))))),
   counts,
   left,
 )
-concludes kind job line name password stored stream before after new_stream (Err fault) is (within, outcome, hashings, settled, refused) = (
+Concludes_from_Settles kind job line name password stored stream before after new_stream (Err fault) is (within, outcome, hashings, settled, refused) = (
   outcome,
   hashings,
-  (λ number. password_answer kind job number line stream (answer_of job name outcome hashings) is.unaudited
-      (decided kind job number line stream name password stored hashings outcome is within settled)),
+  (λ number. IsAnswer-password kind job number line stream (answer_of job name outcome hashings) is.unaudited
+      (IsPasswordAnswer_from_IsSettled kind job number line stream name password stored hashings outcome is within settled)),
   refused,
 )
 
 -- ---- a line by its parts
 
-pub line_of : (kind : Kind) (line : List ℕ) (parts : Parts) (stored : Option StoredField) → HasSoundParts kind line parts → kind ≢ Audit
+pub IsLine_from_parts : (kind : Kind) (line : List ℕ) (parts : Parts) (stored : Option StoredField) → HasSoundParts kind line parts → kind ≢ Audit
     → IsFieldOf parts.field stored → IsLine kind line parts.name parts.password stored
-line_of kind line parts stored taken unaudited field_of = record { unaudited = unaudited; field = parts.field; taken = taken; field_of = field_of }
+IsLine_from_parts kind line parts stored taken unaudited field_of = record { unaudited = unaudited; field = parts.field; taken = taken; field_of = field_of }
 
 -- a line to audit has a field
-pub unfielded : (kind : Kind) (line : List ℕ) (parts : Parts) → HasParts kind line parts → parts.field ≡ None → kind ≢ Audit
-unfielded Audit line parts has none same = none-some has.0 (sym none ∙ has.4)
-unfielded Batch line parts has none same = absurd cc
-unfielded Check line parts has none same = absurd cc
+pub no_field-not_Audit : (kind : Kind) (line : List ℕ) (parts : Parts) → HasParts kind line parts → parts.field ≡ None → kind ≢ Audit
+no_field-not_Audit Audit line parts has none same = none-some has.0 (sym none ∙ has.4)
+no_field-not_Audit Batch line parts has none same = absurd cc
+no_field-not_Audit Check line parts has none same = absurd cc
 
 -- a field that was read as `found` is `IsFieldOf` the same
-pub read_as : (field : List ℕ) (fielded : Option (List ℕ)) (result : Result StoredField SettingFault) (found stored : StoredField) → result ≡ Ok found
+pub IsFieldOf-read : (field : List ℕ) (fielded : Option (List ℕ)) (result : Result StoredField SettingFault) (found stored : StoredField) → result ≡ Ok found
     → found ≡ stored → IsFieldReading field result → IsReadOneWay field → fielded ≡ Some field → IsFieldOf fielded (Some stored)
-read_as field fielded result found stored ok is reading once some =
+IsFieldOf-read field fielded result found stored ok is reading once some =
     let same : result ≡ Ok stored = cc in
     subst (λ (f : Option (List ℕ)). IsFieldOf f (Some stored)) (sym some) (subst (IsFieldReading field) same reading, once)
 

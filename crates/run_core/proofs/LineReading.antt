@@ -1,48 +1,47 @@
 -- Serves the clauses `takes` of `Piece::take_line` and `gives` of `LineReader::next_line`. The invariant of the loop in
--- `next_line` is `IsNexting`: from any start at which some lines had been returned, the reader is now seeking the next
--- one (`IsSeeking`), that is, all bytes read are those lines, then a part of a line that is in the buffer, then the
--- piece. A lemma for each step and exit moves bytes from the piece to the buffer and shows that this stays true, or
+-- `next_line` is `SeeksNextLine`: from any start at which some lines had been returned, the reader is now seeking the
+-- next one (`IsSeeking`), that is, all bytes read are those lines, then a part of a line that is in the buffer, then
+-- the piece. A lemma for each step and exit moves bytes from the piece to the buffer and shows that this stays true, or
 -- that the next line is complete. At the end of the input, the lines that were returned are all lines, by the lemmas of
--- `LinesOf`.
-use Rattle.std.proofs.Common.{◌≡◌, ◌≢◌, ℕ, ◌+◌, ◌-◌, ◌<◌, ◌≤◌, Bool, true, false, eqb, not, Some, None, take, drop, List, [], ◌∷◌, ◌++◌, length, Ok, Err, refl, sym, ap, subst, ◌∙◌, append_assoc, append-nil, arith}
+-- `InputLines`.
+use Rattle.std.proofs.Common.{◌≡◌, ◌≢◌, ℕ, ◌+◌, ◌-◌, ◌<◌, ◌≤◌, Bool, true, false, eqb, not, Some, None, take, drop, List, [], ◌∷◌, ◌++◌, length, Ok, Err, refl, sym, ap, ◌∙◌, append_assoc, append-nil, arith}
 use Rattle.std.proofs.KnownBytes.{Consumes-nil}
 use Rattle.std.specs.List.{position, slice_range}
 use Rattle.std.proofs.lemmas.List.{drop-drop, drop-take, length-append, length-take}
-use Rattle.run_core.specs.DeviceCalls.{as_count}
 use Rattle.run_core.specs.Devices.{Device, MovesBytes}
 use Rattle.run_core.specs.Input.{Reads}
 use Rattle.run_core.specs.LineRuns.{HasLines, lines_of, piece_size}
 use Rattle.run_core.specs.Private.Deliveries.{IsUnfailed}
 use Rattle.run_core.specs.Private.Headroom.{HasRoomFor, to_read}
 use Rattle.run_core.specs.Private.Lines.{Represents}
-use Rattle.run_core.specs.Private.Readers.{FetchesPiece, GivesNext, HasGiven, HasStopped, IsAt, TakesLine}
+use Rattle.run_core.specs.Private.Readers.{FetchesPiece, GivesNext, HasGiven, HasStopped, TakesLine}
 use Rattle.run_core.specs.Texts.{HasNoLineFeed, line_feed}
 use Rattle.run_core.specs.declared.fault.RunFault.{RunFault}
 use Rattle.run_core.specs.declared.reader.LineReader.{LineReader}
 use Rattle.run_core.specs.declared.reader.buffer.LineBuffer.{LineBuffer}
-use Rattle.run_core.proofs.LinesOf.{AllByRecursion-push, HasNoLineFeed-append, HasNoLineFeed-nil, HasNoLineFeed-position, cut-at_feed, lines_of-last, lines_of-nil, lines_of-with_line_feeds, with_line_feeds, with_line_feeds-behind_line}
-use Rattle.run_core.proofs.MovedBytes.{moves-none, moves-trans}
-use Rattle.run_core.proofs.FirstLineReading.{Reads-trans, stops-later}
+use Rattle.run_core.proofs.InputLines.{AllByRecursion-push, HasNoLineFeed-append, HasNoLineFeed-position, IsCutAtFeed_from_position, lines_of-last, lines_of-nil, lines_of-with_line_feeds, with_line_feeds, with_line_feeds-behind_line}
+use Rattle.run_core.proofs.MovedBytes.{MovesBytes-none, MovesBytes-trans}
+use Rattle.run_core.proofs.FirstLineReading.{Reads-trans, StopsFetching-after_unfailed}
 
 -- ---- a piece
 
 -- a range without its first `k` items
-range-rest : (xs : List ℕ) (start end k : ℕ) → start + k ≤ end → slice_range xs (start + k) end ≡ drop k (slice_range xs start end)
-range-rest xs start end k within =
+slice_range-drop : (xs : List ℕ) (start end k : ℕ) → start + k ≤ end → slice_range xs (start + k) end ≡ drop k (slice_range xs start end)
+slice_range-drop xs start end k within =
     ap (λ ys. take (end - (start + k)) ys) (sym (drop-drop k start xs))
     ∙ (sym (drop-take k (end - (start + k)) (drop start xs))
     ∙ ap (λ n. drop k (take n (drop start xs))) (omega arith))
 
 -- `take_line` found a line feed
-pub takes-to_feed : (bytes : List ℕ) (start end at : ℕ) (unread : List ℕ) (buffer new_buffer : LineBuffer)
+pub TakesLine-to_feed : (bytes : List ℕ) (start end at : ℕ) (unread : List ℕ) (buffer new_buffer : LineBuffer)
     → start ≤ end → slice_range bytes start end ≡ unread → position (λ b. eqb b 10) unread ≡ Some at
     → ((part : List ℕ) → Represents buffer part → Represents new_buffer (part ++ take at unread))
     → TakesLine unread (slice_range bytes (start + (at + 1)) end) buffer new_buffer true
-takes-to_feed bytes start end at unread buffer new_buffer within is found holds =
-    let cut = cut-at_feed unread at found in
+TakesLine-to_feed bytes start end at unread buffer new_buffer within is found holds =
+    let cut = IsCutAtFeed_from_position unread at found in
     let inside = cut.within in
     let few : start + (at + 1) ≤ end = omega (arith, inside, ap length is, length-take (end - start) (drop start bytes)) in
-    let rest : slice_range bytes (start + (at + 1)) end ≡ drop (at + 1) unread = range-rest bytes start end (at + 1) few ∙ ap (λ ys. drop (at + 1) ys) is in (
+    let rest : slice_range bytes (start + (at + 1)) end ≡ drop (at + 1) unread = slice_range-drop bytes start end (at + 1) few ∙ ap (λ ys. drop (at + 1) ys) is in (
       take at unread,
       cut.parts ∙ ap (λ others. take at unread ++ line_feed ∷ others) (sym rest),
       cut.no_feed,
@@ -50,22 +49,22 @@ takes-to_feed bytes start end at unread buffer new_buffer within is found holds 
     )
 
 -- `take_line` found none
-pub takes-all : (bytes : List ℕ) (end : ℕ) (unread : List ℕ) (buffer new_buffer : LineBuffer) → position (λ b. eqb b 10) unread ≡ None
+pub TakesLine-all : (bytes : List ℕ) (end : ℕ) (unread : List ℕ) (buffer new_buffer : LineBuffer) → position (λ b. eqb b 10) unread ≡ None
     → ((part : List ℕ) → Represents buffer part → Represents new_buffer (part ++ unread))
     → TakesLine unread (slice_range bytes end end) buffer new_buffer false
-takes-all bytes end unread buffer new_buffer none holds =
+TakesLine-all bytes end unread buffer new_buffer none holds =
     let zero : end - end ≡ 0 = omega arith in
     (ap (λ n. take n (drop end bytes)) zero, HasNoLineFeed-position unread none, holds)
 
 -- ---- lines
 
 module _ {I : Type 0} where
-  pub given-none : (input : Device I) (reader : LineReader) → reader.piece ≡ [] → reader.at_end ≡ false → HasGiven input input reader []
-  given-none input reader unread more = record {
+  pub HasGiven-nil : (input : Device I) (reader : LineReader) → reader.piece ≡ [] → reader.at_end ≡ false → HasGiven input input reader []
+  HasGiven-nil input reader unread more = record {
     bytes = [];
     reads = record { shown = Consumes-nil _; counted = omega arith };
     unfailed = refl;
-    moves = rw more (moves-none input);
+    moves = rw more (MovesBytes-none input);
     at = rw (more, unread) ((refl, tt), omega arith);
   }
 
@@ -80,46 +79,33 @@ module _ {I : Type 0} where
     pub no_feed : HasNoLineFeed part
     pub held : Represents buffer part
 
-  pub seeking-start : (start now : Device I) (reader : LineReader) (buffer : LineBuffer) (lines : List (List ℕ)) → reader.at_end ≡ false → Represents buffer []
-      → HasGiven start now reader lines → IsSeeking start now reader.piece buffer lines
-  seeking-start start now reader buffer lines more cleared given = record {
-    bytes = given.bytes;
-    part = [];
-    reads = given.reads;
-    unfailed = given.unfailed;
-    moves = subst (λ at_end. MovesBytes (as_count at_end) start now) more given.moves;
-    has = (subst (λ at_end. IsAt now reader.piece at_end lines given.bytes) more given.at).0;
-    no_feed = HasNoLineFeed-nil;
-    held = cleared;
-  }
-
   -- all of the piece was moved into the buffer, and a new piece was read
-  seeking-read : (start now new : Device I) (piece next fetched : List ℕ) (buffer new_buffer : LineBuffer) (lines : List (List ℕ))
+  IsSeeking-read : (start now new : Device I) (piece next fetched : List ℕ) (buffer new_buffer : LineBuffer) (lines : List (List ℕ))
       → IsSeeking start now piece buffer lines → TakesLine piece next buffer new_buffer false → Reads now new fetched
       → IsUnfailed now new → MovesBytes 0 now new → IsSeeking start new fetched new_buffer lines
-  seeking-read start now new piece next fetched buffer new_buffer lines is moved reads unfailed moves = record {
+  IsSeeking-read start now new piece next fetched buffer new_buffer lines is moved reads unfailed moves = record {
     bytes = is.bytes ++ fetched;
     part = is.part ++ piece;
     reads = Reads-trans start now new is.bytes fetched is.reads reads;
     unfailed = unfailed ∙ is.unfailed;
-    moves = moves-trans 0 start now new is.moves moves;
+    moves = MovesBytes-trans 0 start now new is.moves moves;
     has = (ap (λ bytes. bytes ++ fetched) is.has.0 ∙ append_assoc (with_line_feeds lines) (is.part ++ piece) fetched, is.has.1);
     no_feed = HasNoLineFeed-append is.part piece is.no_feed moved.1;
     held = moved.2 is.part is.held;
   }
 
-  pub seeking-more : (start now new : Device I) (piece next fetched : List ℕ) (buffer new_buffer : LineBuffer) (lines : List (List ℕ)) (left : ℕ) (found : Bool) → found ≡ true
+  pub IsSeeking-fetched : (start now new : Device I) (piece next fetched : List ℕ) (buffer new_buffer : LineBuffer) (lines : List (List ℕ)) (left : ℕ) (found : Bool) → found ≡ true
       → TakesLine piece next buffer new_buffer false → Reads now new fetched → FetchesPiece left now new fetched (Ok found)
       → IsSeeking start now piece buffer lines → IsSeeking start new fetched new_buffer lines
-  seeking-more start now new piece next fetched buffer new_buffer lines left true some moved reads got before =
-      seeking-read start now new piece next fetched buffer new_buffer lines before moved reads got.0 got.1
-  seeking-more start now new piece next fetched buffer new_buffer lines left false some moved reads got before = absurd (cc)
+  IsSeeking-fetched start now new piece next fetched buffer new_buffer lines left true some moved reads got before =
+      IsSeeking-read start now new piece next fetched buffer new_buffer lines before moved reads got.0 got.1
+  IsSeeking-fetched start now new piece next fetched buffer new_buffer lines left false some moved reads got before = absurd (cc)
 
   -- exit: the piece had a line feed, so the line is complete
-  pub seeking-found : (start now : Device I) (piece : List ℕ) (buffer : LineBuffer) (next : LineReader) (lines : List (List ℕ)) (left : ℕ)
+  pub GivesNext-line_feed : (start now : Device I) (piece : List ℕ) (buffer : LineBuffer) (next : LineReader) (lines : List (List ℕ)) (left : ℕ)
       → next.at_end ≡ false → TakesLine piece next.piece buffer next.buffer true → length piece ≤ piece_size
       → IsSeeking start now piece buffer lines → GivesNext left start now next lines (Ok true)
-  seeking-found start now piece buffer next lines left more moved size is =
+  GivesNext-line_feed start now piece buffer next lines left more moved size is =
       let front = moved.0 in
       let line = is.part ++ front in
       let few : length next.piece < piece_size = omega (arith, size, ap length moved.1, length-append front (line_feed ∷ next.piece)) in
@@ -142,12 +128,12 @@ module _ {I : Type 0} where
       )
 
   -- exit: the input is at its end, and the buffer holds the last line, or nothing
-  pub seeking-end : (start now new : Device I) (piece moved_piece : List ℕ) (buffer : LineBuffer) (next : LineReader) (lines : List (List ℕ)) (left new_left : ℕ) (found is_empty : Bool) → found ≡ false
+  pub GivesNext-end_of_input : (start now new : Device I) (piece moved_piece : List ℕ) (buffer : LineBuffer) (next : LineReader) (lines : List (List ℕ)) (left new_left : ℕ) (found is_empty : Bool) → found ≡ false
       → next.at_end ≡ true → TakesLine piece moved_piece buffer next.buffer false → Reads now new next.piece → FetchesPiece left now new next.piece (Ok found)
       → ((part : List ℕ) → Represents next.buffer part → (is_empty ≡ true → part ≡ []) × (part ≡ [] → is_empty ≡ true))
       → IsSeeking start now piece buffer lines → GivesNext new_left start new next lines (Ok (not is_empty))
-  seeking-end start now new piece moved_piece buffer next lines left new_left true is_empty none at_end moved reads got tells before = absurd (cc)
-  seeking-end start now new piece moved_piece buffer next lines left new_left false is_empty none at_end moved reads got tells is =
+  GivesNext-end_of_input start now new piece moved_piece buffer next lines left new_left true is_empty none at_end moved reads got tells before = absurd (cc)
+  GivesNext-end_of_input start now new piece moved_piece buffer next lines left new_left false is_empty none at_end moved reads got tells is =
       go is_empty (tells line (moved.2 is.part is.held))
     where
       line : List ℕ
@@ -164,7 +150,7 @@ module _ {I : Type 0} where
         bytes = is.bytes ++ next.piece;
         reads = Reads-trans start now new is.bytes next.piece is.reads reads;
         unfailed = got.0 ∙ is.unfailed;
-        moves = rw at_end (moves-trans 1 start now new is.moves got.1);
+        moves = rw at_end (MovesBytes-trans 1 start now new is.moves got.1);
         at = rw at_end (got.3, all);
       }
 
@@ -176,23 +162,23 @@ module _ {I : Type 0} where
           (line, moved.2 is.part is.held, given (lines ++ line ∷ []) (sym (lines_are ∙ ap (λ others. lines ++ others) (lines_of-last line no_feed some))))
 
   -- exit: a read failed, or no I/O call was left for it
-  pub seeking-failed : (start now new : Device I) (piece next fetched : List ℕ) (buffer new_buffer : LineBuffer) (lines : List (List ℕ)) (left new_left : ℕ) (fault : RunFault)
+  pub HasStopped-fetch_failed : (start now new : Device I) (piece next fetched : List ℕ) (buffer new_buffer : LineBuffer) (lines : List (List ℕ)) (left new_left : ℕ) (fault : RunFault)
       → TakesLine piece next buffer new_buffer false → Reads now new fetched → FetchesPiece left now new fetched (Err fault) → new_left ≡ left - 1
       → IsSeeking start now piece buffer lines → HasStopped new_left start new lines fault
-  seeking-failed start now new piece next fetched buffer new_buffer lines left new_left fault moved reads got took is = record {
+  HasStopped-fetch_failed start now new piece next fetched buffer new_buffer lines left new_left fault moved reads got took is = record {
     bytes = is.bytes ++ fetched;
     rest = is.part ++ piece;
     reads = Reads-trans start now new is.bytes fetched is.reads reads;
     has = (ap (λ more. is.bytes ++ more) got.0 ∙ append-nil is.bytes ∙ is.has.0, is.has.1);
     no_feed = HasNoLineFeed-append is.part piece is.no_feed moved.1;
-    stops = stops-later start now new left new_left fault is.unfailed is.moves got.1 took;
+    stops = StopsFetching-after_unfailed start now new left new_left fault is.unfailed is.moves got.1 took;
   }
 
   -- ---- the loop
 
   -- the loop's invariant: `seeking` serves the clause `gives`, and the fields after it serve the clauses on I/O calls
   -- and room
-  pub record IsNexting (old_reader : LineReader) (old now : Device I) (reader : LineReader) (old_left left : ℕ) : Type 0 where
+  pub record SeeksNextLine (old_reader : LineReader) (old now : Device I) (reader : LineReader) (old_left left : ℕ) : Type 0 where
     pub more : reader.at_end ≡ false
     pub seeking : (start : Device I) (lines : List (List ℕ)) → HasGiven start old old_reader lines → IsSeeking start now reader.piece reader.buffer lines
     pub room : HasRoomFor piece_size left now
@@ -200,16 +186,16 @@ module _ {I : Type 0} where
     pub fewer : left ≤ old_left
     pub shorter : to_read left reader.piece ≤ to_read old_left old_reader.piece
 
-  unfailed-fetched : (now new : Device I) (fetched : List ℕ) (left : ℕ) (found : Bool) → FetchesPiece left now new fetched (Ok found) → IsUnfailed now new
-  unfailed-fetched now new fetched left true got = got.0
-  unfailed-fetched now new fetched left false got = got.0
+  IsUnfailed-fetched : (now new : Device I) (fetched : List ℕ) (left : ℕ) (found : Bool) → FetchesPiece left now new fetched (Ok found) → IsUnfailed now new
+  IsUnfailed-fetched now new fetched left true got = got.0
+  IsUnfailed-fetched now new fetched left false got = got.0
 
   -- after a `fetch`, the counts have room for the calls that are left
-  pub room-fetched : (now new : Device I) (fetched : List ℕ) (left new_left : ℕ) (found : Bool) → HasRoomFor piece_size left now → Reads now new fetched
+  pub HasRoomFor-fetched : (now new : Device I) (fetched : List ℕ) (left new_left : ℕ) (found : Bool) → HasRoomFor piece_size left now → Reads now new fetched
       → FetchesPiece left now new fetched (Ok found) → length fetched ≤ piece_size → 0 < left → new_left ≡ left - 1 → new.calls + new_left ≡ now.calls + left
       → HasRoomFor piece_size new_left new
-  room-fetched now new fetched left new_left found room reads got size some took calls =
-      let unfailed = unfailed-fetched now new fetched left found got in
+  HasRoomFor-fetched now new fetched left new_left found room reads got size some took calls =
+      let unfailed = IsUnfailed-fetched now new fetched left found got in
       let counted = reads.counted in
       let failures = room.failures in
       let bytes = room.bytes in

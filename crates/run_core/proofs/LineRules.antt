@@ -1,9 +1,9 @@
 -- Serves the clause `refused` of `check_name`, `sound` and `refused` of `check`, `each_refusal` of `inspect`, and the
 -- clause of `Parts::of`. `IsLineRefused` names the first rule that a line breaks, in the order of `line_faults`. So to
 -- show a refusal, a lemma shows that the line breaks none of the rules before it. The lemmas follow that order: length
--- and name (`refused_after_name` skips these rules), the parts, the password, the field. They rest on `OneCut`: a line
--- has only one name and one list of parts, so what was checked of the parts that were found holds of any parts. The
--- last sections say what holds of a line that breaks no rule, for `outcome_of` and `answer_line`.
+-- and name (`refused_after_name` skips these rules), the parts, the password, the field. They rest on `UniqueParts`: a
+-- line has only one name and one list of parts, so what was checked of the parts that were found holds of any parts.
+-- The last sections say what holds of a line that breaks no rule, for `outcome_of` and `answer_line`.
 use Rattle.std.proofs.Common.{◌≡◌, ℕ, ◌≤◌, ◌<◌, List, [], ◌∷◌, ◌++◌, length, map, Contains, Option, Some, None, inl, inr, refl, sym, ap, subst, ◌∙◌, arith}
 use Rattle.std.proofs.lemmas.Bool.{cases_order}
 use Rattle.std.proofs.lemmas.List.{nil_from_length}
@@ -26,48 +26,48 @@ use Rattle.run_core.specs.declared.line.Kind.TheVariants.{Batch, Check, Audit}
 use Rattle.run_core.specs.declared.line.LineFault.{LineFault}
 use Rattle.run_core.specs.declared.line.LineFault.TheVariants.{LineTooLong, NoName, NameTooLong, NoPassword, Password, Setting, OverBudget}
 use Rattle.crypt_core.proofs.FirstBroken.{first_breaks, first_mapped, first_unique}
-use Rattle.run_core.proofs.OneCut.{cut_unique, cut_has_colon, name_unique, parts_unique}
+use Rattle.run_core.proofs.UniqueParts.{cut_unique, cut_has_colon, name_unique, parts_unique}
 
 -- ---- names
 
-pub name_of_cut : (line name : List ℕ) (back : Option (List ℕ)) → IsCutOrWhole line name back → HasFront line name
-name_of_cut line name None whole = inr whole
-name_of_cut line name (Some back) cut = inl (back, cut)
+pub HasFront_from_cut : (line name : List ℕ) (back : Option (List ℕ)) → IsCutOrWhole line name back → HasFront line name
+HasFront_from_cut line name None whole = inr whole
+HasFront_from_cut line name (Some back) cut = inl (back, cut)
 
-name_of_parts : (kind : Kind) (line : List ℕ) (parts : Parts) → HasParts kind line parts → HasFront line parts.name
-name_of_parts Batch line parts cut = inl (parts.password, cut.0)
-name_of_parts kind line parts cut = inl (cut.1, cut.2)
+HasFront_from_parts : (kind : Kind) (line : List ℕ) (parts : Parts) → HasParts kind line parts → HasFront line parts.name
+HasFront_from_parts Batch line parts cut = inl (parts.password, cut.0)
+HasFront_from_parts kind line parts cut = inl (cut.1, cut.2)
 
 module _ (kind : Kind) (line name : List ℕ) (short : length line ≤ line_limit) (good : IsGoodName name) (has : HasFront line name) where
   -- a line that is not too long and has a good name breaks none of the first three rules
-  kept_length : ¬ BreaksLine kind LineTooLong line
-  kept_length long = omega (arith, short, long)
+  keeps-LineTooLong : ¬ BreaksLine kind LineTooLong line
+  keeps-LineTooLong long = omega (arith, short, long)
 
-  some_name : ¬ BreaksLine kind NoName line
-  some_name none = good.some (name_unique line name [] has none)
+  keeps-NoName : ¬ BreaksLine kind NoName line
+  keeps-NoName none = good.some (name_unique line name [] has none)
 
-  kept_name : ¬ BreaksLine kind NameTooLong line
-  kept_name long = omega (arith, good.short, long.2, ap length (name_unique line name long.0 has long.1))
+  keeps-NameTooLong : ¬ BreaksLine kind NameTooLong line
+  keeps-NameTooLong long = omega (arith, good.short, long.2, ap length (name_unique line name long.0 has long.1))
 
   -- so it is refused for the first of the other rules that it breaks
   refused_after_name : (fault : LineFault)
       → IsFirstBroken (NoPassword ∷ map Password password_faults ++ map Setting setting_faults) (λ broken. BreaksLine kind broken line) fault
       → IsLineRefused kind line fault
   unfolding IsLineRefused
-  refused_after_name fault later = inr (kept_length, inr (some_name, inr (kept_name, later)))
+  refused_after_name fault later = inr (keeps-LineTooLong, inr (keeps-NoName, inr (keeps-NameTooLong, later)))
 
 -- an empty name, or one that is too long, is refused as such
 pub refused_for_no_name : (kind : Kind) (line name : List ℕ) (back : Option (List ℕ)) → length line ≤ line_limit → IsCutOrWhole line name back
     → length name ≡ 0 → IsLineRefused kind line NoName
 unfolding IsLineRefused
 refused_for_no_name kind line name back short cut none =
-    inr ((λ long. omega (arith, short, long)), inl (refl, subst (HasFront line) (nil_from_length name none) (name_of_cut line name back cut)))
+    inr ((λ long. omega (arith, short, long)), inl (refl, subst (HasFront line) (nil_from_length name none) (HasFront_from_cut line name back cut)))
 
 pub refused_for_long_name : (kind : Kind) (line name : List ℕ) (back : Option (List ℕ)) → length line ≤ line_limit → IsCutOrWhole line name back
     → name_limit < length name → IsLineRefused kind line NameTooLong
 unfolding IsLineRefused
 refused_for_long_name kind line name back short cut long =
-    let has = name_of_cut line name back cut in
+    let has = HasFront_from_cut line name back cut in
     inr (
       (λ over. omega (arith, short, over)),
       inr ((λ none. omega (arith, long, ap length (name_unique line name [] has none))), inl (refl, (name, has, long))),
@@ -103,9 +103,9 @@ refused_without_parts kind line named lacks =
     refused_after_name kind line named.name named.short named.good named.front NoPassword (inl (refl, lacks))
 
 -- the refusal of a password is for the first rule that it breaks
-first_of_password : (bytes : List ℕ) (fault : PasswordFault) → IsPasswordRefused bytes fault → IsFirstBroken password_faults (IsPasswordRefused bytes) fault
-first_of_password bytes TooLong refused = inl (refl, refused)
-first_of_password bytes HasNul refused = inr ((λ long. omega (arith, long, refused.0)), inl (refl, refused))
+password-first_broken : (bytes : List ℕ) (fault : PasswordFault) → IsPasswordRefused bytes fault → IsFirstBroken password_faults (IsPasswordRefused bytes) fault
+password-first_broken bytes TooLong refused = inl (refl, refused)
+password-first_broken bytes HasNul refused = inr ((λ long. omega (arith, long, refused.0)), inl (refl, refused))
 
 pub refused_password : (kind : Kind) (line : List ℕ) (parts : Parts) (fault : PasswordFault)
     → IsNamed line → HasParts kind line parts → IsPasswordRefused parts.password fault
@@ -116,88 +116,88 @@ refused_password kind line parts fault named cut refused =
       first_mapped Password password_faults (map Setting setting_faults) (λ broken. BreaksLine kind broken line) (IsPasswordRefused parts.password)
           (λ own breaks. (parts, cut, breaks))
           (λ own breaks. subst (λ (p : Parts). IsPasswordRefused p.password own) (parts_unique kind line breaks.0 parts breaks.1 cut) breaks.2)
-          fault (first_of_password parts.password fault refused),
+          fault (password-first_broken parts.password fault refused),
     ))
 
-pub entry_of : (kind : Kind) (line : List ℕ) (parts : Parts) → IsNamed line → HasParts kind line parts → IsPassword parts.password → IsEntry kind line parts
-entry_of kind line parts named cut is_password = record {
+pub IsEntry_from_IsNamed : (kind : Kind) (line : List ℕ) (parts : Parts) → IsNamed line → HasParts kind line parts → IsPassword parts.password → IsEntry kind line parts
+IsEntry_from_IsNamed kind line parts named cut is_password = record {
   short = named.short;
-  good = subst IsGoodName (name_unique line named.name parts.name named.front (name_of_parts kind line parts cut)) named.good;
+  good = subst IsGoodName (name_unique line named.name parts.name named.front (HasFront_from_parts kind line parts cut)) named.good;
   cut = cut;
   password = is_password;
 }
 
-not_refused : (bytes : List ℕ) (fault : PasswordFault) → IsPassword bytes → IsPasswordRefused bytes fault → ⊥
-not_refused bytes TooLong is_password refused = omega (arith, is_password.0, refused)
-not_refused bytes HasNul is_password refused = is_password.1 refused.1
+not_refused_from_IsPassword : (bytes : List ℕ) (fault : PasswordFault) → IsPassword bytes → IsPasswordRefused bytes fault → ⊥
+not_refused_from_IsPassword bytes TooLong is_password refused = omega (arith, is_password.0, refused)
+not_refused_from_IsPassword bytes HasNul is_password refused = is_password.1 refused.1
 
-keeps_password : (kind : Kind) (line : List ℕ) (parts : Parts) → IsEntry kind line parts → (fault : PasswordFault) → ¬ BreaksLine kind (Password fault) line
-keeps_password kind line parts entry fault breaks =
+keeps-Password : (kind : Kind) (line : List ℕ) (parts : Parts) → IsEntry kind line parts → (fault : PasswordFault) → ¬ BreaksLine kind (Password fault) line
+keeps-Password kind line parts entry fault breaks =
     let same = parts_unique kind line breaks.0 parts breaks.1 entry.cut in
-    not_refused parts.password fault entry.password (subst (λ (p : Parts). IsPasswordRefused p.password fault) same breaks.2)
+    not_refused_from_IsPassword parts.password fault entry.password (subst (λ (p : Parts). IsPasswordRefused p.password fault) same breaks.2)
 
 -- ---- the field
 
 -- if the line breaks the rule of a setting, then its field is refused for that rule
-field_of_breaks : (kind : Kind) (line : List ℕ) (parts : Parts) → HasParts kind line parts
+IsFieldRefused_from_BreaksLine : (kind : Kind) (line : List ℕ) (parts : Parts) → HasParts kind line parts
     → (fault : SettingFault) → BreaksLine kind (Setting fault) line → (field : List ℕ) × (parts.field ≡ Some field) × IsFieldRefused field fault
-field_of_breaks kind line parts has fault breaks =
+IsFieldRefused_from_BreaksLine kind line parts has fault breaks =
     let same = parts_unique kind line breaks.1 parts breaks.3 has in
     (breaks.2, sym (ap (λ (p : Parts). p.field) same) ∙ breaks.4, (breaks.5, breaks.6))
 
 -- a line breaks no rule if it breaks none of those before the field's, and its field is not refused or is to be audited
-sound_entry : (kind : Kind) (line : List ℕ) (parts : Parts) → IsEntry kind line parts
+IsSound_from_IsEntry : (kind : Kind) (line : List ℕ) (parts : Parts) → IsEntry kind line parts
     → ((fault : SettingFault) (field : List ℕ) → kind ≢ Audit → parts.field ≡ Some field → IsFieldRefused field fault → ⊥) → IsSound kind line
-sound_entry kind line parts entry right fault breaks = go fault breaks
+IsSound_from_IsEntry kind line parts entry right fault breaks = go fault breaks
   where
     has : HasFront line parts.name
-    has = name_of_parts kind line parts entry.cut
+    has = HasFront_from_parts kind line parts entry.cut
 
     go : (fault : LineFault) → ¬ BreaksLine kind fault line
-    go LineTooLong breaks = kept_length kind line parts.name entry.short entry.good has breaks
-    go NoName breaks = some_name kind line parts.name entry.short entry.good has breaks
-    go NameTooLong breaks = kept_name kind line parts.name entry.short entry.good has breaks
+    go LineTooLong breaks = keeps-LineTooLong kind line parts.name entry.short entry.good has breaks
+    go NoName breaks = keeps-NoName kind line parts.name entry.short entry.good has breaks
+    go NameTooLong breaks = keeps-NameTooLong kind line parts.name entry.short entry.good has breaks
     go NoPassword breaks = breaks parts entry.cut
-    go (Password fault) breaks = keeps_password kind line parts entry fault breaks
+    go (Password fault) breaks = keeps-Password kind line parts entry fault breaks
     go (Setting fault) breaks =
-        let refused = field_of_breaks kind line parts entry.cut fault breaks in
+        let refused = IsFieldRefused_from_BreaksLine kind line parts entry.cut fault breaks in
         right fault refused.0 breaks.0 refused.1 refused.2
     go OverBudget breaks = breaks
 
-pub sound_without_field : (kind : Kind) (line : List ℕ) (parts : Parts) → IsEntry kind line parts → parts.field ≡ None → IsSound kind line
-sound_without_field kind line parts entry none = sound_entry kind line parts entry (λ fault field unaudited some refused. cc)
+pub IsSound-no_field : (kind : Kind) (line : List ℕ) (parts : Parts) → IsEntry kind line parts → parts.field ≡ None → IsSound kind line
+IsSound-no_field kind line parts entry none = IsSound_from_IsEntry kind line parts entry (λ fault field unaudited some refused. cc)
 
 -- a field that can be read is not refused
-read_field : (field : List ℕ) (stored : StoredField) → IsReadOneWay field → IsFieldReading field (Ok stored) → (fault : SettingFault) → IsFieldRefused field fault → ⊥
+not_IsFieldRefused-read : (field : List ℕ) (stored : StoredField) → IsReadOneWay field → IsFieldReading field (Ok stored) → (fault : SettingFault) → IsFieldRefused field fault → ⊥
 unfolding IsReadOneWay
-read_field field Empty one read fault refused = refused.0.0 read
-read_field field Locked one read fault refused = refused.0.1 read
-read_field field (Hash stored) one read fault refused =
+not_IsFieldRefused-read field Empty one read fault refused = refused.0.0 read
+not_IsFieldRefused-read field Locked one read fault refused = refused.0.1 read
+not_IsFieldRefused-read field (Hash stored) one read fault refused =
     let both : Ok stored.setting ≡ Err fault = one (Ok stored.setting) (Err fault) read.1.spells refused.1 in
     absurd cc
 
-pub sound_with_field : (kind : Kind) (line : List ℕ) (parts : Parts) (field : List ℕ) (stored : StoredField) → IsEntry kind line parts → parts.field ≡ Some field
+pub IsSound-field : (kind : Kind) (line : List ℕ) (parts : Parts) (field : List ℕ) (stored : StoredField) → IsEntry kind line parts → parts.field ≡ Some field
     → IsReadOneWay field → IsFieldReading field (Ok stored) → IsSound kind line
-sound_with_field kind line parts field stored entry is one read = sound_entry kind line parts entry (λ fault other unaudited some refused.
+IsSound-field kind line parts field stored entry is one read = IsSound_from_IsEntry kind line parts entry (λ fault other unaudited some refused.
     let same : other ≡ field = cc in
-    read_field field stored one read fault (subst IsStored same refused.0, subst (λ (bytes : List ℕ). IsRefused bytes fault) same refused.1))
+    not_IsFieldRefused-read field stored one read fault (subst IsStored same refused.0, subst (λ (bytes : List ℕ). IsRefused bytes fault) same refused.1))
 
 -- a line to audit breaks no rule once it has a good name and its parts: its password is empty, and its field is free
-pub sound_to_audit : (kind : Kind) (line : List ℕ) (parts : Parts) → kind ≡ Audit → IsNamed line → HasParts kind line parts → IsSound kind line
-sound_to_audit Audit line parts audited named cut =
+pub IsSound-audit : (kind : Kind) (line : List ℕ) (parts : Parts) → kind ≡ Audit → IsNamed line → HasParts kind line parts → IsSound kind line
+IsSound-audit Audit line parts audited named cut =
     let is_password = subst IsPassword (sym cut.5) (omega arith, λ some. omega (arith, some.1)) in
-    sound_entry Audit line parts (entry_of Audit line parts named cut is_password) (λ fault other unaudited some refused. absurd (unaudited refl))
-sound_to_audit Batch line parts audited named cut = absurd cc
-sound_to_audit Check line parts audited named cut = absurd cc
+    IsSound_from_IsEntry Audit line parts (IsEntry_from_IsNamed Audit line parts named cut is_password) (λ fault other unaudited some refused. absurd (unaudited refl))
+IsSound-audit Batch line parts audited named cut = absurd cc
+IsSound-audit Check line parts audited named cut = absurd cc
 
 -- a line that breaks none of the rules before the field's is refused for the first rule that its field breaks
 pub refused_field : (kind : Kind) (line : List ℕ) (parts : Parts) (field : List ℕ) (fault : SettingFault) → kind ≢ Audit → IsEntry kind line parts
     → parts.field ≡ Some field → IsFieldRefused field fault → IsLineRefused kind line (Setting fault)
 unfolding IsRefused
 refused_field kind line parts field fault unaudited entry is (stored, refused) =
-    refused_after_name kind line parts.name entry.short entry.good (name_of_parts kind line parts entry.cut) (Setting fault) (inr (
+    refused_after_name kind line parts.name entry.short entry.good (HasFront_from_parts kind line parts entry.cut) (Setting fault) (inr (
       (λ lacks. lacks parts entry.cut),
-      inr (keeps_password kind line parts entry TooLong, inr (keeps_password kind line parts entry HasNul, go setting_faults refused)),
+      inr (keeps-Password kind line parts entry TooLong, inr (keeps-Password kind line parts entry HasNul, go setting_faults refused)),
     ))
   where
     go : (faults : List SettingFault) → IsFirstBroken faults (FailsStage field) fault
@@ -207,7 +207,7 @@ refused_field kind line parts field fault unaudited entry is (stored, refused) =
         inl (ap Setting one, (unaudited, parts, field, entry.cut, is, stored, subst (IsRefused field) one refused))
     go (first ∷ others) (inr (passes, broken)) = inr (
       (λ breaks.
-          let own = field_of_breaks kind line parts entry.cut first breaks in
+          let own = IsFieldRefused_from_BreaksLine kind line parts entry.cut first breaks in
           let same : own.0 ≡ field = cc (own.1, is) in
           passes (first_breaks setting_faults (FailsStage field) first (subst (λ (bytes : List ℕ). IsRefused bytes first) same own.2.1))),
       go others broken,
@@ -233,18 +233,18 @@ too_long-refused kind line long = inl (refl, long)
 -- ---- a line that breaks no rule
 
 -- its password and its field are not refused
-pub sound_password : (kind : Kind) (line : List ℕ) (parts : Parts) (fault : PasswordFault) → HasSoundParts kind line parts
+pub password-not_refused : (kind : Kind) (line : List ℕ) (parts : Parts) (fault : PasswordFault) → HasSoundParts kind line parts
     → ¬ IsPasswordRefused parts.password fault
-sound_password kind line parts fault taken refused = taken.sound (Password fault) (parts, taken.cut, refused)
+password-not_refused kind line parts fault taken refused = taken.sound (Password fault) (parts, taken.cut, refused)
 
-pub sound_field : (kind : Kind) (line : List ℕ) (parts : Parts) (field : List ℕ) (fault : SettingFault) → HasSoundParts kind line parts → kind ≢ Audit
+pub field-not_refused : (kind : Kind) (line : List ℕ) (parts : Parts) (field : List ℕ) (fault : SettingFault) → HasSoundParts kind line parts → kind ≢ Audit
     → parts.field ≡ Some field → ¬ IsFieldRefused field fault
-sound_field kind line parts field fault taken unaudited is refused =
+field-not_refused kind line parts field fault taken unaudited is refused =
     taken.sound (Setting fault) (unaudited, parts, field, taken.cut, is, refused.0, refused.1)
 
 -- its password is not too long
-pub sound_short : (kind : Kind) (line : List ℕ) (parts : Parts) → IsSound kind line → HasParts kind line parts → length parts.password ≤ password_limit
-sound_short kind line parts sound has = elim (cases_order (length parts.password) password_limit) [
+pub length-password-le : (kind : Kind) (line : List ℕ) (parts : Parts) → IsSound kind line → HasParts kind line parts → length parts.password ≤ password_limit
+length-password-le kind line parts sound has = elim (cases_order (length parts.password) password_limit) [
   | inl same ↦ omega (arith, same)
   | inr other ↦ elim other [
     | inl below ↦ omega (arith, below)
@@ -253,11 +253,11 @@ sound_short kind line parts sound has = elim (cases_order (length parts.password
 ]
 
 -- its name is not too long
-pub sound_name : (kind : Kind) (line : List ℕ) (parts : Parts) → HasSoundParts kind line parts → length parts.name ≤ name_limit
-sound_name kind line parts taken = elim (cases_order (length parts.name) name_limit) [
+pub length-name-le : (kind : Kind) (line : List ℕ) (parts : Parts) → HasSoundParts kind line parts → length parts.name ≤ name_limit
+length-name-le kind line parts taken = elim (cases_order (length parts.name) name_limit) [
   | inl same ↦ omega (arith, same)
   | inr other ↦ elim other [
     | inl below ↦ omega (arith, below)
-    | inr above ↦ absurd (taken.sound NameTooLong (parts.name, name_of_parts kind line parts taken.cut, above))
+    | inr above ↦ absurd (taken.sound NameTooLong (parts.name, HasFront_from_parts kind line parts taken.cut, above))
   ]
 ]

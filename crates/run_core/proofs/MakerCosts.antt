@@ -15,29 +15,29 @@ use Rattle.crypt_core.proofs.MadeSaltLemmas.{length-made_salt}
 use Rattle.run_core.specs.Makers.{Recipe, made_cost_by, setting_by}
 
 -- without a salt, a cost that the method does not take is refused as `Cost`
-pub refused_alone : (m : Method) (rounds : ℕ) → ¬ TakesRounds m rounds → IsMakeRefused m rounds None Cost
+pub IsMakeRefused-Cost : (m : Method) (rounds : ℕ) → ¬ TakesRounds m rounds → IsMakeRefused m rounds None Cost
 unfolding IsMakeRefused
-refused_alone m rounds bad = inr (λ b. b, inr (λ b. b, inl (refl, bad)))
+IsMakeRefused-Cost m rounds bad = inr (λ b. b, inr (λ b. b, inl (refl, bad)))
 
 -- and nothing else is refused
-pub only_cost : (m : Method) (rounds : ℕ) (f : MakeFault) → IsMakeRefused m rounds None f → (f ≡ Cost) × ¬ TakesRounds m rounds
+pub IsMakeRefused-only_Cost : (m : Method) (rounds : ℕ) (f : MakeFault) → IsMakeRefused m rounds None f → (f ≡ Cost) × ¬ TakesRounds m rounds
 unfolding IsMakeRefused
-only_cost m rounds f (inl broken) = absurd broken.1
-only_cost m rounds f (inr (_, inl broken)) = absurd broken.1
-only_cost m rounds f (inr (_, inr (_, inl broken))) = broken
-only_cost m rounds f (inr (_, inr (_, inr (_, none)))) = absurd none
+IsMakeRefused-only_Cost m rounds f (inl broken) = absurd broken.1
+IsMakeRefused-only_Cost m rounds f (inr (_, inl broken)) = absurd broken.1
+IsMakeRefused-only_Cost m rounds f (inr (_, inr (_, inl broken))) = broken
+IsMakeRefused-only_Cost m rounds f (inr (_, inr (_, inr (_, none)))) = absurd none
 
 -- the clauses `accepted` and `refused` without a salt, from what `Scheme::made` returned
-pub refused_made : (m : Method) (rounds : ℕ) → (false ≡ true ↔ TakesRounds m rounds) → false ≡ true ↔ ((f : MakeFault) → ¬ BreaksMake m rounds None f)
-refused_made m rounds takes = (λ e. absurd (cc e), λ none. absurd (none Cost (λ t. cc (takes.1 t))))
+pub not_accepted-BreaksMake : (m : Method) (rounds : ℕ) → (false ≡ true ↔ TakesRounds m rounds) → false ≡ true ↔ ((f : MakeFault) → ¬ BreaksMake m rounds None f)
+not_accepted-BreaksMake m rounds takes = (λ e. absurd (cc e), λ none. absurd (none Cost (λ t. cc (takes.1 t))))
 
-pub refused_for_cost : (m : Method) (rounds : ℕ) (f : MakeFault) → f ≡ Cost → (false ≡ true ↔ TakesRounds m rounds) → IsMakeRefused m rounds None f
-refused_for_cost m rounds f is takes = subst (IsMakeRefused m rounds None) (sym is) (refused_alone m rounds (λ t. cc (takes.1 t)))
+pub IsMakeRefused-not_accepted : (m : Method) (rounds : ℕ) (f : MakeFault) → f ≡ Cost → (false ≡ true ↔ TakesRounds m rounds) → IsMakeRefused m rounds None f
+IsMakeRefused-not_accepted m rounds f is takes = subst (IsMakeRefused m rounds None) (sym is) (IsMakeRefused-Cost m rounds (λ t. cc (takes.1 t)))
 
 -- ---- the cost of a made setting
 
-pub made_cost : (recipe : Recipe) (numbers : List ℕ) (password : ℕ) → cost (setting_by recipe numbers) password ≡ made_cost_by recipe password
-made_cost recipe numbers password = go recipe.salt where
+pub cost-setting_by : (recipe : Recipe) (numbers : List ℕ) (password : ℕ) → cost (setting_by recipe numbers) password ≡ made_cost_by recipe password
+cost-setting_by recipe numbers password = go recipe.salt where
   go : (salt : Option (List ℕ)) → cost (setting_by (record recipe { salt = salt }) numbers) password ≡ made_cost_by (record recipe { salt = salt }) password
   go None = ap (cost_by recipe.scheme password) (length-made_salt numbers (made_salt_length (method_of recipe.scheme)))
   go (Some salt) = refl

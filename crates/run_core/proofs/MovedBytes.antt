@@ -5,11 +5,11 @@ use Rattle.std.proofs.Common.{ℕ, arith}
 use Rattle.run_core.specs.Devices.{Device, MovesBytes}
 
 module _ {T : Type 0} where
-  pub moves-none : (device : Device T) → MovesBytes 0 device device
-  moves-none device = record { idle = omega arith; calls = omega arith }
+  pub MovesBytes-none : (device : Device T) → MovesBytes 0 device device
+  MovesBytes-none device = record { idle = omega arith; calls = omega arith }
 
-  pub moves-trans : (spare : ℕ) (old mid new : Device T) → MovesBytes 0 old mid → MovesBytes spare mid new → MovesBytes spare old new
-  moves-trans spare old mid new before more = record {
+  pub MovesBytes-trans : (spare : ℕ) (old mid new : Device T) → MovesBytes 0 old mid → MovesBytes spare mid new → MovesBytes spare old new
+  MovesBytes-trans spare old mid new before more = record {
     idle = omega (arith, before.idle, more.idle);
     calls = omega (arith, before.calls, more.calls);
   }

@@ -1,7 +1,7 @@
 -- Serves the clauses of `send`, whose loop has the invariant `IsUnderWay`: a front of the text was taken, no call
--- failed, and each call took a byte. `under_way-step` shows that one `give` keeps it. `Takes-trans` and
--- `TakesFront-behind`, which join what an output took in two steps, serve the runs too. `shows-tally` serves the clause
--- `shows` of `run_methods`, and the crate mkpasswd where it shows an error.
+-- failed, and each call took a byte. `IsUnderWay-step` shows that one `give` keeps it. `Takes-trans` and
+-- `TakesFront-after`, which join what an output took in two steps, serve the runs too. `Shows-as_tally` serves the
+-- clause `shows` of `run_methods`, and the crate mkpasswd where it shows an error.
 use Rattle.std.proofs.Common.{◌≡◌, ℕ, ◌+◌, ◌<◌, ◌≤◌, List, [], ◌++◌, length, take, drop, arith, refl, sym, ◌∙◌, ap, append_assoc, false, nat_eq, Result, Ok, Err, nat_lt, ◌&&◌, ◌-◌, add-zero}
 use Rattle.std.proofs.lemmas.List.{length-append, length-take-le, take-append-drop}
 use Rattle.std.specs.Io.KnownBytes.{Appends}
@@ -13,13 +13,13 @@ use Rattle.run_core.specs.Devices.{Device, MovesBytes}
 use Rattle.run_core.specs.Output.{Shows, Takes, TakesFront}
 use Rattle.run_core.specs.declared.fault.RunFault.{RunFault}
 use Rattle.run_core.specs.declared.tally.Tally.{Tally}
-use Rattle.run_core.proofs.MovedBytes.{moves-none, moves-trans}
+use Rattle.run_core.proofs.MovedBytes.{MovesBytes-none, MovesBytes-trans}
 
 module _ {T : Type 0} where
   -- ---- what an output has taken
 
-  pub takes-nothing : (d : Device T) → Takes 0 0 d d []
-  takes-nothing d = record { shown = Appends-nil _; counted = omega arith; failed = omega arith; tried = omega arith; flushed = refl }
+  pub Takes-nil : (d : Device T) → Takes 0 0 d d []
+  Takes-nil d = record { shown = Appends-nil _; counted = omega arith; failed = omega arith; tried = omega arith; flushed = refl }
 
   pub Takes-trans : {failures : ℕ} (old mid new : Device T) (bytes others : List ℕ) → Takes 0 0 old mid bytes → Takes failures 0 mid new others
       → Takes failures 0 old new (bytes ++ others)
@@ -39,9 +39,9 @@ module _ {T : Type 0} where
       }
 
   -- the first bytes of a text were taken, after all that was taken before
-  pub TakesFront-behind : {failures : ℕ} (old mid new : Device T) (whole text : List ℕ) → Takes 0 0 old mid whole → TakesFront failures mid new [] text
+  pub TakesFront-after : {failures : ℕ} (old mid new : Device T) (whole text : List ℕ) → Takes 0 0 old mid whole → TakesFront failures mid new [] text
       → TakesFront failures old new whole text
-  TakesFront-behind old mid new whole text before front = (
+  TakesFront-after old mid new whole text before front = (
     front.0,
     front.1,
     front.2,
@@ -62,14 +62,14 @@ module _ {T : Type 0} where
     pub moves : MovesBytes 0 old new
 
   -- the invariant is kept: a `give` took `count` bytes of the rest
-  pub under_way-step : (old mid new : Device T) (text rest next : List ℕ) (turns left count : ℕ)
+  pub IsUnderWay-step : (old mid new : Device T) (text rest next : List ℕ) (turns left count : ℕ)
       → IsUnderWay old mid text rest turns left → 0 < left → 0 < count → count ≤ length rest
       → Appends mid.shown new.shown (take count rest)
       → new.failures ≡ mid.failures + as_count (nat_eq count 0 && nat_lt 0 (length rest))
       → new.calls ≡ mid.calls + 1 → new.bytes ≡ mid.bytes + count → new.idle ≡ mid.idle + as_count (nat_eq count 0 && nat_eq (length rest) 0)
       → IsUnflushed mid new → next ≡ drop count rest
       → IsUnderWay old new text next turns (left - 1)
-  under_way-step old mid new text rest next turns left count before some_left some_taken within appends failures calls bytes idle unflushed next_is =
+  IsUnderWay-step old mid new text rest next turns left count before some_left some_taken within appends failures calls bytes idle unflushed next_is =
       let sent = before.sent in
       let took = take count rest in
       let some : nat_eq count 0 ≡ false = grind (arith, nat_tests) in
@@ -90,21 +90,21 @@ module _ {T : Type 0} where
         calls = omega (arith, before.calls, calls);
         fewer = omega (arith, were_fewer);
         untried = λ same. absurd (omega (arith, were_fewer, some_left, same));
-        moves = moves-trans 0 old mid new before.moves (record {
+        moves = MovesBytes-trans 0 old mid new before.moves (record {
           idle = omega (arith, no_idle);
           calls = omega (arith, calls, bytes, no_failure, some_taken);
         });
       }
 
-  pub under_way-start : (old : Device T) (text : List ℕ) (turns : ℕ) → IsUnderWay old old text text turns turns
-  under_way-start old text turns = record {
+  pub IsUnderWay-start : (old : Device T) (text : List ℕ) (turns : ℕ) → IsUnderWay old old text text turns turns
+  IsUnderWay-start old text turns = record {
     sent = [];
     split = refl;
-    takes = takes-nothing old;
+    takes = Takes-nil old;
     calls = refl;
     fewer = omega arith;
     untried = λ same. refl;
-    moves = moves-none old;
+    moves = MovesBytes-none old;
   }
 
 -- ---- the result of a text that was written and flushed
@@ -114,7 +114,7 @@ abbrev pub as_tally : {A : Type 0} → Result A RunFault → Result Tally RunFau
 as_tally (Ok done) = Ok (tally_of [])
 as_tally (Err fault) = Err fault
 
-pub shows-tally : {A T : Type 0} (turns : ℕ) (old new : Device T) (text : List ℕ) (result : Result A RunFault)
+pub Shows-as_tally : {A T : Type 0} (turns : ℕ) (old new : Device T) (text : List ℕ) (result : Result A RunFault)
     → Shows turns old new text result → Shows turns old new text (as_tally result)
-shows-tally turns old new text (Ok done) shows = shows
-shows-tally turns old new text (Err fault) shows = shows
+Shows-as_tally turns old new text (Ok done) shows = shows
+Shows-as_tally turns old new text (Err fault) shows = shows

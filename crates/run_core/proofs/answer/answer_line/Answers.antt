@@ -1,7 +1,7 @@
 -- Answers the goals of `answer_line`: its clause `decides` at each return, the clause `short`, and the precondition of
 -- `unwrap`. A line that is too long is refused as such. Any other line that `inspect` accepts has its parts, to which
 -- the clause `settles` of `outcome_of` applies. The work in the answer is the difference of two readings of the meter,
--- which is the work of the hashes (`told_work`).
+-- which is the work of the hashes (`after_work-told`).
 use Rattle.std.proofs.Common.{◌≡◌, ℕ, List, ap, sym, subst, ◌∙◌, refl, rules, Option, Some, None}
 use Rattle.std.specs.Prelude.{Result, Ok, MatchOption}
 use Rattle.std.specs.Option.{IsSome}
@@ -18,29 +18,29 @@ use Rattle.run_core.specs.declared.answer.Outcome.{Outcome}
 use Rattle.run_core.specs.declared.line.LineFault.{LineFault}
 use Rattle.run_core.specs.declared.line.LineFault.TheVariants.{LineTooLong, NoPassword}
 use Rattle.run_core.specs.declared.reader.buffer.LineBuffer.{LineBuffer}
-use Rattle.run_core.proofs.ToldCounts.{after_hashings}
-use Rattle.run_core.proofs.LineOutcomes.{refused_answer}
-use Rattle.run_core.proofs.LineRules.{sound_name, too_long-refused}
+use Rattle.run_core.proofs.CountedWork.{after_work-raised_by}
+use Rattle.run_core.proofs.LineOutcomes.{IsAnswer-refusal}
+use Rattle.run_core.proofs.LineRules.{length-name-le, too_long-refused}
 use Rattle.run_core.proofs.answer.answer_line.Goals as goal
 
 pub returns-in_default-clause-decides : goal.returns-in_default-clause-decides
 returns-in_default-clause-decides g c = λ text stands number.
     let refused = too_long-refused c.args.kind text (subst (λ (buffer : LineBuffer). Represents buffer text) c.in_default.is stands) in (
       refusal number LineTooLong,
-      refused_answer c.args.kind c.args.job.now number text (g.R.Rng.stream c.args.rng.now) LineTooLong refused,
+      IsAnswer-refusal c.args.kind c.args.job.now number text (g.R.Rng.stream c.args.rng.now) LineTooLong refused,
       refl,
       refl,
       refl,
     )
 
 -- a result is `Some` if what `None` would mean is false
-has_some : {A : Type 0} (result : Option A) (Lacks : Type 0) (Has : A → Type 0) → MatchOption result Lacks Has → ¬ Lacks → IsSome result
-has_some (Some found) Lacks Has has never = search rules
-has_some None Lacks Has lacks never = absurd (never lacks)
+IsSome-never_lacks : {A : Type 0} (result : Option A) (Lacks : Type 0) (Has : A → Type 0) → MatchOption result Lacks Has → ¬ Lacks → IsSome result
+IsSome-never_lacks (Some found) Lacks Has has never = search rules
+IsSome-never_lacks None Lacks Has lacks never = absurd (never lacks)
 
 pub unwrap-parts-requires : goal.unwrap-parts-requires
 unwrap-parts-requires g c =
-    has_some c.of.result ((parts : Parts) → ¬ HasParts c.args.kind c.as_slice-bytes.result.now parts) _ c.of.ensures
+    IsSome-never_lacks c.of.result ((parts : Parts) → ¬ HasParts c.args.kind c.as_slice-bytes.result.now parts) _ c.of.ensures
     (c.in_default-inspect.ensures.sound NoPassword)
 
 pub returns-in_err-outcome-clause-decides : goal.returns-in_err-outcome-clause-decides
@@ -54,10 +54,10 @@ returns-in_err-outcome-clause-decides g c = λ text stands.
     rw p.1 (λ number. (answer_of c.args.job.now parts.name ends.0 ends.1, ends.2 number, ends.3))
 
 -- the work since the first reading of the meter is that of the hashes
-told_work : (before after reading told : Work) (hashings : List Hashing) → after ≡ after_work before hashings → reading ≡ before
+after_work-told : (before after reading told : Work) (hashings : List Hashing) → after ≡ after_work before hashings → reading ≡ before
     → ((more : Work) → after ≡ raised_by reading more → told ≡ more) → after_work no_work hashings ≡ told
-told_work before after reading told hashings made read raised =
-    sym (raised (after_work no_work hashings) (made ∙ (after_hashings before hashings ∙ ap (λ (w : Work). raised_by w (after_work no_work hashings)) (sym read))))
+after_work-told before after reading told hashings made read raised =
+    sym (raised (after_work no_work hashings) (made ∙ (after_work-raised_by before hashings ∙ ap (λ (w : Work). raised_by w (after_work no_work hashings)) (sym read))))
 
 pub returns-clause-decides : goal.returns-clause-decides
 returns-clause-decides g c = λ text stands number.
@@ -75,7 +75,7 @@ returns-clause-decides g c = λ text stands number.
       ends.1 number,
       (
         refl,
-        told_work c.args.meter.now c.outcome_of.new.meter c.reading-before.result c.work_since.result ends.0 ends.2 c.reading-before.ensures c.work_since.ensures.raised,
+        after_work-told c.args.meter.now c.outcome_of.new.meter c.reading-before.result c.work_since.result ends.0 ends.2 c.reading-before.ensures c.work_since.ensures.raised,
       ),
       ends.2,
       ends.3,
@@ -86,4 +86,4 @@ returns-clause-short g c =
     let parts = parts_of c.unwrap-parts.result in
     let taken : HasSoundParts c.args.kind c.as_slice-bytes.result.now parts =
     record { sound = c.in_default-inspect.ensures.sound; cut = rw c.unwrap-parts.ensures at c.of.ensures } in
-    sound_name c.args.kind c.as_slice-bytes.result.now parts taken
+    length-name-le c.args.kind c.as_slice-bytes.result.now parts taken

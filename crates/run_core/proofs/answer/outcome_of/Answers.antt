@@ -1,7 +1,7 @@
 -- Answers the goals of `outcome_of`: its clause `settles` at each return, and the preconditions of `unwrap`. Since the
--- line breaks no rule, neither its password nor its field is refused (`right`, `read_right`). At each return,
--- `concludes` turns what is known of the password and of the field as it was read into a statement about the line; for
--- a line to audit, `audit_answer` does.
+-- line breaks no rule, neither its password nor its field is refused (`IsOk-never_refused`, `IsOk-field_not_refused`).
+-- At each return, `Concludes_from_Settles` turns what is known of the password and of the field as it was read into a
+-- statement about the line; for a line to audit, `IsAnswer-audit` does.
 use Rattle.std.proofs.Common.{◌≡◌, ℕ, List, [], Option, Some, None, refl, sym, ap, subst, true≢false, rules}
 use Rattle.std.specs.Prelude.{◌≢◌, Result, Ok, Err}
 use Rattle.std.specs.Result.{IfErr, IsOk}
@@ -17,24 +17,24 @@ use Rattle.run_core.specs.declared.answer.Outcome.TheVariants.{NoHash, Locked as
 use Rattle.run_core.specs.declared.line.Kind.TheVariants.{Audit}
 use Rattle.run_core.specs.contracts.line.Kind.{the_type}
 use denote.Enum.Bare.{same_true}
-use Rattle.run_core.proofs.LineOutcomes.{above_none, audit_answer, concludes, line_of, read_as, unfielded}
-use Rattle.run_core.proofs.LineRules.{IsFieldRefused, sound_field, sound_password}
+use Rattle.run_core.proofs.LineOutcomes.{not_IsAbove-zero, IsAnswer-audit, Concludes_from_Settles, IsLine_from_parts, IsFieldOf-read, no_field-not_Audit}
+use Rattle.run_core.proofs.LineRules.{IsFieldRefused, field-not_refused, password-not_refused}
 use Rattle.run_core.proofs.answer.outcome_of.Goals as goal
 
 -- a result is `Ok` if no refusal is possible
-right : {A E : Type 0} (result : Result A E) (Refused : E → Type 0) → IfErr result Refused → ((fault : E) → ¬ Refused fault) → IsOk result
-right (Ok found) Refused refused never = search rules
-right (Err fault) Refused refused never = absurd (never fault refused)
+IsOk-never_refused : {A E : Type 0} (result : Result A E) (Refused : E → Type 0) → IfErr result Refused → ((fault : E) → ¬ Refused fault) → IsOk result
+IsOk-never_refused (Ok found) Refused refused never = search rules
+IsOk-never_refused (Err fault) Refused refused never = absurd (never fault refused)
 
-read_right : (field : List ℕ) (result : Result StoredField SettingFault) → IsFieldReading field result → ((fault : SettingFault) → ¬ IsFieldRefused field fault) → IsOk result
-read_right field (Ok found) reading never = search rules
-read_right field (Err fault) reading never = absurd (never fault reading)
+IsOk-field_not_refused : (field : List ℕ) (result : Result StoredField SettingFault) → IsFieldReading field result → ((fault : SettingFault) → ¬ IsFieldRefused field fault) → IsOk result
+IsOk-field_not_refused field (Ok found) reading never = search rules
+IsOk-field_not_refused field (Err fault) reading never = absurd (never fault reading)
 
 pub unwrap-password-requires : goal.unwrap-password-requires
 unwrap-password-requires g c =
     let parts = parts_of c.args.parts.now in
     let sound = c.requires.sound in
-    right c.new.result (IsPasswordRefused parts.password) c.new.ensures.refused (λ fault. sound_password c.args.kind sound.0 parts fault sound.1)
+    IsOk-never_refused c.new.result (IsPasswordRefused parts.password) c.new.ensures.refused (λ fault. password-not_refused c.args.kind sound.0 parts fault sound.1)
 
 pub returns-in_default-clause-settles : goal.returns-in_default-clause-settles
 returns-in_default-clause-settles g c = λ line taken.
@@ -47,9 +47,9 @@ returns-in_default-clause-settles g c = λ line taken.
     let none : parts.field ≡ None = ap bytes_of c.in_default.is in
     let password = (rw c.unwrap-password.ensures at c.new.ensures.ok).0 in
     let settles = subst (λ (p : List ℕ). Settles job p None stream c.args.meter.now after left result) password c.hash_within_budget.ensures.settles in
-    let is = line_of c.args.kind line parts None taken (unfielded c.args.kind line parts taken.cut none)
+    let is = IsLine_from_parts c.args.kind line parts None taken (no_field-not_Audit c.args.kind line parts taken.cut none)
     (subst (λ (f : Option (List ℕ)). IsFieldOf f None) (sym none) tt) in
-    concludes c.args.kind job line parts.name parts.password None stream c.args.meter.now after left result is settles
+    Concludes_from_Settles c.args.kind job line parts.name parts.password None stream c.args.meter.now after left result is settles
 
 pub returns-then-eq-clause-settles : goal.returns-then-eq-clause-settles
 returns-then-eq-clause-settles g c = λ line taken.
@@ -57,7 +57,7 @@ returns-then-eq-clause-settles g c = λ line taken.
     let parts = parts_of c.args.parts.now in
     let fielded : parts.field ≡ Some c.in-Some.field.now = ap bytes_of c.in-Some.is in (
       [],
-      (λ number. audit_answer c.args.kind c.args.job.now number line (g.R.Rng.stream c.args.rng.now) parts c.in-Some.field.now c.audit.result audited taken fielded c.audit.ensures),
+      (λ number. IsAnswer-audit c.args.kind c.args.job.now number line (g.R.Rng.stream c.args.rng.now) parts c.in-Some.field.now c.audit.result audited taken fielded c.audit.ensures),
       refl,
       refl,
     )
@@ -68,8 +68,8 @@ unwrap-requires g c =
     let sound = c.requires.sound in
     let fielded : parts.field ≡ Some c.in-Some.field.now = ap bytes_of c.in-Some.is in
     let unaudited : c.args.kind ≢ Audit = λ same. true≢false (sym (rw same at c.if-eq.ensures)) in
-    read_right c.in-Some.field.now c.read.result c.read.ensures.reading
-    (λ fault. sound_field c.args.kind sound.0 parts c.in-Some.field.now fault sound.1 unaudited fielded)
+    IsOk-field_not_refused c.in-Some.field.now c.read.result c.read.ensures.reading
+    (λ fault. field-not_refused c.args.kind sound.0 parts c.in-Some.field.now fault sound.1 unaudited fielded)
 
 pub returns-in-Empty-clause-settles : goal.returns-in-Empty-clause-settles
 returns-in-Empty-clause-settles g c = λ line taken.
@@ -78,11 +78,11 @@ returns-in-Empty-clause-settles g c = λ line taken.
     let stream = g.R.Rng.stream c.args.rng.now in
     let meter = c.args.meter.now in
     let unaudited : c.args.kind ≢ Audit = λ same. true≢false (sym (rw same at c.if-eq.ensures)) in
-    let field_of = read_as c.in-Some.field.now parts.field c.read.result c.unwrap.result Empty c.unwrap.ensures c.in-Empty.is
+    let field_of = IsFieldOf-read c.in-Some.field.now parts.field c.read.result c.unwrap.result Empty c.unwrap.ensures c.in-Empty.is
     c.read.ensures.reading c.read.ensures.one_reading (ap bytes_of c.in-Some.is) in
-    concludes c.args.kind job line parts.name parts.password (Some Empty) stream meter meter stream (Ok (Ok NoHash))
-    (line_of c.args.kind line parts (Some Empty) taken unaudited field_of)
-    (above_none job.budget, [], (refl, refl), refl, refl)
+    Concludes_from_Settles c.args.kind job line parts.name parts.password (Some Empty) stream meter meter stream (Ok (Ok NoHash))
+    (IsLine_from_parts c.args.kind line parts (Some Empty) taken unaudited field_of)
+    (not_IsAbove-zero job.budget, [], (refl, refl), refl, refl)
 
 pub returns-in-Locked-clause-settles : goal.returns-in-Locked-clause-settles
 returns-in-Locked-clause-settles g c = λ line taken.
@@ -91,11 +91,11 @@ returns-in-Locked-clause-settles g c = λ line taken.
     let stream = g.R.Rng.stream c.args.rng.now in
     let meter = c.args.meter.now in
     let unaudited : c.args.kind ≢ Audit = λ same. true≢false (sym (rw same at c.if-eq.ensures)) in
-    let field_of = read_as c.in-Some.field.now parts.field c.read.result c.unwrap.result Locked c.unwrap.ensures c.in-Locked.is
+    let field_of = IsFieldOf-read c.in-Some.field.now parts.field c.read.result c.unwrap.result Locked c.unwrap.ensures c.in-Locked.is
     c.read.ensures.reading c.read.ensures.one_reading (ap bytes_of c.in-Some.is) in
-    concludes c.args.kind job line parts.name parts.password (Some Locked) stream meter meter stream (Ok (Ok LockedOutcome))
-    (line_of c.args.kind line parts (Some Locked) taken unaudited field_of)
-    (above_none job.budget, [], (refl, refl), refl, refl)
+    Concludes_from_Settles c.args.kind job line parts.name parts.password (Some Locked) stream meter meter stream (Ok (Ok LockedOutcome))
+    (IsLine_from_parts c.args.kind line parts (Some Locked) taken unaudited field_of)
+    (not_IsAbove-zero job.budget, [], (refl, refl), refl, refl)
 
 pub returns-in-Hash-clause-settles : goal.returns-in-Hash-clause-settles
 returns-in-Hash-clause-settles g c = λ line taken.
@@ -107,15 +107,15 @@ returns-in-Hash-clause-settles g c = λ line taken.
     let left = g.R.Rng.stream c.check_within_budget.new.rng in
     let result = c.check_within_budget.result in
     let unaudited : c.args.kind ≢ Audit = λ same. true≢false (sym (rw same at c.if-eq.ensures)) in
-    let field_of = read_as c.in-Some.field.now parts.field c.read.result c.unwrap.result (Hash c.in-Hash.stored) c.unwrap.ensures c.in-Hash.is
+    let field_of = IsFieldOf-read c.in-Some.field.now parts.field c.read.result c.unwrap.result (Hash c.in-Hash.stored) c.unwrap.ensures c.in-Hash.is
     c.read.ensures.reading c.read.ensures.one_reading (ap bytes_of c.in-Some.is) in
     let password = (rw c.unwrap-password-in-Hash.ensures at c.new-in-Hash.ensures.ok).0 in
     let settles = subst (λ (p : List ℕ). Settles job p stored stream c.args.meter.now after left result) password c.check_within_budget.ensures.settles in
-    concludes c.args.kind job line parts.name parts.password stored stream c.args.meter.now after left result
-    (line_of c.args.kind line parts stored taken unaudited field_of) settles
+    Concludes_from_Settles c.args.kind job line parts.name parts.password stored stream c.args.meter.now after left result
+    (IsLine_from_parts c.args.kind line parts stored taken unaudited field_of) settles
 
 pub unwrap-password-requires-in-Hash : goal.unwrap-password-requires-in-Hash
 unwrap-password-requires-in-Hash g c =
     let parts = parts_of c.args.parts.now in
     let sound = c.requires.sound in
-    right c.new-in-Hash.result (IsPasswordRefused parts.password) c.new-in-Hash.ensures.refused (λ fault. sound_password c.args.kind sound.0 parts fault sound.1)
+    IsOk-never_refused c.new-in-Hash.result (IsPasswordRefused parts.password) c.new-in-Hash.ensures.refused (λ fault. password-not_refused c.args.kind sound.0 parts fault sound.1)

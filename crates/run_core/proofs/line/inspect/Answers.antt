@@ -10,11 +10,11 @@ use Rattle.run_core.proofs.LineRules.{refusal_unique, sound_not_refused}
 use Rattle.run_core.proofs.line.inspect.Goals as goal
 
 -- a check that finds the first broken rule finds the only refusal
-refused_once : {A : Type 0} (kind : Kind) (line : List ℕ) (result : Result A LineFault) (fault : LineFault) → IfOk result (λ _. IsSound kind line)
+result_err-refused : {A : Type 0} (kind : Kind) (line : List ℕ) (result : Result A LineFault) (fault : LineFault) → IfOk result (λ _. IsSound kind line)
     → IfErr result (IsLineRefused kind line) → IsLineRefused kind line fault → result_err result ≡ Some fault
-refused_once kind line (Ok unit) fault sound other refused = absurd (sound_not_refused kind line fault sound refused)
-refused_once kind line (Err other) fault sound first refused = ap Some (refusal_unique kind line other fault first refused)
+result_err-refused kind line (Ok unit) fault sound other refused = absurd (sound_not_refused kind line fault sound refused)
+result_err-refused kind line (Err other) fault sound first refused = ap Some (refusal_unique kind line other fault first refused)
 
 pub returns-clause-each_refusal : goal.returns-clause-each_refusal
 returns-clause-each_refusal c = λ fault refused.
-    c.err.ensures.value ∙ refused_once c.args.kind c.args.line.now c.check.result fault c.check.ensures.sound c.check.ensures.refused refused
+    c.err.ensures.value ∙ result_err-refused c.args.kind c.args.line.now c.check.result fault c.check.ensures.sound c.check.ensures.refused refused

@@ -1,16 +1,16 @@
--- Answers the clauses of `run_audit` that follow from `runs`. `AuditsSpare` has those on hashes and memory,
+-- Answers the clauses of `run_audit` that follow from `runs`. `AuditsWithoutHashes` has those on hashes and memory,
 -- `ForeseenChecks` those on later checks, and `WorkBounds` of crypt_core the one on the maximum cost. `rehash` is
 -- immediate, since the answer to a line to audit does not depend on rehashes.
-use Rattle.run_core.proofs.AuditsSpare.{spares}
+use Rattle.run_core.proofs.AuditsWithoutHashes.{HashesNothing_from_EndsLines}
 use Rattle.run_core.proofs.ForeseenChecks.{foresees, heeds_limit, refutes}
 use Rattle.crypt_core.proofs.WorkBounds.{cost-le-longest_password}
 use Rattle.run_core.proofs.lines.run_audit.Goals as goal
 
 pub returns-clause-hashes_none : goal.returns-clause-hashes_none
-returns-clause-hashes_none g c = (spares c.args.turns c.args.job.now _ _ _ c.answer_lines.ensures.runs.ends).hashes_none
+returns-clause-hashes_none g c = (HashesNothing_from_EndsLines c.args.turns c.args.job.now _ _ _ c.answer_lines.ensures.runs.ends).hashes_none
 
 pub returns-clause-allocates_none : goal.returns-clause-allocates_none
-returns-clause-allocates_none g c = (spares c.args.turns c.args.job.now _ _ _ c.answer_lines.ensures.runs.ends).allocates_none
+returns-clause-allocates_none g c = (HashesNothing_from_EndsLines c.args.turns c.args.job.now _ _ _ c.answer_lines.ensures.runs.ends).allocates_none
 
 pub returns-clause-longest : goal.returns-clause-longest
 returns-clause-longest g c = cost-le-longest_password

@@ -3,16 +3,16 @@
 use Rattle.std.proofs.Common.{◌≡◌, arith, ap, length, inl, inr, sym, ◌∙◌}
 use Rattle.std.proofs.lemmas.Bool.{cases_lt, eqb-true}
 use Rattle.std.proofs.lemmas.List.{take_rest}
-use Rattle.run_core.proofs.SentTexts.{under_way-start, under_way-step}
+use Rattle.run_core.proofs.SentTexts.{IsUnderWay-start, IsUnderWay-step}
 use Rattle.run_core.proofs.transfer.send.Goals as goal
 
 pub pieces-init : goal.pieces-init
-pieces-init g c = under_way-start c.args.out.now c.args.text.now c.args.left.now
+pieces-init g c = IsUnderWay-start c.args.out.now c.args.text.now c.args.left.now
 
 pub pieces-preserved : goal.pieces-preserved
 pieces-preserved g c =
     let gave = c.in-Ok.ensures in
-    under_way-step c.args.out.now c.pieces.out c.give.new.self c.args.text.now c.pieces.rest.now _ c.args.left.now c.pieces.left c.in-Ok.count
+    IsUnderWay-step c.args.out.now c.pieces.out c.give.new.self c.args.text.now c.pieces.rest.now _ c.args.left.now c.pieces.left c.in-Ok.count
     c.pieces.invariant (omega arith) c.if-count-gt0.true gave.within gave.takes gave.failures gave.calls gave.bytes gave.idle gave.unflushed
     (take_rest c.pieces.rest.now c.in-Ok.count)
 

@@ -3,20 +3,20 @@
 -- a reader that was at its end before.
 use Rattle.std.proofs.Common.{true, refl, arith}
 use Rattle.std.proofs.lemmas.Result.{err_from_is_err_and}
-use Rattle.run_core.proofs.LineReading.{room-fetched, seeking-end, seeking-failed, seeking-found, seeking-more}
+use Rattle.run_core.proofs.LineReading.{HasRoomFor-fetched, GivesNext-end_of_input, HasStopped-fetch_failed, GivesNext-line_feed, IsSeeking-fetched}
 use Rattle.run_core.proofs.reader.LineReader.next_line.Goals as goal
 
 pub returns-in_err-fetch-clause-gives : goal.returns-in_err-fetch-clause-gives
 returns-in_err-fetch-clause-gives g c start lines given =
     let p = err_from_is_err_and c.from_residual.result c.from_residual.ensures.1 in
     let got = c.in_err-fetch.ensures in
-    rw (p.1, p.2) (seeking-failed start c.fetches.input c.fetch.new.input c.fetches.self.piece c.take_line.new.self c.fetch.new.self c.fetches.self.buffer c.take_line.new.buffer
+    rw (p.1, p.2) (HasStopped-fetch_failed start c.fetches.input c.fetch.new.input c.fetches.self.piece c.take_line.new.self c.fetch.new.self c.fetches.self.buffer c.take_line.new.buffer
     lines c.fetches.left c.fetch.new.left c.in_err-fetch.field-0.0 c.fetches-test.ensures.takes got.reads got.fetches got.takes_turn (c.fetches.invariant.seeking start lines given))
 
 pub returns-then-not-branch-clause-gives : goal.returns-then-not-branch-clause-gives
 returns-then-not-branch-clause-gives g c start lines given =
     let got = c.in_ok-fetch.ensures in
-    seeking-end start c.fetches.input c.fetch.new.input c.fetches.self.piece c.take_line.new.self c.fetches.self.buffer
+    GivesNext-end_of_input start c.fetches.input c.fetch.new.input c.fetches.self.piece c.take_line.new.self c.fetches.self.buffer
     (record { piece = c.fetch.new.self; buffer = c.take_line.new.buffer; at_end = true })
     lines c.fetches.left c.fetch.new.left c.in_ok-fetch.field-0 c.is_empty.result c.if-not-branch.true refl c.fetches-test.ensures.takes got.reads got.fetches
     c.is_empty.ensures (c.fetches.invariant.seeking start lines given)
@@ -27,9 +27,9 @@ fetches-preserved g c =
     let is = c.fetches.invariant in
     record {
       more = is.more;
-      seeking = λ start lines given. seeking-more start c.fetches.input c.fetch.new.input c.fetches.self.piece c.take_line.new.self c.fetch.new.self c.fetches.self.buffer c.take_line.new.buffer
+      seeking = λ start lines given. IsSeeking-fetched start c.fetches.input c.fetch.new.input c.fetches.self.piece c.take_line.new.self c.fetch.new.self c.fetches.self.buffer c.take_line.new.buffer
           lines c.fetches.left c.in_ok-fetch.field-0 c.if-not-branch.false c.fetches-test.ensures.takes got.reads got.fetches (is.seeking start lines given);
-      room = room-fetched c.fetches.input c.fetch.new.input c.fetch.new.self c.fetches.left c.fetch.new.left c.in_ok-fetch.field-0 is.room got.reads got.fetches got.size got.some_left got.takes_turn got.turns;
+      room = HasRoomFor-fetched c.fetches.input c.fetch.new.input c.fetch.new.self c.fetches.left c.fetch.new.left c.in_ok-fetch.field-0 is.room got.reads got.fetches got.size got.some_left got.takes_turn got.turns;
       calls = (let calls = is.calls in omega (arith, calls, got.turns));
       fewer = (let fewer = is.fewer in omega (arith, fewer, got.takes_turn));
       shorter = (let shorter = is.shorter in omega (arith, shorter, got.takes_turn, got.some_left, got.size));
@@ -38,6 +38,6 @@ fetches-preserved g c =
 pub returns-clause-gives : goal.returns-clause-gives
 returns-clause-gives g c start lines given =
     let test = c.fetches-test.ensures in
-    seeking-found start c.fetches.input c.fetches.self.piece c.fetches.self.buffer
+    GivesNext-line_feed start c.fetches.input c.fetches.self.piece c.fetches.self.buffer
     (record { piece = c.take_line.new.self; buffer = c.take_line.new.buffer; at_end = c.fetches.self.at_end })
     lines c.fetches.left c.fetches.invariant.more test.takes test.size (c.fetches.invariant.seeking start lines given)

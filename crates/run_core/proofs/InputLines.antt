@@ -1,7 +1,8 @@
 -- How the lines of an input arise from the pieces in which it is read, for the clause `gives` of
--- `LineReader::next_line` (`LineReading`). `with_line_feeds` joins lines, each with its line feed. `cut-at_feed` cuts a
--- piece at its first line feed, with nothing but bytes of one line before it. `lines_of-with_line_feeds` shows by
--- induction over the lines that splitting gives back the lines that were joined, followed by those of the rest.
+-- `LineReader::next_line` (`LineReading`). `with_line_feeds` joins lines, each with its line feed.
+-- `IsCutAtFeed_from_position` cuts a piece at its first line feed, with nothing but bytes of one line before it.
+-- `lines_of-with_line_feeds` shows by induction over the lines that splitting gives back the lines that were joined,
+-- followed by those of the rest.
 use Rattle.std.proofs.Common.{◌≡◌, ◌≢◌, ℕ, ◌+◌, ◌<◌, false, eqb, List, [], ◌∷◌, ◌++◌, length, take, drop, get_or, flat_map, Some, None, refl, sym, ap, ◌∙◌, append_assoc, append-nil, add-one, get_or-take, arith, inl, inr}
 use Rattle.std.specs.List.{All, AllByRecursion, position, slice_split}
 use Rattle.std.proofs.Math.Seq.{split_at}
@@ -13,7 +14,7 @@ use Rattle.std.proofs.lemmas.List.Splits.{length-slice_split, slice_split_at, sl
 use Rattle.std.proofs.lemmas.List.Sums.{fails_before_first, passes_at_first}
 use Rattle.run_core.specs.LineRuns.{lines_of, without_empty_end}
 use Rattle.run_core.specs.Texts.{HasNoLineFeed, line_feed}
-use Rattle.run_core.proofs.LineFeeds.{feed_at, lacks_feed, position-feed, position-none}
+use Rattle.run_core.proofs.LineFeeds.{feed_at, not_Contains-feed_at, position-Some, position-None}
 
 -- ---- lines with their line feeds
 
@@ -61,7 +62,7 @@ HasNoLineFeed-append xs ys none none_behind has = elim (Contains-append_cases xs
 ]
 
 pub HasNoLineFeed-position : (xs : List ℕ) → position (λ b. eqb b 10) xs ≡ None → HasNoLineFeed xs
-HasNoLineFeed-position xs none = lacks_feed xs (position-none xs none)
+HasNoLineFeed-position xs none = not_Contains-feed_at xs (position-None xs none)
 
 -- the list is cut at its first line feed
 pub record IsCutAtFeed (xs : List ℕ) (at : ℕ) : Type 0 where
@@ -69,21 +70,21 @@ pub record IsCutAtFeed (xs : List ℕ) (at : ℕ) : Type 0 where
   pub parts : xs ≡ take at xs ++ line_feed ∷ drop (at + 1) xs
   pub no_feed : HasNoLineFeed (take at xs)
 
-front-lacks_feed : (xs : List ℕ) → feed_at xs < length xs → HasNoLineFeed (take (feed_at xs) xs)
-front-lacks_feed xs within has =
+HasNoLineFeed-take : (xs : List ℕ) → feed_at xs < length xs → HasNoLineFeed (take (feed_at xs) xs)
+HasNoLineFeed-take xs within has =
     let before : has.0 < feed_at xs = omega (arith, has.1, length-take-le (feed_at xs) xs (omega (arith, within))) in
     let same = get_or-take (feed_at xs) xs has.0 line_feed before in
     eqb-false _ _ (fails_before_first (λ b. eqb b line_feed) xs has.0 line_feed before) (sym same ∙ has.2)
 
-pub cut-at_feed : (xs : List ℕ) (at : ℕ) → position (λ b. eqb b 10) xs ≡ Some at → IsCutAtFeed xs at
-cut-at_feed xs at found =
-    let place = position-feed xs at found in
+pub IsCutAtFeed_from_position : (xs : List ℕ) (at : ℕ) → position (λ b. eqb b 10) xs ≡ Some at → IsCutAtFeed xs at
+IsCutAtFeed_from_position xs at found =
+    let place = position-Some xs at found in
     let within : feed_at xs < length xs = omega (arith, place.0, place.1) in
     let feed = eqb-true _ _ (passes_at_first (λ b. eqb b line_feed) xs line_feed within) in
     rw (← place.0) (record {
       within = within;
       parts = split_at xs (feed_at xs) line_feed within ∙ rw (feed, add-one);
-      no_feed = front-lacks_feed xs within;
+      no_feed = HasNoLineFeed-take xs within;
     })
 
 -- ---- the lines of an input
@@ -93,15 +94,15 @@ without_empty_end-cons part [] some = absurd (omega (arith, some))
 without_empty_end-cons [] (next ∷ parts) some = refl
 without_empty_end-cons (b ∷ bs) (next ∷ parts) some = refl
 
-all_unequal : (xs : List ℕ) → HasNoLineFeed xs → All (λ b. eqb b line_feed ≡ false) xs
-all_unequal xs none k d below = ne_eqb (get_or xs k d) line_feed (λ is. none (k, below, get_or_default xs k line_feed d below ∙ is))
+All_from_HasNoLineFeed : (xs : List ℕ) → HasNoLineFeed xs → All (λ b. eqb b line_feed ≡ false) xs
+All_from_HasNoLineFeed xs none k d below = ne_eqb (get_or xs k d) line_feed (λ is. none (k, below, get_or_default xs k line_feed d below ∙ is))
 
 pub lines_of-cons : (line rest : List ℕ) → HasNoLineFeed line → lines_of (line ++ line_feed ∷ rest) ≡ line ∷ lines_of rest
 unfolding lines_of
 lines_of-cons line rest none =
     let is_feed = λ (b : ℕ). eqb b line_feed in
     let others = length-slice_split is_feed rest in
-    ap without_empty_end (slice_split_at is_feed line line_feed rest (all_unequal line none) refl)
+    ap without_empty_end (slice_split_at is_feed line line_feed rest (All_from_HasNoLineFeed line none) refl)
     ∙ without_empty_end-cons line (slice_split is_feed rest) (omega (arith, others))
 
 -- splitting lines with their line feeds, and more bytes, gives these lines, and then those of the other bytes
@@ -124,4 +125,4 @@ without_empty_end-single (b ∷ bs) some = refl
 pub lines_of-last : (line : List ℕ) → HasNoLineFeed line → line ≢ [] → lines_of line ≡ line ∷ []
 unfolding lines_of
 lines_of-last line none some =
-    ap without_empty_end (slice_split_none (λ b. eqb b line_feed) line (all_unequal line none)) ∙ without_empty_end-single line some
+    ap without_empty_end (slice_split_none (λ b. eqb b line_feed) line (All_from_HasNoLineFeed line none)) ∙ without_empty_end-single line some
