@@ -14,32 +14,32 @@ use Rattle.call_core.specs.declared.reason.Reason.TheVariants.{OverBudget, Wrong
 use Rattle.call_core.specs.declared.report.Report.{Report}
 
 -- no password's hash is a dead hash
-pub dead_fits : (password field : List ℕ) (kept : SettingValue) → Spells field kept → crypt password kept ≡ field → IsDead field → ⊥
-dead_fits password field kept spells fits dead = dead.2 (IsWhole-from_Fits password field dead.0 dead.1 (kept, spells, fits))
+pub not_fits-IsDead : (password field : List ℕ) (kept : SettingValue) → Spells field kept → crypt password kept ≡ field → IsDead field → ⊥
+not_fits-IsDead password field kept spells fits dead = dead.2 (IsWhole-from_Fits password field dead.0 dead.1 (kept, spells, fits))
 
 -- a cost is not both above the budget and within it
-pub never_above : (password : List ℕ) (budget : ℕ) (kept other : SettingValue) → kept ≡ other
+pub cost-not_above : (password : List ℕ) (budget : ℕ) (kept other : SettingValue) → kept ≡ other
     → budget < cost kept (length password) → cost other (length password) ≤ budget → ⊥
-never_above password budget kept other same above low =
+cost-not_above password budget kept other same above low =
     let low_too : cost kept (length password) ≤ budget = rw same low in
     omega arith
 
 -- above the budget
-pub over : (password stored : List ℕ) (budget : ℕ) (kept : SettingValue) (report : Report) → IsPassword password → Spells stored kept
+pub Verifies-over_budget : (password stored : List ℕ) (budget : ℕ) (kept : SettingValue) (report : Report) → IsPassword password → Spells stored kept
     → budget < cost kept (length password) → report ≡ refused OverBudget (cost kept (length password)) → Verifies password stored budget report
-over password stored budget kept report is spells above e =
+Verifies-over_budget password stored budget kept report is spells above e =
     let test : nat_lt budget (cost kept (length password)) ≡ true = grind arith in
     inl (is, inl (kept, spells, rw test e))
 
 -- within the budget
-pub compared : (password stored : List ℕ) (budget : ℕ) (kept : SettingValue) (report : Report) → IsPassword password → Spells stored kept
+pub Verifies_from_Compares : (password stored : List ℕ) (budget : ℕ) (kept : SettingValue) (report : Report) → IsPassword password → Spells stored kept
     → cost kept (length password) ≤ budget → Compares password kept stored 0 WrongPassword report → Verifies password stored budget report
-compared password stored budget kept report is spells low compares =
+Verifies_from_Compares password stored budget kept report is spells low compares =
     let test : nat_lt budget (cost kept (length password)) ≡ false = grind arith in
     inl (is, inl (kept, spells, rw test compares))
 
 -- the field is refused, or the hash is above the budget
-pub declined : (password stored : List ℕ) (budget : ℕ) (report : Report) → IsPassword password → IsCheckRefused password stored budget report
+pub Verifies-refused : (password stored : List ℕ) (budget : ℕ) (report : Report) → IsPassword password → IsCheckRefused password stored budget report
     → Verifies password stored budget report
-declined password stored budget report is (inl (reason, refused, e)) = inl (is, inr (reason, refused, e))
-declined password stored budget report is (inr (kept, spells, above, e)) = over password stored budget kept report is spells above e
+Verifies-refused password stored budget report is (inl (reason, refused, e)) = inl (is, inr (reason, refused, e))
+Verifies-refused password stored budget report is (inr (kept, spells, above, e)) = Verifies-over_budget password stored budget kept report is spells above e

@@ -1,6 +1,6 @@
 -- The rounds that mkpasswd_rounds reports make the fitted scheme again, for the clause `fitted` of `report_rounds`. The
 -- argument goes method by method: SHA-crypt clamps rounds that are in range to themselves, and scrypt's parameters give
--- back the rounds that made them. GivenSettings uses `new_rounds` too.
+-- back the rounds that made them. GivenSettings uses `made_rounds-chosen_rounds` too.
 use Rattle.std.proofs.Common.{◌≡◌, ◌==◌, ◌<◌, ◌≤◌, ◌∙◌, ℕ, Bool, Some, None, true, false, nat_le, if◌then◌else◌, inl, inr, refl, ap, sym, arith}
 use Rattle.crypt_core.specs.MadeSettings.{made_params, made_rounds, made_scheme, rounds_of}
 use Rattle.crypt_core.specs.Policies.{chosen_rounds, fewer_rounds, fitted, new_cost, recommended_rounds}
@@ -15,17 +15,17 @@ use Rattle.call_core.specs.Arguments.{IsSchemeMade, TakesNewRounds}
 -- ---- SHA-crypt
 
 -- SHA-crypt's rounds that are in range make themselves, and are written in the setting
-count_made : (n : ℕ) → made_rounds (chosen_rounds methods.Sha512crypt (clamped n)) ≡ record { count = clamped n; is_written = true }
-count_made n = go (clamped n) (omega arith) (omega arith) where
+made_rounds-clamped : (n : ℕ) → made_rounds (chosen_rounds methods.Sha512crypt (clamped n)) ≡ record { count = clamped n; is_written = true }
+made_rounds-clamped n = go (clamped n) (omega arith) (omega arith) where
   go : (count : ℕ) → 0 < count → clamped count ≡ count → made_rounds (chosen_rounds methods.Sha512crypt count) ≡ record { count = count; is_written = true }
   go count some same =
       let none : (count == 0) ≡ false = grind (arith, some) in
       rw (none, none, same) refl
 
 -- so are the rounds of a new hash, clamped
-pub new_rounds : (rounds : ℕ) → made_rounds (chosen_rounds methods.Sha512crypt rounds)
+pub made_rounds-chosen_rounds : (rounds : ℕ) → made_rounds (chosen_rounds methods.Sha512crypt rounds)
     ≡ record { count = clamped (chosen_rounds methods.Sha512crypt rounds); is_written = true }
-new_rounds rounds = go (rounds == 0) refl where
+made_rounds-chosen_rounds rounds = go (rounds == 0) refl where
   go : (default : Bool) → (rounds == 0) ≡ default → made_rounds (if default then recommended_rounds methods.Sha512crypt else rounds)
       ≡ record { count = clamped (if default then recommended_rounds methods.Sha512crypt else rounds); is_written = true }
   go true e = refl
@@ -34,9 +34,9 @@ new_rounds rounds = go (rounds == 0) refl where
 -- ---- scrypt
 
 -- the rounds of scrypt's parameters make the same parameters
-again : (rounds : ℕ) → 6 ≤ rounds → rounds ≤ 11
+made_scheme-made_params : (rounds : ℕ) → 6 ≤ rounds → rounds ≤ 11
     → made_scheme methods.Scrypt (chosen_rounds methods.Scrypt (rounds_of (Scrypt (made_params rounds)))) ≡ Scrypt (made_params rounds)
-again rounds low high =
+made_scheme-made_params rounds low high =
     let some : (rounds == 0) ≡ false = grind (arith, low) in
     let same : rounds_of (Scrypt (made_params rounds)) ≡ rounds = rw some (omega arith) in
     rw (same, some, some) refl
@@ -44,52 +44,52 @@ again rounds low high =
 -- ---- Each scheme
 
 -- the rounds of a scheme of new hashes make that scheme
-pub remade : (number rounds : ℕ) (scheme : Scheme) → IsSchemeMade TakesNewRounds number rounds scheme
+pub IsSchemeMade-rounds_of : (number rounds : ℕ) (scheme : Scheme) → IsSchemeMade TakesNewRounds number rounds scheme
     → IsSchemeMade TakesNewRounds number (rounds_of scheme) scheme
-remade number rounds scheme (methods.Md5crypt, named, takes, is) = rw is (methods.Md5crypt, named, tt, refl)
-remade number rounds scheme (methods.Sha256crypt, named, takes, is) =
+IsSchemeMade-rounds_of number rounds scheme (methods.Md5crypt, named, takes, is) = rw is (methods.Md5crypt, named, tt, refl)
+IsSchemeMade-rounds_of number rounds scheme (methods.Sha256crypt, named, takes, is) =
     let made : scheme ≡ Shacrypt Sha256 (record { count = clamped (chosen_rounds methods.Sha512crypt rounds); is_written = true }) =
-    is ∙ ap (Shacrypt Sha256) (new_rounds rounds) in
-    rw made (methods.Sha256crypt, named, inr (omega arith), sym (ap (Shacrypt Sha256) (count_made (chosen_rounds methods.Sha512crypt rounds))))
-remade number rounds scheme (methods.Sha512crypt, named, takes, is) =
+    is ∙ ap (Shacrypt Sha256) (made_rounds-chosen_rounds rounds) in
+    rw made (methods.Sha256crypt, named, inr (omega arith), sym (ap (Shacrypt Sha256) (made_rounds-clamped (chosen_rounds methods.Sha512crypt rounds))))
+IsSchemeMade-rounds_of number rounds scheme (methods.Sha512crypt, named, takes, is) =
     let made : scheme ≡ Shacrypt Sha512 (record { count = clamped (chosen_rounds methods.Sha512crypt rounds); is_written = true }) =
-    is ∙ ap (Shacrypt Sha512) (new_rounds rounds) in
-    rw made (methods.Sha512crypt, named, inr (omega arith), sym (ap (Shacrypt Sha512) (count_made (chosen_rounds methods.Sha512crypt rounds))))
-remade number rounds scheme (methods.Scrypt, named, inl none, is) =
+    is ∙ ap (Shacrypt Sha512) (made_rounds-chosen_rounds rounds) in
+    rw made (methods.Sha512crypt, named, inr (omega arith), sym (ap (Shacrypt Sha512) (made_rounds-clamped (chosen_rounds methods.Sha512crypt rounds))))
+IsSchemeMade-rounds_of number rounds scheme (methods.Scrypt, named, inl none, is) =
     let made : scheme ≡ Scrypt (made_params 7) = rw none at is in
-    rw made (methods.Scrypt, named, inr (omega arith, omega arith), sym (again 7 (omega arith) (omega arith)))
-remade number rounds scheme (methods.Scrypt, named, inr (low, high), is) =
+    rw made (methods.Scrypt, named, inr (omega arith, omega arith), sym (made_scheme-made_params 7 (omega arith) (omega arith)))
+IsSchemeMade-rounds_of number rounds scheme (methods.Scrypt, named, inr (low, high), is) =
     let some : (rounds == 0) ≡ false = grind (arith, low) in
     let made : scheme ≡ Scrypt (made_params rounds) = rw some at is in
     let same : rounds_of (Scrypt (made_params rounds)) ≡ rounds = rw some (omega arith) in
     rw (made, same) (methods.Scrypt, named, inr (low, high), rw (some, some) refl)
 
 -- the scheme that is found with fewer rounds of SHA-crypt is the one that is tried
-clamped_own : (sha : Sha) (n : ℕ) (within : Bool) (own : Scheme)
+Some-within-unique : (sha : Sha) (n : ℕ) (within : Bool) (own : Scheme)
     → (if within then Some (Shacrypt sha (record { count = clamped n; is_written = true })) else None) ≡ Some own
     → Shacrypt sha (record { count = clamped n; is_written = true }) ≡ own
-clamped_own sha n true own e = cc e
-clamped_own sha n false own e = absurd (cc e)
+Some-within-unique sha n true own e = cc e
+Some-within-unique sha n false own e = absurd (cc e)
 
 -- its rounds make it again too
-fewer_made : (number rounds limit len : ℕ) (scheme own : Scheme) → IsSchemeMade TakesNewRounds number rounds scheme
+IsSchemeMade-fewer_rounds : (number rounds limit len : ℕ) (scheme own : Scheme) → IsSchemeMade TakesNewRounds number rounds scheme
     → fewer_rounds scheme limit len ≡ Some own → IsSchemeMade TakesNewRounds number (rounds_of own) own
-fewer_made number rounds limit len scheme own (methods.Md5crypt, named, takes, is) e = absurd (cc (rw is at e))
-fewer_made number rounds limit len scheme own (methods.Scrypt, named, takes, is) e = absurd (cc (rw is at e))
-fewer_made number rounds limit len scheme own (methods.Sha256crypt, named, takes, is) e =
-    let same = clamped_own Sha256 _ _ own (rw is at e) in
-    rw (← same) (methods.Sha256crypt, named, inr (omega arith), sym (ap (Shacrypt Sha256) (count_made _)))
-fewer_made number rounds limit len scheme own (methods.Sha512crypt, named, takes, is) e =
-    let same = clamped_own Sha512 _ _ own (rw is at e) in
-    rw (← same) (methods.Sha512crypt, named, inr (omega arith), sym (ap (Shacrypt Sha512) (count_made _)))
+IsSchemeMade-fewer_rounds number rounds limit len scheme own (methods.Md5crypt, named, takes, is) e = absurd (cc (rw is at e))
+IsSchemeMade-fewer_rounds number rounds limit len scheme own (methods.Scrypt, named, takes, is) e = absurd (cc (rw is at e))
+IsSchemeMade-fewer_rounds number rounds limit len scheme own (methods.Sha256crypt, named, takes, is) e =
+    let same = Some-within-unique Sha256 _ _ own (rw is at e) in
+    rw (← same) (methods.Sha256crypt, named, inr (omega arith), sym (ap (Shacrypt Sha256) (made_rounds-clamped _)))
+IsSchemeMade-fewer_rounds number rounds limit len scheme own (methods.Sha512crypt, named, takes, is) e =
+    let same = Some-within-unique Sha512 _ _ own (rw is at e) in
+    rw (← same) (methods.Sha512crypt, named, inr (omega arith), sym (ap (Shacrypt Sha512) (made_rounds-clamped _)))
 
 -- so do the rounds of a fitted scheme: it is the policy's own, or one with fewer rounds
-pub fitted_made : (number rounds limit len : ℕ) (scheme own : Scheme) → IsSchemeMade TakesNewRounds number rounds scheme
+pub IsSchemeMade-fitted : (number rounds limit len : ℕ) (scheme own : Scheme) → IsSchemeMade TakesNewRounds number rounds scheme
     → fitted scheme limit len ≡ Some own → IsSchemeMade TakesNewRounds number (rounds_of own) own
-fitted_made number rounds limit len scheme own makes = go (nat_le (new_cost scheme len) limit) where
+IsSchemeMade-fitted number rounds limit len scheme own makes = go (nat_le (new_cost scheme len) limit) where
   go : (within : Bool) → (if within then Some scheme else fewer_rounds scheme limit len) ≡ Some own
       → IsSchemeMade TakesNewRounds number (rounds_of own) own
   go true e =
       let same : scheme ≡ own = cc e in
-      rw (← same) (remade number rounds scheme makes)
-  go false e = fewer_made number rounds limit len scheme own makes e
+      rw (← same) (IsSchemeMade-rounds_of number rounds scheme makes)
+  go false e = IsSchemeMade-fewer_rounds number rounds limit len scheme own makes e

@@ -33,71 +33,71 @@ use Rattle.call_core.specs.Limits.{allowance, limit_by, limit_bytes, limit_in, m
 use Rattle.call_core.specs.declared.limit.Limit.{Limit}
 use Rattle.call_core.specs.declared.limit.Limit.TheVariants.{Policy, Bytes}
 use Rattle.call_core.specs.Logins.{IsHashWork, IsLoginWork, decoy}
-use Rattle.call_core.proofs.MadeSchemes.{made_once}
+use Rattle.call_core.proofs.MadeSchemes.{IsSchemeMade-unique}
 
 -- ---- The limit of a call
 
 -- the test of the rounds holds if the method takes them
-taken : (method : Method) (rounds : ℕ) → TakesNewRounds method rounds → takes_new_rounds method rounds ≡ true
-taken methods.Md5crypt rounds takes = refl
-taken methods.Sha256crypt rounds takes = grind (arith, nat_tests, takes)
-taken methods.Sha512crypt rounds takes = grind (arith, nat_tests, takes)
-taken methods.Scrypt rounds takes = grind (arith, nat_tests, takes)
+takes_new_rounds-true : (method : Method) (rounds : ℕ) → TakesNewRounds method rounds → takes_new_rounds method rounds ≡ true
+takes_new_rounds-true methods.Md5crypt rounds takes = refl
+takes_new_rounds-true methods.Sha256crypt rounds takes = grind (arith, nat_tests, takes)
+takes_new_rounds-true methods.Sha512crypt rounds takes = grind (arith, nat_tests, takes)
+takes_new_rounds-true methods.Scrypt rounds takes = grind (arith, nat_tests, takes)
 
 -- by a method's number and rounds the limit is that by the scheme that they make
-pub limit_made : (number rounds : ℕ) (scheme : Scheme) (limit : Limit) (len : ℕ) → IsSchemeMade TakesNewRounds number rounds scheme
+pub limit_in-allowance : (number rounds : ℕ) (scheme : Scheme) (limit : Limit) (len : ℕ) → IsSchemeMade TakesNewRounds number rounds scheme
     → limit_in number rounds limit len ≡ allowance limit scheme len
-limit_made number rounds scheme (Bytes budget) len makes = refl
-limit_made number rounds scheme Policy len (method, named, takes, is) =
+limit_in-allowance number rounds scheme (Bytes budget) len makes = refl
+limit_in-allowance number rounds scheme Policy len (method, named, takes, is) =
     let found : limit_in number rounds Policy len ≡ method_limit method rounds len =
     ap (λ made. option_map_or (λ (m : Method). method_limit m rounds len) made 0) named in
     let own : method_limit method rounds len ≡ limit_by (made_scheme method (chosen_rounds method rounds)) len =
-    ap (λ (takes : Bool). if takes then limit_by (made_scheme method (chosen_rounds method rounds)) len else 0) (taken method rounds takes) in
+    ap (λ (takes : Bool). if takes then limit_by (made_scheme method (chosen_rounds method rounds)) len else 0) (takes_new_rounds-true method rounds takes) in
     found ∙ own ∙ ap (λ (s : Scheme). limit_by s len) (sym is)
 
 -- if the new hash of a password is within the policy's limit, its limit is that of the policy
-pub admitting : (scheme : Scheme) (len limit : ℕ) → limit ≡ limit_by scheme len → len ≤ password_limit → new_cost scheme len ≤ policy_limit scheme
+pub limit_by-policy_limit : (scheme : Scheme) (len limit : ℕ) → limit ≡ limit_by scheme len → len ≤ password_limit → new_cost scheme len ≤ policy_limit scheme
     → limit ≡ policy_limit scheme
-admitting scheme len limit is short within =
+limit_by-policy_limit scheme len limit is short within =
     let few : nat_lt password_limit len ≡ false = grind (arith, short) in
     let below : nat_lt (policy_limit scheme) (new_cost scheme len) ≡ false = grind (arith, within) in
     rw (few, below) at is
 
 -- so it is under any limit that the new hash is within
-pub limit_used : (number rounds : ℕ) (scheme : Scheme) (limit : Limit) (len : ℕ) → IsSchemeMade TakesNewRounds number rounds scheme
+pub limit_in-limit_bytes : (number rounds : ℕ) (scheme : Scheme) (limit : Limit) (len : ℕ) → IsSchemeMade TakesNewRounds number rounds scheme
     → len ≤ password_limit → new_cost scheme len ≤ limit_bytes limit scheme → limit_in number rounds limit len ≡ limit_bytes limit scheme
-limit_used number rounds scheme (Bytes budget) len makes short within = refl
-limit_used number rounds scheme Policy len makes short within =
-    admitting scheme len (limit_in number rounds Policy len) (limit_made number rounds scheme Policy len makes) short within
+limit_in-limit_bytes number rounds scheme (Bytes budget) len makes short within = refl
+limit_in-limit_bytes number rounds scheme Policy len makes short within =
+    limit_by-policy_limit scheme len (limit_in number rounds Policy len) (limit_in-allowance number rounds scheme Policy len makes) short within
 
 -- ---- The limit admits new hashes
 
 -- a new hash of a password of up to 64 bytes costs no more than one of 64 bytes
-less_than_of_64 : (scheme : Scheme) (len : ℕ) → len ≤ 64 → new_cost scheme len ≤ new_cost scheme 64
-less_than_of_64 scheme len short = cost_by-le-at_64 scheme len (method_row (method_of scheme)).made_salt_length short
+new_cost-le-64 : (scheme : Scheme) (len : ℕ) → len ≤ 64 → new_cost scheme len ≤ new_cost scheme 64
+new_cost-le-64 scheme len short = cost_by-le-at_64 scheme len (method_row (method_of scheme)).made_salt_length short
 
-pub empty_admitted : (scheme : Scheme) → new_cost scheme 0 ≤ policy_limit scheme
-empty_admitted scheme =
-    let less = less_than_of_64 scheme 0 (omega arith) in
+pub new_cost-empty-le : (scheme : Scheme) → new_cost scheme 0 ≤ policy_limit scheme
+new_cost-empty-le scheme =
+    let less = new_cost-le-64 scheme 0 (omega arith) in
     grind (arith, less)
 
 -- a new hash costs the same with any salt
-pub salted-cost : (scheme : Scheme) (numbers : List ℕ) (len : ℕ) → cost (salted scheme numbers) len ≡ new_cost scheme len
-salted-cost scheme numbers len = ap (cost_by scheme len) (length-made_salt numbers (method_row (method_of scheme)).made_salt_length)
+pub cost-salted : (scheme : Scheme) (numbers : List ℕ) (len : ℕ) → cost (salted scheme numbers) len ≡ new_cost scheme len
+cost-salted scheme numbers len = ap (cost_by scheme len) (length-made_salt numbers (method_row (method_of scheme)).made_salt_length)
 
 -- a limit that admits a new hash admits the decoy
-pub decoy_made : (password : List ℕ) (scheme : Scheme) (limit : ℕ) (done : Work) → limit ≡ policy_limit scheme
+pub decoy_work-policy_limit : (password : List ℕ) (scheme : Scheme) (limit : ℕ) (done : Work) → limit ≡ policy_limit scheme
     → new_cost scheme (length password) ≤ policy_limit scheme → IsHashWork password (decoy scheme) limit done
     → (done ≡ work password (decoy scheme)) ⊎ IsAfterRefusedGrowth no_work scheme done
-decoy_made password scheme limit done is within hashed =
+decoy_work-policy_limit password scheme limit done is within hashed =
     let below : nat_lt limit (new_cost scheme (length password)) ≡ false = grind (arith, is, within) in
     let test : nat_lt limit (cost (decoy scheme) (length password)) ≡ false =
-    ap (nat_lt limit) (salted-cost scheme (0 ∷ 0 ∷ 0 ∷ []) (length password)) ∙ below in
+    ap (nat_lt limit) (cost-salted scheme (0 ∷ 0 ∷ 0 ∷ []) (length password)) ∙ below in
     rw test at hashed
 
 -- a limit that admits no new hash of a password is 0 for it
-pub none_admitted : (scheme : Scheme) (len limit : ℕ) → limit ≡ limit_by scheme len → policy_limit scheme < new_cost scheme len → limit ≡ 0
-none_admitted scheme len limit is above =
+pub limit_by-zero : (scheme : Scheme) (len limit : ℕ) → limit ≡ limit_by scheme len → policy_limit scheme < new_cost scheme len → limit ≡ 0
+limit_by-zero scheme len limit is above =
     let test : nat_lt (policy_limit scheme) (new_cost scheme len) ≡ true = grind (arith, above) in
     go (nat_lt password_limit len) (rw test at is)
   where
@@ -108,55 +108,55 @@ none_admitted scheme len limit is above =
 -- ---- A limit of 0 admits no hash
 
 -- the rounds of SHA-crypt are positive, whether or not the setting spells them
-written_count : (written : Bool) (count : ℕ) (Written Unwritten : Type 0) → (Written → 0 < count) → (Unwritten → 0 < count)
+count-positive : (written : Bool) (count : ℕ) (Written Unwritten : Type 0) → (Written → 0 < count) → (Unwritten → 0 < count)
     → MatchBool written Written Unwritten → 0 < count
-written_count true count Written Unwritten one other is = one is
-written_count false count Written Unwritten one other is = other is
+count-positive true count Written Unwritten one other is = one is
+count-positive false count Written Unwritten one other is = other is
 
-rounds_positive : (rounds : Rounds) (part after : List ℕ) → SpellsRounds rounds part after → 0 < rounds.count
-rounds_positive rounds part after spells =
-    written_count rounds.is_written rounds.count _ _ (λ is. omega (arith, is.3)) (λ is. omega (arith, is.1)) spells
+SpellsRounds-positive : (rounds : Rounds) (part after : List ℕ) → SpellsRounds rounds part after → 0 < rounds.count
+SpellsRounds-positive rounds part after spells =
+    count-positive rounds.is_written rounds.count _ _ (λ is. omega (arith, is.3)) (λ is. omega (arith, is.1)) spells
 
 -- so at least one digest is made, and the cost is positive
-sha_positive : (count digest bytes : ℕ) → 0 < count → 0 < digest → count * digest ≤ bytes → 0 < bytes
-sha_positive count digest bytes some long most =
+product-positive : (count digest bytes : ℕ) → 0 < count → 0 < digest → count * digest ≤ bytes → 0 < bytes
+product-positive count digest bytes some long most =
     let times : 1 * digest ≤ count * digest = mul-le-mul_right digest some in
     omega (arith, times, most)
 
-cost_positive : (scheme : Scheme) (part after : List ℕ) (len salt : ℕ) → SpellsCost scheme part after → 0 < cost_by scheme len salt
-cost_positive Md5crypt part after len salt spells = omega arith
-cost_positive (Shacrypt Sha256 rounds) part after len salt spells =
-    sha_positive rounds.count (32 + len) _ (rounds_positive rounds part after spells) (omega arith) (omega arith)
-cost_positive (Shacrypt Sha512 rounds) part after len salt spells =
-    sha_positive rounds.count (64 + len) _ (rounds_positive rounds part after spells) (omega arith) (omega arith)
-cost_positive (Scrypt params) part after len salt spells = omega arith
+SpellsCost-positive : (scheme : Scheme) (part after : List ℕ) (len salt : ℕ) → SpellsCost scheme part after → 0 < cost_by scheme len salt
+SpellsCost-positive Md5crypt part after len salt spells = omega arith
+SpellsCost-positive (Shacrypt Sha256 rounds) part after len salt spells =
+    product-positive rounds.count (32 + len) _ (SpellsRounds-positive rounds part after spells) (omega arith) (omega arith)
+SpellsCost-positive (Shacrypt Sha512 rounds) part after len salt spells =
+    product-positive rounds.count (64 + len) _ (SpellsRounds-positive rounds part after spells) (omega arith) (omega arith)
+SpellsCost-positive (Scrypt params) part after len salt spells = omega arith
 
 -- every setting that a text spells has a positive cost
-spelled_positive : (text : List ℕ) (kept : SettingValue) (len : ℕ) → Spells text kept → 0 < cost kept len
-spelled_positive text kept len spells = cost_positive kept.scheme spells.scheme.0 _ len (length kept.salt) spells.scheme.2
+Spells-cost_positive : (text : List ℕ) (kept : SettingValue) (len : ℕ) → Spells text kept → 0 < cost kept len
+Spells-cost_positive text kept len spells = SpellsCost-positive kept.scheme spells.scheme.0 _ len (length kept.salt) spells.scheme.2
 
 -- so within a limit of 0 no hash is made
-none_made : (password : List ℕ) (kept : SettingValue) (done : Work) → 0 < cost kept (length password) → IsHashWork password kept 0 done → done ≡ no_work
-none_made password kept done some hashed =
+no_work-zero_limit : (password : List ℕ) (kept : SettingValue) (done : Work) → 0 < cost kept (length password) → IsHashWork password kept 0 done → done ≡ no_work
+no_work-zero_limit password kept done some hashed =
     let test : nat_lt 0 (cost kept (length password)) ≡ true = grind (arith, some) in
     rw test at hashed
 
 -- a login does no work then
-pub none_logs_in : (password field : List ℕ) (number rounds : ℕ) (scheme : Scheme) (done : Work)
+pub IsLoginWork-zero_limit : (password field : List ℕ) (number rounds : ℕ) (scheme : Scheme) (done : Work)
     → IsSchemeMade TakesNewRounds number rounds scheme → policy_limit scheme < new_cost scheme (length password)
     → IsLoginWork password field number rounds 0 done → done ≡ no_work
-none_logs_in password field number rounds scheme done makes above (inl none) = none
-none_logs_in password field number rounds scheme done makes above (inr (kept, inl spells, hashed, _)) =
-    none_made password kept done (spelled_positive field kept (length password) spells) hashed
-none_logs_in password field number rounds scheme done makes above (inr (kept, inr (other, also, is), hashed, _)) =
-    let one : other ≡ scheme = made_once TakesNewRounds TakesNewRounds number rounds other scheme also makes in
+IsLoginWork-zero_limit password field number rounds scheme done makes above (inl none) = none
+IsLoginWork-zero_limit password field number rounds scheme done makes above (inr (kept, inl spells, hashed, _)) =
+    no_work-zero_limit password kept done (Spells-cost_positive field kept (length password) spells) hashed
+IsLoginWork-zero_limit password field number rounds scheme done makes above (inr (kept, inr (other, also, is), hashed, _)) =
+    let one : other ≡ scheme = IsSchemeMade-unique TakesNewRounds TakesNewRounds number rounds other scheme also makes in
     let price : cost kept (length password) ≡ new_cost scheme (length password) =
-    ap (λ (own : SettingValue). cost own (length password)) is ∙ salted-cost other (0 ∷ 0 ∷ 0 ∷ []) (length password)
+    ap (λ (own : SettingValue). cost own (length password)) is ∙ cost-salted other (0 ∷ 0 ∷ 0 ∷ []) (length password)
     ∙ ap (λ (own : Scheme). new_cost own (length password)) one in
-    none_made password kept done (omega (arith, price, above)) hashed
+    no_work-zero_limit password kept done (omega (arith, price, above)) hashed
 
 -- and lets nobody in
-pub none_opens : (password stored : List ℕ) → Opens password stored 0 → ⊥
-none_opens password stored opens =
-    let some = spelled_positive stored opens.1.0 (length password) opens.1.1 in
+pub not_Opens-zero_limit : (password stored : List ℕ) → Opens password stored 0 → ⊥
+not_Opens-zero_limit password stored opens =
+    let some = Spells-cost_positive stored opens.1.0 (length password) opens.1.1 in
     absurd (omega (arith, some, opens.1.3))

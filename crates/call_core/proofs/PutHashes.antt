@@ -16,7 +16,7 @@ use Rattle.call_core.specs.Reports.{LacksMemory, Leaves, put, succeeded, token}
 use Rattle.call_core.specs.declared.report.Report.{Report}
 
 -- by what the budget and the capacity admit
-puts_at : (password text : List ℕ) (kept : SettingValue) (lock old : List ℕ) (made : Result (List ℕ × Report) Report) (report : Report) (new : List ℕ)
+IsPut-admission : (password text : List ℕ) (kept : SettingValue) (lock old : List ℕ) (made : Result (List ℕ × Report) Report) (report : Report) (new : List ℕ)
     (admitted : Result ℕ Report)
     → MatchResult admitted
     (λ most. (made ≡ Ok (text, succeeded (length text) most (work password kept)))
@@ -27,41 +27,41 @@ puts_at : (password text : List ℕ) (kept : SettingValue) (lock old : List ℕ)
     (λ most. Leaves (succeeded (length text) most (work password kept)) text old report new
     ⊎ (LacksMemory kept most report × Leaves report lock old report new))
     (λ refusal. Leaves refusal lock old report new)
-puts_at password text kept lock old made report new (Ok most) (inl e) put = inl (rw e at put)
-puts_at password text kept lock old made report new (Ok most) (inr (told, e, lacks)) put =
+IsPut-admission password text kept lock old made report new (Ok most) (inl e) put = inl (rw e at put)
+IsPut-admission password text kept lock old made report new (Ok most) (inr (told, e, lacks)) put =
     let left = rw e at put in
     inr (rw left.0 lacks, (refl, left.1))
-puts_at password text kept lock old made report new (Err refusal) e put = rw e at put
+IsPut-admission password text kept lock old made report new (Err refusal) e put = rw e at put
 
 -- making a hash with a setting and writing it has the effect `PutsHash`
-pub puts : (password : List ℕ) (kept : SettingValue) (budget : ℕ) (lock old : List ℕ) (made : Result (List ℕ × Report) Report) (report : Report) (new : List ℕ)
+pub PutsHash_from_IsPut : (password : List ℕ) (kept : SettingValue) (budget : ℕ) (lock old : List ℕ) (made : Result (List ℕ × Report) Report) (report : Report) (new : List ℕ)
     → MakesHash password kept budget (length old) made → IsPut made lock old report new → PutsHash password kept budget lock old report new
-puts password kept budget lock old made report new makes put =
-    puts_at password (crypt password kept) kept lock old made report new (admission budget (length old) password kept) makes put
+PutsHash_from_IsPut password kept budget lock old made report new makes put =
+    IsPut-admission password (crypt password kept) kept lock old made report new (admission budget (length old) password kept) makes put
 
 -- with the setting in a text it has the effect `Hashes`, also if an argument is refused
-pub puts_hash : (password text : List ℕ) (budget : ℕ) (old : List ℕ) (made : Result (List ℕ × Report) Report) (report : Report) (new : List ℕ)
+pub Hashes_from_IsPut : (password text : List ℕ) (budget : ℕ) (old : List ℕ) (made : Result (List ℕ × Report) Report) (report : Report) (new : List ℕ)
     → MakesHashOf password text budget (length old) made → IsPut made (token text) old report new → Hashes password text budget old report new
-puts_hash password text budget old made report new (inr (fault, is, e)) put = inr (fault, is, rw e at put)
-puts_hash password text budget old made report new (inl (is, inr (fault, broken, e))) put = inl (is, inr (fault, broken, rw e at put))
-puts_hash password text budget old made report new (inl (is, inl (kept, spells, makes))) put =
-    inl (is, inl (kept, spells, puts password kept budget (token text) old made report new makes put))
+Hashes_from_IsPut password text budget old made report new (inr (fault, is, e)) put = inr (fault, is, rw e at put)
+Hashes_from_IsPut password text budget old made report new (inl (is, inr (fault, broken, e))) put = inl (is, inr (fault, broken, rw e at put))
+Hashes_from_IsPut password text budget old made report new (inl (is, inl (kept, spells, makes))) put =
+    inl (is, inl (kept, spells, PutsHash_from_IsPut password kept budget (token text) old made report new makes put))
 
 -- a text that fits is written whole
-take_put : (text old : List ℕ) → length text < length old → take (length text) (put text old) ≡ text
-take_put text [] room = absurd (omega arith)
-take_put text (b ∷ rest) room =
+take-put : (text old : List ℕ) → length text < length old → take (length text) (put text old) ≡ text
+take-put text [] room = absurd (omega arith)
+take-put text (b ∷ rest) room =
     let whole : take (length rest) text ≡ text = take_all (length rest) text (omega arith) in
     rw whole (take-append_seam text _)
 
 -- what holds of the hash that was made holds of the bytes that the report counts in `out`
-pub put_whole : (Holds : List ℕ → Type 0) (budget : ℕ) (lock old : List ℕ) (done : Work) (made : Result (List ℕ × Report) Report) (report : Report)
+pub IsPut-whole : (Holds : List ℕ → Type 0) (budget : ℕ) (lock old : List ℕ) (done : Work) (made : Result (List ℕ × Report) Report) (report : Report)
     (new : List ℕ) → IsTold budget (length old) done made → IsPut made lock old report new → IfOk made (λ both. Holds both.0)
     → report.error ≡ 0 → Holds (take report.length new)
-put_whole Holds budget lock old done (Ok (text, told)) report new says is_put holds positive =
+IsPut-whole Holds budget lock old done (Ok (text, told)) report new says is_put holds positive =
     let same : report ≡ told = is_put.0 in
-    let e : take report.length new ≡ text = rw (same, is_put.1, says.1) (take_put text old says.2) in
+    let e : take report.length new ≡ text = rw (same, is_put.1, says.1) (take-put text old says.2) in
     subst Holds (sym e) holds
-put_whole Holds budget lock old done (Err told) report new says is_put holds positive =
+IsPut-whole Holds budget lock old done (Err told) report new says is_put holds positive =
     let same : report ≡ told = is_put.0 in
     absurd (says.0 (rw same at positive))

@@ -17,41 +17,41 @@ use Rattle.call_core.specs.Reasons.{reason_row}
 use Rattle.call_core.specs.Reports.{Leaves, put, refused, token}
 use Rattle.call_core.specs.declared.reason.Reason.TheVariants.{NoRandomNumbers, OutOfMemory}
 use Rattle.call_core.specs.declared.report.Report.{Report}
-use Rattle.call_core.proofs.MadeSchemes.{made_once, never_refused}
-use Rattle.call_core.proofs.PutHashes.{puts}
+use Rattle.call_core.proofs.MadeSchemes.{IsSchemeMade-unique, IsSchemeMade-not_refused}
+use Rattle.call_core.proofs.PutHashes.{PutsHash_from_IsPut}
 use Rattle.call_core.specs.Hashes.{HashesAnew}
 use Rattle.call_core.specs.Private.Hashes.{MakesHashAnew}
 
 -- ---- What the first step makes
 
 -- without three numbers: a refusal
-pub without_numbers : (password : List ℕ) (number rounds : ℕ) (numbers : List ℕ) (budget room : ℕ) (scheme : Scheme) (admitted : Result ℕ Report)
+pub MakesHashAnew-no_numbers : (password : List ℕ) (number rounds : ℕ) (numbers : List ℕ) (budget room : ℕ) (scheme : Scheme) (admitted : Result ℕ Report)
     (made : Result (List ℕ × Report) Report) → IsPassword password → IsSchemeMade TakesNewRounds number rounds scheme
     → (length numbers == 3) ≡ false → admitted ≡ admission budget room password (salted scheme (0 ∷ 0 ∷ 0 ∷ []))
     → MatchResult admitted (λ most. made ≡ Err (refused NoRandomNumbers most)) (λ refusal. made ≡ Err refusal)
     → MakesHashAnew password number rounds numbers budget room made
-without_numbers password number rounds numbers budget room scheme admitted made is makes missing e fails =
+MakesHashAnew-no_numbers password number rounds numbers budget room scheme admitted made is makes missing e fails =
     inl (is, inl (scheme, makes, rw missing (rw e at fails)))
 
 -- with three numbers: the hash with the setting that they make
-pub with_numbers : (password : List ℕ) (number rounds : ℕ) (numbers : List ℕ) (budget room : ℕ) (scheme : Scheme)
+pub MakesHashAnew-numbers : (password : List ℕ) (number rounds : ℕ) (numbers : List ℕ) (budget room : ℕ) (scheme : Scheme)
     (made : Result (List ℕ × Report) Report) → IsPassword password → IsSchemeMade TakesNewRounds number rounds scheme
     → (length numbers == 3) ≡ true → MakesHash password (salted scheme numbers) budget room made
     → MakesHashAnew password number rounds numbers budget room made
-with_numbers password number rounds numbers budget room scheme made is makes drawn hashed = inl (is, inl (scheme, makes, rw drawn hashed))
+MakesHashAnew-numbers password number rounds numbers budget room scheme made is makes drawn hashed = inl (is, inl (scheme, makes, rw drawn hashed))
 
 -- ---- What the call writes
 
 -- the refusal without three numbers is reported, and the token written
-fails_at : (old : List ℕ) (made : Result (List ℕ × Report) Report) (report : Report) (new : List ℕ) (admitted : Result ℕ Report)
+IsPut-no_numbers : (old : List ℕ) (made : Result (List ℕ × Report) Report) (report : Report) (new : List ℕ) (admitted : Result ℕ Report)
     → MatchResult admitted (λ most. made ≡ Err (refused NoRandomNumbers most)) (λ refusal. made ≡ Err refusal)
     → IsPut made (token []) old report new
     → MatchResult admitted (λ most. Leaves (refused NoRandomNumbers most) (token []) old report new) (λ refusal. Leaves refusal (token []) old report new)
-fails_at old made report new (Ok most) e put = rw e at put
-fails_at old made report new (Err refusal) e put = rw e at put
+IsPut-no_numbers old made report new (Ok most) e put = rw e at put
+IsPut-no_numbers old made report new (Err refusal) e put = rw e at put
 
 -- by whether there are three numbers
-puts_with : (password : List ℕ) (scheme : Scheme) (numbers : List ℕ) (budget : ℕ) (old : List ℕ) (made : Result (List ℕ × Report) Report)
+IsPut-numbers : (password : List ℕ) (scheme : Scheme) (numbers : List ℕ) (budget : ℕ) (old : List ℕ) (made : Result (List ℕ × Report) Report)
     (report : Report) (new : List ℕ) (three : Bool)
     → MatchBool three
     (MakesHash password (salted scheme numbers) budget (length old) made)
@@ -64,52 +64,52 @@ puts_with : (password : List ℕ) (scheme : Scheme) (numbers : List ℕ) (budget
     (MatchResult (admission budget (length old) password (salted scheme (0 ∷ 0 ∷ 0 ∷ [])))
     (λ most. Leaves (refused NoRandomNumbers most) (token []) old report new)
     (λ refusal. Leaves refusal (token []) old report new))
-puts_with password scheme numbers budget old made report new true makes put =
-    puts password (salted scheme numbers) budget (token []) old made report new makes put
-puts_with password scheme numbers budget old made report new false makes put =
-    fails_at old made report new (admission budget (length old) password (salted scheme (0 ∷ 0 ∷ 0 ∷ []))) makes put
+IsPut-numbers password scheme numbers budget old made report new true makes put =
+    PutsHash_from_IsPut password (salted scheme numbers) budget (token []) old made report new makes put
+IsPut-numbers password scheme numbers budget old made report new false makes put =
+    IsPut-no_numbers old made report new (admission budget (length old) password (salted scheme (0 ∷ 0 ∷ 0 ∷ []))) makes put
 
 -- so the call has the effect `HashesAnew`
-pub puts_new_hash : (password : List ℕ) (number rounds budget : ℕ) (numbers old : List ℕ) (made : Result (List ℕ × Report) Report) (report : Report)
+pub HashesAnew_from_IsPut : (password : List ℕ) (number rounds budget : ℕ) (numbers old : List ℕ) (made : Result (List ℕ × Report) Report) (report : Report)
     (new : List ℕ) → MakesHashAnew password number rounds numbers budget (length old) made → IsPut made (token []) old report new
     → HashesAnew password number rounds budget numbers old report new
-puts_new_hash password number rounds budget numbers old made report new (inr (fault, is, e)) put = inr (fault, is, rw e at put)
-puts_new_hash password number rounds budget numbers old made report new (inl (is, inr (inl (none, e)))) put =
+HashesAnew_from_IsPut password number rounds budget numbers old made report new (inr (fault, is, e)) put = inr (fault, is, rw e at put)
+HashesAnew_from_IsPut password number rounds budget numbers old made report new (inl (is, inr (inl (none, e)))) put =
     inl (is, inr (inl (none, rw e at put)))
-puts_new_hash password number rounds budget numbers old made report new (inl (is, inr (inr (method, named, never, e)))) put =
+HashesAnew_from_IsPut password number rounds budget numbers old made report new (inl (is, inr (inr (method, named, never, e)))) put =
     inl (is, inr (inr (method, named, never, rw e at put)))
-puts_new_hash password number rounds budget numbers old made report new (inl (is, inl (scheme, makes, made_by))) put =
-    inl (is, inl (scheme, makes, puts_with password scheme numbers budget old made report new (length numbers == 3) made_by put))
+HashesAnew_from_IsPut password number rounds budget numbers old made report new (inl (is, inl (scheme, makes, made_by))) put =
+    inl (is, inl (scheme, makes, IsPut-numbers password scheme numbers budget old made report new (length numbers == 3) made_by put))
 
-pub no_three : (n : ℕ) → n ≢ 3 → (n == 3) ≡ false
-no_three n other = grind arith
+pub not_three-false : (n : ℕ) → n ≢ 3 → (n == 3) ≡ false
+not_three-false n other = grind arith
 
 -- ---- A hash that nothing refuses
 
 -- a hash that the budget and the capacity allow is made, unless scrypt lacks memory
-made_within : (password : List ℕ) (kept : SettingValue) (budget : ℕ) (lock old : List ℕ) (report : Report) (new : List ℕ)
+PutsHash-made : (password : List ℕ) (kept : SettingValue) (budget : ℕ) (lock old : List ℕ) (report : Report) (new : List ℕ)
     → nat_lt budget (cost kept (length password)) ≡ false → nat_lt (length (crypt password kept)) (length old) ≡ true
     → PutsHash password kept budget lock old report new
     → (report.error ≡ 0) ⊎ (report.error ≡ (reason_row OutOfMemory).0)
-made_within password kept budget lock old report new low room puts =
+PutsHash-made password kept budget lock old report new low room puts =
     elim (rw (low, room) at puts) [
       | inl leaves ↦ inl (rw leaves.0 refl)
       | inr lacks ↦ inr (ap (λ (r : Report). r.error) lacks.0.2)
     ]
 
 -- so a new hash of a valid password with three numbers is written, unless scrypt lacks memory
-pub written : (password : List ℕ) (number rounds budget : ℕ) (numbers old : List ℕ) (scheme : Scheme) (report : Report) (new : List ℕ)
+pub HashesAnew-made : (password : List ℕ) (number rounds budget : ℕ) (numbers old : List ℕ) (scheme : Scheme) (report : Report) (new : List ℕ)
     → IsSchemeMade TakesNewRounds number rounds scheme → IsPassword password → (length numbers == 3) ≡ true
     → nat_lt budget (cost (salted scheme numbers) (length password)) ≡ false
     → nat_lt (length (crypt password (salted scheme numbers))) (length old) ≡ true
     → HashesAnew password number rounds budget numbers old report new
     → (report.error ≡ 0) ⊎ (report.error ≡ (reason_row OutOfMemory).0)
-written password number rounds budget numbers old scheme report new makes is three low room (inr (TooLong, broken, e)) = absurd (omega (arith, is.0, broken))
-written password number rounds budget numbers old scheme report new makes is three low room (inr (HasNul, broken, e)) = absurd (is.1 broken.1)
-written password number rounds budget numbers old scheme report new makes is three low room (inl (also, inr (inl (none, e)))) = absurd (cc (none, makes.1))
-written password number rounds budget numbers old scheme report new makes is three low room (inl (also, inr (inr (method, named, never, e)))) =
-    never_refused number rounds scheme _ makes method named never
-written password number rounds budget numbers old scheme report new makes is three low room (inl (also, inl (other, made, puts))) =
-    let same : other ≡ scheme = made_once TakesNewRounds TakesNewRounds number rounds other scheme made makes in
+HashesAnew-made password number rounds budget numbers old scheme report new makes is three low room (inr (TooLong, broken, e)) = absurd (omega (arith, is.0, broken))
+HashesAnew-made password number rounds budget numbers old scheme report new makes is three low room (inr (HasNul, broken, e)) = absurd (is.1 broken.1)
+HashesAnew-made password number rounds budget numbers old scheme report new makes is three low room (inl (also, inr (inl (none, e)))) = absurd (cc (none, makes.1))
+HashesAnew-made password number rounds budget numbers old scheme report new makes is three low room (inl (also, inr (inr (method, named, never, e)))) =
+    IsSchemeMade-not_refused number rounds scheme _ makes method named never
+HashesAnew-made password number rounds budget numbers old scheme report new makes is three low room (inl (also, inl (other, made, puts))) =
+    let same : other ≡ scheme = IsSchemeMade-unique TakesNewRounds TakesNewRounds number rounds other scheme made makes in
     let put = rw (three, same) at puts in
-    made_within password (salted scheme numbers) budget (token []) old report new low room put
+    PutsHash-made password (salted scheme numbers) budget (token []) old report new low room put

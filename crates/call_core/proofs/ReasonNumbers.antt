@@ -7,17 +7,17 @@ use Rattle.call_core.specs.declared.reason.Reason.{Reason}
 use Rattle.call_core.specs.declared.reason.Reason.TheVariants.{PasswordTooLong}
 
 -- the number of a reason finds the reason
-pub numbered_row : (reason : Reason) → reason_numbered ((reason_row reason).0) ≡ Some reason
-numbered_row PasswordTooLong = refl
-numbered_row reason = refl
+pub reason_numbered-reason_row : (reason : Reason) → reason_numbered ((reason_row reason).0) ≡ Some reason
+reason_numbered-reason_row PasswordTooLong = refl
+reason_numbered-reason_row reason = refl
 
-some_once : (a b : Reason) → (Some a) ≡ (Some b) → a ≡ b
-some_once a b e = cc e
+Some-unique : (a b : Reason) → (Some a) ≡ (Some b) → a ≡ b
+Some-unique a b e = cc e
 
 -- reasons with the same number are the same
-pub reason_once : (a b : Reason) → (reason_row a).0 ≡ (reason_row b).0 → a ≡ b
-reason_once a b e = some_once a b (sym (numbered_row a) ∙ ap reason_numbered e ∙ numbered_row b)
+pub reason_row-unique : (a b : Reason) → (reason_row a).0 ≡ (reason_row b).0 → a ≡ b
+reason_row-unique a b e = Some-unique a b (sym (reason_numbered-reason_row a) ∙ ap reason_numbered e ∙ reason_numbered-reason_row b)
 
 -- no reason has the number 0, which finds none
-pub never_zero : (reason : Reason) → (reason_row reason).0 ≢ 0
-never_zero reason = λ e. absurd (cc (sym (numbered_row reason) ∙ ap reason_numbered e))
+pub reason_row-nonzero : (reason : Reason) → (reason_row reason).0 ≢ 0
+reason_row-nonzero reason = λ e. absurd (cc (sym (reason_numbered-reason_row reason) ∙ ap reason_numbered e))

@@ -3,7 +3,7 @@
 -- ensures.
 use Rattle.std.proofs.Common.{inl, inr, rules, length}
 use Rattle.call_core.specs.Limits.{limit_of}
-use Rattle.call_core.proofs.LoginPromises.{judges, treats_alike}
+use Rattle.call_core.proofs.LoginPromises.{JudgesStoredHash_from_LogsIn, TreatsFieldsAlike_from_LogsIn}
 use Rattle.crypt_c.proofs.mkpasswd_proved_login.Goals as goal
 
 pub returns-clause-opens : goal.returns-clause-opens
@@ -21,10 +21,10 @@ pub returns-clause-judges : goal.returns-clause-judges
 returns-clause-judges c =
     let logged = c.log_in.ensures in
     let limit = limit_of c.args.method c.args.rounds c.args.budget (length c.args.password.now) in
-    rw c.tell.ensures.told (judges c.args.password.now c.args.field.now c.args.method c.args.rounds limit _ c.log_in.result (search rules)
+    rw c.tell.ensures.told (JudgesStoredHash_from_LogsIn c.args.password.now c.args.field.now c.args.method c.args.rounds limit _ c.log_in.result (search rules)
     (rw c.of.ensures at logged.logs_in) logged.shut (rw c.of.ensures at logged.dead) logged.outdated logged.replaced)
 
 pub returns-clause-treats_alike : goal.returns-clause-treats_alike
 returns-clause-treats_alike c =
-    rw c.tell.ensures.told (treats_alike c.args.password.now c.args.field.now c.args.method c.args.rounds c.args.budget _
+    rw c.tell.ensures.told (TreatsFieldsAlike_from_LogsIn c.args.password.now c.args.field.now c.args.method c.args.rounds c.args.budget _
     c.log_in.result (search rules) (rw c.of.ensures at c.log_in.ensures.logs_in) (rw c.of.ensures at c.log_in.ensures.lets_in))

@@ -1,15 +1,15 @@
 -- The clauses of `mkpasswd_proved_new_from`: its report and `out` are those of `put_new_hash`, by the limit that the
 -- budget means, and its result is 1 exactly if the report's error is 0. For `writes`: the policy's limit admits the new
--- hash (`admitting`), whose cost does not depend on the salt, and its text fits, so only a lack of memory can refuse it
--- (`written`).
+-- hash (`limit_by-policy_limit`), whose cost does not depend on the salt, and its text fits, so only a lack of memory
+-- can refuse it (`HashesAnew-made`).
 use Rattle.std.proofs.Common.{◌≡◌, ◌==◌, ◌∙◌, ap, arith, false, inl, inr, length, nat_lt, pos, rules, true}
 use Rattle.crypt_core.specs.Crypt.{crypt}
 use Rattle.crypt_core.specs.MadeSettings.{salted}
 use Rattle.crypt_core.specs.Work.{cost}
 use Rattle.call_core.specs.Limits.{limit_of, new_cost}
-use Rattle.call_core.proofs.LoginPromises.{by_policy}
-use Rattle.call_core.proofs.PolicyLimits.{admitting, salted-cost}
-use Rattle.call_core.proofs.PutNewHashes.{written}
+use Rattle.call_core.proofs.LoginPromises.{limit_of-policy}
+use Rattle.call_core.proofs.PolicyLimits.{limit_by-policy_limit, cost-salted}
+use Rattle.call_core.proofs.PutNewHashes.{HashesAnew-made}
 use Rattle.crypt_c.proofs.mkpasswd_proved_new_from.Goals as goal
 
 pub returns-clause-hashes : goal.returns-clause-hashes
@@ -29,13 +29,13 @@ pub returns-clause-writes : goal.returns-clause-writes
 returns-clause-writes c = λ scheme made twice is within three room.
     let len = length c.args.password.now in
     let limit = limit_of c.args.method c.args.rounds c.args.budget len in
-    let admits = admitting scheme len limit (by_policy c.args.method c.args.rounds c.args.budget len scheme made twice) is.0 within in
+    let admits = limit_by-policy_limit scheme len limit (limit_of-policy c.args.method c.args.rounds c.args.budget len scheme made twice) is.0 within in
     let below : nat_lt limit (new_cost scheme len) ≡ false = grind (arith, admits, within) in
     let low : nat_lt limit (cost (salted scheme c.args.numbers.now) len) ≡ false =
-    ap (nat_lt limit) (salted-cost scheme c.args.numbers.now len) ∙ below in
+    ap (nat_lt limit) (cost-salted scheme c.args.numbers.now len) ∙ below in
     let fits : nat_lt (length (crypt c.args.password.now (salted scheme c.args.numbers.now))) (length c.args.out.now) ≡ true = grind (arith, room) in
     let drawn : (length c.args.numbers.now == 3) ≡ true = grind (arith, three) in
-    elim (written c.args.password.now c.args.method c.args.rounds limit c.args.numbers.now c.args.out.now scheme _ _ made is drawn low fits
+    elim (HashesAnew-made c.args.password.now c.args.method c.args.rounds limit c.args.numbers.now c.args.out.now scheme _ _ made is drawn low fits
     (rw c.of.ensures at c.put_new_hash.ensures.hashes)) [
       | inl positive ↦ inl (search (rules, c.tell.ensures.answers.1.1 positive))
       | inr lacks ↦ inr (rw c.tell.ensures.told lacks)

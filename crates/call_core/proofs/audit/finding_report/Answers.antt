@@ -1,10 +1,10 @@
 -- The report of a finding of a hash has no work (`idle`), whatever its scheme and standing.
 use Rattle.std.proofs.Common.{◌∙◌, ap}
 use Rattle.call_core.specs.declared.report.Report.{Report}
-use Rattle.call_core.proofs.AuditReports.{scheme_idle, standing_idle}
+use Rattle.call_core.proofs.AuditReports.{work-with_scheme, work-standing_report}
 use Rattle.call_core.proofs.audit.finding_report.Goals as goal
 
 pub returns-in-Hash-clause-idle : goal.returns-in-Hash-clause-idle
 returns-in-Hash-clause-idle c =
-    ap (λ (report : Report). report.work) c.with_scheme.ensures ∙ scheme_idle _ _ ∙ ap (λ (report : Report). report.work) c.standing_report.ensures
-    ∙ standing_idle _ _
+    ap (λ (report : Report). report.work) c.with_scheme.ensures ∙ work-with_scheme _ _ ∙ ap (λ (report : Report). report.work) c.standing_report.ensures
+    ∙ work-standing_report _ _

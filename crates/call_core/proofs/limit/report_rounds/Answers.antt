@@ -8,8 +8,8 @@ use Rattle.crypt_core.specs.OutdatedSchemes.{is_outdated_by}
 use Rattle.call_core.specs.Arguments.{IsSchemeMade, TakesNewRounds}
 use Rattle.call_core.specs.Limits.{limit_bytes, new_cost}
 use Rattle.call_core.specs.declared.report.Report.{Report}
-use Rattle.call_core.proofs.FittedSchemes.{fitted_made}
-use Rattle.call_core.proofs.MadeSchemes.{made_once}
+use Rattle.call_core.proofs.FittedSchemes.{IsSchemeMade-fitted}
+use Rattle.call_core.proofs.MadeSchemes.{IsSchemeMade-unique}
 use Rattle.call_core.proofs.limit.report_rounds.Goals as goal
 
 pub returns-in-Some-clause-fitted : goal.returns-in-Some-clause-fitted
@@ -18,10 +18,10 @@ returns-in-Some-clause-fitted c = λ scheme makes positive.
     let len = c.args.password_len in
     let policy = c.in-Ok.scheme in
     let own = c.in-Some.fitted in
-    let one : policy ≡ scheme = made_once TakesNewRounds TakesNewRounds number c.args.rounds policy scheme c.in-Ok.ensures makes in
+    let one : policy ≡ scheme = IsSchemeMade-unique TakesNewRounds TakesNewRounds number c.args.rounds policy scheme c.in-Ok.ensures makes in
     let found : fitted policy c.bytes.result len ≡ Some own = sym c.in-Some.ensures.fitted in
     let made : IsSchemeMade TakesNewRounds number (rounds_of own) own =
-    fitted_made number c.args.rounds c.bytes.result len policy own c.in-Ok.ensures found in
+    IsSchemeMade-fitted number c.args.rounds c.bytes.result len policy own c.in-Ok.ensures found in
     let rounds : c.of_rounds.result.rounds ≡ rounds_of own = cc (ap (λ (r : Report). r.rounds) c.of_rounds.ensures, c.rounds.ensures) in
     let price : c.of_rounds.result.cost ≡ new_cost own len = cc (ap (λ (r : Report). r.cost) c.of_rounds.ensures, c.new_cost.ensures.cost) in
     let within : new_cost own len ≤ limit_bytes c.args.limit scheme = rw (c.bytes.ensures, one) at c.in-Some.ensures.within in

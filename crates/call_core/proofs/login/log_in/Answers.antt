@@ -12,15 +12,15 @@ use Rattle.call_core.specs.Arguments.{TakesNewRounds}
 use Rattle.call_core.specs.Limits.{limit_in}
 use Rattle.call_core.specs.Logins.{IsMiss, decoy}
 use Rattle.call_core.specs.declared.reason.Reason.TheVariants.{Dead}
-use Rattle.call_core.proofs.CheckReports.{dead_fits}
-use Rattle.call_core.proofs.LoginReports.{compared, declined, outdated_is, uncheckable}
-use Rattle.call_core.proofs.MadeSchemes.{made_once}
+use Rattle.call_core.proofs.CheckReports.{not_fits-IsDead}
+use Rattle.call_core.proofs.LoginReports.{LogsIn-compared, LogsIn-declined, is_outdated_by-eq, IsUncheckable-none_within}
+use Rattle.call_core.proofs.MadeSchemes.{IsSchemeMade-unique}
 use Rattle.call_core.proofs.login.log_in.Goals as goal
 
 pub returns-in-Err-checkable-clause-logs_in : goal.returns-in-Err-checkable-clause-logs_in
 returns-in-Err-checkable-clause-logs_in g c =
     let password = c.in-Ok.ensures.password in
-    rw (← c.in-Ok.ensures.limit) (declined c.args.password.now c.args.field.now c.args.method c.args.rounds (c.in-Ok.request).limit (c.in-Ok.request).scheme _ _ password.1 c.in-Ok.ensures.scheme
+    rw (← c.in-Ok.ensures.limit) (LogsIn-declined c.args.password.now c.args.field.now c.args.method c.args.rounds (c.in-Ok.request).limit (c.in-Ok.request).scheme _ _ password.1 c.in-Ok.ensures.scheme
     (rw password.0 at c.in-Err-checkable.ensures.refused) (rw (password.0, c.salted-decoy.ensures) at c.decline.ensures.declines))
 
 pub returns-in-Ok-checkable-clause-logs_in : goal.returns-in-Ok-checkable-clause-logs_in
@@ -31,7 +31,7 @@ returns-in-Ok-checkable-clause-logs_in g c =
     let found = c.in-Ok-checkable.ensures.found in
     let within = rw password.0 at c.in-Ok-checkable.ensures.within in
     let outdated : c.is_outdated_by-is_outdated.result ≡ is_outdated_by kept.scheme scheme = cc in
-    rw (← c.in-Ok.ensures.limit) (compared c.args.password.now c.args.field.now c.args.method c.args.rounds (c.in-Ok.request).limit scheme kept c.miss_of.result _ password.1 c.in-Ok.ensures.scheme
+    rw (← c.in-Ok.ensures.limit) (LogsIn-compared c.args.password.now c.args.field.now c.args.method c.args.rounds (c.in-Ok.request).limit scheme kept c.miss_of.result _ password.1 c.in-Ok.ensures.scheme
     found.spells (omega (arith, within)) (rw found.is_text at c.miss_of.ensures.miss) (rw (password.0, found.is_text, outdated) at c.compare.ensures.compares))
 
 pub returns-in-Ok-checkable-clause-replaced : goal.returns-in-Ok-checkable-clause-replaced
@@ -39,15 +39,15 @@ returns-in-Ok-checkable-clause-replaced g c = λ none is.
     let kept = (c.in-Ok-checkable.stored).setting in
     let scheme = (c.in-Ok.request).scheme in
     let same : kept ≡ is.0 = c.in-Ok-checkable.ensures.only is.0 is.2 in
-    let made : scheme ≡ is.1 = made_once TakesNewRounds TakesRounds c.args.method c.args.rounds scheme is.1 c.in-Ok.ensures.scheme is.3 in
-    let outdated : is_outdated_by kept.scheme scheme ≡ true = outdated_is kept is.0 scheme is.1 same made is.4 in
+    let made : scheme ≡ is.1 = IsSchemeMade-unique TakesNewRounds TakesRounds c.args.method c.args.rounds scheme is.1 c.in-Ok.ensures.scheme is.3 in
+    let outdated : is_outdated_by kept.scheme scheme ≡ true = is_outdated_by-eq kept is.0 scheme is.1 same made is.4 in
     let told : c.is_outdated_by-is_outdated.result ≡ true = cc in
     rw told at (c.compare.ensures.same none).1
 
 pub returns-in-Ok-checkable-clause-shut : goal.returns-in-Ok-checkable-clause-shut
 returns-in-Ok-checkable-clause-shut g c = λ dead none.
     let found = c.in-Ok-checkable.ensures.found in
-    dead_fits (c.in-Ok.request).password c.args.field.now (c.in-Ok-checkable.stored).setting found.spells
+    not_fits-IsDead (c.in-Ok.request).password c.args.field.now (c.in-Ok-checkable.stored).setting found.spells
     (rw found.is_text at (c.compare.ensures.same none).0) dead
 
 pub returns-in-Err-clause-dead : goal.returns-in-Err-clause-dead
@@ -67,7 +67,7 @@ returns-in-Ok-checkable-clause-dead g c = λ scheme kept made is spells dead low
       | inl whole ↦ absurd (dead whole.1)
       | inr cut ↦ cut.0
     ] in
-    let missed = c.compare.ensures.missed (λ fits. dead_fits (c.in-Ok.request).password c.args.field.now own found.spells (rw found.is_text at fits) (kept, spells, dead)) in
+    let missed = c.compare.ensures.missed (λ fits. not_fits-IsDead (c.in-Ok.request).password c.args.field.now own found.spells (rw found.is_text at fits) (kept, spells, dead)) in
     elim missed [
       | inl told ↦ inl (rw (is_dead, c.in-Ok-checkable.ensures.within.0, c.in-Ok.ensures.password.0, same) at told)
       | inr lacks ↦ inr (rw same at lacks)
@@ -115,7 +115,7 @@ returns-in-Err-checkable-clause-enough g c = λ enough lacks.
     let password = c.in-Ok.ensures.password in
     let scheme = (c.in-Ok.request).scheme in
     let limit = limit_in c.args.method c.args.rounds c.args.limit (length c.args.password.now) in
-    let never = uncheckable c.args.password.now c.args.field.now limit (λ kept spells low.
+    let never = IsUncheckable-none_within c.args.password.now c.args.field.now limit (λ kept spells low.
     absurd (cc (c.in-Err-checkable.ensures.admits kept spells (rw (password.0, c.in-Ok.ensures.limit) low)))) in
     c.decline.ensures.enough (λ within.
     let low : cost (decoy scheme) (length c.args.password.now) ≤ limit = rw (← c.in-Ok.ensures.limit) (rw (password.0, c.salted-decoy.ensures) at within) in

@@ -5,18 +5,18 @@ use Rattle.std.specs.Prelude.{IfErr, IsErrAnd, Result}
 use Rattle.call_core.specs.Arguments.{Refuses, TakesNewRounds}
 use Rattle.call_core.specs.Reports.{refused}
 use Rattle.call_core.specs.declared.report.Report.{Report}
-use Rattle.call_core.proofs.MadeSchemes.{scheme_refused}
+use Rattle.call_core.proofs.MadeSchemes.{OnScheme-refused}
 use Rattle.call_core.proofs.reading.read_request.Goals as goal
 
 -- what holds of the wanted report holds of the error, which is that report
-err_is : {A : Type 0} → (made : Result A Report) (report : Report) (P : Report → Type 0) → IsErrAnd made (λ told. told ≡ report) → P report → IfErr made P
-err_is (Ok a) report P is holds = tt
-err_is (Err told) report P is holds = rw is holds
+IfErr-report : {A : Type 0} → (made : Result A Report) (report : Report) (P : Report → Type 0) → IsErrAnd made (λ told. told ≡ report) → P report → IfErr made P
+IfErr-report (Ok a) report P is holds = tt
+IfErr-report (Err told) report P is holds = rw is holds
 
 pub returns-in_err-scheme-clause-refused : goal.returns-in_err-scheme-clause-refused
 returns-in_err-scheme-clause-refused c =
     let refusal = c.in_err-scheme.field-0.0 in
-    err_is c.from_residual-in_err-scheme.result (refused refusal 0) _ c.from_residual-in_err-scheme.ensures.1 (inl (
+    IfErr-report c.from_residual-in_err-scheme.result (refused refusal 0) _ c.from_residual-in_err-scheme.ensures.1 (inl (
       c.in_ok-password.ensures.ok.1,
-      scheme_refused TakesNewRounds c.args.number c.args.rounds refusal (Refuses (refused refusal 0)) _ c.in_err-scheme.ensures refl,
+      OnScheme-refused TakesNewRounds c.args.number c.args.rounds refusal (Refuses (refused refusal 0)) _ c.in_err-scheme.ensures refl,
     ))

@@ -5,8 +5,8 @@ use Rattle.crypt_core.specs.MadeSettings.{TakesRounds}
 use Rattle.crypt_core.specs.OutdatedSchemes.{is_outdated_by}
 use Rattle.call_core.specs.Arguments.{Refuses}
 use Rattle.call_core.specs.declared.report.Report.{Report}
-use Rattle.call_core.proofs.LoginReports.{outdated_is}
-use Rattle.call_core.proofs.MadeSchemes.{made_once, scheme_refused}
+use Rattle.call_core.proofs.LoginReports.{is_outdated_by-eq}
+use Rattle.call_core.proofs.MadeSchemes.{IsSchemeMade-unique, OnScheme-refused}
 use Rattle.call_core.proofs.rehash.report_rehash.Goals as goal
 
 pub returns-in-Err-clause-replaced : goal.returns-in-Err-clause-replaced
@@ -17,8 +17,8 @@ returns-in-Ok-scheme_of-clause-replaced c = λ is.
     let kept = c.in-Ok.setting in
     let scheme = c.in-Ok-scheme_of.scheme in
     let same : kept ≡ is.0 = c.in-Ok.ensures.each_setting is.0 is.2 in
-    let made : scheme ≡ is.1 = made_once TakesRounds TakesRounds c.args.method c.args.rounds scheme is.1 c.in-Ok-scheme_of.ensures is.3 in
-    let outdated : is_outdated_by kept.scheme scheme ≡ true = outdated_is kept is.0 scheme is.1 same made is.4 in
+    let made : scheme ≡ is.1 = IsSchemeMade-unique TakesRounds TakesRounds c.args.method c.args.rounds scheme is.1 c.in-Ok-scheme_of.ensures is.3 in
+    let outdated : is_outdated_by kept.scheme scheme ≡ true = is_outdated_by-eq kept is.0 scheme is.1 same made is.4 in
     let told : c.is_outdated_by.result ≡ true = cc in
     rw told at (ap (λ (report : Report). report.outdated) c.found.ensures)
 
@@ -26,6 +26,6 @@ pub returns-in-Err-scheme_of-clause-rehashes : goal.returns-in-Err-scheme_of-cla
 returns-in-Err-scheme_of-clause-rehashes c = inl (
   c.in-Ok.setting,
   c.in-Ok.ensures.spelled,
-  scheme_refused TakesRounds c.args.method c.args.rounds c.in-Err-scheme_of.reason (Refuses c.from-in-Err-scheme_of.result) _
+  OnScheme-refused TakesRounds c.args.method c.args.rounds c.in-Err-scheme_of.reason (Refuses c.from-in-Err-scheme_of.result) _
       c.in-Err-scheme_of.ensures c.from-in-Err-scheme_of.ensures,
 )

@@ -1,6 +1,6 @@
 -- `checkable` admits a stored hash whose cost is within the budget (`admits`), and returns the only setting of the
 -- field (`only`).
-use Rattle.call_core.proofs.CheckReports.{never_above}
+use Rattle.call_core.proofs.CheckReports.{cost-not_above}
 use Rattle.call_core.proofs.verify.checkable.Goals as goal
 
 pub returns-in_err-stored-clause-admits : goal.returns-in_err-stored-clause-admits
@@ -9,7 +9,7 @@ returns-in_err-stored-clause-admits c = λ kept spells low. absurd (c.in_err-sto
 pub returns-in_err-most-clause-admits : goal.returns-in_err-most-clause-admits
 returns-in_err-most-clause-admits c = λ kept spells low.
     let above = rw c.setting.ensures.value at c.in_err-most.ensures.above in
-    absurd (never_above c.args.password.now c.args.budget (c.in_ok-stored.stored).setting kept
+    absurd (cost-not_above c.args.password.now c.args.budget (c.in_ok-stored.stored).setting kept
     (c.in_ok-stored.ensures.each_setting kept spells) above.0 low)
 
 pub returns-clause-only : goal.returns-clause-only

@@ -4,12 +4,12 @@
 use Rattle.std.proofs.Common.{◌≡◌, ◌∙◌, inl, inr, sym, ap, arith}
 use Rattle.crypt_core.specs.Crypt.{allocates}
 use Rattle.crypt_core.specs.Settings.{SettingValue}
-use Rattle.call_core.proofs.CheckReports.{compared, dead_fits, declined}
+use Rattle.call_core.proofs.CheckReports.{Verifies_from_Compares, not_fits-IsDead, Verifies-refused}
 use Rattle.call_core.proofs.verify.verify.Goals as goal
 
 pub returns-in-Err-checkable-clause-verifies : goal.returns-in-Err-checkable-clause-verifies
 returns-in-Err-checkable-clause-verifies g c =
-    declined c.args.password.now c.args.stored.now c.args.budget _ c.in-Ok.ensures.ok.1
+    Verifies-refused c.args.password.now c.args.stored.now c.args.budget _ c.in-Ok.ensures.ok.1
     (rw c.in-Ok.ensures.ok.0 at c.in-Err-checkable.ensures.refused)
 
 pub returns-in-Err-checkable-clause-opens : goal.returns-in-Err-checkable-clause-opens
@@ -21,7 +21,7 @@ returns-in-Ok-checkable-clause-verifies g c =
     let kept = (c.in-Ok-checkable.stored).setting in
     let found = c.in-Ok-checkable.ensures.found in
     let within = rw c.in-Ok.ensures.ok.0 at c.in-Ok-checkable.ensures.within in
-    compared c.args.password.now c.args.stored.now c.args.budget kept _ c.in-Ok.ensures.ok.1 found.spells (omega (arith, within))
+    Verifies_from_Compares c.args.password.now c.args.stored.now c.args.budget kept _ c.in-Ok.ensures.ok.1 found.spells (omega (arith, within))
     (rw (c.in-Ok.ensures.ok.0, found.is_text) at c.compare.ensures.compares)
 
 pub returns-in-Ok-checkable-clause-opens : goal.returns-in-Ok-checkable-clause-opens
@@ -43,5 +43,5 @@ returns-in-Ok-checkable-clause-opens g c = λ opens.
 pub returns-in-Ok-checkable-clause-shut : goal.returns-in-Ok-checkable-clause-shut
 returns-in-Ok-checkable-clause-shut g c = λ dead none.
     let found = c.in-Ok-checkable.ensures.found in
-    dead_fits c.in-Ok.password c.args.stored.now (c.in-Ok-checkable.stored).setting found.spells
+    not_fits-IsDead c.in-Ok.password c.args.stored.now (c.in-Ok-checkable.stored).setting found.spells
     (rw found.is_text at (c.compare.ensures.same none).0) dead
