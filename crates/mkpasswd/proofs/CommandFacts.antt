@@ -9,37 +9,37 @@ use Rattle.clap.specs.declared.builder.value_parser.ValueParser.{ValueParser}
 use Rattle.clap.proofs.OnLiterals.{clap_on_literals}
 use Rattle.mkpasswd.specs.Options.{command, command_rules, rounds_of, given_salt, is_set, mode_count, number_in, type_of}
 use Rattle.mkpasswd.specs.Private.Options.{parser_by_id}
-use Rattle.mkpasswd.proofs.PassedValues.{all_free, have_own_ids}
+use Rattle.mkpasswd.proofs.AcceptedValues.{all_free, have_own_ids}
 
 -- ---- A simple command, without exclusions
 
-pub simple : is_simple command ≡ true
+pub command-is_simple : is_simple command ≡ true
 unfolding command
-simple = refl
+command-is_simple = refl
 
-pub simple_and_free : is_simple_and_free command ≡ true
+pub command-is_simple_and_free : is_simple_and_free command ≡ true
 unfolding command
-simple_and_free = refl
+command-is_simple_and_free = refl
 
-pub ready : is_ready command.top ≡ true
+pub command-is_ready : is_ready command.top ≡ true
 unfolding command
-ready = refl
+command-is_ready = refl
 
-pub ready_leaves : list_all is_ready_leaf command.subs ≡ true
+pub command-ready_leaves : list_all is_ready_leaf command.subs ≡ true
 unfolding command
-ready_leaves = refl
+command-ready_leaves = refl
 
-pub free : all_free command.top.rules ≡ true
+pub command-all_free : all_free command.top.rules ≡ true
 unfolding command
-free = refl
+command-all_free = refl
 
-pub rules_are : (id : Text) (parser : ValueParser) → parser_by_id id command_rules ≡ Some parser → parser_by_id id command.top.rules ≡ Some parser
+pub command-parser_by_id : (id : Text) (parser : ValueParser) → parser_by_id id command_rules ≡ Some parser → parser_by_id id command.top.rules ≡ Some parser
 unfolding command
-rules_are id parser is = is
+command-parser_by_id id parser is = is
 
-pub own_ids : have_own_ids command.top.rules ≡ true
+pub command-have_own_ids : have_own_ids command.top.rules ≡ true
 unfolding command
-own_ids = refl
+command-have_own_ids = refl
 
 -- ---- What it makes of some arguments
 
@@ -47,13 +47,13 @@ abbrev arguments : List Text
 arguments =
     codes "-m" ∷ codes "md5" ∷ codes "-R" ∷ codes "+07" ∷ codes "--work" ∷ codes "--budget" ∷ codes "+036" ∷ codes "--check" ∷ codes "--rehash" ∷ codes "x" ∷ codes "ab" ∷ []
 
-takes_arguments : takes command arguments ≡ true
+arguments-taken : takes command arguments ≡ true
 unfolding command clap_on_literals
-takes_arguments = refl
+arguments-taken = refl
 
-no_fault : fault_of command arguments ≡ []
+arguments-no_fault : fault_of command arguments ≡ []
 unfolding command clap_on_literals
-no_fault = refl
+arguments-no_fault = refl
 
 -- the rows of these arguments
 abbrev HasArguments : List Row → Type 0
@@ -66,9 +66,9 @@ rows_of_arguments : HasArguments (matches_of command arguments)
 unfolding command clap_on_literals
 rows_of_arguments = (refl, refl, refl, refl, refl, refl, refl, refl, refl)
 
-no_words_taken : fault_of command [] ≡ []
+no_words-no_fault : fault_of command [] ≡ []
 unfolding command clap_on_literals
-no_words_taken = refl
+no_words-no_fault = refl
 
 -- and the rows of no arguments
 abbrev HasNoWords : List Row → Type 0

@@ -25,10 +25,10 @@ record IsPlain (word : Text) : Type 0 where
   pub no_short : short_of word ≡ None
 
 -- fail on a word that is no option
-no_option-plain : (word : Text) → IsNoOption word → IsPlain word
-no_option-plain word (inl hyphen) = rw hyphen (record { no_end = refl; no_long = refl; no_short = refl })
-no_option-plain [] (inr none) = record { no_end = refl; no_long = refl; no_short = refl }
-no_option-plain (b ∷ bs) (inr none) =
+IsPlain_from_IsNoOption : (word : Text) → IsNoOption word → IsPlain word
+IsPlain_from_IsNoOption word (inl hyphen) = rw hyphen (record { no_end = refl; no_long = refl; no_short = refl })
+IsPlain_from_IsNoOption [] (inr none) = record { no_end = refl; no_long = refl; no_short = refl }
+IsPlain_from_IsNoOption (b ∷ bs) (inr none) =
     let other : (b == 45) ≡ false = ne_eqb b 45 (λ same. none (bs, ap (λ n. n ∷ bs) same)) in
     record { no_end = rw other; no_long = rw other; no_short = rw other }
 
@@ -49,21 +49,21 @@ data GoesOn : Walk → List Text → Walk → Type 0 where
   first : {w v u : Walk} {word : Text} {rest : List Text} → Goes w word v → GoesOn v rest u → GoesOn w (word ∷ rest) u
 
 -- the walk over the words ends in the last state
-goes-fold : (w u : Walk) (arguments : List Text) → GoesOn w arguments u → fold (walked shape.rules []) w arguments ≡ u
-goes-fold w u arguments stays = refl
-goes-fold w u arguments (first one others) = rw one.goes (goes-fold _ u _ others)
+GoesOn-fold : (w u : Walk) (arguments : List Text) → GoesOn w arguments u → fold (walked shape.rules []) w arguments ≡ u
+GoesOn-fold w u arguments stays = refl
+GoesOn-fold w u arguments (first one others) = rw one.goes (GoesOn-fold _ u _ others)
 
 -- without an error
-goes-faultless : (w u : Walk) (arguments : List Text) → GoesOn w arguments u → walk_fault shape [] w arguments ≡ []
+GoesOn-faultless : (w u : Walk) (arguments : List Text) → GoesOn w arguments u → walk_fault shape [] w arguments ≡ []
 unfolding walk_fault
-goes-faultless w u arguments stays = refl
-goes-faultless w u arguments (first one others) = rw (one.faultless, one.goes) (goes-faultless _ u _ others)
+GoesOn-faultless w u arguments stays = refl
+GoesOn-faultless w u arguments (first one others) = rw (one.faultless, one.goes) (GoesOn-faultless _ u _ others)
 
 -- ---- The five arguments
 
 -- the state of the walk between two words: it has read these values of the argument `id`, and not used them yet
-abbrev at : List Row → Text → List Text → Waiting → ℕ → Walk
-at rows id values waiting position = record {
+abbrev walk_with_pending : List Row → Text → List Text → Waiting → ℕ → Walk
+walk_with_pending rows id values waiting position = record {
   held = record { rows = rows; pending = Some (id, values); skip = 0 };
   waiting = waiting;
   position = position;
@@ -74,73 +74,73 @@ at rows id values waiting position = record {
 abbrev start : Walk
 start = walk_from nothing_held
 
-abbrev at_type : Walk
-at_type = at [] (codes "method") [] (option (codes "method")) 1
+abbrev after_method_option : Walk
+after_method_option = walk_with_pending [] (codes "method") [] (option (codes "method")) 1
 
-abbrev behind_type : Text → Walk
-behind_type name = at [] (codes "method") (name ∷ []) idle 1
+abbrev after_type : Text → Walk
+after_type name = walk_with_pending [] (codes "method") (name ∷ []) idle 1
 
 abbrev type_row : Text → List Row
 type_row name = used (option_rule (codes "method") (Some 109)) (name ∷ []) []
 
-abbrev at_salt : Text → Walk
-at_salt name = at (type_row name) (codes "salt") [] (option (codes "salt")) 1
+abbrev after_salt_option : Text → Walk
+after_salt_option name = walk_with_pending (type_row name) (codes "salt") [] (option (codes "salt")) 1
 
-abbrev behind_salt : Text → Text → Walk
-behind_salt name salt = at (type_row name) (codes "salt") (salt ∷ []) idle 1
+abbrev after_salt : Text → Text → Walk
+after_salt name salt = walk_with_pending (type_row name) (codes "salt") (salt ∷ []) idle 1
 
 abbrev salt_row : Text → Text → List Row
 salt_row name salt = used (option_rule (codes "salt") (Some 83)) (salt ∷ []) (type_row name)
 
-abbrev behind_password : Text → Text → Text → Walk
-behind_password name salt password = at (salt_row name salt) (codes "password") (password ∷ []) idle 2
+abbrev after_password : Text → Text → Text → Walk
+after_password name salt password = walk_with_pending (salt_row name salt) (codes "password") (password ∷ []) idle 2
 
-word_1 : Goes start (codes "-m") at_type
+Goes-method_option : Goes start (codes "-m") after_method_option
 unfolding shape command clap_on_literals
-word_1 = record { goes = refl; faultless = refl }
+Goes-method_option = record { goes = refl; faultless = refl }
 
-word_2 : (name : Text) → IsPlain name → Goes at_type name (behind_type name)
+Goes-type : (name : Text) → IsPlain name → Goes after_method_option name (after_type name)
 unfolding shape command walked
-word_2 name p = record {
+Goes-type name p = record {
   goes = rw (p.no_end, p.no_long, p.no_short);
   faultless = rw (p.no_end, p.no_long, p.no_short);
 }
 
-word_3 : (name : Text) → Goes (behind_type name) (codes "-S") (at_salt name)
+Goes-salt_option : (name : Text) → Goes (after_type name) (codes "-S") (after_salt_option name)
 unfolding shape command clap_on_literals
-word_3 name = record { goes = refl; faultless = refl }
+Goes-salt_option name = record { goes = refl; faultless = refl }
 
-word_4 : (name salt : Text) → IsPlain salt → Goes (at_salt name) salt (behind_salt name salt)
+Goes-salt : (name salt : Text) → IsPlain salt → Goes (after_salt_option name) salt (after_salt name salt)
 unfolding shape command walked
-word_4 name salt p = record {
+Goes-salt name salt p = record {
   goes = rw (p.no_end, p.no_long, p.no_short);
   faultless = rw (p.no_end, p.no_long, p.no_short);
 }
 
-word_5 : (name salt password : Text) → IsPlain password
-    → Goes (behind_salt name salt) password (behind_password name salt password)
+Goes-password : (name salt password : Text) → IsPlain password
+    → Goes (after_salt name salt) password (after_password name salt password)
 unfolding shape command walked
-word_5 name salt password p = record {
+Goes-password name salt password p = record {
   goes = rw (p.no_end, p.no_long, p.no_short);
   faultless = rw (p.no_end, p.no_long, p.no_short);
 }
 
-all_words : (name salt password : Text) → IsNoOption name → IsNoOption salt → IsNoOption password
-    → GoesOn start (hash_arguments name salt password) (behind_password name salt password)
-all_words name salt password n s p =
-    first word_1 (first (word_2 name (no_option-plain name n)) (first (word_3 name)
-    (first (word_4 name salt (no_option-plain salt s))
-    (first (word_5 name salt password (no_option-plain password p)) stays))))
+GoesOn-hash_arguments : (name salt password : Text) → IsNoOption name → IsNoOption salt → IsNoOption password
+    → GoesOn start (hash_arguments name salt password) (after_password name salt password)
+GoesOn-hash_arguments name salt password n s p =
+    first Goes-method_option (first (Goes-type name (IsPlain_from_IsNoOption name n)) (first (Goes-salt_option name)
+    (first (Goes-salt name salt (IsPlain_from_IsNoOption salt s))
+    (first (Goes-password name salt password (IsPlain_from_IsNoOption password p)) stays))))
 
 -- ---- What the command makes of them
 
 -- `clap` takes the arguments
-pub given_fault : (name salt password : Text) → IsNoOption name → IsNoOption salt → IsNoOption password
+pub fault_of-hash_arguments : (name salt password : Text) → IsNoOption name → IsNoOption salt → IsNoOption password
     → fault_of command (hash_arguments name salt password) ≡ []
 unfolding shape command defaults_fault
-given_fault name salt password n s p =
-    let on = all_words name salt password n s p in
-    rw (goes-faultless _ _ _ on, goes-fold _ _ _ on)
+fault_of-hash_arguments name salt password n s p =
+    let on = GoesOn-hash_arguments name salt password n s p in
+    rw (GoesOn-faultless _ _ _ on, GoesOn-fold _ _ _ on)
 
 -- it finds the three texts, and nothing else is given
 pub record IsGiven (name salt password : Text) (rows : List Row) : Type 0 where
@@ -155,22 +155,22 @@ pub record IsGiven (name salt password : Text) (rows : List Row) : Type 0 where
   pub work : is_set (codes "work") rows ≡ false
   pub modes : mode_count rows ≡ 1
 
-abbrev rows_behind : Text → Text → Text → List Row
-rows_behind name salt password = finished shape.rules (behind_password name salt password).held
+abbrev rows_after_password : Text → Text → Text → List Row
+rows_after_password name salt password = finished shape.rules (after_password name salt password).held
 
-finds : (name salt password : Text) → IsGiven name salt password (rows_behind name salt password)
+IsGiven-rows_after_password : (name salt password : Text) → IsGiven name salt password (rows_after_password name salt password)
 unfolding shape command
-finds name salt password = record { type = refl; salt_is = refl; rounds = refl; word = refl; stdin = refl; batch = refl; check = refl; audit = refl; work = refl; modes = refl }
+IsGiven-rows_after_password name salt password = record { type = refl; salt_is = refl; rounds = refl; word = refl; stdin = refl; batch = refl; check = refl; audit = refl; work = refl; modes = refl }
 
 -- the rows that it finds are those of the last state
-given_rows : (name salt password : Text) → IsNoOption name → IsNoOption salt → IsNoOption password
-    → matches_of command (hash_arguments name salt password) ≡ rows_behind name salt password
+matches_of-hash_arguments : (name salt password : Text) → IsNoOption name → IsNoOption salt → IsNoOption password
+    → matches_of command (hash_arguments name salt password) ≡ rows_after_password name salt password
 unfolding shape command
-given_rows name salt password n s p =
-    ap (λ (w : Walk). finished shape.rules w.held) (goes-fold _ _ _ (all_words name salt password n s p))
+matches_of-hash_arguments name salt password n s p =
+    ap (λ (w : Walk). finished shape.rules w.held) (GoesOn-fold _ _ _ (GoesOn-hash_arguments name salt password n s p))
 
 -- so the three texts are in the rows that it finds
-pub is_given : (name salt password : Text) (arguments : List Text) → arguments ≡ hash_arguments name salt password
+pub IsGiven-hash_arguments : (name salt password : Text) (arguments : List Text) → arguments ≡ hash_arguments name salt password
     → IsNoOption name → IsNoOption salt → IsNoOption password → IsGiven name salt password (matches_of command arguments)
-is_given name salt password arguments are n s p =
-    rw (are, given_rows name salt password n s p) (finds name salt password)
+IsGiven-hash_arguments name salt password arguments are n s p =
+    rw (are, matches_of-hash_arguments name salt password n s p) (IsGiven-rows_after_password name salt password)

@@ -1,6 +1,6 @@
+pub mod AcceptedValues
 pub mod CommandFacts
 pub mod GivenArguments
-pub mod PassedValues
 pub mod PlannedMeaning
 pub mod PrintedHash
 pub mod ReadNumbers

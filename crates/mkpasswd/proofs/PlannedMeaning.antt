@@ -16,18 +16,18 @@ use Rattle.mkpasswd.specs.declared.fault.UsageFault.TheVariants.{Make}
 
 module _ (rows : List Row) (method : Method) (named : method_named (type_of rows) ≡ Some method) where
   -- a rule that the method, the rounds and the salt do not break, the arguments do not break
-  unbroken_make : (fault : MakeFault) → ¬ BreaksMake method (job_rounds method rows) (given_salt rows) fault → ¬ BreaksUsage rows (Make fault)
-  unbroken_make fault whole (own, own_named, breaks) =
+  not_BreaksUsage-Make : (fault : MakeFault) → ¬ BreaksMake method (job_rounds method rows) (given_salt rows) fault → ¬ BreaksUsage rows (Make fault)
+  not_BreaksUsage-Make fault whole (own, own_named, breaks) =
       let same : own ≡ method = cc in
       whole (subst (λ (m : Method). BreaksMake m (job_rounds m rows) (given_salt rows) fault) same breaks)
 
   -- the first rule that the method, the rounds and the salt break is the first of these that the arguments break
-  pub refused_make : (fault : MakeFault) → IsMakeRefused method (job_rounds method rows) (given_salt rows) fault
+  pub IsFirstBroken-Make : (fault : MakeFault) → IsMakeRefused method (job_rounds method rows) (given_salt rows) fault
       → IsFirstBroken (map Make make_faults) (BreaksUsage rows) (Make fault)
   unfolding IsMakeRefused
-  refused_make fault refused = go make_faults refused where
+  IsFirstBroken-Make fault refused = go make_faults refused where
     go : (faults : List MakeFault) → IsFirstBroken faults (BreaksMake method (job_rounds method rows) (given_salt rows)) fault
         → IsFirstBroken (map Make faults) (BreaksUsage rows) (Make fault)
     go [] broken = broken
     go (first ∷ others) (inl (is, breaks)) = inl (ap Make is, (method, named, breaks))
-    go (first ∷ others) (inr (whole, broken)) = inr (unbroken_make first whole, go others broken)
+    go (first ∷ others) (inr (whole, broken)) = inr (not_BreaksUsage-Make first whole, go others broken)

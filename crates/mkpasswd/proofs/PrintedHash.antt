@@ -18,65 +18,65 @@ use Rattle.run_core.specs.Texts.{as_line}
 use Rattle.run_core.specs.declared.job.Job.{Job}
 use Rattle.run_core.specs.declared.job.PasswordFrom.TheVariants.{Word, Input}
 use Rattle.mkpasswd.specs.declared.plan.Plan.TheVariants.{Methods, One, Batch, Check, Audit}
-use Rattle.mkpasswd.proofs.GivenArguments.{IsGiven, given_fault, is_given}
+use Rattle.mkpasswd.proofs.GivenArguments.{IsGiven, fault_of-hash_arguments, IsGiven-hash_arguments}
 
 -- ---- The name of a method is no option
 
 module _ (name : Text) (method : Method) (named : method_named name ≡ Some method) where
-  no_hyphen : ¬ BeginsWith name (codes "-")
-  no_hyphen (rest, is) = none-some method (subst (λ (text : Text). method_named text ≡ Some method) is named)
+  method_named-no_hyphen : ¬ BeginsWith name (codes "-")
+  method_named-no_hyphen (rest, is) = none-some method (subst (λ (text : Text). method_named text ≡ Some method) is named)
 
-  not_help : ¬ (name ≡ codes "help")
-  not_help is = none-some method (subst (λ (text : Text). method_named text ≡ Some method) is named)
+  method_named-not_help : ¬ (name ≡ codes "help")
+  method_named-not_help is = none-some method (subst (λ (text : Text). method_named text ≡ Some method) is named)
 
 -- ---- What the arguments mean
 
 -- the answer of this job is the hash alone
-text_by : (method : Method) (salt password : Text) (job : Job) (bytes : Text) (stream : Stream)
+text-password_answer : (method : Method) (salt password : Text) (job : Job) (bytes : Text) (stream : Stream)
     → job.maker ≡ record { scheme = made_scheme method 0; salt = Some salt } → job.work ≡ false → bytes ≡ password
     → (password_answer job bytes stream).text ≡ as_line (crypt password (record { scheme = made_scheme method 0; salt = salt }))
-text_by method salt password job bytes stream maker_is work_is bytes_is =
+text-password_answer method salt password job bytes stream maker_is work_is bytes_is =
     rw (maker_is, work_is, bytes_is) (ap as_line (append-nil (crypt password (record { scheme = made_scheme method 0; salt = salt }))))
 
 module _ (name salt password : Text) (method : Method) (named : method_named name ≡ Some method)
     (salt_is : IsNoOption salt) (password_is : IsNoOption password) where
   -- the name is no option, because no method's name begins with a hyphen
-  name_is : IsNoOption name
-  name_is = inr (no_hyphen name method named)
+  name-IsNoOption : IsNoOption name
+  name-IsNoOption = inr (method_named-no_hyphen name method named)
 
-  finds : (arguments : List Text) → arguments ≡ hash_arguments name salt password → IsGiven name salt password (matches_of command arguments)
-  finds arguments are = is_given name salt password arguments are name_is salt_is password_is
+  IsGiven-matches_of : (arguments : List Text) → arguments ≡ hash_arguments name salt password → IsGiven name salt password (matches_of command arguments)
+  IsGiven-matches_of arguments are = IsGiven-hash_arguments name salt password arguments are name-IsNoOption salt_is password_is
 
-  same_method : (own : Method) → method_named name ≡ Some own → own ≡ method
-  same_method own own_named = let own_here = own_named in let named_here = named in cc
+  method_named-unique : (own : Method) → method_named name ≡ Some own → own ≡ method
+  method_named-unique own own_named = let own_here = own_named in let named_here = named in cc
 
   -- a job of the rows that were found prints this hash
-  prints_job : (rows : List Row) (job : Job) (bytes : Text) (stream : Stream) → IsGiven name salt password rows → IsJob rows job
+  text-IsJob : (rows : List Row) (job : Job) (bytes : Text) (stream : Stream) → IsGiven name salt password rows → IsJob rows job
       → bytes ≡ password → (password_answer job bytes stream).text ≡ as_line (crypt password (record { scheme = made_scheme method 0; salt = salt }))
-  prints_job rows job bytes stream found is_job bytes_is =
-      let own = same_method is_job.maker.0 (rw found.type at is_job.maker.1) in
-      text_by method salt password job bytes stream (rw (found.audit, found.rounds, found.salt_is, own) at is_job.maker.2) (is_job.work ∙ found.work) bytes_is
+  text-IsJob rows job bytes stream found is_job bytes_is =
+      let own = method_named-unique is_job.maker.0 (rw found.type at is_job.maker.1) in
+      text-password_answer method salt password job bytes stream (rw (found.audit, found.rounds, found.salt_is, own) at is_job.maker.2) (is_job.work ∙ found.work) bytes_is
 
-  not_set : {set : Bool} → set ≡ false → set ≡ true → ⊥
-  not_set off on = true≢false (sym on ∙ off)
+  not_set_and_unset : {set : Bool} → set ≡ false → set ≡ true → ⊥
+  not_set_and_unset off on = true≢false (sym on ∙ off)
 
   -- so the command prints it, whatever its plan: the other plans are not those of the arguments
-  pub prints_hash : {I O E : Type 0} (Made IsKept : Type 0) (arguments : List Text) (old new : RunState I O E) → arguments ≡ hash_arguments name salt password
+  pub PrintsHash_from_EndsWhole : {I O E : Type 0} (Made IsKept : Type 0) (arguments : List Text) (old new : RunState I O E) → arguments ≡ hash_arguments name salt password
       → EndsWhole Made IsKept arguments old new → PrintsHash method salt password old.out new.out
-  prints_hash Made IsKept arguments old new are (inr (asked, (error, refuses, by, text, gives))) =
-      absurd (rw (are, given_fault name salt password name_is salt_is password_is) at refuses.called_for)
-  prints_hash Made IsKept arguments old new are (inl (Methods, (taken, asks), asked, done)) = absurd (not_help name method named (rw (finds arguments are).type at asks))
-  prints_hash Made IsKept arguments old new are (inl (One job (Word typed), (taken, (other, unbroken, (is_job, is))), asked, done)) =
-      let found = finds arguments are in
+  PrintsHash_from_EndsWhole Made IsKept arguments old new are (inr (asked, (error, refuses, by, text, gives))) =
+      absurd (rw (are, fault_of-hash_arguments name salt password name-IsNoOption salt_is password_is) at refuses.called_for)
+  PrintsHash_from_EndsWhole Made IsKept arguments old new are (inl (Methods, (taken, asks), asked, done)) = absurd (method_named-not_help name method named (rw (IsGiven-matches_of arguments are).type at asks))
+  PrintsHash_from_EndsWhole Made IsKept arguments old new are (inl (One job (Word typed), (taken, (other, unbroken, (is_job, is))), asked, done)) =
+      let found = IsGiven-matches_of arguments are in
       let same : Some typed.items ≡ Some password = sym is ∙ found.word in
-      rw (prints_job (matches_of command arguments) job typed.items old.stream found is_job cc, append-nil) at done.2.run.1.text.shown
-  prints_hash Made IsKept arguments old new are (inl (One job Input, (taken, (other, unbroken, (is_job, inl is))), asked, done)) =
-      absurd (not_set (finds arguments are).stdin is)
-  prints_hash Made IsKept arguments old new are (inl (One job Input, (taken, (other, unbroken, (is_job, inr none))), asked, done)) =
-      absurd (omega (arith, (finds arguments are).modes))
-  prints_hash Made IsKept arguments old new are (inl (Batch job, (taken, (other, unbroken, (is_job, is))), asked, done)) =
-      absurd (not_set (finds arguments are).batch is)
-  prints_hash Made IsKept arguments old new are (inl (Check job, (taken, (other, unbroken, (is_job, is))), asked, done)) =
-      absurd (not_set (finds arguments are).check is)
-  prints_hash Made IsKept arguments old new are (inl (Audit job, (taken, (other, unbroken, (is_job, is))), asked, done)) =
-      absurd (not_set (finds arguments are).audit is)
+      rw (text-IsJob (matches_of command arguments) job typed.items old.stream found is_job cc, append-nil) at done.2.run.1.text.shown
+  PrintsHash_from_EndsWhole Made IsKept arguments old new are (inl (One job Input, (taken, (other, unbroken, (is_job, inl is))), asked, done)) =
+      absurd (not_set_and_unset (IsGiven-matches_of arguments are).stdin is)
+  PrintsHash_from_EndsWhole Made IsKept arguments old new are (inl (One job Input, (taken, (other, unbroken, (is_job, inr none))), asked, done)) =
+      absurd (omega (arith, (IsGiven-matches_of arguments are).modes))
+  PrintsHash_from_EndsWhole Made IsKept arguments old new are (inl (Batch job, (taken, (other, unbroken, (is_job, is))), asked, done)) =
+      absurd (not_set_and_unset (IsGiven-matches_of arguments are).batch is)
+  PrintsHash_from_EndsWhole Made IsKept arguments old new are (inl (Check job, (taken, (other, unbroken, (is_job, is))), asked, done)) =
+      absurd (not_set_and_unset (IsGiven-matches_of arguments are).check is)
+  PrintsHash_from_EndsWhole Made IsKept arguments old new are (inl (Audit job, (taken, (other, unbroken, (is_job, is))), asked, done)) =
+      absurd (not_set_and_unset (IsGiven-matches_of arguments are).audit is)

@@ -24,33 +24,33 @@ abbrev pub number_of : Text → ℕ
 number_of text = digits_value 10 (without_leading_plus text)
 
 -- a text that passed the parser is read as its number
-read_of_text : (bits : ℕ) (parser : ValueParser) → takes_below (2 ^ bits) parser ≡ true → (text : Text) → HasPassed parser text
+ReadsOne-number_of : (bits : ℕ) (parser : ValueParser) → takes_below (2 ^ bits) parser ≡ true → (text : Text) → HasPassed parser text
     → (read : Option ℕ) → ReadsOne (Parses bits) text read → read ≡ Some (number_of text)
-read_of_text bits (Signed (pos low) (pos high)) below text passed read reads =
+ReadsOne-number_of bits (Signed (pos low) (pos high)) below text passed read reads =
     let own = subst (λ (t : Text). ReadsOne (Parses bits) t read) passed.2 reads in
     let got = signed_reads ParseIntError (Parses bits) bits low high passed.0 read own (λ u x gives. gives.0) (ltb-true high (2 ^ bits) below) passed.3 in
     let gives : ReadsOne (Parses bits) text (Some got.0) = subst (λ (r : Option ℕ). ReadsOne (Parses bits) text r) got.1 reads in
     got.1 ∙ ap Some gives.0.1
-read_of_text bits (Unsigned low high) below text passed (Some number) reads = ap Some reads.0.1
-read_of_text bits (Unsigned low high) below text passed None reads =
+ReadsOne-number_of bits (Unsigned low high) below text passed (Some number) reads = ap Some reads.0.1
+ReadsOne-number_of bits (Unsigned low high) below text passed None reads =
     let accepted = subst (λ (t : Text). IsUnsignedIn low high t) (sym passed.2) passed.3 in
     absurd (reads.1.0 (accepted.0, omega (arith, accepted.3, ltb-true high (2 ^ bits) below)))
-read_of_text bits parser below text passed read reads = absurd cc
+ReadsOne-number_of bits parser below text passed read reads = absurd cc
 
 -- and so is a value that may be missing
-read_of_value : (bits : ℕ) (parser : ValueParser) → takes_below (2 ^ bits) parser ≡ true → (value : Option Text) → ((text : Text) → value ≡ Some text → HasPassed parser text)
+ReadsOne-option_map : (bits : ℕ) (parser : ValueParser) → takes_below (2 ^ bits) parser ≡ true → (value : Option Text) → ((text : Text) → value ≡ Some text → HasPassed parser text)
     → (read : Option ℕ) → (value ≡ None → read ≡ None) → ((text : Text) → value ≡ Some text → ReadsOne (Parses bits) text read) → read ≡ option_map number_of value
-read_of_value bits parser below None passed read none some = none refl
-read_of_value bits parser below (Some text) passed read none some = read_of_text bits parser below text (passed text refl) read (some text refl)
+ReadsOne-option_map bits parser below None passed read none some = none refl
+ReadsOne-option_map bits parser below (Some text) passed read none some = ReadsOne-number_of bits parser below text (passed text refl) read (some text refl)
 
 -- so the number of an option is read from its value
-pub number_read : (bits : ℕ) (matches : ArgMatches) (id : Text) → IsNumber (2 ^ bits) id → HavePassed matches
+pub one_text-number_of : (bits : ℕ) (matches : ArgMatches) (id : Text) → IsNumber (2 ^ bits) id → HavePassed matches
     → (read : Option ℕ) → (one_text (found_of matches) id ≡ None → read ≡ None)
     → ((text : Text) → one_text (found_of matches) id ≡ Some text → ReadsOne (Parses bits) text read)
     → read ≡ option_map number_of (one_text (found_of matches) id)
-number_read bits matches id below passed read none some = go (parser_by_id id command_rules) refl below
+one_text-number_of bits matches id below passed read none some = go (parser_by_id id command_rules) refl below
   where
     go : (parser : Option ValueParser) → parser_by_id id command_rules ≡ parser → option_map_or (takes_below (2 ^ bits)) parser false ≡ true
         → read ≡ option_map number_of (one_text (found_of matches) id)
     go None is below = absurd cc
-    go (Some parser) is below = read_of_value bits parser below (one_text (found_of matches) id) (passed id parser is) read none some
+    go (Some parser) is below = ReadsOne-option_map bits parser below (one_text (found_of matches) id) (passed id parser is) read none some

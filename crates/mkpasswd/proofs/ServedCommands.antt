@@ -27,9 +27,9 @@ use Rattle.run_core.specs.declared.tally.Tally.{Tally}
 
 module _ {T : Type 0} where
   -- the line of an error was written, in at most as many calls as it has bytes
-  pub is_told : {A : Type 0} (fault : Fault) (old new : Device T) (line : List ℕ) (turns : ℕ) (result : Result A RunFault)
+  pub IsTold_from_Shows : {A : Type 0} (fault : Fault) (old new : Device T) (line : List ℕ) (turns : ℕ) (result : Result A RunFault)
       → line ≡ fault_line fault → turns ≡ length line → Shows turns old new line result → IsTold fault old new
-  is_told {A} fault old new line turns result line_is turns_is shows =
+  IsTold_from_Shows {A} fault old new line turns result line_is turns_is shows =
       let tallied : Shows turns old new line (as_tally result) = Shows-as_tally turns old new line result shows in
       let shown : Shows (length line) old new line (as_tally result) = rw turns_is at tallied in
       (as_tally result, rw line_is at shown)
@@ -37,34 +37,34 @@ module _ {T : Type 0} where
 -- ---- `clap`'s message
 
 -- an error of `clap` has status 0 if it is help or the version, and otherwise 2
-pub status_by_kind : (which : ErrorKind)
+pub parse_status-cases : (which : ErrorKind)
     → ((which ≢ kind.DisplayHelp) × (which ≢ kind.DisplayVersion) × (parse_status which ≡ 2))
     ⊎ ((¬ ((which ≢ kind.DisplayHelp) × (which ≢ kind.DisplayVersion))) × (parse_status which ≡ 0))
-status_by_kind kind.DisplayHelp = inr ((λ others. others.0 refl), refl)
-status_by_kind kind.DisplayVersion = inr ((λ others. others.1 refl), refl)
-status_by_kind which = inl ((λ help. cc), (λ version. cc), refl)
+parse_status-cases kind.DisplayHelp = inr ((λ others. others.0 refl), refl)
+parse_status-cases kind.DisplayVersion = inr ((λ others. others.1 refl), refl)
+parse_status-cases which = inl ((λ help. cc), (λ version. cc), refl)
 
 -- help and the version have status 0
-pub status_of_help : (which : ErrorKind) → ¬ ((which ≢ kind.DisplayHelp) × (which ≢ kind.DisplayVersion)) → parse_status which ≡ 0
-status_of_help which asked = elim (status_by_kind which) [
+pub parse_status-help : (which : ErrorKind) → ¬ ((which ≢ kind.DisplayHelp) × (which ≢ kind.DisplayVersion)) → parse_status which ≡ 0
+parse_status-help which asked = elim (parse_status-cases which) [
   | inl other ↦ absurd (asked (other.0, other.1))
   | inr own ↦ own.1
 ]
 
 -- any other error has status 2
-pub status_of_mistake : (which : ErrorKind) → (which ≢ kind.DisplayHelp) × (which ≢ kind.DisplayVersion) → parse_status which ≡ 2
-status_of_mistake which other = elim (status_by_kind which) [
+pub parse_status-mistake : (which : ErrorKind) → (which ≢ kind.DisplayHelp) × (which ≢ kind.DisplayVersion) → parse_status which ≡ 2
+parse_status-mistake which other = elim (parse_status-cases which) [
   | inl own ↦ own.2
   | inr asked ↦ absurd (asked.0 other)
 ]
 
 module _ {O E : Type 0} where
   -- any other refusal of the arguments has a line of its own
-  pub refusal_shown : (fault : UsageFault) (turns : ℕ) (out : Device O) (faults : Device E) (new_faults : Device E) (status : ℕ)
+  pub RefusalShown-told : (fault : UsageFault) (turns : ℕ) (out : Device O) (faults : Device E) (new_faults : Device E) (status : ℕ)
       → ((error : Error) → fault ≢ Parse error) → IsTold (Usage fault) faults new_faults → status ≡ (fault_row (Usage fault)).0
       → RefusalShown fault turns out faults out new_faults status
-  refusal_shown (Parse error) turns out faults new_faults status other told status_is = absurd (other error refl)
-  refusal_shown fault turns out faults new_faults status other told status_is = (told, refl, status_is)
+  RefusalShown-told (Parse error) turns out faults new_faults status other told status_is = absurd (other error refl)
+  RefusalShown-told fault turns out faults new_faults status other told status_is = (told, refl, status_is)
 
 -- ---- The command
 
@@ -77,34 +77,34 @@ module _ {I O E : Type 0} where
   with_outs old out faults = record old { out = out; faults = faults }
 
   -- a run ended with a tally
-  pub serves_run : (turns : ℕ) (Made IsKept : Type 0) (generates : Bool) (arguments : List Text) (plan : Plan) (old new : RunState I O E) (tally : Tally) (status : ℕ)
+  pub Serves-run : (turns : ℕ) (Made IsKept : Type 0) (generates : Bool) (arguments : List Text) (plan : Plan) (old new : RunState I O E) (tally : Tally) (status : ℕ)
       → Plans arguments (Ok plan) → IsAsked Made IsKept (wants_generator plan) → RunsOrLacks turns generates plan old new (Ok tally) → status ≡ tally_status tally
       → Serves turns Made IsKept generates arguments old new status
-  serves_run turns Made IsKept generates arguments plan old new tally status planned asks runs status_is =
+  Serves-run turns Made IsKept generates arguments plan old new tally status planned asks runs status_is =
       (Ok plan, planned, asks, rw runs.0 (new, Ok tally, runs.1, (refl, status_is)))
 
   -- the line of an error changes only `faults`
-  tells : (fault : Fault) (old : RunState I O E) (faults : Device E) (status : ℕ) → IsTold fault old.faults faults → status ≡ (fault_row fault).0
+  Tells_from_IsTold : (fault : Fault) (old : RunState I O E) (faults : Device E) (status : ℕ) → IsTold fault old.faults faults → status ≡ (fault_row fault).0
       → Tells fault old (with_faults old faults) status
-  tells fault old faults status (result, shows) status_is = (result, shows, refl, status_is)
+  Tells_from_IsTold fault old faults status (result, shows) status_is = (result, shows, refl, status_is)
 
   -- a run ended with an error, or there was no generator for it
-  pub serves_fault : (turns : ℕ) (Made IsKept : Type 0) (generates : Bool) (arguments : List Text) (plan : Plan) (old mid : RunState I O E) (faults : Device E) (fault : Fault) (status : ℕ)
+  pub Serves-run_fault : (turns : ℕ) (Made IsKept : Type 0) (generates : Bool) (arguments : List Text) (plan : Plan) (old mid : RunState I O E) (faults : Device E) (fault : Fault) (status : ℕ)
       → Plans arguments (Ok plan) → IsAsked Made IsKept (wants_generator plan) → RunsOrLacks turns generates plan old mid (Err fault) → IsTold fault mid.faults faults
       → status ≡ (fault_row fault).0 → Serves turns Made IsKept generates arguments old (with_faults mid faults) status
-  serves_fault turns Made IsKept generates arguments plan old mid faults Start status planned asks runs is_told status_is =
-      (Ok plan, planned, asks, rw (runs.0, ← runs.1) (tells Start mid faults status is_told status_is))
-  serves_fault turns Made IsKept generates arguments plan old mid faults (Run fault) status planned asks runs is_told status_is =
-      (Ok plan, planned, asks, rw runs.0 (mid, Err fault, runs.1, tells (Run fault) mid faults status is_told status_is))
-  serves_fault turns Made IsKept generates arguments plan old mid faults (Usage fault) status planned asks runs is_told status_is = absurd runs
+  Serves-run_fault turns Made IsKept generates arguments plan old mid faults Start status planned asks runs is_told status_is =
+      (Ok plan, planned, asks, rw (runs.0, ← runs.1) (Tells_from_IsTold Start mid faults status is_told status_is))
+  Serves-run_fault turns Made IsKept generates arguments plan old mid faults (Run fault) status planned asks runs is_told status_is =
+      (Ok plan, planned, asks, rw runs.0 (mid, Err fault, runs.1, Tells_from_IsTold (Run fault) mid faults status is_told status_is))
+  Serves-run_fault turns Made IsKept generates arguments plan old mid faults (Usage fault) status planned asks runs is_told status_is = absurd runs
 
   -- `clap` refused the arguments, or they asked for help or the version
-  pub serves_error : (turns : ℕ) (Made IsKept : Type 0) (generates : Bool) (arguments : List Text) (error : Error) (old : RunState I O E) (out : Device O) (faults : Device E) (status : ℕ)
+  pub Serves-clap_error : (turns : ℕ) (Made IsKept : Type 0) (generates : Bool) (arguments : List Text) (error : Error) (old : RunState I O E) (out : Device O) (faults : Device E) (status : ℕ)
       → Plans arguments (Err (Parse error)) → IsAsked Made IsKept false → ErrorShown error turns old.out old.faults out faults status
       → Serves turns Made IsKept generates arguments old (with_outs old out faults) status
-  serves_error turns Made IsKept generates arguments error old out faults status planned asks (mistake text result by shows same status_is) =
+  Serves-clap_error turns Made IsKept generates arguments error old out faults status planned asks (mistake text result by shows same status_is) =
       (Err (Parse error), planned, asks, rw by (text, result, shows, ap (λ (o : Device O). with_outs old o faults) same, status_is))
-  serves_error turns Made IsKept generates arguments error old out faults status planned asks (help text by shows same status_is) = (
+  Serves-clap_error turns Made IsKept generates arguments error old out faults status planned asks (help text by shows same status_is) = (
     Err (Parse error),
     planned,
     asks,
@@ -116,7 +116,7 @@ module _ {I O E : Type 0} where
       (ap (λ (f : Device E). with_outs old out f) same, status_is),
     ),
   )
-  serves_error turns Made IsKept generates arguments error old out faults status planned asks (front text fault by shows told status_is) = (
+  Serves-clap_error turns Made IsKept generates arguments error old out faults status planned asks (front text fault by shows told status_is) = (
     Err (Parse error),
     planned,
     asks,
@@ -125,17 +125,17 @@ module _ {I O E : Type 0} where
       with_outs old out old.faults,
       Err fault,
       (shows, refl, tt),
-      tells (Run fault) (with_outs old out old.faults) faults status told status_is,
+      Tells_from_IsTold (Run fault) (with_outs old out old.faults) faults status told status_is,
     ),
   )
-  serves_error turns Made IsKept generates arguments error old out faults status planned asks (no_text told same status_is) =
-      (Err NoMemory, tt, asks, rw same (tells (Usage NoMemory) old faults status told status_is))
+  Serves-clap_error turns Made IsKept generates arguments error old out faults status planned asks (no_text told same status_is) =
+      (Err NoMemory, tt, asks, rw same (Tells_from_IsTold (Usage NoMemory) old faults status told status_is))
 
   -- the arguments were refused
-  pub serves_refusal : (turns : ℕ) (Made IsKept : Type 0) (generates : Bool) (arguments : List Text) (fault : UsageFault) (old : RunState I O E) (out : Device O) (faults : Device E) (status : ℕ)
+  pub Serves-refusal : (turns : ℕ) (Made IsKept : Type 0) (generates : Bool) (arguments : List Text) (fault : UsageFault) (old : RunState I O E) (out : Device O) (faults : Device E) (status : ℕ)
       → Plans arguments (Err fault) → IsAsked Made IsKept false → RefusalShown fault turns old.out old.faults out faults status
       → Serves turns Made IsKept generates arguments old (with_outs old out faults) status
-  serves_refusal turns Made IsKept generates arguments (Parse error) old out faults status planned asks shown =
-      serves_error turns Made IsKept generates arguments error old out faults status planned asks shown
-  serves_refusal turns Made IsKept generates arguments fault old out faults status planned asks (told, same, status_is) =
-      (Err fault, planned, asks, rw same (tells (Usage fault) old faults status told status_is))
+  Serves-refusal turns Made IsKept generates arguments (Parse error) old out faults status planned asks shown =
+      Serves-clap_error turns Made IsKept generates arguments error old out faults status planned asks shown
+  Serves-refusal turns Made IsKept generates arguments fault old out faults status planned asks (told, same, status_is) =
+      (Err fault, planned, asks, rw same (Tells_from_IsTold (Usage fault) old faults status told status_is))

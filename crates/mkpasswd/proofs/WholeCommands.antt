@@ -32,91 +32,91 @@ use Rattle.run_core.specs.declared.tally.Tally.{Tally}
 
 -- ---- No error of a run has status 0
 
-fault_of_run : (fault : RunFault) → (run_row fault).0 ≡ 0 → ⊥
-fault_of_run Read is = absurd (omega (arith, is))
-fault_of_run fault is = absurd (omega (arith, is))
+run_row-nonzero : (fault : RunFault) → (run_row fault).0 ≡ 0 → ⊥
+run_row-nonzero Read is = absurd (omega (arith, is))
+run_row-nonzero fault is = absurd (omega (arith, is))
 
-consumes_nothing : (known : Option (List ℕ)) → Consumes known known []
-consumes_nothing None = tt
-consumes_nothing (Some bytes) = refl
+Consumes-nothing : (known : Option (List ℕ)) → Consumes known known []
+Consumes-nothing None = tt
+Consumes-nothing (Some bytes) = refl
 
-reads_nothing : {I : Type 0} (input : Device I) → Reads input input []
-reads_nothing input = record { shown = consumes_nothing input.shown; counted = omega arith }
+Reads-nothing : {I : Type 0} (input : Device I) → Reads input input []
+Reads-nothing input = record { shown = Consumes-nothing input.shown; counted = omega arith }
 
 module _ {I O E : Type 0} where
   -- ---- A plan whose run has a tally of status 0
 
   -- a run with a tally of status 0 wrote all its answers
-  succeeds : (answers : List Answer) (read : List ℕ) (old new : RunState I O E) (tally : Tally) → tally_status tally ≡ 0
+  Succeeds_from_Finishes : (answers : List Answer) (read : List ℕ) (old new : RunState I O E) (tally : Tally) → tally_status tally ≡ 0
       → Reads old.input new.input read → Finishes answers old new (Ok tally)
       → Succeeds read answers old new
-  succeeds answers read old new tally well input (is, takes, after) = record {
+  Succeeds_from_Finishes answers read old new tally well input (is, takes, after) = record {
     input = input;
     run = (refl, takes, after);
     status = rw is at well;
   }
 
   -- the run of one password
-  one_is_done : (turns : ℕ) (job : Job) (from : PasswordFrom) (old new : RunState I O E) (tally : Tally) → tally_status tally ≡ 0
+  IsDone_from_EndsOne : (turns : ℕ) (job : Job) (from : PasswordFrom) (old new : RunState I O E) (tally : Tally) → tally_status tally ≡ 0
       → EndsOne turns job from old new (Ok tally) → IsDone (One job from) old new
-  one_is_done turns job (Word password) old new tally well (same, (answers, (known, is_password, are), finishes)) = (
+  IsDone_from_EndsOne turns job (Word password) old new tally well (same, (answers, (known, is_password, are), finishes)) = (
     is_password,
     same,
-    succeeds _ [] old new tally well (rw same (reads_nothing old.input)) (subst (λ (a : List Answer). Finishes a old new (Ok tally)) are finishes),
+    Succeeds_from_Finishes _ [] old new tally well (rw same (Reads-nothing old.input)) (subst (λ (a : List Answer). Finishes a old new (Ok tally)) are finishes),
   )
-  one_is_done turns job Input old new tally well (bytes, reads, (answers, (decided, is_password, are), finishes)) = (
+  IsDone_from_EndsOne turns job Input old new tally well (bytes, reads, (answers, (decided, is_password, are), finishes)) = (
     bytes,
     decided,
     is_password,
-    succeeds _ bytes old new tally well reads (subst (λ (a : List Answer). Finishes a old new (Ok tally)) are finishes),
+    Succeeds_from_Finishes _ bytes old new tally well reads (subst (λ (a : List Answer). Finishes a old new (Ok tally)) are finishes),
   )
 
   -- a run over lines
-  by_lines : (turns : ℕ) (kind : Kind) (job : Job) (old new : RunState I O E) (tally : Tally) → tally_status tally ≡ 0
+  SucceedsByLines_from_EndsLines : (turns : ℕ) (kind : Kind) (job : Job) (old new : RunState I O E) (tally : Tally) → tally_status tally ≡ 0
       → EndsLines turns kind job old new (Ok tally) → SucceedsByLines kind job old new
-  by_lines turns kind job old new tally well (bytes, reads, (answers, (read_out, are), finishes)) =
-      (bytes, answers, read_out, are, succeeds answers bytes old new tally well reads finishes)
+  SucceedsByLines_from_EndsLines turns kind job old new tally well (bytes, reads, (answers, (read_out, are), finishes)) =
+      (bytes, answers, read_out, are, Succeeds_from_Finishes answers bytes old new tally well reads finishes)
 
   -- the run of any plan
-  is_done : (turns : ℕ) (plan : Plan) (old new : RunState I O E) (tally : Tally) → tally_status tally ≡ 0
+  IsDone_from_Ends : (turns : ℕ) (plan : Plan) (old new : RunState I O E) (tally : Tally) → tally_status tally ≡ 0
       → Ends turns plan old new (Ok tally) → IsDone plan old new
-  is_done turns Methods old new tally well (shows, same, is) =
+  IsDone_from_Ends turns Methods old new tally well (shows, same, is) =
       record { others = same; gives = shows.0 }
-  is_done turns (One job from) old new tally well runs = one_is_done turns job from old new tally well runs.ends
-  is_done turns (Batch job) old new tally well runs = by_lines turns kinds.Batch job old new tally well runs.ends
-  is_done turns (Check job) old new tally well runs = by_lines turns kinds.Check job old new tally well runs.ends
-  is_done turns (Audit job) old new tally well runs = by_lines turns kinds.Audit job old new tally well runs.ends
+  IsDone_from_Ends turns (One job from) old new tally well runs = IsDone_from_EndsOne turns job from old new tally well runs.ends
+  IsDone_from_Ends turns (Batch job) old new tally well runs = SucceedsByLines_from_EndsLines turns kinds.Batch job old new tally well runs.ends
+  IsDone_from_Ends turns (Check job) old new tally well runs = SucceedsByLines_from_EndsLines turns kinds.Check job old new tally well runs.ends
+  IsDone_from_Ends turns (Audit job) old new tally well runs = SucceedsByLines_from_EndsLines turns kinds.Audit job old new tally well runs.ends
 
   -- so with status 0 a plan was run, and all of it was done
-  of_plan : (lacks : Bool) (turns : ℕ) (Made IsKept : Type 0) (plan : Plan) (arguments : List Text) (old new : RunState I O E) (status : ℕ) → status ≡ 0 → Plans arguments (Ok plan)
+  EndsWhole-plan : (lacks : Bool) (turns : ℕ) (Made IsKept : Type 0) (plan : Plan) (arguments : List Text) (old new : RunState I O E) (status : ℕ) → status ≡ 0 → Plans arguments (Ok plan)
       → IsAsked Made IsKept (wants_generator plan)
       → MatchBool lacks (Tells Start old new status)
       ((mid : RunState I O E) × (result : Result Tally RunFault) × Ends turns plan old mid result × Concludes result mid new status)
       → EndsWhole Made IsKept arguments old new
-  of_plan true turns Made IsKept plan arguments old new status well planned asks (result, shows, same, is) = absurd (omega (arith, is, well))
-  of_plan false turns Made IsKept plan arguments old new status well planned asks (mid, Ok tally, ends, (same, is)) =
-      rw same (inl (plan, planned, asks, is_done turns plan old mid tally (sym is ∙ well) ends))
-  of_plan false turns Made IsKept plan arguments old new status well planned asks (mid, Err fault, ends, (result, shows, same, is)) =
-      absurd (fault_of_run fault (sym is ∙ well))
+  EndsWhole-plan true turns Made IsKept plan arguments old new status well planned asks (result, shows, same, is) = absurd (omega (arith, is, well))
+  EndsWhole-plan false turns Made IsKept plan arguments old new status well planned asks (mid, Ok tally, ends, (same, is)) =
+      rw same (inl (plan, planned, asks, IsDone_from_Ends turns plan old mid tally (sym is ∙ well) ends))
+  EndsWhole-plan false turns Made IsKept plan arguments old new status well planned asks (mid, Err fault, ends, (result, shows, same, is)) =
+      absurd (run_row-nonzero fault (sym is ∙ well))
 
   -- ---- Arguments that are refused
 
   -- with status 0 an error of `clap` is help or the version, printed in full
-  of_error : (kept : ℕ) (turns : ℕ) (Made IsKept : Type 0) (arguments : List Text) (error : Error) (old new : RunState I O E) (status : ℕ) → status ≡ 0
+  EndsWhole-clap_error : (kept : ℕ) (turns : ℕ) (Made IsKept : Type 0) (arguments : List Text) (error : Error) (old new : RunState I O E) (status : ℕ) → status ≡ 0
       → Plans arguments (Err (Parse error)) → IsAsked Made IsKept false → parse_status (kind_of error) ≡ kept
       → ShowsError kept turns old new status → EndsWhole Made IsKept arguments old new
-  of_error zero turns Made IsKept arguments error old new status well planned asks by (text, mid, Ok tally, (shows, rest, none), (same, is)) =
+  EndsWhole-clap_error zero turns Made IsKept arguments error old new status well planned asks by (text, mid, Ok tally, (shows, rest, none), (same, is)) =
       inr (asks, (error, planned, by, text, rw same (record { others = rest; gives = shows.0 })))
-  of_error zero turns Made IsKept arguments error old new status well planned asks by (text, mid, Err fault, prints, (result, shows, same, is)) =
-      absurd (fault_of_run fault (sym is ∙ well))
-  of_error (suc n) turns Made IsKept arguments error old new status well planned asks by (text, result, shows, same, is) =
+  EndsWhole-clap_error zero turns Made IsKept arguments error old new status well planned asks by (text, mid, Err fault, prints, (result, shows, same, is)) =
+      absurd (run_row-nonzero fault (sym is ∙ well))
+  EndsWhole-clap_error (suc n) turns Made IsKept arguments error old new status well planned asks by (text, result, shows, same, is) =
       absurd (omega (arith, is, well))
 
   -- so status 0 means that the command ended whole
-  pub is_whole : (turns : ℕ) (Made IsKept : Type 0) (generates : Bool) (arguments : List Text) (old new : RunState I O E) (status : ℕ) → status ≡ 0
+  pub EndsWhole_from_Serves : (turns : ℕ) (Made IsKept : Type 0) (generates : Bool) (arguments : List Text) (old new : RunState I O E) (status : ℕ) → status ≡ 0
       → Serves turns Made IsKept generates arguments old new status → EndsWhole Made IsKept arguments old new
-  is_whole turns Made IsKept generates arguments old new status well (Ok plan, planned, asks, follows) =
-      of_plan (wants_generator plan && not generates) turns Made IsKept plan arguments old new status well planned asks follows
-  is_whole turns Made IsKept generates arguments old new status well (Err (Parse error), planned, asks, follows) =
-      of_error (parse_status (kind_of error)) turns Made IsKept arguments error old new status well planned asks refl follows
-  is_whole turns Made IsKept generates arguments old new status well (Err fault, planned, asks, (result, shows, same, is)) = absurd (omega (arith, is, well))
+  EndsWhole_from_Serves turns Made IsKept generates arguments old new status well (Ok plan, planned, asks, follows) =
+      EndsWhole-plan (wants_generator plan && not generates) turns Made IsKept plan arguments old new status well planned asks follows
+  EndsWhole_from_Serves turns Made IsKept generates arguments old new status well (Err (Parse error), planned, asks, follows) =
+      EndsWhole-clap_error (parse_status (kind_of error)) turns Made IsKept arguments error old new status well planned asks refl follows
+  EndsWhole_from_Serves turns Made IsKept generates arguments old new status well (Err fault, planned, asks, (result, shows, same, is)) = absurd (omega (arith, is, well))

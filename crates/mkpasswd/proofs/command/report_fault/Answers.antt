@@ -1,9 +1,9 @@
 -- `report_fault` writes the line of the error, in at most as many calls as it has bytes (`told`).
 use Rattle.std.proofs.Common.{◌∙◌, ap, length, sym}
-use Rattle.mkpasswd.proofs.ServedCommands.{is_told}
+use Rattle.mkpasswd.proofs.ServedCommands.{IsTold_from_Shows}
 use Rattle.mkpasswd.proofs.command.report_fault.Goals as goal
 
 pub returns-clause-told : goal.returns-clause-told
 returns-clause-told g c =
-    is_told c.args.fault.now c.args.faults.now c.show.new.out c.as_slice.result.now c.len.result c.show.result
+    IsTold_from_Shows c.args.fault.now c.args.faults.now c.show.new.out c.as_slice.result.now c.len.result c.show.result
     (c.as_slice.ensures.value ∙ c.fault_line-line.ensures) (c.len.ensures.value ∙ ap length (sym c.as_slice.ensures.value)) c.show.ensures

@@ -6,23 +6,23 @@ use Rattle.clap.specs.Words.{kind_of}
 use Rattle.clap.specs.declared.error.kind.ErrorKind.TheVariants as kind
 use Rattle.mkpasswd.specs.Private.Commands.{front, help, mistake}
 use Rattle.run_core.proofs.SentTexts.{as_tally, Shows-as_tally}
-use Rattle.mkpasswd.proofs.ServedCommands.{status_of_help, status_of_mistake}
+use Rattle.mkpasswd.proofs.ServedCommands.{parse_status-help, parse_status-mistake}
 use Rattle.mkpasswd.proofs.command.show_error.Goals as goal
 
 pub returns-then-use_stderr : goal.returns-then-use_stderr
 returns-then-use_stderr g c =
-    mistake c.as_bytes-message.result.now (as_tally c.show.result) (status_of_mistake _ (c.use_stderr.ensures.0 c.if-use_stderr.true))
+    mistake c.as_bytes-message.result.now (as_tally c.show.result) (parse_status-mistake _ (c.use_stderr.ensures.0 c.if-use_stderr.true))
     (Shows-as_tally c.args.turns c.args.faults.now c.show.new.out c.as_bytes-message.result.now c.show.result c.show.ensures) refl refl
 
 pub returns-in-Ok-shown : goal.returns-in-Ok-shown
 returns-in-Ok-shown g c =
     let asked : ¬ ((kind_of c.args.error.now ≢ kind.DisplayHelp) × (kind_of c.args.error.now ≢ kind.DisplayVersion)) = λ both. true≢false (sym (c.use_stderr.ensures.1 both) ∙ c.if-use_stderr.false) in
-    help c.as_bytes-message.result.now (status_of_help _ asked)
+    help c.as_bytes-message.result.now (parse_status-help _ asked)
     (Shows-as_tally {A = Unit {0}} c.args.turns c.args.out.now c.show-shown.new.out c.as_bytes-message.result.now (Ok tt) c.in-Ok-shown.ensures) refl refl
 
 pub returns : goal.returns
 returns g c =
     let asked : ¬ ((kind_of c.args.error.now ≢ kind.DisplayHelp) × (kind_of c.args.error.now ≢ kind.DisplayVersion)) = λ both. true≢false (sym (c.use_stderr.ensures.1 both) ∙ c.if-use_stderr.false) in
-    front c.as_bytes-message.result.now c.in-Err.fault (status_of_help _ asked)
+    front c.as_bytes-message.result.now c.in-Err.fault (parse_status-help _ asked)
     (Shows-as_tally {A = Unit {0}} c.args.turns c.args.out.now c.show-shown.new.out c.as_bytes-message.result.now (Err c.in-Err.fault) c.in-Err.ensures)
     c.report_fault-in-Err.ensures.told c.report_fault-in-Err.ensures.status

@@ -1,6 +1,6 @@
 -- The clause of `show_refusal`: `clap`'s error is shown as `show_error` promises, and any other refusal as
 -- `report_fault` does.
-use Rattle.mkpasswd.proofs.ServedCommands.{refusal_shown}
+use Rattle.mkpasswd.proofs.ServedCommands.{RefusalShown-told}
 use Rattle.mkpasswd.proofs.command.show_refusal.Goals as goal
 
 pub returns-in-Parse : goal.returns-in-Parse
@@ -8,5 +8,5 @@ returns-in-Parse g c = rw c.in-Parse.is c.show_error.ensures
 
 pub returns-in_default : goal.returns-in_default
 returns-in_default g c =
-    refusal_shown c.args.fault c.args.turns c.args.out.now c.args.faults.now c.report_fault.new.faults c.report_fault.result
+    RefusalShown-told c.args.fault c.args.turns c.args.out.now c.args.faults.now c.report_fault.new.faults c.report_fault.result
     c.in_default.not-Parse c.report_fault.ensures.told c.report_fault.ensures.status

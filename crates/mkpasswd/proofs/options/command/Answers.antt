@@ -22,14 +22,14 @@ HaveRules (arg ∷ args) (rule ∷ rules) = HasRule arg rule × HaveRules args r
 HaveRules args rules = ⊥
 
 -- adding them adds these rules to the command
-with_args : (before after : Command) (args : List Arg) (rules : List Rule) → AddsInTurn AddsArg before args after → HaveRules args rules
+app_of-args : (before after : Command) (args : List Arg) (rules : List Rule) → AddsInTurn AddsArg before args after → HaveRules args rules
     → app_of after ≡ fold with_rule (app_of before) rules
-with_args before after [] [] same have = ap app_of (sym same)
-with_args before after (arg ∷ args) (rule ∷ rules) (mid, adds, others) (has, have) =
-    with_args mid after args rules others have
+app_of-args before after [] [] same have = ap app_of (sym same)
+app_of-args before after (arg ∷ args) (rule ∷ rules) (mid, adds, others) (has, have) =
+    app_of-args mid after args rules others have
     ∙ ap (λ (app : App). fold with_rule app rules) (adds.shape has.1 ∙ ap (with_rule (app_of before)) has.0)
-with_args before after [] (rule ∷ rules) adds have = absurd have
-with_args before after (arg ∷ args) [] adds have = absurd have
+app_of-args before after [] (rule ∷ rules) adds have = absurd have
+app_of-args before after (arg ∷ args) [] adds have = absurd have
 
 -- a pair, written between its parts
 infixr 35 ◌&◌
@@ -58,4 +58,4 @@ returns c =
     & c.operand-salt_word.ensures
     & tt
     ) in
-    IfOk-weaker c.args-2.result _ _ (λ made adds. with_args _ _ _ command_rules adds have ∙ ap (λ (app : App). fold with_rule app command_rules) bare_is) c.args-2.ensures
+    IfOk-weaker c.args-2.result _ _ (λ made adds. app_of-args _ _ _ command_rules adds have ∙ ap (λ (app : App). fold with_rule app command_rules) bare_is) c.args-2.ensures

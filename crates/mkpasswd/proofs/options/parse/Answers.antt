@@ -13,16 +13,16 @@ use Rattle.clap.specs.declared.parser.matches.ArgMatches.{ArgMatches}
 use Rattle.mkpasswd.specs.Options.{Refuses, command}
 use Rattle.mkpasswd.proofs.CommandFacts as facts
 use Rattle.mkpasswd.specs.Private.Options.{HavePassed}
-use Rattle.mkpasswd.proofs.PassedValues.{IsOnlyRule, all_free, only_rule, passed}
+use Rattle.mkpasswd.proofs.AcceptedValues.{IsOnlyRule, all_free, IsOnlyRule-parser_by_id, HasPassed-one_text}
 use Rattle.mkpasswd.proofs.options.parse.Goals as goal
 
 -- ---- Refusals
 
 -- an error that is not a failed allocation is one that the arguments call for
-refused : (a : App) (arguments : List Text) (e : Error) → a ≡ command → (takes a arguments ≡ true → kind_of e ≡ kind.OutOfMemory)
+Refuses-clap_error : (a : App) (arguments : List Text) (e : Error) → a ≡ command → (takes a arguments ≡ true → kind_of e ≡ kind.OutOfMemory)
     → (is_simple_and_free a ≡ true → HasKind (fault_of a arguments) e) → kind_of e ≢ kind.OutOfMemory → Refuses arguments e
-refused a arguments e is passes kinds other = record {
-  called_for = elim (kinds (ap is_simple_and_free is ∙ facts.simple_and_free)) [ inl memory ↦ absurd (other memory) | inr among ↦ subst (λ (x : App). IsAmong (kind_of e) (fault_of x arguments)) is among ];
+Refuses-clap_error a arguments e is passes kinds other = record {
+  called_for = elim (kinds (ap is_simple_and_free is ∙ facts.command-is_simple_and_free)) [ inl memory ↦ absurd (other memory) | inr among ↦ subst (λ (x : App). IsAmong (kind_of e) (fault_of x arguments)) is among ];
   not_taken = λ taken. other (passes (ap (λ (x : App). takes x arguments) is ∙ taken));
   not_memory = other;
 }
@@ -32,34 +32,34 @@ returns-in_err-matches-clause-err c =
     let error = c.in_err-matches.field-0.0 in
     let clauses = c.in_err-matches.ensures in
     let p = err_from_is_err_and c.from_residual-in_err-matches.result c.from_residual-in_err-matches.ensures.1 in
-    rw (p.1, p.2) (refused _ _ error c.in_ok-command.ensures clauses.passes clauses.kinds)
+    rw (p.1, p.2) (Refuses-clap_error _ _ error c.in_ok-command.ensures clauses.passes clauses.kinds)
 
 -- ---- Values
 
 -- the rows of the matches are those of the arguments
-rows_read : (a : App) (arguments : List Text) (m : ArgMatches) → a ≡ command → HasMatchesOf a arguments m → rows_of (found_of m) ≡ matches_of command arguments
-rows_read a arguments m is matches = (subst (λ (x : App). HasMatchesOf x arguments m) is matches facts.simple).0
+rows_of-matches : (a : App) (arguments : List Text) (m : ArgMatches) → a ≡ command → HasMatchesOf a arguments m → rows_of (found_of m) ≡ matches_of command arguments
+rows_of-matches a arguments m is matches = (subst (λ (x : App). HasMatchesOf x arguments m) is matches facts.command-is_simple).0
 
 -- and the parser of its option accepts each value
-have_passed : (c : Command) (m : ArgMatches) → app_of c ≡ command → IsParsedFrom c m → HavePassed m
-have_passed c m is parsed id parser parser_is text read =
-    let rule = only_rule command.top.rules facts.own_ids id parser (facts.rules_are id parser parser_is) in
-    passed c m rule.0 rule.1 parser parsed
-    (ap (λ (a : App). is_ready a.top) is ∙ facts.ready)
-    (subst (λ (a : App). list_all is_ready_leaf a.subs ≡ true) (sym is) facts.ready_leaves)
-    (ap (λ (a : App). all_free a.top.rules) is ∙ facts.free)
+HavePassed-parsed : (c : Command) (m : ArgMatches) → app_of c ≡ command → IsParsedFrom c m → HavePassed m
+HavePassed-parsed c m is parsed id parser parser_is text read =
+    let rule = IsOnlyRule-parser_by_id command.top.rules facts.command-have_own_ids id parser (facts.command-parser_by_id id parser parser_is) in
+    HasPassed-one_text c m rule.0 rule.1 parser parsed
+    (ap (λ (a : App). is_ready a.top) is ∙ facts.command-is_ready)
+    (subst (λ (a : App). list_all is_ready_leaf a.subs ≡ true) (sym is) facts.command-ready_leaves)
+    (ap (λ (a : App). all_free a.top.rules) is ∙ facts.command-all_free)
     (subst (λ (a : App). IsOnlyRule a.top.rules rule.0 rule.1 parser) (sym is) rule.3)
     text
     (ap (one_text (found_of m)) rule.2 ∙ read)
 
 pub invariant_of-result : goal.invariant_of-result
-invariant_of-result c = have_passed _ c.in_ok-matches.matches c.in_ok-command.ensures c.in_ok-matches.ensures.parsed
+invariant_of-result c = HavePassed-parsed _ c.in_ok-matches.matches c.in_ok-command.ensures c.in_ok-matches.ensures.parsed
 
 pub returns-clause-ok : goal.returns-clause-ok
 returns-clause-ok c =
     let is = c.in_ok-command.ensures in
     let clauses = c.in_ok-matches.ensures in
     let arguments = map string_bytes c.args.arguments.now in (
-      subst (λ (a : App). fault_of a arguments ≡ []) is (clauses.kinds (ap is_simple_and_free is ∙ facts.simple_and_free)),
-      rows_read _ arguments c.in_ok-matches.matches is clauses.matches,
+      subst (λ (a : App). fault_of a arguments ≡ []) is (clauses.kinds (ap is_simple_and_free is ∙ facts.command-is_simple_and_free)),
+      rows_of-matches _ arguments c.in_ok-matches.matches is clauses.matches,
     )

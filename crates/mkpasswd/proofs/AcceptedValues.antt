@@ -36,19 +36,19 @@ abbrev pub all_free : List Rule → Bool
 all_free = list_all (λ rule. rule.is_free)
 
 -- if all rules are free, so is each argument
-each_free : (xs : List Arg) → all_free (map rule_of xs) ≡ true → All (λ a. is_free_arg a ≡ true) xs
-each_free [] e k d lt = absurd (omega arith)
-each_free (x ∷ xs) e zero d lt = (and_parts _ _ e).0
-each_free (x ∷ xs) e (suc k) d lt = each_free xs (and_parts _ _ e).1 k d (omega arith)
+is_free_arg-all_free : (xs : List Arg) → all_free (map rule_of xs) ≡ true → All (λ a. is_free_arg a ≡ true) xs
+is_free_arg-all_free [] e k d lt = absurd (omega arith)
+is_free_arg-all_free (x ∷ xs) e zero d lt = (and_parts _ _ e).0
+is_free_arg-all_free (x ∷ xs) e (suc k) d lt = is_free_arg-all_free xs (and_parts _ _ e).1 k d (omega arith)
 
 -- such a command has no exclusions, conflicts, overrides or groups
-excludes_nothing : (c : Command) → is_ready (shape_of c) ≡ true → HasReadyLeaves c → all_free (shape_of c).rules ≡ true → IsPlain c
-excludes_nothing c ready leaves free =
+IsPlain-all_free : (c : Command) → is_ready (shape_of c) ≡ true → HasReadyLeaves c → all_free (shape_of c).rules ≡ true → IsPlain c
+IsPlain-all_free c ready leaves free =
     let simple = ready_simple c ready leaves in
     let all_simple = (and_parts (shape_of c).is_plain _ (and_parts (has_simple_rules (shape_of c)) _ ready).0).1 in (
       λ k d lt.
           let arg = slice_index_or (args_of c) k d in
-          let own = and_parts _ _ (each_free (args_of c) free k d lt) in
+          let own = and_parts _ _ (is_free_arg-all_free (args_of c) free k d lt) in
           (is_false arg.exclusive own.0, is_nil arg.conflicts.items (and_parts _ _ own.1).0, (simple.args k d lt).overrides, simple_groups c all_simple k d lt),
       simple.groups,
     )
@@ -65,10 +65,10 @@ record IsOnly (c : Command) (k : ℕ) (id : Text) (q : ValueParser) : Type 0 whe
   own : (id ≡ codes "help") ⊎ (id ≡ codes "version") → ⊥
 
 -- each argument of the built command with this id has this parser
-same_parser : (c : Command) (m : ArgMatches) (p : IsParsedFrom c m) (k : ℕ) (id : Text) (q : ValueParser) → IsOnly c k id q
+parser_of-IsOnly : (c : Command) (m : ArgMatches) (p : IsParsedFrom c m) (k : ℕ) (id : Text) (q : ValueParser) → IsOnly c k id q
     → (j : ℕ) (x : Arg) → j < length (args_of p.built) → slice_index_or (args_of p.built) j x ≡ x → bytes_eq x.id.now id ≡ true
     → parser_of x ≡ q
-same_parser c m p k id q is j x low at same =
+parser_of-IsOnly c m p k id q is j x low at same =
     let called = is.called x in
     let rules = same_rules_by_id c m p k x is.within
     (λ i e within hit. is.only i e within (subst (λ (t : Text). bytes_eq (slice_index_or (args_of c) i e).id.now t ≡ true) called hit))
@@ -77,20 +77,20 @@ same_parser c m p k id q is j x low at same =
     ap parser_of_value (rules.parser q (is.parser x))
 
 -- if `P` holds of all values, the first text is read from a value of which `P` holds
-first_passed : (P : Bor Text → Type 0) (how : Reading) (values : List (Bor Text)) (text : Text) → All P values
+first_text-All : (P : Bor Text → Type 0) (how : Reading) (values : List (Bor Text)) (text : Text) → All P values
     → option_map (λ s. read_as how s.now) (slice_get values 0) ≡ Some text → (v : Bor Text) × (text ≡ read_as how v.now) × P v
-first_passed P how [] text all is = cc
-first_passed P how (v ∷ vs) text all is =
+first_text-All P how [] text all is = cc
+first_text-All P how (v ∷ vs) text all is =
     let same : text ≡ read_as how v.now = cc in
     (v, same, All-get_or P (v ∷ vs) 0 v (omega arith) all)
 
 -- so the text of an entry with this id is a value that the parser accepts
-value_passed : (c : Command) (m : ArgMatches) (p : IsParsedFrom c m) (k : ℕ) (id : Text) (q : ValueParser) → IsOnly c k id q → groups_of p.built ≡ []
+HasPassed_from_EntryPasses : (c : Command) (m : ArgMatches) (p : IsParsedFrom c m) (k : ℕ) (id : Text) (q : ValueParser) → IsOnly c k id q → groups_of p.built ≡ []
     → (e : Entry) → e.0.now ≡ id → EntryPasses p.built e
     → (text : Text) → option_map (λ s. read_as e.1.reading s.now) (slice_get e.1.vals.items 0) ≡ Some text → HasPassed q text
-value_passed c m p k id q is no_groups e key pass text read =
+HasPassed_from_EntryPasses c m p k id q is no_groups e key pass text read =
     let own_parser : (j : ℕ) (x : Arg) → j < length (args_of p.built) → slice_index_or (args_of p.built) j x ≡ x → bytes_eq x.id.now e.0.now ≡ true → parser_of x ≡ q =
-    λ j x low at same. same_parser c m p k id q is j x low at (subst (λ (t : Text). bytes_eq x.id.now t ≡ true) key same) in
+    λ j x low at same. parser_of-IsOnly c m p k id q is j x low at (subst (λ (t : Text). bytes_eq x.id.now t ≡ true) key same) in
     let no_group : e.1.is_group ≡ true → ⊥ = λ group. elim (pass.3 group) [
       | inl empty ↦ is.named (sym key ∙ empty)
       | inr some ↦
@@ -102,7 +102,7 @@ value_passed c m p k id q is no_groups e key pass text read =
       | inl group ↦ absurd (no_group group)
       | inr any ↦ sym any.4.1 ∙ ap reading_of (own_parser any.0 any.1 any.2 any.3 any.4.0)
     ] in
-    let first = first_passed (λ v. PassesArg p.built e.0.now v.now) e.1.reading e.1.vals.items text all read in
+    let first = first_text-All (λ v. PassesArg p.built e.0.now v.now) e.1.reading e.1.vals.items text all read in
     let any = first.2 in (
       first.0.now,
       any.1.ignore_case,
@@ -120,8 +120,8 @@ pub record IsOnlyRule (rules : List Rule) (k : ℕ) (r : Rule) (q : ValueParser)
   pub own : (r.id ≡ codes "help") ⊎ (r.id ≡ codes "version") → ⊥
 
 -- then the argument at place k is the only one with its id
-is_only : (c : Command) (k : ℕ) (r : Rule) (q : ValueParser) → IsOnlyRule (shape_of c).rules k r q → IsOnly c k r.id q
-is_only c k r q rule =
+IsOnly_from_IsOnlyRule : (c : Command) (k : ℕ) (r : Rule) (q : ValueParser) → IsOnlyRule (shape_of c).rules k r q → IsOnly c k r.id q
+IsOnly_from_IsOnlyRule c k r q rule =
     let count : length (map rule_of (args_of c)) ≡ length (args_of c) = length-map (args_of c) rule_of in
     let lt : k < length (args_of c) = let within = rule.within in omega arith in
     let rule_at : (j : ℕ) (d : Arg) → j < length (args_of c) → slice_index_or (map rule_of (args_of c)) j (rule_of d) ≡ rule_of (slice_index_or (args_of c) j d) = λ j d low. get_or-map rule_of (args_of c) j d (rule_of d) low in
@@ -138,39 +138,39 @@ is_only c k r q rule =
 -- ---- The rule with an id, if no two have the same
 
 -- no rule has this id
-abbrev lacks : Text → List Rule → Bool
-lacks id = list_all (λ rule. not (bytes_eq rule.id id))
+abbrev lacks_id : Text → List Rule → Bool
+lacks_id id = list_all (λ rule. not (bytes_eq rule.id id))
 
 -- no two rules have the same id, and none has that of help or the version
 abbrev pub have_own_ids : List Rule → Bool
 have_own_ids [] = true
 have_own_ids (rule ∷ rules) =
-    lacks rule.id rules && (not (bytes_eq rule.id []) && (not (bytes_eq rule.id (codes "help")) && (not (bytes_eq rule.id (codes "version")) && have_own_ids rules)))
+    lacks_id rule.id rules && (not (bytes_eq rule.id []) && (not (bytes_eq rule.id (codes "help")) && (not (bytes_eq rule.id (codes "version")) && have_own_ids rules)))
 
-not_same : {a b : Text} → not (bytes_eq a b) ≡ true → a ≡ b → ⊥
-not_same {a} {b} differ same = true≢false (sym ((bytes_eq-Decides a b).1 same) ∙ not-true (bytes_eq a b) differ)
+bytes_eq-false-ne : {a b : Text} → not (bytes_eq a b) ≡ true → a ≡ b → ⊥
+bytes_eq-false-ne {a} {b} differ same = true≢false (sym ((bytes_eq-Decides a b).1 same) ∙ not-true (bytes_eq a b) differ)
 
-lacks_each : (id : Text) (rules : List Rule) → lacks id rules ≡ true
+lacks_id-each : (id : Text) (rules : List Rule) → lacks_id id rules ≡ true
     → (j : ℕ) (z : Rule) → j < length rules → bytes_eq (slice_index_or rules j z).id id ≡ true → ⊥
-lacks_each id [] all j z lt same = absurd (omega arith)
-lacks_each id (rule ∷ rules) all zero z lt same = true≢false (sym same ∙ not-true (bytes_eq rule.id id) (and_parts _ _ all).0)
-lacks_each id (rule ∷ rules) all (suc j) z lt same = lacks_each id rules (and_parts _ _ all).1 j z (omega arith) same
+lacks_id-each id [] all j z lt same = absurd (omega arith)
+lacks_id-each id (rule ∷ rules) all zero z lt same = true≢false (sym same ∙ not-true (bytes_eq rule.id id) (and_parts _ _ all).0)
+lacks_id-each id (rule ∷ rules) all (suc j) z lt same = lacks_id-each id rules (and_parts _ _ all).1 j z (omega arith) same
 
 -- exactly one of these rules has this id, and it has this parser
 abbrev HaveOne : List Rule → Text → ValueParser → Type 0
 HaveOne rules id q = (k : ℕ) × (r : Rule) × (r.id ≡ id) × IsOnlyRule rules k r q
 
 -- the parser of an id is that of one rule, by induction over the rules
-pub only_rule : (rules : List Rule) → have_own_ids rules ≡ true → (id : Text) (q : ValueParser) → parser_by_id id rules ≡ Some q → HaveOne rules id q
-only_rule [] own id q is = absurd cc
-only_rule (rule ∷ rules) own id q is = go (bytes_eq rule.id id) refl (λ others. only_rule rules others id q) is
+pub IsOnlyRule-parser_by_id : (rules : List Rule) → have_own_ids rules ≡ true → (id : Text) (q : ValueParser) → parser_by_id id rules ≡ Some q → HaveOne rules id q
+IsOnlyRule-parser_by_id [] own id q is = absurd cc
+IsOnlyRule-parser_by_id (rule ∷ rules) own id q is = go (bytes_eq rule.id id) refl (λ others. IsOnlyRule-parser_by_id rules others id q) is
   where
-    alone : lacks rule.id rules ≡ true
-    alone = (and_parts (lacks rule.id rules) _ own).0
+    alone : lacks_id rule.id rules ≡ true
+    alone = (and_parts (lacks_id rule.id rules) _ own).0
 
     differs_from : (not (bytes_eq rule.id []) ≡ true) × ((not (bytes_eq rule.id (codes "help")) ≡ true) × ((not (bytes_eq rule.id (codes "version")) ≡ true) × (have_own_ids rules ≡ true)))
     differs_from =
-        let named = and_parts (not (bytes_eq rule.id [])) _ (and_parts (lacks rule.id rules) _ own).1 in
+        let named = and_parts (not (bytes_eq rule.id [])) _ (and_parts (lacks_id rule.id rules) _ own).1 in
         let no_help = and_parts (not (bytes_eq rule.id (codes "help"))) _ named.1 in
         (named.0, (no_help.0, and_parts (not (bytes_eq rule.id (codes "version"))) (have_own_ids rules) no_help.1))
 
@@ -198,22 +198,22 @@ only_rule (rule ∷ rules) own id q is = go (bytes_eq rule.id id) refl (λ other
         place = λ z. refl;
         parser = parser;
         only = λ j z lt other. first j z lt other;
-        named = not_same differs_from.0;
-        own = λ auto. elim auto [ inl help ↦ not_same differs_from.1.0 help | inr version ↦ not_same differs_from.1.1.0 version ];
+        named = bytes_eq-false-ne differs_from.0;
+        own = λ auto. elim auto [ inl help ↦ bytes_eq-false-ne differs_from.1.0 help | inr version ↦ bytes_eq-false-ne differs_from.1.1.0 version ];
       },
     ) where
       first : (j : ℕ) (z : Rule) → j < length (rule ∷ rules) → bytes_eq (slice_index_or (rule ∷ rules) j z).id rule.id ≡ true → j ≡ 0
       first zero z lt other = refl
-      first (suc j) z lt other = absurd (lacks_each rule.id rules alone j z (omega (arith, lt)) other)
+      first (suc j) z lt other = absurd (lacks_id-each rule.id rules alone j z (omega (arith, lt)) other)
     go false differs behind parser =
         let found = behind differs_from.1.1.1 parser in
         (suc found.0, found.1, found.2, later found.0 found.1 found.2 differs found.3)
 
 -- the text that `clap` found for an argument is a value that its parser accepts
-pub passed : (c : Command) (m : ArgMatches) (k : ℕ) (r : Rule) (q : ValueParser) → IsParsedFrom c m
+pub HasPassed-one_text : (c : Command) (m : ArgMatches) (k : ℕ) (r : Rule) (q : ValueParser) → IsParsedFrom c m
     → is_ready (shape_of c) ≡ true → HasReadyLeaves c → all_free (shape_of c).rules ≡ true → IsOnlyRule (shape_of c).rules k r q
     → (text : Text) → one_text (found_of m) r.id ≡ Some text → HasPassed q text
-passed c m k r q p ready leaves free rule text read = go (matched_of (found_of m) r.id) refl read
+HasPassed-one_text c m k r q p ready leaves free rule text read = go (matched_of (found_of m) r.id) refl read
   where
     go : (o : Option MatchedArg) → matched_of (found_of m) r.id ≡ o → one_text (found_of m) r.id ≡ Some text → HasPassed q text
     go None e is =
@@ -221,8 +221,8 @@ passed c m k r q p ready leaves free rule text read = go (matched_of (found_of m
         cc
     go (Some x) e is =
         let values = (p.parsed (p.from.globals ∙ (ready_simple c ready leaves).globals)).values in
-        let no_groups = (p.from.plain (excludes_nothing c ready leaves free)).1 in
+        let no_groups = (p.from.plain (IsPlain-all_free c ready leaves free)).1 in
         let got = entry_by_id (EntryPasses p.built) (found_of m).entries.items r.id x values e in
         let first : option_map (λ s. read_as x.reading s.now) (slice_get x.vals.items 0) ≡ Some text = rw e at is in
-        value_passed c m p k r.id q (is_only c k r q rule) no_groups got.0 ((bytes_eq-Decides got.0.0.now r.id).0 got.2) got.3 text
+        HasPassed_from_EntryPasses c m p k r.id q (IsOnly_from_IsOnlyRule c k r q rule) no_groups got.0 ((bytes_eq-Decides got.0.0.now r.id).0 got.2) got.3 text
         (subst (λ (y : MatchedArg). option_map (λ s. read_as y.reading s.now) (slice_get y.vals.items 0) ≡ Some text) (sym got.1) first)
