@@ -1,17 +1,17 @@
-/* The exported functions that hash. Each calls the proved function of its name, and then wipes the
- * stack that this used: the password lay there, and what was computed from it. heap.c wipes memory.
- * The functions that hash nothing are exported by the proved code itself (crates/crypt_c).
+/* The exported functions that hash. Each calls the proved function of the same name, and then wipes
+ * the stack that it used, which held the password and what was computed from it. heap.c wipes
+ * memory. The proved code itself (crates/crypt_c) exports the functions that don't hash.
  *
- * mkpasswd_new_bytes() also draws the random numbers of a salt, since the proved code has no device
- * to draw them from. */
+ * mkpasswd_new_bytes() also draws the random numbers for a salt, since the proved code has no
+ * random device. */
 #define _DEFAULT_SOURCE /* for getentropy */
 #include <mkpasswd.h>
 #include <unistd.h>
 
-/* More bytes of stack than a proved function uses. */
+/* More bytes of stack than any proved function uses. */
 #define STACK_BYTES ((size_t)24 * 1024)
 
-/* A salt is made of so many random numbers. */
+/* The number of random numbers that make a salt. */
 #define NUMBERS_OF_A_SALT 3
 
 /* The proved functions (crates/crypt_c/src/lib.rt). */
@@ -28,15 +28,16 @@ int32_t mkpasswd_proved_new_from(const uint8_t *password, size_t password_length
     size_t out_size, struct mkpasswd_report *report);
 
 /* Wipes the stack below its caller's frame, where the frames of the proved function were, and the
- * registers that a call may change; compilers before gcc 11 and clang 15 warn, and leave the
- * registers. It passes the result through, so that a caller does nothing after it. It calls
- * nothing: the dynamic linker leaves registers on the stack when it resolves a name. */
+ * registers that a call may change. (Compilers before gcc 11 and clang 15 warn about the attribute,
+ * and don't wipe registers.) It returns the result that it is given, so that its caller need do
+ * nothing afterwards. It must not call anything: the dynamic linker leaves registers on the stack
+ * when it resolves a name. */
 __attribute__((noinline, zero_call_used_regs("all"))) static int32_t wipe_stack(int32_t result)
 {
     volatile uint64_t stack[STACK_BYTES / sizeof(uint64_t)];
 
-    for (size_t place = 0; place < sizeof stack / sizeof *stack; place++)
-        stack[place] = 0;
+    for (size_t index = 0; index < sizeof stack / sizeof *stack; index++)
+        stack[index] = 0;
     return result;
 }
 
@@ -69,9 +70,9 @@ int32_t mkpasswd_hash_bytes(const uint8_t *password, size_t password_length, con
     return wipe_stack(result);
 }
 
-/* Hashes without random numbers first: the report then has the first error that comes before them,
- * or that they are missing. Only then are they drawn. The trial writes to memory of its own, so
- * that `out` is written once, by the call that comes last. */
+/* Tries without random numbers first. Any error that comes before their lack is reported without
+ * drawing them. The trial writes to memory of its own, so that only the last call writes to
+ * `out`. */
 __attribute__((noinline)) static int32_t hash_anew(const uint8_t *password, size_t password_length,
     uint32_t method, uint32_t rounds, uint64_t budget, uint8_t *out, size_t out_size,
     struct mkpasswd_report *report)

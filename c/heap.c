@@ -1,21 +1,21 @@
-/* The functions by which the proved code allocates memory, with malloc and free. They fail exactly
- * where malloc does. Only scrypt's table is large. With small pages, the system spends up to a
- * fifth of a hash's time on providing it, and the processor needs longer to find its rows. So a
- * large block begins with a huge page and asks for as many as it fills. A system without huge pages
+/* The allocator of the proved code, over malloc and free. An allocation fails exactly if malloc
+ * fails. Only scrypt's table is large. With small pages the system takes up to a fifth of a hash's
+ * time to provide it, and the processor takes longer to find its rows. So a large block begins at a
+ * huge page, and heap.c asks for as many huge pages as the block fills. A system without huge pages
  * ignores this.
  *
- * The size of a block stands before it, since not every allocator that a service brings can be
- * asked for it.
+ * The size of a block is stored in front of it, since not every service's allocator can tell it.
  *
- * With -DKEEPS=1, in a program of one thread, the last large block that was freed waits for the
- * next one of its size; one of another size is allocated only after it is freed. Nothing is wiped
- * there (docs/SECURITY.md): the program has the passwords until it ends, and scrypt writes every
- * row of a table before it reads it.
+ * With -DKEEPS=1, for a program of one thread, the large block that was freed last is kept for the
+ * next one of the same size, and freed before one of another size is allocated. Nothing is wiped
+ * then (docs/SECURITY.md): the program has the passwords until it ends, and scrypt writes every row
+ * of a table before it reads it.
  *
- * Libraries keep none (-DKEEPS=0), since a service wants its memory back, and wipe what they free.
+ * Libraries (-DKEEPS=0) keep no block, since a service wants its memory back, and wipe what they
+ * free.
  */
-/* glibc's functions that check these calls would check nothing here, since the compiler knows the
- * size of no block, and musl, with which the library links too, has none of them. */
+/* glibc's checked versions of memcpy and the like would check nothing here, since the compiler
+ * doesn't know the size of any block. musl, which the library links with too, doesn't have them. */
 #undef _FORTIFY_SOURCE
 #define _GNU_SOURCE /* for MADV_HUGEPAGE */
 #include <malloc.h>
@@ -25,30 +25,30 @@
 #include <string.h>
 #include <sys/mman.h>
 
-/* From this size on a block is large. */
+/* A block of at least this size is large. */
 #define HUGE_PAGE ((uintptr_t)2 << 20)
 
-/* From this size on glibc's malloc maps a block by itself, whatever was freed before. */
+/* glibc's malloc always maps a block of at least this size by itself, whatever was freed before. */
 #define MAPPED ((size_t)32 << 20)
 
-/* Bytes of a line of the processor's cache, and of a page in which it fetches lines ahead. */
+/* The size of a line of the processor's cache, and of the page within which it prefetches lines. */
 #define CACHE_LINE ((size_t)64)
 #define SMALL_PAGE 4096
 
 /* malloc aligns a block to this if its size is a multiple of it. */
 #define ALIGNMENT 16
 
-/* What stands before a block: its size, and what malloc returned. */
+/* The bytes in front of a block: its size, and what malloc returned. */
 struct head {
     size_t size;
     void *start;
 };
-_Static_assert(sizeof(struct head) == ALIGNMENT, "a block is aligned as what malloc returned");
+_Static_assert(sizeof(struct head) == ALIGNMENT, "a block is aligned like what malloc returned");
 
 /* A quarter of a cache line. */
 typedef uint64_t quarter __attribute__((vector_size(16)));
 
-/* Whether there is a block, and where. Proved code has no null pointers, so without a block this
+/* The result of an allocation. Proved code has no null pointers, so if `is_there` is false, `block`
  * points to some byte. */
 struct allocation {
     bool is_there;
@@ -76,7 +76,7 @@ static void write_zeros(char *line)
 }
 
 /* Gives the whole huge pages of a block that malloc mapped by itself back to the system, which
- * takes less time than to write zeros. Returns the number of these bytes. */
+ * takes less time than writing zeros. Returns the number of bytes in these pages. */
 static size_t give_pages_back(char *block, size_t size)
 {
     size_t pages = size < MAPPED ? 0 : size / HUGE_PAGE * HUGE_PAGE;
@@ -86,9 +86,9 @@ static size_t give_pages_back(char *block, size_t size)
     return pages;
 }
 
-/* Wipes a block. A large one is written from its end, so that what the next table takes first is
- * still in the cache, and the line a page before is fetched meanwhile, since by itself the
- * processor fetches ahead only within a page. */
+/* Wipes a block. A large one is wiped from its end to its beginning, so that the part that the next
+ * table uses first is still in the cache. The line a page below is prefetched meanwhile, since by
+ * itself the processor prefetches only within a page. */
 static void wipe(char *block, size_t size)
 {
     size_t begin = give_pages_back(block, size);
@@ -122,8 +122,8 @@ static struct head *take_kept(size_t size)
     return NULL;
 }
 
-/* Allocates a block whose head ends where the block begins: a large one at a multiple of a huge
- * page, any other right behind its head. */
+/* Allocates a block with its head in front of it. A large block begins at a multiple of a huge
+ * page; for any other, malloc's memory begins with the head. */
 static struct head *allocate(size_t size)
 {
     size_t unit = size < HUGE_PAGE ? sizeof(struct head) : HUGE_PAGE;
@@ -148,7 +148,7 @@ struct allocation rattle_alloc(size_t size, size_t alignment)
 
     (void)alignment;
     if (KEEPS && size >= HUGE_PAGE) {
-        /* Otherwise glibc would come to hold on to blocks below 32 MiB. */
+        /* Otherwise glibc would raise this threshold, and hold on to blocks below 32 MiB. */
         mallopt(M_MMAP_THRESHOLD, HUGE_PAGE);
         head = take_kept(size);
     }
@@ -169,7 +169,7 @@ void rattle_dealloc(void *block)
     give_back(head);
 }
 
-/* The new block has the first `used` bytes of the old one, which are no more than either has. */
+/* The new block gets the first `used` bytes of the old one. Neither block is smaller than that. */
 struct allocation rattle_realloc(void *block, size_t used, size_t size, size_t alignment)
 {
     struct allocation moved = rattle_alloc(size, alignment);

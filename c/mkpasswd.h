@@ -12,30 +12,31 @@
  *     if (mkpasswd_new(mkpasswd_password(typed), NULL, hash, sizeof hash, NULL))
  *         store(hash);
  *
- * Each call returns true for yes: the password matches, the stored hash is outdated, or current for
- * mkpasswd_audit(), the limit is reported, or `out` has what was asked for. False covers everything
- * else. What a call returns is the whole answer; the report only says why, for a log.
+ * Each call returns true for yes: the password matches, the stored hash is outdated (for
+ * mkpasswd_audit(): is current), the limit is reported, or `out` has the result. It returns false
+ * in every other case. The return value is the whole answer; the report only says why, for a log.
  *
- * A password and a field have types of their own, so a compiler refuses them in the wrong order.
- * But whoever makes a field of what was typed, and a password of what is stored, lets in everybody
- * who types a hash of the stored string, also where that is `!`, a hash, or empty.
+ * A password and a field have types of their own, so a compiler refuses them in the wrong order. It
+ * can't notice a caller who makes a field of what was typed and a password of what is stored. Such
+ * a login lets in everybody who types a hash of the stored string, even if that is `!`, a hash or
+ * empty.
  *
- * Pointers may be null. A null password is refused as one with a zero byte, a null field is an
- * unknown name, a null salt is empty, a null policy is the recommended one, a null `out` has no
- * room, and a null report is not written.
+ * Pointers may be null. A null password is refused like one with a zero byte, a null field counts
+ * as an unknown name, a null salt is empty, a null policy is the recommended one, a null `out` has
+ * no room, and a null report is not written.
  *
  * If several errors apply, the first one in this order is reported: password, setting, method,
  * salt, rounds, budget, room in `out`, random numbers, memory. For mkpasswd_login() and
- * mkpasswd_audit() the order is password, method, rounds, field, budget, memory; but a login that
- * lacks memory for the hash that it makes in place of the stored one reports that, not the field's
- * error.
+ * mkpasswd_audit() the order is password, method, rounds, field, budget, memory. There is one
+ * exception: if a login can't check the stored hash and has no memory for the hash that it makes
+ * instead, it reports that, not the field's error.
  *
  * After an error, mkpasswd_new(), mkpasswd_hash() and mkpasswd_setting() leave the string "*0" in
- * `out` ("*1" if the given setting begins with "*0"), cut to fit. No password matches it, so with 3
- * bytes of room or more a caller who stores it unchecked locks the account. Bytes after its zero
- * byte are unchanged.
+ * `out` ("*1" if the given setting begins with "*0"), cut to fit. No password matches it, so a
+ * caller who stores it unchecked locks the account, if `out` has 3 bytes or more. Bytes after its
+ * zero byte are unchanged.
  *
- * No call keeps a pointer or state: any number of threads may call at once, also with the same
+ * No call keeps a pointer or state, so any number of threads may call at once, even with the same
  * input. Only mkpasswd_new() asks the system for anything but memory: 24 random bytes from
  * getentropy(3), which sets errno if it fails.
  *
@@ -47,13 +48,13 @@
  *   of two up to 16 that divides its size, as the C library's does.
  * - A signal handler makes no call, and neither does the child of fork(2) in a process with threads
  *   before it runs execve(2).
- * - 64 KiB of stack are free. A call uses some 25 KiB.
+ * - 64 KiB of stack are free. A call uses about 25 KiB.
  *
- * The calls that hash wipe the stack that they used, the memory that they free, and, where the
- * library's compiler can, the registers, but not the vector registers that AVX-512 adds. The caller
- * wipes its own copies of the password and of a hash. The time of a call can reveal what it works
- * on: scrypt reads its table at places that depend on the password. A hash of the stored one's
- * length is compared to its last byte, wherever the two differ. */
+ * The calls that hash wipe the stack that they used, the memory that they free and, if the
+ * library's compiler supports it, the registers, except the vector registers that AVX-512 adds. The
+ * caller wipes its own copies of the password and the hash. The time of a call can reveal its
+ * input: scrypt reads its table at places that depend on the password. If the new hash is as long
+ * as the stored one, all bytes are compared, wherever the two differ. */
 #ifndef MKPASSWD_H
 #define MKPASSWD_H
 
@@ -68,10 +69,10 @@
 extern "C" {
 #endif
 
-/* gcc and clang warn about an ignored result, and about a null pointer that they see where an
- * exported function wants none. Input isn't declared nonnull: a compiler could then drop a
- * caller's own test for null after a call. gcc warns about an `out` that it sees to have fewer
- * bytes than `out_size`. */
+/* gcc and clang warn about an ignored result, and about a null pointer to an exported function that
+ * takes none. Input isn't declared nonnull, since a compiler could then drop a caller's own test
+ * for null after a call. gcc also warns if it can see that `out` has fewer bytes than
+ * `out_size`. */
 #if defined __GNUC__ || defined __clang__
 #define MKPASSWD_EXPORT __attribute__((visibility("default"), nothrow))
 #define MKPASSWD_CHECKED __attribute__((warn_unused_result))
@@ -110,7 +111,7 @@ extern "C" {
 #define MKPASSWD_SHA512CRYPT 6
 #define MKPASSWD_SCRYPT 7
 
-/* Other schemes of crypt(5), which mkpasswd_audit() knows by their form alone. */
+/* Other schemes of crypt(5), which mkpasswd_audit() recognizes by their form. */
 #define MKPASSWD_YESCRYPT 101
 #define MKPASSWD_GOST_YESCRYPT 102
 #define MKPASSWD_BCRYPT 103
@@ -120,9 +121,9 @@ extern "C" {
 #define MKPASSWD_BSDICRYPT 107
 #define MKPASSWD_DESCRYPT 108
 
-/* The reasons why a call did not do what its name says: what `error` of a report is if it isn't 0.
- * A comment begins with the message of mkpasswd_message(), up to its colon. A newer library may
- * report a number that isn't here: the call failed then too. */
+/* Why a call did not do what its name says: the values of a report's `error` other than 0. Each
+ * comment begins with the message of mkpasswd_message(), up to a colon. A newer library may report
+ * a number that isn't listed here; that is a failure too. */
 enum mkpasswd_error {
     /* password too long: more than MKPASSWD_PASSWORD_LIMIT bytes */
     MKPASSWD_ERROR_PASSWORD_TOO_LONG = 1,
@@ -172,33 +173,34 @@ enum mkpasswd_error {
     MKPASSWD_ERROR_DEAD = 23
 };
 
-/* A password: made by mkpasswd_password() or mkpasswd_password_bytes(). */
+/* A password. mkpasswd_password() and mkpasswd_password_bytes() make one. */
 struct mkpasswd_password {
     const uint8_t *bytes;
     size_t length;
 };
 
-/* What is stored for a name: made by mkpasswd_field() or mkpasswd_field_bytes(). */
+/* What is stored for a name. mkpasswd_field() and mkpasswd_field_bytes() make one. */
 struct mkpasswd_field {
     const uint8_t *bytes;
     size_t length;
 };
 
-/* How a service hashes new passwords, and what a hash may cost. Give a service's policy to each of
- * its calls. Each field that is 0 is what is recommended, and a null pointer is a policy of zeros.
+/* How a service hashes new passwords, and what a hash may cost. A service gives the same policy to
+ * all its calls. A member that is 0 stands for the recommended value, and a null pointer for a
+ * policy of zeros.
  */
 struct mkpasswd_policy {
     /* One of the methods; 0 is MKPASSWD_SHA512CRYPT. */
     uint32_t method;
-    /* For SHA-crypt 1000 to 999999999, and for scrypt 6 to 11, for N = 2^(rounds + 7), r = 32 and
-     * p = 1. 0 is 656000, and 7 for scrypt. md5crypt ignores them. */
+    /* 1000 to 999999999 for SHA-crypt, where 0 is 656000. 6 to 11 for scrypt, where 0 is 7; they
+     * stand for N = 2^(rounds + 7), r = 32 and p = 1. md5crypt ignores them. */
     uint32_t rounds;
-    /* The most bytes that a hash may digest and mix, as `cost` of a report counts them. 0 is twice
-     * what a new hash of this policy costs for a password of 64 bytes, and at least 150000000,
-     * which can take more than a second (`pwhash calibrate` finds a budget for a time); nobody who
-     * logs in can raise it. A longer password whose new hash would cost more is refused at once,
-     * whatever is stored; mkpasswd_limit() reports its length, and the limit in bytes. With a large
-     * enough budget of your own all MKPASSWD_PASSWORD_LIMIT bytes work.
+    /* The most bytes that a hash may digest and mix, counted as in a report's `cost`. 0 is twice
+     * the cost of this policy's new hash of a password of 64 bytes, but at least 150000000, which
+     * can take more than a second. (`pwhash calibrate` finds a budget for a time.) Nobody who logs
+     * in can raise it: a longer password whose new hash would cost more is refused at once,
+     * whatever is stored. mkpasswd_limit() reports the longest password that is accepted, and the
+     * limit. With a large enough budget of your own all MKPASSWD_PASSWORD_LIMIT bytes work.
      *
      * Only scrypt needs memory: 64 MiB for each new hash at its recommended rounds, and never more
      * than half as many bytes as the budget. */
@@ -214,37 +216,38 @@ struct mkpasswd_work {
     uint64_t scratch; /* bytes of scrypt's scratch memory */
 };
 
-/* What a call reports. Each call that has a report writes all of it. */
+/* What a call reports. Each call that takes a report fills in all of it. */
 struct mkpasswd_report {
-    /* 0, or one of enum mkpasswd_error: the reason why the call did not do what its name says.
-     * mkpasswd_needs_rehash() reports 0 for a yes and for a no, and mkpasswd_audit() for a current
-     * hash and for an outdated one. */
+    /* 0, or one of enum mkpasswd_error: why the call did not do what its name says.
+     * mkpasswd_needs_rehash() reports 0 whether its answer is yes or no, and mkpasswd_audit() for
+     * both a current and an outdated hash. */
     uint32_t error;
     /* 1 if mkpasswd_login(), mkpasswd_needs_rehash() or mkpasswd_audit() reports no error and a new
      * hash by the policy would replace the stored one, else 0. After mkpasswd_login() it is 1 only
-     * if that returned true: then store what mkpasswd_new() makes of the password, if the field is
-     * still the one that was checked. */
+     * if that returned true: then store a new hash of the password from mkpasswd_new(), unless the
+     * field has changed since it was checked. */
     uint32_t outdated;
-    /* The number of bytes in `out`, without the zero byte; of mkpasswd_limit() that of the longest
-     * password. Otherwise, and after an error, 0. */
+    /* The number of bytes in `out`, without the zero byte. From mkpasswd_limit() the length of the
+     * longest password. Otherwise, and after an error, 0. */
     uint32_t length;
-    /* Of mkpasswd_audit() the method of the stored hash, or another scheme; else 0. */
+    /* From mkpasswd_audit() the method or other scheme of the stored hash; else 0. */
     uint32_t scheme;
-    /* Of mkpasswd_limit() and mkpasswd_rounds() the rounds of new hashes (0 for md5crypt), of
+    /* From mkpasswd_limit() and mkpasswd_rounds() the rounds of new hashes (0 for md5crypt), from
      * mkpasswd_audit() those of the stored hash (1000 for md5crypt, 0 for scrypt); else 0. */
     uint32_t rounds;
-    /* Of mkpasswd_audit() scrypt's N, r and p; else 0. */
+    /* From mkpasswd_audit() scrypt's N, r and p; else 0. */
     uint32_t n;
     uint32_t r;
     uint32_t p;
-    /* The greatest cost of a hash with this setting, for a password of this length: the bytes that
-     * it digests and mixes. It is below 2^42. If password and setting (or method and rounds) are
-     * valid, it is reported after an error too. Of mkpasswd_login() it is that of the stored hash,
-     * of mkpasswd_audit() that for MKPASSWD_PASSWORD_LIMIT bytes, of mkpasswd_limit() the limit,
-     * and of mkpasswd_rounds() that of a hash with these rounds. mkpasswd_needs_rehash() and
-     * mkpasswd_setting() report 0. */
+    /* The most that a hash with this setting can cost for a password of this length: the number of
+     * bytes that it digests and mixes, below 2^42. If password and setting (or method and rounds)
+     * are valid, it is reported after an error too. From mkpasswd_login() it is the cost of the
+     * stored hash, from mkpasswd_audit() that cost for MKPASSWD_PASSWORD_LIMIT bytes, from
+     * mkpasswd_limit() the limit, and from mkpasswd_rounds() the cost of a hash with these rounds.
+     * mkpasswd_needs_rehash() and mkpasswd_setting() report 0. */
     uint64_t cost;
-    /* What the call did: all 0 if it neither hashed nor allocated. Of mkpasswd_bound() the bound.
+    /* The work that the call did: all 0 if it neither hashed nor allocated. From mkpasswd_bound()
+     * the most work that a hash can need.
      */
     struct mkpasswd_work work;
 };
@@ -266,22 +269,22 @@ static inline struct mkpasswd_field mkpasswd_field_bytes(const void *bytes, size
 /* ---- What a service calls ---- */
 
 /* Checks the password of a login. Returns true exactly if the policy's method and rounds are valid,
- * the password matches the stored hash, and that hash costs at most the policy's limit, as a new
- * hash of the password must too with a budget of 0; with scrypt it may run out of memory and return
- * false instead. Give it the policy that the service gives mkpasswd_new(): what that makes, this
- * call opens, and it isn't outdated.
+ * the password matches the stored hash, and that hash costs at most the policy's limit; with a
+ * budget of 0 a new hash of the password must be within the limit too. With scrypt it may run out
+ * of memory and return false instead. Give it the policy that the service gives mkpasswd_new():
+ * then it accepts each hash that mkpasswd_new() makes, and reports none as outdated.
  *
  * If the field is empty, locked, of another scheme or without a valid setting, or can cost more
- * than the limit, the call hashes the password by the policy with a fixed salt, drops the hash, and
- * returns false, so that such a name is not faster. `work` is exactly the work of that hash. It is
- * not made if scrypt gets no memory for it (the error is then MKPASSWD_ERROR_OUT_OF_MEMORY), or if
- * it can cost more than a budget of your own; with a budget of 0 nothing is hashed then for any
- * field.
+ * than the limit, the call makes a dummy hash: it hashes the password by the policy with a fixed
+ * salt, drops the hash and returns false, so that such a name is not answered faster. `work` is
+ * exactly the work of that hash. There is no dummy hash if scrypt gets no memory for it (the error
+ * is then MKPASSWD_ERROR_OUT_OF_MEMORY), or if it can cost more than the limit; if the budget is 0,
+ * such a password is not hashed for any field.
  *
  * An invalid password, method or rounds are refused at once, whatever the field is. Any other wrong
- * password costs what the stored hash costs. So hashes with another cost, or with a shorter salt
- * than mkpasswd_new() makes, take another time; only outdated ones are ever replaced. A dead hash,
- * such as one that was cut, costs the same as a wrong password, and the error is
+ * password costs what the stored hash costs. So the time of a login shows hashes that have another
+ * cost, or a shorter salt, than those of mkpasswd_new(); only outdated ones are ever replaced. A
+ * dead hash, such as one that was cut, costs the same as a wrong password, and the error is
  * MKPASSWD_ERROR_DEAD: nobody gets in until the account has a new hash. */
 MKPASSWD_CHECKED static inline bool mkpasswd_login(struct mkpasswd_password password,
     struct mkpasswd_field field, const struct mkpasswd_policy *policy,
@@ -290,109 +293,113 @@ MKPASSWD_CHECKED static inline bool mkpasswd_login(struct mkpasswd_password pass
 /* Hashes a new password, with a salt from getentropy(3), and puts the hash and a zero byte into
  * `out`; MKPASSWD_TEXT_SIZE bytes are enough.
  *
- * Rounds that the method doesn't take are refused, where the formats and the command clamp those of
- * SHA-crypt: a service whose rounds are 12, as bcrypt's may be, should notice before it stores a
- * hash that is cheap to guess. */
+ * Rounds out of the method's range are refused, although the formats and the command clamp those of
+ * SHA-crypt: a service that asks for 12 rounds, as it may have for bcrypt, should notice before it
+ * stores a hash that is cheap to guess. */
 MKPASSWD_CHECKED MKPASSWD_WRITES(3, 4) static inline bool mkpasswd_new(
     struct mkpasswd_password password, const struct mkpasswd_policy *policy, char *out,
     size_t out_size, struct mkpasswd_report *report);
 
-/* Returns whether a new hash by the policy would replace the stored one: its method is another one,
- * or the same with more rounds, or for scrypt with a greater N * r * p. It is false, with an error,
- * if the field has no valid setting or the method or rounds are not valid. A locked field has a bad
- * character then, or is too long, and an empty one is of an unknown scheme. The policy's rounds of
- * SHA-crypt are clamped here, and its budget makes no difference. */
+/* Returns whether a new hash by the policy would replace the stored one: the policy's method is
+ * another one, or has more rounds, or for scrypt a greater N * r * p. It returns false, with an
+ * error, if the field has no valid setting or the policy's method or rounds are not valid. For a
+ * locked field the error is a bad character or a setting that is too long, for an empty one an
+ * unknown scheme. The policy's rounds are clamped here for SHA-crypt, and its budget makes no
+ * difference. */
 MKPASSWD_CHECKED static inline bool mkpasswd_needs_rehash(struct mkpasswd_field stored,
     const struct mkpasswd_policy *policy, struct mkpasswd_report *report);
 
 /* Audits a stored hash without a password, and hashes nothing. Returns true exactly if the hash is
- * current: method and rounds are valid, the field is a whole hash, as mkpasswd_hash() writes one,
- * no password costs more than the budget, and a new hash by the policy would not replace it. If
- * only the last fails, `error` is 0 and `outdated` is 1. If method and rounds are valid, any other
- * false has the first of these errors:
+ * current: method and rounds are valid, the field is a whole hash as mkpasswd_hash() writes it, no
+ * password costs more than the budget, and a new hash by the policy would not replace it. If only
+ * the last does not hold, `error` is 0 and `outdated` is 1. In each other case, if method and
+ * rounds are valid, `error` is the first of these that applies:
  *
  * - MKPASSWD_ERROR_LOCKED, MKPASSWD_ERROR_NO_HASH;
- * - of a field that begins with "$", what is wrong with the setting;
- * - MKPASSWD_ERROR_UNKNOWN_SCHEME: the field is of another scheme. Its number is in `scheme`, or 0
- *   if none is known by the field's form;
- * - MKPASSWD_ERROR_NO_SCHEME: it is of none, and so a password, say, or a damaged hash;
- * - MKPASSWD_ERROR_OVER_BUDGET: some password can cost more than the budget, or with a budget of 0
- *   each password too much for a login;
- * - MKPASSWD_ERROR_DEAD: it is not a whole hash, so no password matches it. It was cut, there is
- *   more behind it, a character of it is in no digest, its salt is too long, or its rounds are out
+ * - if the field begins with "$", what is wrong with the setting;
+ * - MKPASSWD_ERROR_UNKNOWN_SCHEME: the field is of another scheme. `scheme` has its number, or 0 if
+ *   the field's form shows none;
+ * - MKPASSWD_ERROR_NO_SCHEME: it is of none, so it may be a password or a damaged hash;
+ * - MKPASSWD_ERROR_OVER_BUDGET: some password can cost more than the budget or, with a budget of 0,
+ *   every password costs too much for a login;
+ * - MKPASSWD_ERROR_DEAD: it is not a whole hash, so no password matches it. It was cut, something
+ *   follows it, it has a character that no digest has, its salt is too long, or its rounds are out
  *   of range.
  *
- * A budget of 0 stands here for the most that a new hash by the policy can cost, and at least for
- * 1297572512, the most that the recommended rounds of sha512crypt can. By it a hash is over budget
- * also if mkpasswd_login() with a budget of 0 would refuse even the empty password as too costly.
+ * A budget of 0 stands here for the most that a new hash by the policy can cost, but at least for
+ * 1297572512, the most that sha512crypt with the recommended rounds can cost. A hash is then also
+ * over budget if mkpasswd_login() with a budget of 0 would refuse even the empty password as too
+ * costly.
  */
 MKPASSWD_CHECKED static inline bool mkpasswd_audit(struct mkpasswd_field stored,
     const struct mkpasswd_policy *policy, struct mkpasswd_report *report);
 
-/* Reports what a policy admits: `cost` is the most that a login or a new hash may cost; `length` is
- * that of the longest password whose new hash costs no more (it and all shorter ones are within the
- * limit, and all longer ones above); and `rounds` are those of new hashes. Returns false if method
- * or rounds are not valid, and with MKPASSWD_ERROR_OVER_BUDGET if a new hash even of the empty
- * password costs more; `cost` is the limit then too. */
+/* Reports what a policy allows. `cost` is the most that a login or a new hash may cost. `length` is
+ * the length of the longest password whose new hash is within that limit: all shorter ones are
+ * within it too, and all longer ones above it. `rounds` are those of new hashes. Returns false if
+ * method or rounds are not valid, and with MKPASSWD_ERROR_OVER_BUDGET if even a new hash of the
+ * empty password is above the limit; `cost` is the limit then too. */
 MKPASSWD_CHECKED static inline bool mkpasswd_limit(
     const struct mkpasswd_policy *policy, struct mkpasswd_report *report);
 
-/* Reports rounds with which a new hash of each password of the given length is within that limit,
- * for a service that must have a hash of a longer password too. They are the policy's own, or else
- * fewer rounds of SHA-crypt, as many as surely fit. With a budget of 0 there always are some; with
- * one of your own it returns false with MKPASSWD_ERROR_OVER_BUDGET if even 1000 rounds cost more.
- * `cost` is that of the hash. Fewer rounds have a lower limit of their own, so make the `cost` of
- * mkpasswd_limit() the budget of the policy with these rounds, and of that for logins too. These
- * rounds show how long the password is to whoever sees the hash, which is outdated at once. */
+/* Reports rounds with which a new hash of any password of the given length is within the limit of
+ * mkpasswd_limit(), for a service that must hash longer passwords too. They are the policy's own
+ * rounds, or as many fewer rounds of SHA-crypt as surely fit. With a budget of 0 there always are
+ * some; with a budget of your own the call returns false with MKPASSWD_ERROR_OVER_BUDGET if even
+ * 1000 rounds cost more. `cost` is the cost of the hash. A policy with fewer rounds has a lower
+ * limit of its own, so give it the `cost` of mkpasswd_limit() as its budget, and use the same
+ * budget for logins. These rounds show how long the password is to whoever sees the hash, and the
+ * hash is outdated at once. */
 MKPASSWD_CHECKED static inline bool mkpasswd_rounds(
     size_t password_length, const struct mkpasswd_policy *policy, struct mkpasswd_report *report);
 
 /* ---- What an importer and an implementation of crypt(3) call ---- */
 
 /* Returns true exactly if the password matches the stored hash and that hash costs at most
- * `budget`; with scrypt it may run out of memory and return false instead. Above the budget nothing
- * is hashed, so a budget of 0 lets nobody in. A login calls mkpasswd_login(). */
+ * `budget`; with scrypt it may run out of memory and return false instead. It doesn't hash above
+ * the budget, so a budget of 0 lets nobody in. For a login call mkpasswd_login(). */
 MKPASSWD_CHECKED static inline bool mkpasswd_verify(struct mkpasswd_password password,
     struct mkpasswd_field stored, uint64_t budget, struct mkpasswd_report *report);
 
 /* Hashes a password with the setting in a field, which may be a stored hash, as crypt(3) does. A
- * locked and an empty field are invalid settings, as for mkpasswd_needs_rehash(). A budget of 0
- * admits no hash. A change of password calls mkpasswd_new(). */
+ * locked or empty field is an invalid setting, as for mkpasswd_needs_rehash(). A budget of 0 allows
+ * no hash. To change a password call mkpasswd_new(). */
 MKPASSWD_CHECKED MKPASSWD_WRITES(4, 5) static inline bool mkpasswd_hash(
     struct mkpasswd_password password, struct mkpasswd_field setting, uint64_t budget, char *out,
     size_t out_size, struct mkpasswd_report *report);
 
 /* Puts the setting with a given salt into `out`. A salt has at least one character, and at most 8
  * for md5crypt, 16 for SHA-crypt and 86 for scrypt, each of them one of ./0-9A-Za-z. It is for
- * tests and for moving from other programs: two passwords with one salt can be guessed together. */
+ * tests, and for values from other programs; two passwords with the same salt can be guessed
+ * together. */
 MKPASSWD_CHECKED MKPASSWD_WRITES(3, 4) static inline bool mkpasswd_setting(
     const struct mkpasswd_policy *policy, const char *salt, char *out, size_t out_size,
     struct mkpasswd_report *report);
 
-/* Reports the greatest cost and work of a hash with the setting in a field, for any password of the
- * given length. It hashes nothing; `work` is the bound of each count. */
+/* Reports the most that a hash with the setting in a field can cost, for any password of the given
+ * length, and in `work` the most that each count can be. It hashes nothing. */
 MKPASSWD_CHECKED static inline bool mkpasswd_bound(
     struct mkpasswd_field setting, size_t password_length, struct mkpasswd_report *report);
 
 /* ---- Texts ---- */
 
-/* Puts the message for an error and a zero byte into `out`, and returns true. For any other number,
- * also for 0, which is no error, it puts "unknown reason" and returns false. If `out` is too small,
- * it puts as much as fits, with the zero byte, and returns false. So whatever it returns, `out`
- * holds a string, unless it has no room at all. */
+/* Puts the message for an error, with a zero byte, into `out` and returns true. For any other
+ * number, including 0, which is no error, it puts "unknown reason" there and returns false. If
+ * `out` is too small, it puts as much there as fits, with the zero byte, and returns false. So
+ * `out` holds a string in each case, unless it has no room at all. */
 MKPASSWD_WRITES(2, 3)
 static inline bool mkpasswd_message(uint32_t error, char *out, size_t out_size);
 
-/* Puts the name in crypt(5) of a scheme that mkpasswd_audit() reports into `out`, as
- * mkpasswd_message() does; for any other number it puts "unknown scheme" and returns false. */
+/* Puts crypt(5)'s name of a scheme that mkpasswd_audit() reports into `out`, as mkpasswd_message()
+ * does; for any other number it puts "unknown scheme" there and returns false. */
 MKPASSWD_WRITES(2, 3)
 static inline bool mkpasswd_scheme_name(uint32_t scheme, char *out, size_t out_size);
 
 /* ---- What the library exports ----
  *
- * The calls above are made of these, which take pointers and numbers alone, for dlsym(3) and for
- * other languages. They return 1 for true and 0 for false. No pointer may be null, even if its
- * number of bytes is 0; a method, rounds and a budget of 0 are those of a policy. */
+ * The calls above are written in terms of these. They take only pointers and numbers, for dlsym(3)
+ * and for other languages, and return 1 for true and 0 for false. No pointer may be null, even if
+ * its number of bytes is 0. A method, rounds or budget of 0 means the same as in a policy. */
 
 /* MKPASSWD_VERSION of the library that is linked. */
 MKPASSWD_EXPORT uint32_t mkpasswd_version(void);
@@ -463,7 +470,7 @@ static inline struct mkpasswd_password mkpasswd_password_bytes(const void *bytes
 {
     struct mkpasswd_password password;
 
-    /* A zero byte is in no password, so it stands for a null pointer, which is none. */
+    /* No password has a zero byte, so one stands for a null pointer, which is no password. */
     password.bytes = bytes ? MKPASSWD_CAST(const uint8_t *, bytes) : MKPASSWD_TEXT("");
     password.length = bytes ? length : 1;
     return password;

@@ -1,6 +1,6 @@
-/* What the proved program calls besides the C library and c/heap.c, for processors that the
- * toolchain has no C objects for: errno, and the arguments, which glibc hands to constructors, also
- * in a static program. */
+/* What the proved program calls besides the C library and c/heap.c, on processors for which the
+ * toolchain has no C objects: errno, and the arguments, which glibc passes to constructors even in
+ * a static program. */
 #include <errno.h>
 #include <stddef.h>
 #include <stdint.h>
@@ -31,7 +31,7 @@ size_t rattle_arg_count(void)
 }
 
 /* Copies an argument and returns its length. It returns -1 if there is no such argument, and -2 if
- * it has more than `size` bytes, of which it then copies the first. */
+ * the argument has more than `size` bytes; then it copies the first `size` of them. */
 ptrdiff_t rattle_arg(size_t place, uint8_t *bytes, size_t size)
 {
     size_t length;

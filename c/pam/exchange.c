@@ -1,5 +1,5 @@
-/* Exchanges the new file for the old one. Whatever comes out keeps a name until the process knows
- * what it is, so no version of the file is lost, even if the process is killed in between. */
+/* Exchanges the new file for the old one. The file that comes out keeps a name until the process
+ * knows which one it is. So no version is lost, even if the process is killed in between. */
 #define _GNU_SOURCE /* for O_PATH and renameat2 */
 #include "exchange.h"
 #include <errno.h>
@@ -8,7 +8,7 @@
 #include <stdio.h>
 #include <unistd.h>
 
-/* Each exchange after the first needs somebody who changed the file between two calls. */
+/* Each exchange after the first is needed only if somebody changed the file between two calls. */
 #define MOST_EXCHANGES 8
 
 /* The inodes of the two files that are exchanged. */
@@ -19,8 +19,8 @@ struct pair {
 
 #define NOTE_SIZE sizeof "18446744073709551615 18446744073709551615"
 
-/* Notes which files are exchanged, in the target of a link: a link appears with its target at once,
- * and making one never overwrites another file. */
+/* Notes in the target of a link which files are exchanged. A link and its target appear at once,
+ * and creating one never overwrites another file. */
 static bool write_note(const struct place *place, const struct pair *pair)
 {
     char note[NOTE_SIZE];
@@ -29,8 +29,8 @@ static bool write_note(const struct place *place, const struct pair *pair)
     return symlinkat(note, place->folder, place->exchange_name) == 0;
 }
 
-/* Reads the number at *text, and steps over it. Where headers are those of glibc 2.38 or later,
- * strtoumax would keep the module from being loaded with an earlier one. */
+/* Reads the number at *text, and steps over it. It doesn't call strtoumax: a module that is built
+ * with glibc 2.38 or later couldn't be loaded with an earlier glibc then. */
 static uintmax_t read_number(const char **text)
 {
     uintmax_t number = 0;
@@ -62,18 +62,18 @@ static bool swap(const struct place *place)
         == 0;
 }
 
-static bool look(const struct place *place, const char *name, struct stat *status)
+static bool read_status(const struct place *place, const char *name, struct stat *status)
 {
     return fstatat(place->folder, name, status, AT_SYMLINK_NOFOLLOW) == 0;
 }
 
-/* Removes what has new_name if it is one of the pair: the file that was replaced, or the one that
- * didn't replace it. Any other file is somebody's version, which stays. */
-static bool remove_one_of(const struct place *place, const struct pair *pair)
+/* Removes the file with new_name if it is one of the pair: the old one after an exchange, or the
+ * new one if there was none. Any other file is somebody's version, and stays. */
+static bool remove_own_file(const struct place *place, const struct pair *pair)
 {
     struct stat left;
 
-    if (!look(place, place->new_name, &left))
+    if (!read_status(place, place->new_name, &left))
         return errno == ENOENT;
     if (left.st_ino != pair->old && left.st_ino != pair->new) {
         errno = EEXIST;
@@ -82,19 +82,19 @@ static bool remove_one_of(const struct place *place, const struct pair *pair)
     return unlinkat(place->folder, place->new_name, 0) == 0;
 }
 
-/* Puts back what was exchanged by mistake, if the new file is still in its place. */
+/* Puts back a file that was exchanged by mistake, if the new file is still in its place. */
 static bool put_back(const struct place *place, const struct pair *pair)
 {
     struct stat left, file;
 
-    if (!look(place, place->new_name, &left) || !look(place, place->name, &file))
-        return errno == ENOENT; /* then there is nothing to put back, or nowhere */
+    if (!read_status(place, place->new_name, &left) || !read_status(place, place->name, &file))
+        return errno == ENOENT; /* then there is nothing to put back, or no file in its place */
     if (left.st_ino == pair->old || left.st_ino == pair->new || file.st_ino != pair->new)
         return true;
     return swap(place);
 }
 
-/* Removes a new file that was never in use: without a note nothing was exchanged. */
+/* Removes a new file that was never in place: without a note, nothing was exchanged. */
 static bool remove_unused(const struct place *place)
 {
     return unlinkat(place->folder, place->new_name, 0) == 0 || errno == ENOENT;
@@ -106,13 +106,14 @@ bool end_earlier_exchange(const struct place *place)
 
     if (!read_note(place, &pair))
         return errno == ENOENT && remove_unused(place);
-    if (!put_back(place, &pair) || !remove_one_of(place, &pair))
+    if (!put_back(place, &pair) || !remove_own_file(place, &pair))
         return false;
     return unlinkat(place->folder, place->exchange_name, 0) == 0;
 }
 
 /* Whether a file is still as it was: the same file, and nobody has written to it or changed its
- * owner or mode. The exchange itself sets the time of the last change. */
+ * owner or mode. The time of the last change (ctime) can't say so, since the exchange itself sets
+ * it. */
 static bool is_unchanged(const struct stat *now, const struct stat *before)
 {
     return is_same_file(now, before) && now->st_size == before->st_size
@@ -121,16 +122,16 @@ static bool is_unchanged(const struct stat *now, const struct stat *before)
         && now->st_uid == before->st_uid && now->st_gid == before->st_gid;
 }
 
-/* Whether a file is the same one, and nobody has changed anything of it, attributes included. After
- * an exchange nobody can tell, since that sets the time of the last change. */
+/* Whether a file is the same one, and nobody has changed anything of it, attributes included. This
+ * works only before an exchange, which sets the time of the last change (ctime). */
 static bool is_untouched(const struct stat *now, const struct stat *before)
 {
     return is_same_file(now, before) && now->st_ctim.tv_sec == before->st_ctim.tv_sec
         && now->st_ctim.tv_nsec == before->st_ctim.tv_nsec;
 }
 
-/* What has come out so far, held open: until it is closed, no later file gets its inode, by which
- * this process knows a file. */
+/* The files that have come out so far, held open. Until one is closed, no new file can get its
+ * inode, by which this process knows it. */
 struct held {
     int fds[MOST_EXCHANGES];
     int count;
@@ -153,16 +154,16 @@ static void release(struct held *held)
     errno = error;
 }
 
-/* Exchanges what has new_name and the password file until what is expected comes out. That is the
- * old file at first. Whenever somebody's version comes out instead, it goes back by the next
- * exchange, and what is in its place is expected. So the newest of somebody's versions stays. */
+/* Exchanges the file with new_name and the password file until the expected file comes out: at
+ * first the old one. If somebody's version comes out instead, the next exchange puts it back, and
+ * should take out the file that is in its place now. So the newest of their versions stays. */
 static enum outcome exchange_until_expected(
     const struct place *place, const struct stat *old, const struct stat *new, struct held *held)
 {
     struct stat expected = *old, in_place = *new, out;
 
     for (int count = 0; count < MOST_EXCHANGES; count++) {
-        if (!swap(place) || !look(place, place->new_name, &out))
+        if (!swap(place) || !read_status(place, place->new_name, &out))
             return FAILED;
         hold(place, held);
         if (is_unchanged(&out, &expected))
@@ -174,18 +175,18 @@ static enum outcome exchange_until_expected(
     return FAILED;
 }
 
-/* Removes what the exchange has left under new_name, and then the note. After a failure that may be
- * somebody's version, which stays. */
-static void clear_up(const struct place *place, const struct pair *pair, enum outcome outcome)
+/* Removes the file with new_name, and then the note. After a failure that file may be somebody's
+ * version, which stays. */
+static void clean_up(const struct place *place, const struct pair *pair, enum outcome outcome)
 {
     int error = errno;
-    bool is_clear;
+    bool is_removed;
 
     if (outcome == FAILED)
-        is_clear = remove_one_of(place, pair);
+        is_removed = remove_own_file(place, pair);
     else
-        is_clear = unlinkat(place->folder, place->new_name, 0) == 0;
-    if (is_clear)
+        is_removed = unlinkat(place->folder, place->new_name, 0) == 0;
+    if (is_removed)
         (void)unlinkat(place->folder, place->exchange_name, 0);
     errno = error;
 }
@@ -198,13 +199,13 @@ enum outcome exchange_files(
     struct stat file;
     enum outcome outcome;
 
-    if (!write_note(place, &pair) || !look(place, place->name, &file))
+    if (!write_note(place, &pair) || !read_status(place, place->name, &file))
         outcome = FAILED;
     else if (!is_untouched(&file, old))
         outcome = FILE_CHANGED;
     else
         outcome = exchange_until_expected(place, old, new, &held);
-    clear_up(place, &pair, outcome);
+    clean_up(place, &pair, outcome);
     release(&held);
     return outcome;
 }

@@ -1,10 +1,9 @@
-/* The calls of the proved library that the module makes. What mkpasswd_login() returns is the whole
- * answer to a login. */
+/* All calls of the proved library. What mkpasswd_login() returns is the whole answer to a login. */
 #include "hashes.h"
 #include <string.h>
 
-/* The budget has to admit a new hash of each password of up to so many bytes. Without one, an
- * unknown name would be refused at once. */
+/* The budget has to allow a new hash of each password of up to this many bytes. If it didn't,
+ * unknown names would be refused at once. */
 #define USUAL_LENGTH 64
 
 #define NO_ERROR 0
@@ -58,11 +57,11 @@ bool make_hash(const struct mkpasswd_policy *policy, const char *password, struc
     struct message *message)
 {
     struct mkpasswd_report report;
-    bool is_made = mkpasswd_new(
+    bool is_hashed = mkpasswd_new(
         mkpasswd_password(password), policy, hash->text, sizeof hash->text, &report);
 
     (void)mkpasswd_message(report.error, message->text, sizeof message->text);
-    return is_made;
+    return is_hashed;
 }
 
 void wipe_hash(struct hash *hash)
@@ -70,7 +69,7 @@ void wipe_hash(struct hash *hash)
     explicit_bzero(hash, sizeof *hash);
 }
 
-/* Whether a login is refused for its cost even with the cheapest password, the empty one. */
+/* Whether a login costs too much even with the empty password, the cheapest one. */
 static bool is_over_limit(const struct mkpasswd_policy *policy, struct mkpasswd_field field)
 {
     struct mkpasswd_report limit, least;
@@ -79,7 +78,8 @@ static bool is_over_limit(const struct mkpasswd_policy *policy, struct mkpasswd_
         && least.cost > limit.cost;
 }
 
-/* The error for which no password matches a field, or NO_ERROR if some password may. */
+/* Returns the error because of which no password matches a field, or NO_ERROR if some password may
+ * match. */
 static uint32_t error_of_field(const struct mkpasswd_policy *policy, struct mkpasswd_field field)
 {
     const struct mkpasswd_policy unlimited = {policy->method, policy->rounds, UINT64_MAX};

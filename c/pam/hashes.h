@@ -1,4 +1,4 @@
-/* What the module asks of the proved library. hashes.c has all its calls of mkpasswd.h. */
+/* What the module asks of the proved library. Only hashes.c calls it. */
 #ifndef PAM_MKPASSWD_HASHES_H
 #define PAM_MKPASSWD_HASHES_H
 
@@ -24,16 +24,16 @@ struct check {
 /* Finds the number of a method by its name. */
 bool find_method(const char *name, uint32_t *method);
 
-/* Whether the policy is valid, and its budget admits a new hash of each password of up to 64 bytes.
+/* Whether the policy is valid, and its budget allows a new hash of each password of up to 64 bytes.
  * If not, the message says why. */
 bool allows_new_hashes(const struct mkpasswd_policy *policy, struct message *message);
 
-/* Checks a password against a field, which is empty for an unknown name. A field that no password
- * can match takes as long as a new hash. */
+/* Checks a password against a field; for an unknown name the field is empty. If no password can
+ * match the field, this takes as long as a new hash. */
 struct check check_password(
     const struct mkpasswd_policy *policy, const char *password, struct mkpasswd_field field);
 
-/* Hashes a new password. If that can't be done, the message says why. */
+/* Hashes a new password. If it returns false, the message says why. */
 bool make_hash(const struct mkpasswd_policy *policy, const char *password, struct hash *hash,
     struct message *message);
 
@@ -43,11 +43,11 @@ void wipe_hash(struct hash *hash);
 enum field_problem {
     NO_PROBLEM,        /* some password may match */
     CLOSED_ON_PURPOSE, /* the field is empty or locked */
-    NEEDS_NEW_HASH,    /* no password matches what it has */
+    NEEDS_NEW_HASH,    /* the field has something that no password matches */
 };
 
-/* Finds out why no password can match a field, and puts the reason into the message. It gets no
- * password, so nothing that it says depends on one. */
+/* Returns whether some password can match a field, and puts the reason why not into the message. It
+ * gets no password, so its answer depends on none. */
 enum field_problem problem_of_field(
     const struct mkpasswd_policy *policy, struct mkpasswd_field field, struct message *message);
 

@@ -1,4 +1,5 @@
-/* Takes and releases the lock: flock(2) of a file that stays where it is. */
+/* Takes and releases the lock: flock(2) of a file beside the password file, which is never
+ * removed. */
 #include "lock.h"
 #include <errno.h>
 #include <fcntl.h>
@@ -7,10 +8,10 @@
 #include <unistd.h>
 
 #define TRIES 50
-#define PAUSE_NANOSECONDS 20000000 /* so that all tries take a second */
+#define PAUSE_NANOSECONDS 20000000 /* 50 tries take a second */
 
-/* Gives the lock the password file's owner. A service of that user can then take the lock even if
- * the superuser's was the first to change the file. */
+/* Gives the lock file to the owner of the password file. A service of that user can then take the
+ * lock even if a service of the superuser was the first to change the file. */
 static bool give_to_owner(int lock, const struct place *place)
 {
     struct stat file;
@@ -19,18 +20,19 @@ static bool give_to_owner(int lock, const struct place *place)
         && fchown(lock, file.st_uid, file.st_gid) == 0;
 }
 
-static int make_lock(const struct place *place)
+static int create_lock(const struct place *place)
 {
     const int flags = O_RDWR | O_CREAT | O_EXCL | O_CLOEXEC | O_NOFOLLOW;
     int lock = openat(place->folder, place->lock_name, flags, S_IRUSR | S_IWUSR);
 
+    /* Only the superuser can do this, and nobody else needs to. */
     if (lock >= 0)
-        (void)give_to_owner(lock, place); /* only the superuser can, and nobody else has to */
+        (void)give_to_owner(lock, place);
     return lock;
 }
 
 /* Opens an existing lock. If a FIFO has its name, O_NONBLOCK keeps the call from waiting. */
-static int open_made_lock(const struct place *place)
+static int open_existing_lock(const struct place *place)
 {
     const int flags = O_RDONLY | O_CLOEXEC | O_NOFOLLOW | O_NONBLOCK | O_NOCTTY;
 
@@ -39,17 +41,17 @@ static int open_made_lock(const struct place *place)
 
 static int open_lock(const struct place *place)
 {
-    int lock = open_made_lock(place);
+    int lock = open_existing_lock(place);
 
     if (lock < 0 && errno == ENOENT)
-        lock = make_lock(place);
-    if (lock < 0 && errno == EEXIST) /* somebody else has just made it */
-        lock = open_made_lock(place);
+        lock = create_lock(place);
+    if (lock < 0 && errno == EEXIST) /* another process has just created it */
+        lock = open_existing_lock(place);
     return lock;
 }
 
-/* Whether the lock is still the file that its name leads to. If somebody has removed it, another
- * process may hold a new one. */
+/* Whether the lock's name still leads to this file. If somebody has removed it, another process may
+ * hold a new one. */
 static bool is_in_place(int lock, const struct place *place)
 {
     struct stat locked, named;
@@ -59,7 +61,8 @@ static bool is_in_place(int lock, const struct place *place)
         && is_same_file(&locked, &named);
 }
 
-/* Locks an open file if it is free. To wait in flock(2) would need a signal that ends it. */
+/* Locks an open file if nobody else holds it. It doesn't wait in flock(2), which only a signal
+ * could end. */
 static enum lock_state lock_file(int lock, const struct place *place)
 {
     if (flock(lock, LOCK_EX | LOCK_NB) != 0)
@@ -67,7 +70,7 @@ static enum lock_state lock_file(int lock, const struct place *place)
     return is_in_place(lock, place) ? LOCK_TAKEN : LOCK_HELD;
 }
 
-/* Tries once. */
+/* Tries once to take the lock. */
 static enum lock_state try_lock(const struct place *place, int *lock)
 {
     enum lock_state state;
@@ -93,7 +96,7 @@ enum lock_state take_lock(const struct place *place, int *lock)
     return state;
 }
 
-/* Unlocks the file before it closes it: a child that the service has started meanwhile has a copy
+/* Unlocks the file before it closes it. A child that the service has started meanwhile has a copy
  * of the descriptor, which would keep the lock. */
 void release_lock(int lock)
 {

@@ -1,4 +1,4 @@
-/* The lock that whoever replaces a password file holds. */
+/* The lock that a process holds while it replaces a password file. */
 #ifndef PAM_MKPASSWD_LOCK_H
 #define PAM_MKPASSWD_LOCK_H
 
@@ -10,7 +10,8 @@ enum lock_state {
     LOCK_FAILED, /* errno says why */
 };
 
-/* Takes the lock, waiting up to a second. If it was taken, the caller releases it. */
+/* Takes the lock, and waits for it up to a second. If it returns LOCK_TAKEN, the caller releases
+ * the lock. */
 enum lock_state take_lock(const struct place *place, int *lock);
 
 /* Releases the lock, and leaves errno as it is. */

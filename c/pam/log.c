@@ -16,19 +16,19 @@ struct word {
     char text[WORD_SIZE];
 };
 
-/* Makes one word of what others may have chosen: by a blank or a line feed in it somebody could
- * forge the values that follow, or another entry. */
+/* Makes one word of a text that a stranger may have chosen. With a blank or a line feed in it they
+ * could forge the values that follow, or another entry. */
 static struct word word_of(const char *text)
 {
     struct word word = {""};
     size_t len = text != NULL ? strnlen(text, WORD_SIZE - 1) : 0;
 
-    for (size_t place = 0; place < len; place++) {
-        unsigned char character = (unsigned char)text[place];
+    for (size_t index = 0; index < len; index++) {
+        unsigned char character = (unsigned char)text[index];
 
-        word.text[place] = text[place];
+        word.text[index] = text[index];
         if (character <= ' ' || character == DELETE)
-            word.text[place] = '?';
+            word.text[index] = '?';
     }
     return word;
 }

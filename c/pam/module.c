@@ -1,5 +1,5 @@
-/* The four calls of PAM. What each returns for each field, name and argument is in a table of
- * pam_mkpasswd(8). No proof covers the module, but the calls that check and hash are proved. */
+/* The four calls of PAM. A table in pam_mkpasswd(8) says what each returns for which field, name
+ * and argument. The module is not proved, but the calls that check and hash are. */
 #include "hashes.h"
 #include "log.h"
 #include "options.h"
@@ -50,7 +50,7 @@ static void log_refusal(pam_handle_t *pam, const struct options *options,
     log_failure(pam, account->name, &account->line);
 }
 
-/* Checks the password, first of all: so a file that can't be read costs as much time as an unknown
+/* Checks the password before anything else. So an unreadable file takes as much time as an unknown
  * name, and that as much as a wrong password. */
 static int check_account(pam_handle_t *pam, const struct options *options,
     const struct account *account, const char *password, bool *is_outdated)
@@ -68,7 +68,8 @@ static int check_account(pam_handle_t *pam, const struct options *options,
     return PAM_AUTH_ERR;
 }
 
-/* Replaces an outdated hash by a new one of the same password. The user gets in even if this fails.
+/* Replaces an outdated hash with a new one of the same password. The user gets in even if this
+ * fails.
  */
 static void renew(pam_handle_t *pam, const struct options *options, const struct account *account,
     const char *password)
@@ -115,7 +116,7 @@ int pam_sm_setcred(pam_handle_t *pam, int flags, int count, const char **argumen
     return read_options(pam, count, arguments, &options) ? PAM_SUCCESS : PAM_SERVICE_ERR;
 }
 
-/* Says whether a name may log in by a hash, or have it replaced. */
+/* Returns whether the account may log in by a hash, or have it replaced. */
 static int status_of_account(
     const pam_handle_t *pam, const struct options *options, const struct account *account)
 {
@@ -147,21 +148,21 @@ int pam_sm_acct_mgmt(pam_handle_t *pam, int flags, int count, const char **argum
 }
 
 /* Shows the user a sentence, unless the service wants silence. */
-static void tell(pam_handle_t *pam, int flags, const char *text)
+static void show_error(pam_handle_t *pam, int flags, const char *text)
 {
     if ((flags & PAM_SILENT) == 0)
         (void)pam_prompt(pam, PAM_ERROR_MSG, NULL, "%s", text);
 }
 
-/* The superuser's own programs may set a password without the old one, but a login that found it
- * expired runs as the superuser too. */
+/* The superuser's own programs may set a password without the old one. But a login that found the
+ * password expired runs as the superuser too. */
 static bool needs_old_password(int flags)
 {
     return getuid() != 0 || (flags & PAM_CHANGE_EXPIRED_AUTHTOK) != 0;
 }
 
-/* Says whether the password may be changed. PAM asks for the old one only in the first round, and
- * keeps it for the second. */
+/* Returns whether the password may be changed. PAM asks for the old one only in the first round,
+ * and keeps it for the second. */
 static int check_old_password(
     pam_handle_t *pam, int flags, const struct options *options, const struct account *account)
 {
@@ -175,14 +176,14 @@ static int check_old_password(
     return check_account(pam, options, account, password, &is_outdated);
 }
 
-/* The first round changes nothing: each module of a stack says whether it could. */
+/* The first round changes nothing. Each module of a stack only says whether it could. */
 static int prepare_change(
     pam_handle_t *pam, int flags, const struct options *options, const struct account *account)
 {
     if (account->error == 0 && !can_replace(options->file)) {
         pam_syslog(
             pam, LOG_ERR, "%s: passwords can't be changed: %s", options->file, strerror(errno));
-        tell(pam, flags, "This service can't change passwords.");
+        show_error(pam, flags, "This service can't change passwords.");
         return PAM_AUTHTOK_ERR;
     }
     return check_old_password(pam, flags, options, account);
@@ -195,11 +196,11 @@ static int get_new_password(pam_handle_t *pam, int flags, const char **password)
         return PAM_AUTHTOK_ERR;
     if (**password != '\0')
         return PAM_SUCCESS;
-    tell(pam, flags, "No password has been supplied.");
+    show_error(pam, flags, "No password has been supplied.");
     return PAM_AUTHTOK_ERR;
 }
 
-/* Answers a change of password by what came of replacing the field, to PAM and to the user. */
+/* Tells the user how replacing the field ended, and returns PAM's status for it. */
 static int answer_change(pam_handle_t *pam, int flags, enum outcome outcome)
 {
     switch (outcome) {
@@ -207,16 +208,16 @@ static int answer_change(pam_handle_t *pam, int flags, enum outcome outcome)
         return PAM_SUCCESS;
     case LOCK_IS_HELD:
     case FILE_CHANGED:
-        tell(pam, flags, "The password file is in use. Please try again.");
+        show_error(pam, flags, "The password file is in use. Please try again.");
         return PAM_AUTHTOK_LOCK_BUSY;
     case FAILED:
         break;
     }
-    tell(pam, flags, "The password could not be stored.");
+    show_error(pam, flags, "The password could not be stored.");
     return PAM_AUTHTOK_ERR;
 }
 
-/* Replaces the field that was checked by a hash of the new password. */
+/* Replaces the field that was checked with a hash of the new password. */
 static int store_hash(pam_handle_t *pam, int flags, const struct options *options,
     const struct account *account, const char *hash)
 {
@@ -230,8 +231,8 @@ static int store_hash(pam_handle_t *pam, int flags, const struct options *option
     return answer_change(pam, flags, outcome);
 }
 
-/* The second round makes the change. It checks the old password again, since the field may be
- * another one by now. */
+/* The second round makes the change. It checks the old password again, since the field may have
+ * changed. */
 static int change(
     pam_handle_t *pam, int flags, const struct options *options, const struct account *account)
 {
@@ -246,7 +247,7 @@ static int change(
         return status;
     if (!make_hash(&options->policy, password, &hash, &message)) {
         pam_syslog(pam, LOG_WARNING, "%s: password not changed: %s", options->file, message.text);
-        tell(pam, flags, "The password can't be hashed. Is it too long?");
+        show_error(pam, flags, "The password can't be hashed. Is it too long?");
         return PAM_AUTHTOK_ERR;
     }
     status = store_hash(pam, flags, options, account, hash.text);

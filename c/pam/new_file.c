@@ -1,5 +1,5 @@
-/* Makes the new version of a password file, and copies what the old one has besides its bytes: the
- * owner, the mode, and the extended attributes, which hold ACLs and security labels. */
+/* Makes the new version of a password file. It also copies the owner, the mode and the extended
+ * attributes, which hold ACLs and security labels. */
 #define _GNU_SOURCE /* for O_TMPFILE */
 #include "new_file.h"
 #include <errno.h>
@@ -13,8 +13,8 @@
 
 #define MODE_BITS 07777
 
-/* Opens a file without a name, which is gone if this process is killed. On a file system without
- * such files it gets its name at once. */
+/* Opens a file without a name, which is gone if this process is killed. On a file system that has
+ * no such files it gets its name at once. */
 static bool open_new_file(const struct place *place, struct new_file *new)
 {
     new->fd = openat(place->folder, ".", O_TMPFILE | O_RDWR | O_CLOEXEC, S_IRUSR | S_IWUSR);
@@ -39,7 +39,7 @@ static bool write_bytes(int fd, const char *bytes, size_t len)
     return true;
 }
 
-/* Whether this process may write so many bytes. A write above its limit would kill it. */
+/* Whether this process may write a file of this size. A write beyond its limit would kill it. */
 static bool is_within_limit(size_t size)
 {
     struct rlimit limit;
@@ -70,7 +70,7 @@ static bool write_lines(
     return write_bytes(fd, rest, after);
 }
 
-/* Whether a file has this owner and mode. If not, errno says that this isn't permitted. */
+/* Whether a file has this owner and mode. If not, errno is EPERM. */
 static bool has_owner_and_mode(int fd, const struct stat *wanted)
 {
     struct stat file;
@@ -84,8 +84,8 @@ static bool has_owner_and_mode(int fd, const struct stat *wanted)
     return false;
 }
 
-/* Gives a file the owner and mode of another one. The owner comes first, since a new owner clears
- * bits of the mode. Calls that succeed aren't enough: the system may drop bits silently. */
+/* Gives a file the owner and mode of another one. It sets the owner first, since that clears bits
+ * of the mode. It looks at the result, since the system may drop bits silently. */
 static bool copy_owner_and_mode(int fd, const struct stat *old)
 {
     if (fchown(fd, old->st_uid, old->st_gid) != 0)
@@ -137,8 +137,8 @@ static bool has_value(int fd, const char *name, const char *value, size_t len)
     return is_same;
 }
 
-/* Gives a file an attribute of another one. It doesn't set one that the file has already, such as a
- * label, since this process may not be allowed to. */
+/* Gives a file an attribute of another one. If the file has the value already, as it may have a
+ * label, it doesn't set it, since this process may not be allowed to. */
 static bool copy_attribute(int to, int from, const char *name)
 {
     char *value = malloc(XATTR_SIZE_MAX);
@@ -165,8 +165,8 @@ static bool copy_named_attributes(const struct names *names, int to, int from)
     return true;
 }
 
-/* Removes the attributes that a new file got from its folder and the old one doesn't have, such as
- * an ACL. */
+/* Removes the attributes that the new file got from its folder and the old one doesn't have, such
+ * as an ACL. */
 static bool remove_others(const struct names *own, const struct names *wanted, int fd)
 {
     const char *end = own->bytes + own->len;

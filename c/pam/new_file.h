@@ -1,4 +1,4 @@
-/* The new version of a password file, while it is being made. */
+/* The new version of a password file, from its creation until it is put in place. */
 #ifndef PAM_MKPASSWD_NEW_FILE_H
 #define PAM_MKPASSWD_NEW_FILE_H
 
@@ -7,22 +7,22 @@
 
 struct new_file {
     int fd;
-    bool has_name;      /* place's new_name */
+    bool has_name;      /* its name is the place's new_name */
     struct stat status; /* once it is whole */
 };
 
-/* Makes a file that has everything of the old one, but new_field in the place of field, and writes
- * it to the disk. If this fails, errno says why. In each case the caller closes the file. */
+/* Makes a copy of the old file that has new_field instead of field, and flushes it to disk. If this
+ * fails, errno says why. The caller closes the file in each case. */
 bool make_new_file(const struct place *place, const struct password_file *old,
     struct mkpasswd_field field, const char *new_field, struct new_file *new);
 
-/* Gives the file place's new_name, if it has none yet. */
+/* Gives the file the place's new_name, unless it has a name already. */
 bool name_new_file(const struct place *place, struct new_file *new);
 
 /* Removes the file's name, if it has one. */
 void remove_new_file(const struct place *place, const struct new_file *new);
 
-/* Closes the file, which is gone then if it has no name. */
+/* Closes the file. Without a name it is gone then. */
 void close_new_file(const struct new_file *new);
 
 #endif

@@ -1,4 +1,4 @@
-/* Reads the arguments of the module: each has a row in OPTIONS with the function that reads it. */
+/* Reads the arguments of the module. Each has a row in OPTIONS with the function that reads it. */
 #include "options.h"
 #include "place.h"
 #include <errno.h>
@@ -8,8 +8,8 @@
 #include <sys/stat.h>
 #include <syslog.h>
 
-/* An argument's name, and the function that reads what follows the name. It returns whether that is
- * valid. */
+/* The name of an argument, and the function that reads the value behind it and returns whether the
+ * value is valid. */
 struct option {
     const char *name;
     bool (*read)(const char *value, struct options *options);
@@ -64,7 +64,7 @@ static bool read_debug(const char *value, struct options *options)
     return *value == '\0';
 }
 
-/* Takes an argument that pam_get_authtok(3) reads by itself. */
+/* Accepts an argument that pam_get_authtok(3) reads by itself. */
 static bool leave_to_pam(const char *value, struct options *options)
 {
     (void)options;
@@ -102,7 +102,7 @@ static bool read_argument(const char *argument, struct options *options)
     return false;
 }
 
-/* Whether the file is the system's own, by whatever name: pam_unix serves that, and programs that
+/* Whether the file is /etc/shadow, under any name. That file is pam_unix's, and programs that
  * change it take another lock. */
 static bool is_shadow(const char *path)
 {
@@ -115,16 +115,17 @@ static bool is_shadow(const char *path)
 static bool read_arguments(
     const pam_handle_t *pam, int count, const char **arguments, struct options *options)
 {
-    for (int place = 0; place < count; place++) {
-        if (!read_argument(arguments[place], options)) {
-            pam_syslog(pam, LOG_ERR, "invalid argument: %s", arguments[place]);
+    for (int index = 0; index < count; index++) {
+        if (!read_argument(arguments[index], options)) {
+            pam_syslog(pam, LOG_ERR, "invalid argument: %s", arguments[index]);
             return false;
         }
     }
     return true;
 }
 
-/* Whether valid arguments are valid together: a file is among them, and they allow new hashes. */
+/* Whether the arguments, each of which is valid, fit together: file= is among them, and they allow
+ * new hashes. */
 static bool are_valid_together(const pam_handle_t *pam, const struct options *options)
 {
     struct message message;

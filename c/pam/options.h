@@ -13,8 +13,8 @@ struct options {
     bool is_debugging;
 };
 
-/* Reads all arguments. If one is invalid or missing, or no new hash is possible with them, it logs
- * that and returns false. */
+/* Reads all arguments. If one is invalid or missing, or they allow no new hash, it logs that and
+ * returns false. */
 bool read_options(pam_handle_t *pam, int count, const char **arguments, struct options *options);
 
 #endif

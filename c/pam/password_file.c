@@ -30,16 +30,15 @@ static int read_bytes(struct password_file *file)
 
         if (len < 0)
             return errno;
-        if (len == 0) /* it has become shorter */
+        if (len == 0) /* somebody has cut the file meanwhile */
             break;
         file->size += (size_t)len;
     }
     return 0;
 }
 
-/* Frees the bytes, and wipes them before: all names' hashes are among them, and the service goes
- * on. */
-static void drop_bytes(struct password_file *file)
+/* Wipes the bytes and frees them. They have the hashes of all names, and the service runs on. */
+static void wipe_and_free_bytes(struct password_file *file)
 {
     if (file->bytes == NULL)
         return;
@@ -58,7 +57,7 @@ int read_password_file(int folder, const char *path, struct password_file *file)
     if (error == 0)
         error = read_bytes(file);
     if (error != 0)
-        drop_bytes(file);
+        wipe_and_free_bytes(file);
     return error;
 }
 
@@ -66,14 +65,14 @@ void close_password_file(struct password_file *file)
 {
     int error = errno;
 
-    drop_bytes(file);
+    wipe_and_free_bytes(file);
     if (file->fd >= 0)
         (void)close(file->fd);
     errno = error;
 }
 
-/* The place of a character, or the end if it isn't there. */
-static const char *find(const char *start, const char *end, char character)
+/* Returns where a character is, or the end if it isn't there. */
+static const char *find_character(const char *start, const char *end, char character)
 {
     const char *place = memchr(start, character, (size_t)(end - start));
 
@@ -83,16 +82,16 @@ static const char *find(const char *start, const char *end, char character)
 /* Whether a line begins with this name and a colon. */
 static bool has_name(const char *line, const char *line_end, const char *name, size_t name_len)
 {
-    const char *colon = find(line, line_end, ':');
+    const char *colon = find_character(line, line_end, ':');
 
     return colon < line_end && name_len > 0 && (size_t)(colon - line) == name_len
         && memcmp(line, name, name_len) == 0;
 }
 
-/* The field that begins here, up to the next colon. */
+/* Returns the field from `start` up to the next colon. */
 static struct mkpasswd_field field_between(const char *start, const char *line_end)
 {
-    const char *end = find(start, line_end, ':');
+    const char *end = find_character(start, line_end, ':');
 
     return mkpasswd_field_bytes(start, (size_t)(end - start));
 }
@@ -104,11 +103,11 @@ struct line find_line(const struct password_file *file, const char *name)
     const char *end;
     size_t name_len = strlen(name);
 
-    if (file->size == 0) /* and perhaps no bytes */
+    if (file->size == 0) /* `bytes` may be null */
         return found;
     end = file->bytes + file->size;
     for (unsigned long number = 1; line < end; number++) {
-        const char *line_end = find(line, end, '\n');
+        const char *line_end = find_character(line, end, '\n');
 
         if (has_name(line, line_end, name, name_len) && found.number == 0) {
             found.number = number;
@@ -124,7 +123,7 @@ bool is_locked(struct mkpasswd_field field)
     return field.length > 0 && (field.bytes[0] == '!' || field.bytes[0] == '*');
 }
 
-bool is_same_field(struct mkpasswd_field one, struct mkpasswd_field other)
+bool is_same_field(struct mkpasswd_field first, struct mkpasswd_field second)
 {
-    return one.length == other.length && memcmp(one.bytes, other.bytes, one.length) == 0;
+    return first.length == second.length && memcmp(first.bytes, second.bytes, first.length) == 0;
 }

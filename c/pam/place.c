@@ -50,7 +50,7 @@ void close_place(const struct place *place)
     errno = error;
 }
 
-bool is_same_file(const struct stat *one, const struct stat *other)
+bool is_same_file(const struct stat *first, const struct stat *second)
 {
-    return one->st_dev == other->st_dev && one->st_ino == other->st_ino;
+    return first->st_dev == second->st_dev && first->st_ino == second->st_ino;
 }

@@ -12,18 +12,18 @@
 struct place {
     int folder;
     char name[NAME_SIZE];          /* of the password file */
-    char lock_name[NAME_SIZE];     /* of an empty file that is locked while the other is replaced */
-    char new_name[NAME_SIZE];      /* of the new file, until it takes the other's place */
+    char lock_name[NAME_SIZE];     /* of an empty file that is locked during a replacement */
+    char new_name[NAME_SIZE];      /* of the new file, until it replaces the password file */
     char exchange_name[NAME_SIZE]; /* of a link that says which two files are being exchanged */
 };
 
-/* Finds the folder of a file, after it has followed all links. If this fails, errno says why. In
- * each case the caller closes the place. */
+/* Follows all links of a path, and opens the folder of the file that it leads to. If this fails,
+ * errno says why. The caller closes the place in each case. */
 bool open_place(const char *path, struct place *place);
 
 void close_place(const struct place *place);
 
-/* Whether two descriptions are of one file, whatever its content was. */
-bool is_same_file(const struct stat *one, const struct stat *other);
+/* Whether two descriptions are of the same file, even if its content has changed. */
+bool is_same_file(const struct stat *first, const struct stat *second);
 
 #endif

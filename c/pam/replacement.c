@@ -8,7 +8,7 @@
 #include <unistd.h>
 
 /* Gives the new file a name and exchanges it for the old one. If this process is killed meanwhile,
- * the next one that replaces a field ends the exchange. */
+ * the next one that replaces a field cleans up. */
 static enum outcome put_in_place(
     const struct place *place, const struct password_file *old, struct new_file *new)
 {
@@ -18,7 +18,7 @@ static enum outcome put_in_place(
         return FAILED;
     outcome = exchange_files(place, &old->status, &new->status);
     if (outcome == DONE)
-        (void)fsync(place->folder); /* not every file system can */
+        (void)fsync(place->folder); /* some file systems can't */
     return outcome;
 }
 
@@ -37,7 +37,7 @@ static enum outcome replace_in_file(const struct place *place, const struct pass
     return outcome;
 }
 
-/* Replaces the field of a file that was read, if it is still the one that was checked. */
+/* Replaces the field in a file that was read, if it is still the one that was checked. */
 static enum outcome replace_if_same(const struct place *place, const struct password_file *file,
     const struct replacement *replacement)
 {

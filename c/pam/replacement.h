@@ -7,18 +7,18 @@
 
 enum outcome {
     DONE,
-    LOCK_IS_HELD, /* by another process, for longer than this one waits */
-    FILE_CHANGED, /* by somebody else, or the field is another one by now */
+    LOCK_IS_HELD, /* by another process, for more than a second */
+    FILE_CHANGED, /* by somebody else, or it has another field for the name */
     FAILED,       /* errno says why */
 };
 
 struct replacement {
     const char *name;
-    struct mkpasswd_field checked; /* the field that is replaced, if the line still has it */
+    struct mkpasswd_field checked; /* the field to replace, if the line still has it */
     const char *hash;              /* the new field */
 };
 
-/* Replaces a field. Unless the outcome is DONE, the file stays as it is. */
+/* Replaces a field. Unless it returns DONE, the file stays as it is. */
 enum outcome replace_field(const char *path, const struct replacement *replacement);
 
 /* Whether this process may replace the file. If not, errno says why. */
