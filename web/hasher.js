@@ -1,13 +1,13 @@
-// A worker of mkpasswd.mjs, in node or a browser. Its first message has the compiled module, each
-// other one a call. It answers by the result, or by why the call failed.
+// A worker of mkpasswd.mjs, in node or a browser. Its first message has the compiled module, and
+// each later one a call. It posts the result of the call, or why it failed.
 /*@CALLS@*/
 const isNode = typeof require === 'function';
 const port = isNode ? require('node:worker_threads').parentPort : globalThis;
 let calls;
 
-function answerTo({ name, given }) {
+function runCall({ name, args }) {
     try {
-        return { result: calls[name](...given) };
+        return { result: calls[name](...args) };
     } catch ({ message, reason }) {
         return { failure: { message, reason } };
     }
@@ -17,6 +17,6 @@ port.onmessage = ({ data }) => {
     if (data.compiled) {
         calls = new Calls(data.compiled);
     } else {
-        port.postMessage(answerTo(data));
+        port.postMessage(runCall(data));
     }
 };

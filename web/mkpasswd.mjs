@@ -1,6 +1,6 @@
 // mkpasswd @VERSION@: hashes of crypt(5) by sha512crypt, sha256crypt, scrypt and md5crypt, for node
-// 20 and web pages. LLVM compiled the proved code, and Binaryen lowered it; this script is tested.
-// mkpasswd.d.ts, in the package of npm, describes each call.
+// 20 and web pages. The WebAssembly module is proved code, compiled by LLVM and lowered by
+// Binaryen; this script is tested. mkpasswd.d.ts, in the npm package, describes each call.
 //
 //     import { LoginQueue } from './mkpasswd.mjs';
 //     const queue = new LoginQueue();
@@ -8,61 +8,61 @@
 //     const result = await queue.login(password, stored); // stored: null for an unknown name
 //     if (result.matches) letIn();
 //
-// First come the calls of the module, the workers and what is passed to them; then arguments,
-// errors and results; at the end policies, the queue of logins and what is exported.
+// First come the calls of the module and the workers (calls.js, pool.js), then arguments, errors
+// and results, and at the end policies, the queue of logins (queue.mjs) and the exports.
 /*@CALLS@*/
 /*@POOL@*/
-const compiled = compiledModule('@MODULE@');
+const compiled = compileModule('@MODULE@');
 const calls = new Calls(compiled);
 
 // ---- Arguments
 
-function integer(value, name, allowed = 'an integer') {
+function requireInteger(value, name, allowed = 'an integer') {
     if (Number.isInteger(value)) return value;
     const found = typeof value === 'number' ? value : kindOf(value);
     throw new TypeError(`${name} must be ${allowed}, not ${found}`);
 }
 
-// Refuses another number of arguments than those that a call's form names.
-function required(form, given) {
-    if (given.length === form.split(',').length) return given;
-    throw new TypeError(`call ${form}, not with ${given.length} arguments. `
+// Returns the arguments of a call, and throws unless there are as many as its form names.
+function requireArguments(form, args) {
+    if (args.length === form.split(',').length) return args;
+    throw new TypeError(`call ${form}, not with ${args.length} arguments. `
         + 'A policy has method, rounds and budget: new Policy({ method, rounds, budget })');
 }
 
 function isPlainObject(value) {
     if (typeof value !== 'object' || value === null || Array.isArray(value)) return false;
     const prototype = Object.getPrototypeOf(value);
-    // An object of another realm, as a test runner makes them, has another Object.prototype.
+    // An object of another realm, such as a test runner's, has another Object.prototype.
     return prototype === null || Object.getPrototypeOf(prototype) === null;
 }
 
-// The own properties of an object that has no others than these.
-function optionsOf(value, owner, names) {
+// Returns the own properties of an object, and throws if it has others than `names`.
+function readOptions(value, owner, names) {
     if (!isPlainObject(value)) {
-        throw new TypeError(`${owner} is made from a plain object with ${listed(names)}, `
+        throw new TypeError(`${owner} is made from a plain object with ${listNames(names)}, `
             + `not from ${kindOf(value)}`);
     }
     for (const name of Reflect.ownKeys(value)) {
         if (!names.includes(name)) {
-            throw new TypeError(`${owner} has ${listed(names)}, but no ${String(name)}`);
+            throw new TypeError(`${owner} has ${listNames(names)}, but no ${String(name)}`);
         }
     }
     return { __proto__: null, ...value };
 }
 
-function listed(names) {
+function listNames(names) {
     return `${names.slice(0, -1).join(', ')} and ${names.at(-1)}`;
 }
 
-// The bytes of a login's password. A lone surrogate stands in no password, and neither does a zero
-// byte, which the module refuses without hashing.
+// Returns the bytes of a login's password. A lone surrogate is in no stored password, so such a
+// password becomes a zero byte, which the module refuses without hashing.
 function loginPasswordBytes(password) {
-    return hasLoneSurrogate(password) ? new Uint8Array(1) : bytesOf(password, 'password');
+    return hasLoneSurrogate(password) ? new Uint8Array(1) : toBytes(password, 'password');
 }
 
 function fieldBytes(field) {
-    return bytesOf(field ?? '', 'field', 'a string, a Uint8Array or null');
+    return toBytes(field ?? '', 'field', 'a string, a Uint8Array or null');
 }
 
 // ---- Errors
@@ -84,7 +84,7 @@ class TooCostly extends Refused {
     }
 }
 
-// What is allowed, where mkpasswd's own message doesn't say so.
+// Messages for errors where mkpasswd's own message doesn't say what is allowed.
 const MESSAGES = {
     __proto__: null,
     MKPASSWD_ERROR_PASSWORD_TOO_LONG: 'password too long: it may have 1024 bytes',
@@ -93,7 +93,8 @@ const MESSAGES = {
         + 'or 0 for the recommended ones',
 };
 
-// The error of a call that failed. `excess` says what is too costly if that is why.
+// Returns the error to throw for a call that failed. If the budget is why, `excess` says what costs
+// too much.
 function errorOfCall({ reason, message }, excess) {
     if (!reason) return new Error(message);
     const isTooCostly = reason === 'MKPASSWD_ERROR_OVER_BUDGET';
@@ -113,9 +114,9 @@ function excessOfPassword({ bytes, passwordLength }) {
 // ---- Making calls
 
 // Makes a call in this thread.
-function inThread(name, given, excess) {
+function runInThread(name, args, excess) {
     try {
-        return calls[name](...given);
+        return calls[name](...args);
     } catch (error) {
         throw error.reason ? errorOfCall(error, excess) : error;
     }
@@ -123,9 +124,9 @@ function inThread(name, given, excess) {
 
 let pool;
 
-// Makes a call in a worker, which needs so many bytes of memory for scrypt. The first one starts
+// Makes a call in a worker. `memory` is how many bytes it needs for scrypt. The first call starts
 // the pool.
-async function inWorker(name, given, memory, excess) {
+async function runInWorker(name, args, memory, excess) {
     pool ??= startPool(compiled);
     let workers;
     try {
@@ -134,7 +135,7 @@ async function inWorker(name, given, memory, excess) {
         pool = undefined;
         throw error;
     }
-    const { result, failure } = await workers.ask(name, given, memory);
+    const { result, failure } = await workers.ask(name, args, memory);
     if (failure) throw errorOfCall(failure, excess);
     return result;
 }
@@ -144,7 +145,7 @@ async function inWorker(name, given, memory, excess) {
 class Match {
     matches = true;
 
-    // Logs and JSON don't show the hash.
+    // The hash isn't enumerable, so that logs and JSON don't show it.
     constructor(renewed) {
         Object.defineProperty(this, 'new', { __proto__: null, value: renewed });
     }
@@ -152,24 +153,25 @@ class Match {
 
 const ABSENT = { __proto__: null, value: undefined };
 
-// What a login returns, false or a promise, such that it has no `matches`: a flaw of another script
-// can set that in Object.prototype, and everybody would get in by it.
-function guarded(result) {
+// Returns what a login returns, false or a promise, and makes sure that it has no `matches`. If
+// another script has set that in Object.prototype, everybody would get in.
+function guardVerdict(result) {
     if (result !== false) {
         return Object.defineProperties(result, { __proto__: null, matches: ABSENT, new: ABSENT });
     }
     if (result.matches === undefined && result.new === undefined) return false;
-    throw new Error('Object.prototype has matches or new, so every login would look right: '
+    throw new Error('Object.prototype has matches or new, so every login would look like a match: '
         + 'find the script that sets it');
 }
 
-function resultOf(login) {
-    return login ? new Match(login.renewed) : guarded(false);
+function toVerdict(login) {
+    return login ? new Match(login.renewed) : guardVerdict(false);
 }
 
-// What a login came to that threw: it fails if there was no memory.
-function resultOfError(error) {
-    if (error.reason === OUT_OF_MEMORY) return guarded(false);
+// Returns the result of a login that threw: it fails if there was no memory. Other errors are
+// thrown again.
+function verdictOfError(error) {
+    if (error.reason === OUT_OF_MEMORY) return guardVerdict(false);
     throw error;
 }
 
@@ -219,7 +221,7 @@ const PROBLEMS = {
 
 const NO_LIMIT = 'an integer (2 ** 42 for no limit)';
 
-// Each is bound to its policy, so it can be taken out of that.
+// Each is bound to its policy, so that it can be called without it.
 const CALLS_OF_A_POLICY = [
     'hash', 'hashAsync', 'login', 'loginAsync', 'verify', 'needsRehash', 'describe',
     'passwordProblem',
@@ -230,20 +232,20 @@ class Policy {
 
     constructor(policy = {}) {
         const names = ['method', 'rounds', 'budget'];
-        const { method = 'sha512crypt', rounds, budget } = optionsOf(policy, 'a policy', names);
+        const { method = 'sha512crypt', rounds, budget } = readOptions(policy, 'a policy', names);
         if (typeof method !== 'string') {
             throw new TypeError(`method must be a string, not ${kindOf(method)}`);
         }
-        integer(rounds ?? 0, 'rounds');
-        if (integer(budget ?? 1, 'budget', NO_LIMIT) < 1) {
+        requireInteger(rounds ?? 0, 'rounds');
+        if (requireInteger(budget ?? 1, 'budget', NO_LIMIT) < 1) {
             throw new RangeError('budget must be above 0, or null for twice what a new hash costs');
         }
-        const standard = inThread('limit', [method, rounds ?? 0]);
+        const standard = runInThread('limit', [method, rounds ?? 0]);
         this.method = method;
         this.rounds = rounds || standard.rounds;
         this.budget = budget ?? null;
-        const admitted = this.budget ? calls.limit(method, this.rounds, this.budget) : standard;
-        const { bytes, passwordLength } = admitted;
+        const ownLimit = this.budget ? calls.limit(method, this.rounds, this.budget) : standard;
+        const { bytes, passwordLength } = ownLimit;
         this.#limit = Object.freeze({ bytes, passwordLength });
         for (const name of CALLS_OF_A_POLICY) {
             Object.defineProperty(this, name, { __proto__: null, value: this[name].bind(this) });
@@ -255,46 +257,46 @@ class Policy {
         return this.#limit;
     }
 
-    hash(...given) {
-        return inThread('newHash', this.#toHash(given), excessOfPassword(this.#limit));
+    hash(...args) {
+        return runInThread('newHash', this.#hashArgs(args), excessOfPassword(this.#limit));
     }
 
-    async hashAsync(...given) {
-        const toHash = this.#toHash(given);
-        const memory = calls.memoryOfNewHash(...toHash);
-        return inWorker('newHash', toHash, memory, excessOfPassword(this.#limit));
+    async hashAsync(...args) {
+        const hashArgs = this.#hashArgs(args);
+        const memory = calls.memoryOfNewHash(...hashArgs);
+        return runInWorker('newHash', hashArgs, memory, excessOfPassword(this.#limit));
     }
 
-    #toHash(given) {
-        const [password] = required('hash(password)', given);
+    #hashArgs(args) {
+        const [password] = requireArguments('hash(password)', args);
         return [passwordBytes(password), this.method, this.rounds, this.#limit.bytes];
     }
 
-    login(...given) {
-        const toLogin = this.#toLogin(given);
+    login(...args) {
+        const loginArgs = this.#loginArgs(args);
         try {
-            return resultOf(inThread('login', toLogin));
+            return toVerdict(runInThread('login', loginArgs));
         } catch (error) {
-            return resultOfError(error);
+            return verdictOfError(error);
         }
     }
 
-    loginAsync(...given) {
-        return guarded(this.#loginAsync(given));
+    loginAsync(...args) {
+        return guardVerdict(this.#loginAsync(args));
     }
 
-    async #loginAsync(given) {
-        const toLogin = this.#toLogin(given);
-        const memory = calls.memoryOfLogin(...toLogin);
+    async #loginAsync(args) {
+        const loginArgs = this.#loginArgs(args);
+        const memory = calls.memoryOfLogin(...loginArgs);
         try {
-            return resultOf(await inWorker('login', toLogin, memory));
+            return toVerdict(await runInWorker('login', loginArgs, memory));
         } catch (error) {
-            return resultOfError(error);
+            return verdictOfError(error);
         }
     }
 
-    #toLogin(given) {
-        const [password, field] = required('login(password, field)', given);
+    #loginArgs(args) {
+        const [password, field] = requireArguments('login(password, field)', args);
         const { method, rounds, budget } = this;
         const policy = {
             method,
@@ -305,27 +307,28 @@ class Policy {
         return [loginPasswordBytes(password), fieldBytes(field), policy];
     }
 
-    verify(...given) {
-        const [password, field] = required('verify(password, field)', given);
+    verify(...args) {
+        const [password, field] = requireArguments('verify(password, field)', args);
         const { bytes } = this.#limit;
-        return inThread('verify', [password, bytesOf(field, 'field'), bytes], excessOfHash(bytes));
+        const verifyArgs = [password, toBytes(field, 'field'), bytes];
+        return runInThread('verify', verifyArgs, excessOfHash(bytes));
     }
 
-    needsRehash(...given) {
-        const [stored] = required('needsRehash(stored)', given);
-        return inThread('needsRehash', [bytesOf(stored, 'stored'), this.method, this.rounds]);
+    needsRehash(...args) {
+        const [stored] = requireArguments('needsRehash(stored)', args);
+        return runInThread('needsRehash', [toBytes(stored, 'stored'), this.method, this.rounds]);
     }
 
-    describe(...given) {
-        const [field] = required('describe(field)', given);
+    describe(...args) {
+        const [field] = requireArguments('describe(field)', args);
         const budget = this.budget ?? RECOMMENDED_BUDGET;
         return new Description(calls.audit(fieldBytes(field), this.method, this.rounds, budget));
     }
 
-    passwordProblem(...given) {
-        const [password] = required('passwordProblem(password)', given);
+    passwordProblem(...args) {
+        const [password] = requireArguments('passwordProblem(password)', args);
         if (hasLoneSurrogate(password)) return 'lone surrogate';
-        const bytes = bytesOf(password, 'password');
+        const bytes = toBytes(password, 'password');
         const error = calls.passwordError(bytes);
         if (error) return PROBLEMS[error.name] ?? error.message;
         const { passwordLength } = this.#limit;
@@ -345,17 +348,17 @@ export const {
 export const version = '@VERSION@';
 
 export function cost(stored, passwordLength) {
-    if (integer(passwordLength, 'passwordLength') < 0) {
+    if (requireInteger(passwordLength, 'passwordLength') < 0) {
         throw new RangeError('passwordLength must be 0 or more');
     }
-    return inThread('cost', [bytesOf(stored, 'stored'), passwordLength]);
+    return runInThread('cost', [toBytes(stored, 'stored'), passwordLength]);
 }
 
 export function setting(method = 'sha512crypt', rounds = 0) {
-    return inThread('setting', [method, integer(rounds, 'rounds')]);
+    return runInThread('setting', [method, requireInteger(rounds, 'rounds')]);
 }
 
 export function crypt(password, by, budget = limit.bytes) {
-    integer(budget, 'budget', NO_LIMIT);
-    return inThread('hash', [password, bytesOf(by), budget], excessOfHash(budget));
+    requireInteger(budget, 'budget', NO_LIMIT);
+    return runInThread('hash', [password, toBytes(by), budget], excessOfHash(budget));
 }

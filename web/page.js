@@ -1,11 +1,11 @@
-// The script of mkpasswd.html: what its forms do, and what the page says. A worker hashes: its
-// script, worker.js, stands in the page as text.
+// The script of mkpasswd.html: what its forms do, and what the page says. A worker hashes. Its
+// script, worker.js, is in the page as text.
 
-// What the page says of an error where mkpasswd's own message doesn't say what to do.
+// What the page says for an error if mkpasswd's own message doesn't say what to do.
 const SENTENCES = {
-    MKPASSWD_ERROR_PASSWORD_TOO_LONG: 'The password has more than 1024 bytes. Take a shorter one.',
+    MKPASSWD_ERROR_PASSWORD_TOO_LONG: 'The password has more than 1024 bytes. Use a shorter one.',
     MKPASSWD_ERROR_PASSWORD_ZERO_BYTE:
-        'The password has a zero byte, which no login takes. Type it again.',
+        'The password has a zero byte, which no login accepts. Type it again.',
     MKPASSWD_ERROR_SETTING_TOO_LONG:
         'This is longer than any hash. Copy the hash alone, or its whole line.',
     MKPASSWD_ERROR_BAD_CHARACTER: 'This has a character that is in no hash. Copy the hash again.',
@@ -16,14 +16,14 @@ const SENTENCES = {
         'This hash of scrypt takes too much memory for any login. Set a new password.',
     MKPASSWD_ERROR_BAD_SALT: 'This hash of scrypt has no valid salt. Copy it again.',
     MKPASSWD_ERROR_OUT_OF_MEMORY: 'The browser has too little memory for this hash of scrypt. '
-        + 'Close other pages and try again, or take another browser.',
+        + 'Close other pages and try again, or use another browser.',
     MKPASSWD_ERROR_LOCKED: 'This account is locked, so no password matches. '
-        + 'To check the hash behind ! or *, remove that.',
+        + 'To check the hash behind ! or *, remove that character.',
     MKPASSWD_ERROR_NO_HASH: 'This account has no hash. Set a password, or lock it.',
 };
 const NAME_RULE = 'A name begins with a letter (A to Z) or _, '
     + 'and has only letters, digits and _.@- (at most 64).';
-const WEAK = 'md5crypt is weak. Take it only where nothing else works.';
+const WEAK = 'md5crypt is weak. Use it only where nothing else works.';
 const OUTDATED = 'matches, but the hash is outdated (few rounds, or not sha512crypt): '
     + 'replace it with a new one';
 const NO_BREAK_SPACE = '\u00a0';
@@ -31,17 +31,18 @@ const NO_BREAK_SPACE = '\u00a0';
 const METHODS = ['sha512crypt', 'sha256crypt', 'scrypt', 'md5crypt'];
 const DIGEST_LENGTHS = { 1: 22, 5: 43, 6: 86, 7: 43 }; // in characters, by the prefix of the method
 const SENTENCE_OF_ROUNDS = 'Give 1000 to 999999999 rounds.';
-const SENTENCE_OF_SCRYPT_ROUNDS = 'Give 6 to 11 rounds: each more doubles time and memory.';
+const SENTENCE_OF_SCRYPT_ROUNDS = 'Give 6 to 11 rounds: one more doubles time and memory.';
 const GENERATED_CHARACTERS = 'ABCDEFGHIJKLMNOPQRSTUVWXYZabcdefghijklmnopqrstuvwxyz0123456789';
 const GENERATED_LENGTH = 20;
 
-// ---- What the page knows
+// ---- State
 
-const rates = {}; // by a method: the cost and the time of a hash that was measured
-// The rounds of the methods that aren't chosen, by their kind. While one is, they are in the field.
+const rates = {}; // for each method: the cost and the time of a hash that was measured
+// The rounds for the kinds of methods that aren't chosen. Those of the chosen kind are in the
+// field.
 const keptRounds = { md5crypt: '1000' };
 let chosenKind = 'SHA-crypt';
-let madeHash;
+let newHash;
 let running; // the form's job that a worker does: form, stored, worker, timer, method and cost
 
 // ---- Elements
@@ -54,59 +55,59 @@ function valueOf(id) {
     return element(id).value;
 }
 
-// Says something in a place of the page. The kind is the class of a colour.
-function write(place, text, kind = '') {
+// Puts a text into an element. The kind is a class, which gives it a colour.
+function showText(place, text, kind = '') {
     place.textContent = text;
     place.className = kind;
 }
 
-// Says what becomes of a form's job.
-function say(form, text, kind) {
+// Shows the status of a form's job.
+function showStatus(form, text, kind) {
     const place = form.querySelector('p[role=status]');
-    write(place, text, kind);
+    showText(place, text, kind);
     if (text) place.scrollIntoView({ block: 'nearest' });
 }
 
 // ---- Times
 
-function inUnits(seconds) {
+function describeSeconds(seconds) {
     if (seconds < 120) return `${Math.round(seconds)} seconds`;
     if (seconds < 7200) return `${Math.round(seconds / 60)} minutes`;
     return `${Math.round(seconds / 3600)} hours`;
 }
 
-// How long something took.
-function measuredTime(milliseconds) {
+// Returns in words how long something took.
+function describeMeasuredTime(milliseconds) {
     if (milliseconds < 100) return `less than 0.1${NO_BREAK_SPACE}s`;
     const seconds = milliseconds / 1000;
-    return seconds < 9.95 ? `${seconds.toFixed(1)}${NO_BREAK_SPACE}s` : inUnits(seconds);
+    return seconds < 9.95 ? `${seconds.toFixed(1)}${NO_BREAK_SPACE}s` : describeSeconds(seconds);
 }
 
-// About how long something will take.
-function expectedTime(milliseconds) {
+// Returns in words about how long something will take.
+function describeExpectedTime(milliseconds) {
     const seconds = milliseconds / 1000;
     if (seconds < 0.15) return 'a moment';
     if (seconds < 0.37) return 'about a quarter of a second';
     if (seconds < 0.75) return 'about half a second';
     if (seconds < 1.5) return 'about a second';
-    return `about ${inUnits(seconds)}`;
+    return `about ${describeSeconds(seconds)}`;
 }
 
-// How many milliseconds a hash of this cost takes here, or undefined if none was measured.
-function expected({ method, cost }) {
+// Returns how many milliseconds a hash of this cost takes here, or undefined if none was measured.
+function expectedTime({ method, cost }) {
     const rate = rates[method];
     return rate && (cost * rate.time) / rate.cost;
 }
 
 // ---- The estimate below the rounds
 
-// What kind of rounds a method has: both of SHA-crypt the same, and those of md5crypt are fixed.
+// Returns the kind of a method, by its rounds: both methods of SHA-crypt take the same ones.
 function kindOfMethod(method) {
     return method === 'scrypt' || method === 'md5crypt' ? method : 'SHA-crypt';
 }
 
 // Puts the rounds of the chosen method into their field.
-function exchangeRounds() {
+function showRoundsOfMethod() {
     const rounds = element('rounds');
     const kind = kindOfMethod(valueOf('method'));
     if (kind === chosenKind) return;
@@ -128,14 +129,14 @@ function warningOfRounds() {
     return chosenKind === 'md5crypt' ? WEAK : '';
 }
 
-// The time of a hash that is to be made, by the one that was measured: it had 5000 rounds, and of
-// scrypt 6, of which each more takes twice the time.
+// Returns the milliseconds that a new hash will take, from the measured one. That had 5000 rounds;
+// for scrypt it had 6, and each further one doubles the time.
 function timeOfRounds(rounds) {
     const { time } = rates[valueOf('method')];
     return chosenKind === 'scrypt' ? time * 2 ** (rounds - 6) : (time * rounds) / 5000;
 }
 
-// The memory of a hash of scrypt with so many rounds: 64 MiB for 7.
+// Returns in words the memory that a hash of scrypt with these rounds takes: 64 MiB for 7.
 function memoryOfRounds(rounds) {
     return `${2 ** (rounds - 1)}${NO_BREAK_SPACE}MiB of memory`;
 }
@@ -146,17 +147,17 @@ function estimateOfRounds() {
     const time = timeOfRounds(rounds);
     if (!(time > 0)) return NO_BREAK_SPACE;
     const memory = chosenKind === 'scrypt' ? ` and ${memoryOfRounds(rounds)}` : '';
-    return `Takes ${expectedTime(time)}${memory}.`;
+    return `Takes ${describeExpectedTime(time)}${memory}.`;
 }
 
-// Says how long the hash takes that is to be made, or what is wrong with its rounds.
+// Shows how long the new hash will take, or what is wrong with its rounds.
 function showEstimate() {
-    exchangeRounds();
+    showRoundsOfMethod();
     const warning = warningOfRounds();
     const text = warning || estimateOfRounds();
     const place = element('estimate');
     if (place.textContent === text) return; // a screen reader reads each change aloud
-    write(place, text, warning ? 'refused' : '');
+    showText(place, text, warning ? 'refused' : '');
 }
 
 // ---- Jobs in workers
@@ -164,74 +165,75 @@ function showEstimate() {
 const workerScript = new Blob([element('worker').textContent], { type: 'text/javascript' });
 const workerAddress = URL.createObjectURL(workerScript);
 
-// Starts a job in a worker of its own, and passes on what that posts. With its last message the
-// worker ends, and its memory goes.
-function startWorker(job, given, take) {
+// Starts a job in a worker of its own, and calls `onMessage` with each message that it posts. The
+// worker ends after the last one, and its memory is freed.
+function startWorker(job, args, onMessage) {
     const worker = new Worker(workerAddress);
     worker.onmessage = ({ data }) => {
         if (data.isLast) worker.terminate();
-        take(data);
+        onMessage(data);
     };
     worker.onerror = ({ message }) => {
-        take({ isLast: true, error: { message: message ?? 'it does not say why' } });
+        onMessage({ isLast: true, error: { message: message ?? 'it does not say why' } });
     };
-    worker.postMessage({ job, ...given });
+    worker.postMessage({ job, ...args });
     return worker;
 }
 
-function partsOfProgress(form) {
+function progressElements(form) {
     return form.querySelectorAll('progress, [data-stop]');
 }
 
-// Shows how far the running hash must be, by its cost.
+// Shows how far the running hash should be, judged by its cost.
 function showProgress() {
     const { form } = running;
     const bar = form.querySelector('progress');
-    const begin = performance.now();
-    const whole = expected(running);
-    for (const part of partsOfProgress(form)) part.hidden = false;
-    say(form, whole ? `Hashing takes ${expectedTime(whole)}.` : 'Hashing.');
+    const start = performance.now();
+    const whole = expectedTime(running);
+    for (const part of progressElements(form)) part.hidden = false;
+    showStatus(form, whole ? `Hashing takes ${describeExpectedTime(whole)}.` : 'Hashing.');
     running.timer = setInterval(() => {
-        bar.value = whole ? Math.min(0.99, (performance.now() - begin) / whole) : 0;
+        bar.value = whole ? Math.min(0.99, (performance.now() - start) / whole) : 0;
     }, 50);
 }
 
-// Ends the running job, and its worker with all memory.
+// Ends the running job and its worker, which frees its memory.
 function endJob(text, kind) {
     const { form, worker, timer } = running;
     worker.terminate();
     clearInterval(timer);
     const isStopFocused = 'stop' in document.activeElement.dataset;
     if (isStopFocused) form.querySelector('.main').focus();
-    for (const part of partsOfProgress(form)) part.hidden = true;
-    say(form, text, kind);
+    for (const part of progressElements(form)) part.hidden = true;
+    showStatus(form, text, kind);
     running = undefined;
 }
 
-// ---- The hash that was made
+// ---- The new hash
 
-// Shows the hash as the chosen place wants it, or nothing where there is none.
-function showMade() {
+// Shows the new hash in the form that the chosen place needs, or nothing if there is no hash.
+function showNewHash() {
     const place = valueOf('place');
     const name = element('name');
-    element('made').hidden = !madeHash;
+    element('made').hidden = !newHash;
     element('named').hidden = !place.includes('{name}');
     const withName = place.replace('{name}', name.validity.valid ? name.value : 'NAME');
-    element('snippet').textContent = withName.replace('{hash}', () => madeHash ?? '');
+    element('snippet').textContent = withName.replace('{hash}', () => newHash ?? '');
     element('made').querySelector('[role=status]').textContent = '';
 }
 
-function forgetMade() {
-    madeHash = undefined;
-    showMade();
+function forgetNewHash() {
+    newHash = undefined;
+    showNewHash();
 }
 
 // ---- The hash that is checked
 
-// The hash in a stored field or in a line that has it, and whose line that is, if it says so first.
-// In a line of /etc/shadow or of an htpasswd file the hash is between the first two colons. In one
-// for an installer a blank, a quote or = comes before it; in LDAP and Dovecot a } as in {CRYPT}.
-function partsOf(line) {
+// Returns the hash in a stored field or in a line that contains it, and the line's name if it
+// begins with one. In a line of /etc/shadow or of an htpasswd file the hash is between the first
+// two colons. In a line for an installer a blank, a quote or = comes before it; in LDAP and Dovecot
+// a }, as in {CRYPT}.
+function parseLine(line) {
     const behindSign = line.match(/^[^$]*[\s"'=}](\$\w+\$[^\s"':]*)/);
     if (behindSign) return { hash: behindSign[1] };
     const [first, second] = line.split(':');
@@ -239,17 +241,17 @@ function partsOf(line) {
     return { hash: second.trim(), name: first };
 }
 
-// Leaves the hash alone in its field, where a line was pasted there.
-function takeApart() {
+// If a whole line was pasted into the field, leaves only the hash there.
+function extractHash() {
     const line = valueOf('stored');
-    const { hash, name } = partsOf(line);
+    const { hash, name } = parseLine(line);
     if (!hash || hash === line.trim()) return;
     element('stored').value = hash;
     element('stored-note').textContent = name ? `From the line of ${name}.` : 'From the line.';
 }
 
-// What is wrong with a hash that no password matches.
-function flawOf(stored) {
+// Returns what is wrong with a hash that no password matches.
+function describeFlaw(stored) {
     const [, prefix, ...parts] = stored.split('$');
     const hasRounds = prefix !== '1' && parts[0].startsWith('rounds=');
     const digest = parts.slice(hasRounds ? 2 : 1).join('$');
@@ -259,11 +261,11 @@ function flawOf(stored) {
     return `too long: ${digest.length} characters in place of ${whole}`;
 }
 
-// ---- What the page says of a job
+// ---- What the page says about a job
 
 function sentenceOfNoHash(stored) {
-    const begin = stored.length > 20 ? `${stored.slice(0, 20)}…` : stored;
-    return `“${begin}” is not a hash of crypt(5). Paste one, or its whole line.`;
+    const beginning = stored.length > 20 ? `${stored.slice(0, 20)}…` : stored;
+    return `“${beginning}” is not a hash of crypt(5). Paste one, or its whole line.`;
 }
 
 function sentenceOfScheme(scheme) {
@@ -272,12 +274,13 @@ function sentenceOfScheme(scheme) {
 }
 
 function sentenceOfCost() {
-    const time = expected(running);
-    return `Checking this hash can take ${time ? expectedTime(time) : 'long'}, so it was refused. `
+    const time = expectedTime(running);
+    const duration = time ? describeExpectedTime(time) : 'long';
+    return `Checking this hash can take ${duration}, so it was refused. `
         + `If you trust it, raise the budget to ${running.cost}.`;
 }
 
-// Why a password was neither hashed nor checked, and what to do next.
+// Returns why a password was neither hashed nor checked, and what to do next.
 function sentenceOfError({ name, message }, scheme) {
     if (scheme || name === 'MKPASSWD_ERROR_UNKNOWN_SCHEME') return sentenceOfScheme(scheme);
     if (name === 'MKPASSWD_ERROR_NO_SCHEME') return sentenceOfNoHash(running.stored);
@@ -288,24 +291,24 @@ function sentenceOfError({ name, message }, scheme) {
 
 function sentenceOfCheck({ isDead, isMatch, isOutdated, time }) {
     if (isDead) {
-        return `This hash is ${flawOf(running.stored)}. `
+        return `This hash is ${describeFlaw(running.stored)}. `
             + 'No password matches it: copy it again, or set a new password.';
     }
-    const took = `Checked in ${measuredTime(time)}.`;
+    const took = `Checked in ${describeMeasuredTime(time)}.`;
     if (!isMatch) return `The password does not match. ${took}`;
     return isOutdated ? `The password ${OUTDATED}. ${took}` : `The password matches. ${took}`;
 }
 
-// Has the next estimates go by what the last hash took.
+// Corrects later estimates by the time that the last hash took.
 function correctRate({ error, time }) {
-    const whole = expected(running);
+    const whole = expectedTime(running);
     if (error || !whole || time <= 100) return;
     rates[running.method].time *= time / whole;
     showEstimate();
 }
 
-// Shows what a job has come to: a hash, whether a password matches, or why neither. A hash of
-// another scheme has no error of its own.
+// Shows the result of a job: a hash, whether a password matches, or why not. A hash of another
+// scheme can come without an error.
 function showResult(result) {
     const { hash, isMatch, error, scheme, time } = result;
     if (error?.name === 'MKPASSWD_ERROR_OVER_BUDGET') element('more').open = true;
@@ -313,9 +316,9 @@ function showResult(result) {
     if (error || scheme) {
         endJob(sentenceOfError(error ?? {}, scheme), 'refused');
     } else if (hash) {
-        endJob(`Made in ${measuredTime(time)}.`, 'good');
-        madeHash = hash;
-        showMade();
+        endJob(`Made in ${describeMeasuredTime(time)}.`, 'good');
+        newHash = hash;
+        showNewHash();
         element('made').scrollIntoView({ block: 'nearest' });
     } else {
         endJob(sentenceOfCheck(result), isMatch ? 'good' : 'refused');
@@ -324,7 +327,7 @@ function showResult(result) {
 
 // ---- Forms
 
-// What the fields of a form give to its job.
+// Reads the fields of a form, as the arguments of its job.
 const readForm = {
     make: () => ({
         password: valueOf('password'),
@@ -332,13 +335,13 @@ const readForm = {
         rounds: Number(valueOf('rounds')),
     }),
     check() {
-        takeApart();
-        const { hash } = partsOf(valueOf('stored'));
+        extractHash();
+        const { hash } = parseLine(valueOf('stored'));
         return { password: valueOf('guess'), stored: hash, budget: Number(valueOf('budget')) };
     },
 };
 
-// Whether the password was typed twice, or can be seen. Else the form says what to do.
+// Returns whether the password was typed twice or is visible. If not, the form says what to do.
 function isRepeated(form) {
     const repeat = element('repeat');
     if (repeat.disabled || repeat.value === valueOf('password')) return true;
@@ -346,23 +349,23 @@ function isRepeated(form) {
     const sentence = repeat.value
         ? 'The two passwords differ. Type them again, or show the first.'
         : 'Type the password again, or show it.';
-    say(form, sentence, 'refused');
+    showStatus(form, sentence, 'refused');
     return false;
 }
 
 // Starts a form's job.
 function startJob(form) {
     if (form.id === 'make') {
-        forgetMade();
+        forgetNewHash();
         if (!isRepeated(form)) return;
     }
-    const given = readForm[form.id]();
-    running = { form, stored: given.stored };
-    running.worker = startWorker(form.id, given, ({ isLast, ...found }) => {
+    const args = readForm[form.id]();
+    running = { form, stored: args.stored };
+    running.worker = startWorker(form.id, args, ({ isLast, ...message }) => {
         if (isLast) {
-            showResult(found);
+            showResult(message);
         } else {
-            Object.assign(running, found);
+            Object.assign(running, message);
             showProgress();
         }
     });
@@ -373,26 +376,26 @@ function submit(event, form) {
     if (!running) {
         startJob(form);
     } else if (running.form !== form) {
-        say(form, 'The other form is hashing: wait, or stop it.', 'refused');
+        showStatus(form, 'The other form is hashing: wait, or stop it.', 'refused');
     }
 }
 
 const storedNote = element('stored-note').textContent;
 
-// What the page said is no longer of what stands in the fields.
-function takeInput({ target, inputType = 'insertFromScript' }, form) {
+// Clears what the page said, since it no longer applies to what is in the fields.
+function handleInput({ target, inputType = 'insertFromScript' }, form) {
     showEstimate();
     if (target.id === 'password') element('generated').hidden = true;
     if (target.id === 'stored') {
         element('stored-note').textContent = storedNote;
-        if (inputType.startsWith('insertFrom')) takeApart();
+        if (inputType.startsWith('insertFrom')) extractHash();
     }
     if (running?.form === form) {
         endJob('Stopped.');
     } else {
-        say(form, '');
+        showStatus(form, '');
     }
-    if (form.id === 'make') forgetMade();
+    if (form.id === 'make') forgetNewHash();
 }
 
 // An invalid field can be hidden below "More".
@@ -402,7 +405,7 @@ function showInvalid({ target }) {
 
 // ---- Buttons
 
-// Shows or conceals a password. One that can be seen needn't be typed twice.
+// Shows or hides a password. A visible one needn't be typed twice.
 function showPassword(id, isShown) {
     element(id).type = isShown ? 'text' : 'password';
     document.querySelector(`[data-show=${id}]`).firstChild.data = isShown ? 'Hide' : 'Show';
@@ -411,8 +414,8 @@ function showPassword(id, isShown) {
     element('repeat').placeholder = isShown ? 'Not needed while it is shown' : '';
 }
 
-// A random character, each as probable as any other: bytes above their greatest multiple are left
-// out.
+// Returns a random character. Bytes above the greatest multiple of their count are skipped, so that
+// all characters are equally likely.
 function randomCharacter() {
     const count = GENERATED_CHARACTERS.length;
     const end = 256 - (256 % count);
@@ -428,19 +431,19 @@ function generatePassword(id) {
     showPassword(id, true);
     field.dispatchEvent(new Event('input', { bubbles: true }));
     element('generated').hidden = false;
-    write(element('generated').querySelector('[role=status]'), '20 random characters.');
+    showText(element('generated').querySelector('[role=status]'), '20 random characters.');
 }
 
-// Whether what is copied lacks a valid name. Then the page says so.
+// Returns whether the text to copy lacks a valid name. If so, the page says it.
 function lacksName(id, place) {
     const name = element('name');
     if (id !== 'snippet' || element('named').hidden || name.validity.valid) return false;
     name.focus();
-    write(place, name.value ? NAME_RULE : 'First type the user’s name.', 'refused');
+    showText(place, name.value ? NAME_RULE : 'First type the user’s name.', 'refused');
     return true;
 }
 
-// Copies what stands in an element. Where a browser refuses that, it is left selected.
+// Copies the text of an element. If the browser refuses that, the text stays selected.
 function copy(button, id) {
     const place = button.nextElementSibling;
     if (lacksName(id, place)) return;
@@ -450,15 +453,15 @@ function copy(button, id) {
         element(id).select();
     }
     if (!document.execCommand('copy')) {
-        write(place, 'It is selected: press Ctrl+C.');
+        showText(place, 'It is selected: press Ctrl+C.');
         return;
     }
     getSelection().removeAllRanges();
     button.focus();
-    write(place, 'Copied.', 'good');
+    showText(place, 'Copied.', 'good');
 }
 
-// What a button does, by the name of its data- attribute, whose value is the id of a field.
+// What a button does, by its data- attribute. The value of the attribute is the id of an element.
 const clicks = {
     stop: () => endJob('Stopped.'),
     show: (button, id) => showPassword(id, element(id).type === 'password'),
@@ -471,7 +474,7 @@ function click({ target }) {
     for (const [name, id] of Object.entries(button?.dataset ?? {})) clicks[name](button, id);
 }
 
-// ---- The beginning
+// ---- Start
 
 // Shows the forms, or why the module doesn't run here.
 function showForms(reason) {
@@ -491,7 +494,7 @@ function measure([method, ...others]) {
 }
 
 // Shows the forms with the rounds and the budget that the module recommends, and then measures.
-function begin() {
+function start() {
     startWorker('recommend', {}, ({ error, rounds, bytes, scryptRounds }) => {
         showForms(error?.message);
         if (error) return;
@@ -504,11 +507,11 @@ function begin() {
 
 for (const form of document.forms) {
     form.addEventListener('submit', (event) => submit(event, form));
-    form.addEventListener('input', (event) => takeInput(event, form));
+    form.addEventListener('input', (event) => handleInput(event, form));
     form.addEventListener('invalid', showInvalid, true);
 }
 document.addEventListener('click', click);
-element('made').addEventListener('input', showMade);
+element('made').addEventListener('input', showNewHash);
 
 // The documents are beside the page only where it is installed.
 if (!location.pathname.includes('/doc/mkpasswd/')) {
@@ -518,7 +521,7 @@ if (!location.pathname.includes('/doc/mkpasswd/')) {
 }
 element('unsupported').hidden = true;
 try {
-    begin();
+    start();
 } catch ({ message }) {
     showForms(message);
 }

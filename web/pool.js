@@ -1,26 +1,28 @@
-// The workers of mkpasswd.mjs, in node and in browsers. They make calls, so that the thread that
-// asks for them goes on. What a worker does is in hasher.js, which stands here as a string.
+// The workers of mkpasswd.mjs, in node and in browsers. They make calls, so that the caller's
+// thread isn't blocked. A worker runs hasher.js, which tools/web puts here as a string.
 const HASHER = "@HASHER@";
 
-// Has workers make calls, in turn: at most as many workers as cores, but for the caller's one. An
-// idle worker doesn't keep node running. One that ends fails its own call alone.
+// Runs calls in workers, in the order in which they come. There is one worker fewer than cores, but
+// at least one. An idle worker doesn't keep node running. If a worker dies, only its own call
+// fails.
 //
-// A call with scrypt tells how much memory it needs. No more such calls run at once than there is
-// memory for, but one always does. Where one waits for memory, calls that need none pass it. A
-// worker keeps memory that it no longer uses until that is collected, and gives all back when it
-// ends: so after scrypt it ends if no call waits, or once another call finds no memory.
+// A call with scrypt says how much memory it needs. Only as many such calls run at once as there is
+// memory for, but one always runs. While one waits for memory, calls that need none go ahead of it.
+// After scrypt a worker holds on to its memory until that is garbage-collected, or until the worker
+// ends. So a worker that has run scrypt ends if no call is waiting, or when another call finds no
+// memory.
 class Pool {
     #start;
     #memory;
     #compiled;
     #mostWorkers;
     #countOfWorkers = 0;
-    #usedMemory = 0; // by calls that are running
+    #usedMemory = 0; // bytes that running calls need
     #idle = [];
-    #waiting = []; // calls without a worker
+    #waiting = []; // calls that no worker has yet
 
-    // `start` starts a worker that tells its answers and its end. `memory` tells how many bytes
-    // all calls may use at once, as it is at the moment.
+    // `start` starts a worker, and takes a function for its answers and one for its end. `memory`
+    // returns how many bytes all calls may use at once at the moment.
     constructor({ cores, start, memory }, compiled) {
         this.#start = start;
         this.#memory = memory;
@@ -28,10 +30,10 @@ class Pool {
         this.#mostWorkers = Math.max(1, cores - 1);
     }
 
-    // Makes a call that needs so many bytes of memory. The promise has the worker's answer.
-    ask(name, given, memory) {
+    // Runs a call that needs this many bytes of memory. Resolves to the worker's answer.
+    ask(name, args, memory) {
         return new Promise((resolve, reject) => {
-            const message = { name, given };
+            const message = { name, args };
             this.#waiting.push({ message, memory, usedByOthers: Infinity, resolve, reject });
             this.#distribute();
         });
@@ -42,7 +44,7 @@ class Pool {
             const call = this.#takeNext();
             if (!call) return;
             try {
-                this.#pass(call, this.#idle.pop() ?? this.#newWorker());
+                this.#assign(call, this.#idle.pop() ?? this.#newWorker());
             } catch (error) {
                 call.reject(error);
             }
@@ -53,23 +55,24 @@ class Pool {
         return this.#idle.length > 0 || this.#countOfWorkers < this.#mostWorkers;
     }
 
-    // Takes the call that can start next out of those that wait, if one can.
+    // Takes the next call that can start out of the queue, if there is one.
     #takeNext() {
         const [first] = this.#waiting;
         if (!first) return undefined;
         if (this.#hasMemoryFor(first)) return this.#waiting.shift();
-        const place = this.#waiting.findIndex(({ memory }) => memory === 0);
-        return place < 0 ? undefined : this.#waiting.splice(place, 1)[0];
+        const index = this.#waiting.findIndex(({ memory }) => memory === 0);
+        return index < 0 ? undefined : this.#waiting.splice(index, 1)[0];
     }
 
-    // Whether a call can have its memory. One that found none waits until others use less.
+    // Whether there is memory for a call. A call that once ran out of memory waits until others use
+    // less.
     #hasMemoryFor({ memory, usedByOthers }) {
         if (memory === 0 || this.#usedMemory === 0) return true;
         const isLessUsed = this.#usedMemory < usedByOthers;
         return isLessUsed && this.#usedMemory + memory <= this.#memory();
     }
 
-    #pass(call, worker) {
+    #assign(call, worker) {
         worker.call = call;
         call.usedByOthers = this.#usedMemory;
         this.#usedMemory += call.memory;
@@ -79,37 +82,38 @@ class Pool {
 
     #newWorker() {
         const worker = this.#start(
-            (answer) => this.#takeAnswer(worker, answer),
-            (error) => this.#remove(worker, error),
+            (answer) => this.#handleAnswer(worker, answer),
+            (error) => this.#handleEnd(worker, error),
         );
         this.#countOfWorkers += 1;
         worker.postMessage({ compiled: this.#compiled });
         return worker;
     }
 
-    #takeAnswer(worker, answer) {
+    #handleAnswer(worker, answer) {
         const { call } = worker;
         worker.call = undefined;
         worker.unref?.();
         this.#idle.push(worker);
         this.#usedMemory -= call.memory;
         if (answer.failure?.reason === OUT_OF_MEMORY) {
-            this.#takeLackOfMemory(call, answer);
+            this.#handleLackOfMemory(call, answer);
         } else {
             call.resolve(answer);
-            this.#takeMemoryBack(worker, call);
+            this.#releaseMemory(worker, call);
         }
         this.#distribute();
     }
 
-    #takeMemoryBack(worker, { memory }) {
+    #releaseMemory(worker, { memory }) {
         if (memory === 0) return;
         worker.keepsMemory = true;
         if (this.#waiting.length === 0) this.#end(worker);
     }
 
-    // Has a call that found no memory tried again where others used it, or idle workers kept it.
-    #takeLackOfMemory(call, answer) {
+    // Handles a call that found no memory. If other calls used the memory, or idle workers kept it,
+    // the call is tried again.
+    #handleLackOfMemory(call, answer) {
         const used = Math.max(call.usedByOthers, this.#usedMemory);
         const keepers = this.#idle.filter(({ keepsMemory }) => keepsMemory);
         const isAlone = used === 0 && keepers.length === 0;
@@ -123,15 +127,16 @@ class Pool {
     }
 
     #end(worker) {
-        worker.isGone = true;
+        worker.hasEnded = true;
         this.#countOfWorkers -= 1;
         this.#idle = this.#idle.filter((other) => other !== worker);
         worker.terminate();
     }
 
-    // Takes the end of a worker, of which node tells an error and then the end.
-    #remove(worker, error) {
-        if (worker.isGone) return;
+    // Handles the end of a worker. After an error node calls this twice: for the error and for the
+    // end.
+    #handleEnd(worker, error) {
+        if (worker.hasEnded) return;
         this.#end(worker);
         this.#usedMemory -= worker.call?.memory ?? 0;
         worker.call?.reject(error);
@@ -139,23 +144,23 @@ class Pool {
     }
 }
 
-// A module of node. Bundlers for browsers must not look for it.
-async function moduleOfNode(name) {
+// Returns a module of node. Bundlers for browsers must not look for it.
+async function importFromNode(name) {
     const builtin = process.getBuiltinModule?.(name);
     return builtin ?? import(/* webpackIgnore: true */ /* @vite-ignore */ name);
 }
 
-// How node starts workers, and what memory they may use: half of what is free.
-async function workersOfNode() {
-    const { availableParallelism, freemem } = await moduleOfNode('node:os');
-    const { Worker } = await moduleOfNode('node:worker_threads');
-    // Neither options nor variables of the process are for a worker.
+// Returns how node starts workers, and how much memory they may use: half of what is free.
+async function nodeWorkers() {
+    const { availableParallelism, freemem } = await importFromNode('node:os');
+    const { Worker } = await importFromNode('node:worker_threads');
+    // A worker inherits neither the options nor the environment of the process.
     const options = { __proto__: null, eval: true, execArgv: [], env: {} };
-    function start(tell, end) {
+    function start(onAnswer, onEnd) {
         const worker = new Worker(HASHER, options);
-        worker.on('message', tell);
-        worker.on('error', end);
-        worker.on('exit', () => end(new Error('the worker that made this call has ended')));
+        worker.on('message', onAnswer);
+        worker.on('error', onEnd);
+        worker.on('exit', () => onEnd(new Error('the worker that ran this call has ended')));
         return worker;
     }
     function memory() {
@@ -169,7 +174,7 @@ async function workersOfNode() {
 const NO_WORKER = 'the browser refuses the worker: '
     + 'allow worker-src blob: in the Content-Security-Policy of the page';
 
-function workerOfBrowser(url) {
+function newBrowserWorker(url) {
     try {
         return new Worker(url);
     } catch {
@@ -179,14 +184,15 @@ function workerOfBrowser(url) {
 
 const GIBIBYTE = 2 ** 30;
 
-// How a browser starts workers, and what memory they may use: a quarter of the device's.
-async function workersOfBrowser() {
+// Returns how a browser starts workers, and how much memory they may use: a quarter of the
+// device's.
+async function browserWorkers() {
     const url = URL.createObjectURL(new Blob([HASHER], { type: 'text/javascript' }));
-    function start(tell, end) {
-        const worker = workerOfBrowser(url);
-        worker.onmessage = ({ data }) => tell(data);
-        // Some browsers tell a refused worker by an event without a message.
-        worker.onerror = ({ message }) => end(new Error(message || NO_WORKER));
+    function start(onAnswer, onEnd) {
+        const worker = newBrowserWorker(url);
+        worker.onmessage = ({ data }) => onAnswer(data);
+        // Some browsers report a refused worker by an event without a message.
+        worker.onerror = ({ message }) => onEnd(new Error(message || NO_WORKER));
         return worker;
     }
     const memory = () => (navigator.deviceMemory ?? 2) * GIBIBYTE / 4;
@@ -196,6 +202,6 @@ async function workersOfBrowser() {
 // Starts a pool of workers for a compiled module.
 async function startPool(compiled) {
     const isNode = Boolean(globalThis.process?.versions?.node);
-    const workers = isNode ? await workersOfNode() : await workersOfBrowser();
+    const workers = isNode ? await nodeWorkers() : await browserWorkers();
     return new Pool(workers, compiled);
 }

@@ -1,4 +1,4 @@
-// The queue of a service's logins and new hashes, in mkpasswd.mjs.
+// LoginQueue, the queue of a service's logins and new hashes. This file is part of mkpasswd.mjs.
 
 export class Busy extends Error {
     get name() {
@@ -6,23 +6,24 @@ export class Busy extends Error {
     }
 }
 
-const GREATEST = 2 ** 31 - 1; // setTimeout takes no more milliseconds
+const GREATEST = 2 ** 31 - 1; // milliseconds that setTimeout takes
 
-// An option of a queue: an integer that isn't below `least`.
-function integerFrom(least, value, name) {
-    if (integer(value, name) >= least && value <= GREATEST) return value;
+// Returns an option of a queue if it is an integer from `least` to GREATEST, and throws otherwise.
+function readInteger(least, value, name) {
+    if (requireInteger(value, name) >= least && value <= GREATEST) return value;
     throw new RangeError(`${name} must be ${least} to ${GREATEST}, not ${value}`);
 }
 
-// Waits for a moment on the clock of performance.now(). A timer may end a little early.
-async function until(moment) {
-    for (let rest = moment - performance.now(); rest > 0; rest = moment - performance.now()) {
-        await new Promise((resolve) => { setTimeout(resolve, Math.ceil(rest)); });
+// Waits until performance.now() reaches a moment. A timer may fire a little early.
+async function waitUntil(moment) {
+    const remaining = () => moment - performance.now();
+    while (remaining() > 0) {
+        await new Promise((resolve) => { setTimeout(resolve, Math.ceil(remaining())); });
     }
 }
 
-// Logins and new hashes, of which so many at most are waiting for a worker or being hashed. A
-// failed login that has been hashed waits for its time alone.
+// Runs logins and new hashes in workers, and limits how many wait for a worker or run. A failed
+// login leaves the queue once its password is hashed, and then only waits for the fixed time.
 export class LoginQueue {
     #policy;
     #failureTime;
@@ -31,45 +32,46 @@ export class LoginQueue {
 
     constructor(options = {}) {
         const names = ['policy', 'failureTime', 'size'];
-        const given = optionsOf(options, 'a queue', names);
-        const { policy = recommended, failureTime = 5000, size = 1000 } = given;
+        const chosen = readOptions(options, 'a queue', names);
+        const { policy = recommended, failureTime = 5000, size = 1000 } = chosen;
         if (!(policy instanceof Policy)) {
             throw new TypeError(`policy must be a Policy, not ${kindOf(policy)}`);
         }
         this.#policy = policy;
-        this.#failureTime = integerFrom(0, failureTime, 'failureTime');
-        this.#size = integerFrom(1, size, 'size');
+        this.#failureTime = readInteger(0, failureTime, 'failureTime');
+        this.#size = readInteger(1, size, 'size');
         for (const name of ['hash', 'login']) {
             Object.defineProperty(this, name, { __proto__: null, value: this[name].bind(this) });
         }
         Object.freeze(this);
     }
 
-    async hash(...given) {
-        return this.#inQueue(() => this.#policy.hashAsync(...given));
+    async hash(...args) {
+        return this.#runInQueue(() => this.#policy.hashAsync(...args));
     }
 
-    login(...given) {
-        return guarded(this.#login(given));
+    login(...args) {
+        return guardVerdict(this.#login(args));
     }
 
-    async #login(given) {
-        const begin = performance.now();
-        const result = await this.#inQueue(() => this.#policy.loginAsync(...given));
-        if (result === false) await until(this.#endOfFailure(begin));
+    async #login(args) {
+        const start = performance.now();
+        const result = await this.#runInQueue(() => this.#policy.loginAsync(...args));
+        if (result === false) await waitUntil(this.#endOfFailure(start));
         return result;
     }
 
-    // When a failure is answered that began at this moment. If the queue took longer than its
-    // time, that is at the next multiple: else the time told which kind of hash was checked.
-    #endOfFailure(begin) {
-        if (this.#failureTime === 0) return begin;
-        const elapsed = performance.now() - begin;
+    // Returns when to report the failure of a login that began at this moment. If it took longer
+    // than the fixed time, that is at the next multiple of it. Otherwise the time would show which
+    // kind of hash was checked.
+    #endOfFailure(start) {
+        if (this.#failureTime === 0) return start;
+        const elapsed = performance.now() - start;
         const times = Math.max(1, Math.ceil(elapsed / this.#failureTime));
-        return begin + times * this.#failureTime;
+        return start + times * this.#failureTime;
     }
 
-    async #inQueue(call) {
+    async #runInQueue(call) {
         if (this.#count >= this.#size) {
             throw new Busy(`${this.#size} calls are in the queue: try again later`);
         }

@@ -73,13 +73,13 @@ UNCHECKED = [
         "a password of 1025 bytes",
         stored=SHA512_HASH,
         password="x" * 1025,
-        answer="The password has more than 1024 bytes. Take a shorter one.",
+        answer="The password has more than 1024 bytes. Use a shorter one.",
     ),
     Unchecked(
         "a password with a zero byte",
         stored=SHA512_HASH,
         password="x\0y",
-        answer="The password has a zero byte, which no login takes. Type it again.",
+        answer="The password has a zero byte, which no login accepts. Type it again.",
     ),
     Unchecked(
         "a hash that is too long",
@@ -104,7 +104,7 @@ UNCHECKED = [
         stored="!$6$s$x",
         password="x",
         answer="This account is locked, so no password matches. "
-        "To check the hash behind ! or *, remove that.",
+        "To check the hash behind ! or *, remove that character.",
     ),
     Unchecked(
         "an empty field",
@@ -441,14 +441,14 @@ def test_rounds_that_no_hash_has_are_refused(page: Report, place: int) -> None:
 )
 def test_rounds_that_scrypt_does_not_have_are_refused(page: Report, place: int) -> None:
     said = page["scrypt"]["refused"][place]
-    assert said == "Give 6 to 11 rounds: each more doubles time and memory."
+    assert said == "Give 6 to 11 rounds: one more doubles time and memory."
 
 
 def test_rounds_of_md5crypt_are_fixed_and_the_page_warns_of_it(page: Report) -> None:
     is_disabled, rounds, said = page["fixed"]
     assert is_disabled
     assert rounds == "1000"
-    assert said == "md5crypt is weak. Take it only where nothing else works."
+    assert said == "md5crypt is weak. Use it only where nothing else works."
 
 
 def test_rounds_return_after_md5crypt(page: Report) -> None:
