@@ -7,20 +7,20 @@ True
 >>> mkpasswd.login("wrong horse", field=stored)
 False
 
-These functions hash by the recommended policy, Policy(): sha512crypt with 656000 rounds. A service
-with another method, other rounds or a budget of its own makes one Policy, and calls the same
-functions of that.
+These functions use the recommended policy, Policy(): sha512crypt with 656000 rounds. A service with
+another method, other rounds or a budget of its own makes one Policy, and calls its methods of the
+same names.
 
 The C library of mkpasswd, whose calls are proved, does the hashing. It knows the cost of a hash
-before it makes one, so a stored hash that would take minutes is never made.
+beforehand, so a stored hash that would take minutes is refused without hashing.
 
 A password or a stored hash is bytes, or a str, which is encoded as UTF-8. A new hash is always a
 str.
 
-No hash can have a password with a zero byte, with a lone surrogate, or of more than 1,024 bytes:
-login() is False for it, and hash() raises ValueError. No exception has the password in it.
+A password with a zero byte, with a lone surrogate, or of more than 1,024 bytes can't be hashed:
+login() returns False for it, and hash() raises ValueError. No exception contains the password.
 
-Any number of threads may call at once. Other threads run while a hash is made.
+Any number of threads may call at once, and other threads run while one hashes.
 """
 from __future__ import annotations
 

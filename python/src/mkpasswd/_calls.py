@@ -1,4 +1,4 @@
-"""What stands between the package's calls and the library's: arguments, errors and salts."""
+"""Converts the arguments of the package's calls for the library, and its errors to exceptions."""
 from __future__ import annotations
 
 import operator
@@ -17,7 +17,7 @@ NO_LIMIT = 2**64 - 1
 
 METHODS = {"md5crypt": 1, "sha256crypt": 5, "sha512crypt": 6, "scrypt": 7}
 
-# The rounds that a new hash may have. The library says "rounds", which names no number.
+# The rounds that a new hash may have. The library's message doesn't name these numbers.
 _ROUNDS = {
     "md5crypt": "0 to 4294967295",
     "sha256crypt": "1000 to 999999999",
@@ -25,11 +25,11 @@ _ROUNDS = {
     "scrypt": "6 to 11",
 }
 
-# How many characters the salt of a new hash has, and which.
+# The length of the salt of a new hash, and the characters in it.
 _SALT_LENGTHS = {"md5crypt": 8, "sha256crypt": 16, "sha512crypt": 16, "scrypt": 22}
 _SALT_CHARACTERS = "./0123456789ABCDEFGHIJKLMNOPQRSTUVWXYZabcdefghijklmnopqrstuvwxyz"
 
-# Why a field is no setting of ours.
+# The errors for a field that isn't a valid setting of our methods.
 NO_SETTING = frozenset(
     {
         Reason.SETTING_TOO_LONG,
@@ -47,7 +47,7 @@ NO_SETTING = frozenset(
 class Refused(ValueError):
     """The stored hash has no valid setting, or the method, its rounds or the salt is invalid.
 
-    `reason` is a Reason, or None if a newer library has one that this package does not know.
+    `reason` is a Reason, or None if it comes from a newer library and this package doesn't know it.
     """
 
     __module__ = "mkpasswd"
@@ -64,8 +64,8 @@ class Refused(ValueError):
 class TooCostly(Refused):
     """The hash can cost more than the budget, so nothing was hashed.
 
-    `cost` is what it can cost. str() leaves that out: it depends on the length of the password, and
-    frameworks log messages.
+    `cost` is what it can cost. str() leaves that out, since it depends on the length of the
+    password, and frameworks log messages.
     """
 
     __module__ = "mkpasswd"
@@ -78,22 +78,22 @@ class TooCostly(Refused):
         self.budget = budget
 
 
-# A subclass can have a __len__ or an __eq__ of its own, so these functions take the value by a
-# method of the base class.
+# A subclass of str, bytes or int can have a __len__ or an __eq__ of its own, so these functions
+# read the value by a method of the base class.
 
 
 def text_bytes(value: Text, name: str) -> bytes:
-    """The bytes of an argument."""
+    """Returns the bytes of an argument. Raises TypeError for what is neither str nor bytes."""
     if isinstance(value, bytes):
         return bytes.__getitem__(value, slice(None))
     if isinstance(value, str):
-        # The strict codec would raise an error that carries the whole str.
+        # The strict codec would raise an error that contains the whole str.
         return str.encode(value, "utf-8", "surrogatepass")
     raise TypeError(f"{name} must be str or bytes, not {type(value).__name__}")
 
 
 def password_bytes(value: Text) -> bytes:
-    """The bytes of a password; ValueError if no hash can have it."""
+    """Returns the bytes of a password. Raises ValueError if it can't be hashed."""
     password = text_bytes(value, "password")
     if len(password) > PASSWORD_LIMIT:
         raise ValueError(Reason.PASSWORD_TOO_LONG.message)
@@ -105,7 +105,7 @@ def password_bytes(value: Text) -> bytes:
 
 
 def integer(value: Any, name: str, kind: str = "an int") -> int:
-    """The number of an argument; TypeError for a bool and a float, which are mistakes."""
+    """Returns the number in an argument. Raises TypeError, also for a bool or a float."""
     if isinstance(value, (bool, float)):
         raise TypeError(f"{name} must be {kind}, not {value!r}")
     try:
@@ -115,7 +115,7 @@ def integer(value: Any, name: str, kind: str = "an int") -> int:
 
 
 def length(value: int) -> int:
-    """The number of bytes of a password. ctypes takes a number modulo 2^64."""
+    """Returns the length of a password in bytes, which ctypes would reduce modulo 2^64."""
     number = integer(value, "password_len")
     if number < 0:
         raise ValueError("password_len is negative")
@@ -123,7 +123,7 @@ def length(value: int) -> int:
 
 
 def policy_numbers(method: str, rounds: Optional[int], budget: Optional[int]) -> Numbers:
-    """A policy as the library takes it, but for rounds of which only the library knows."""
+    """Returns a policy as the library takes it. Only the library knows the range of rounds."""
     if not isinstance(method, str):
         raise TypeError(f"method must be str, not {type(method).__name__}")
     method = str.__str__(method)
@@ -131,14 +131,14 @@ def policy_numbers(method: str, rounds: Optional[int], budget: Optional[int]) ->
     if method not in METHODS:
         *names, last = METHODS
         raise Refused(Reason.UNKNOWN_METHOD, f"method must be {', '.join(names)} or {last}")
-    # ctypes takes a number modulo 2^32.
+    # ctypes would reduce other numbers modulo 2^32.
     if not 0 <= rounds < 2**32:
         raise refused_rounds(method)
     return Numbers(METHODS[method], rounds, budget_number(budget))
 
 
 def budget_number(budget: Optional[int]) -> int:
-    """The library's number for a budget, of which 0 stands for the policy's own limit."""
+    """Returns the library's number for a budget. 0 stands for the policy's own limit."""
     if budget is None:
         return 0
     number = integer(budget, "budget", "an int (2**42 for no limit)")
@@ -148,7 +148,7 @@ def budget_number(budget: Optional[int]) -> int:
 
 
 def admitted(numbers: Numbers, method: str) -> Answer:
-    """What a policy admits; Refused for rounds that the method does not take."""
+    """Returns what a policy allows. Raises Refused for rounds out of the method's range."""
     answer = _library.limit(numbers)
     if answer.is_yes or answer.reason is Reason.OVER_BUDGET:
         return answer
@@ -158,7 +158,7 @@ def admitted(numbers: Numbers, method: str) -> Answer:
 
 
 def refused_rounds(method: str) -> Refused:
-    """The error that says which rounds a method takes."""
+    """Returns the error that says which rounds a method takes."""
     if method == "md5crypt":
         return Refused(Reason.ROUNDS, f"rounds must be {_ROUNDS[method]}")
     recommended = admitted(Numbers(METHODS[method], 0, 0), method).report.rounds
@@ -166,12 +166,12 @@ def refused_rounds(method: str) -> Refused:
 
 
 def new_salt(method: str) -> str:
-    """A salt from the system's random bytes, as long as the library's own."""
+    """Returns a salt from the system's random bytes, as long as those of the library."""
     return "".join(_SALT_CHARACTERS[byte & 63] for byte in os.urandom(_SALT_LENGTHS[method]))
 
 
 def failure(answer: Answer, limit: int = NO_LIMIT) -> Exception:
-    """What a call raises that the library did not do. `limit` is the budget that it had."""
+    """Returns the exception for a call of the library that failed, and had this budget."""
     reason = answer.reason
     words = message(answer.report.error)
     if reason is Reason.OVER_BUDGET:

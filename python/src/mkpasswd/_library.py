@@ -1,8 +1,8 @@
 """The C library's calls, as mkpasswd.h declares them.
 
-A call here takes bytes and numbers as the library does, checks nothing, and returns an `Answer`.
-ctypes releases the interpreter's lock while a call runs. A call keeps no pointer and has no state,
-so any number of threads may call at once.
+A function here takes bytes and numbers as the library does, checks nothing, and returns an
+`Answer`. ctypes releases the interpreter's lock while a call runs. The library keeps no pointer and
+no state, so any number of threads may call at once.
 """
 from __future__ import annotations
 
@@ -20,7 +20,7 @@ _REASONS = {reason.value: reason for reason in Reason}
 
 
 class Numbers(NamedTuple):
-    """A policy as the library takes it. Each 0 stands for what is recommended."""
+    """A policy as the library takes it. Each 0 stands for the recommended value."""
 
     method: int
     rounds: int
@@ -45,7 +45,7 @@ class Work(ctypes.Structure):
 
 
 class Report(ctypes.Structure):
-    """`struct mkpasswd_report`, which every call fills. A new one is all zeros."""
+    """`struct mkpasswd_report`, which every call fills in. A new one is all zeros."""
 
     error: int
     outdated: int
@@ -72,7 +72,7 @@ class Report(ctypes.Structure):
 
 
 class Answer(NamedTuple):
-    """What a call returned, what it reported, and the string that it left in its buffer."""
+    """What a call returned, what it reported, and the string that it wrote to its buffer."""
 
     is_yes: bool
     report: Report
@@ -80,7 +80,7 @@ class Answer(NamedTuple):
 
     @property
     def reason(self) -> Optional[Reason]:
-        """Why the call failed; None if it did not, or for an error that a newer library added."""
+        """Why the call failed. None if it didn't, or if only a newer library has this error."""
         return _REASONS.get(self.report.error)
 
 
@@ -104,13 +104,13 @@ _VERSION = declared("mkpasswd_version", [], ctypes.c_uint32)
 
 
 def _ask(call: Any, *arguments: Union[bytes, int]) -> Answer:
-    """Calls what only reports."""
+    """Makes a call that only writes a report."""
     report = Report()
     return Answer(call(*arguments, report) == 1, report)
 
 
 def _ask_for_text(call: Any, *arguments: Union[bytes, int]) -> Answer:
-    """Calls what leaves a string in a buffer."""
+    """Makes a call that writes a report and a string."""
     report = Report()
     out = ctypes.create_string_buffer(TEXT_SIZE)
     is_yes = call(*arguments, out, TEXT_SIZE, report) == 1
@@ -118,63 +118,63 @@ def _ask_for_text(call: Any, *arguments: Union[bytes, int]) -> Answer:
 
 
 def login(password: bytes, field: bytes, numbers: Numbers) -> Answer:
-    """Whether the password matches, at the cost of a new hash if the field can't be checked."""
+    """Checks a password. If the field can't be checked, this costs as much as a new hash."""
     return _ask(_LOGIN, password, len(password), field, len(field), *numbers)
 
 
 def verify(password: bytes, stored: bytes, budget: int) -> Answer:
-    """Whether the password matches a hash that costs at most the budget, of which 0 admits none."""
+    """Checks a password against a hash that costs at most the budget. 0 allows no hash."""
     return _ask(_VERIFY, password, len(password), stored, len(stored), budget)
 
 
 def new(password: bytes, numbers: Numbers) -> Answer:
-    """A new hash, with a salt from the system."""
+    """Makes a new hash, with a salt from the system."""
     return _ask_for_text(_NEW, password, len(password), *numbers)
 
 
 def hash_by(password: bytes, setting_or_hash: bytes, budget: int) -> Answer:
-    """The hash with a setting, or "*0" or "*1", within a budget, of which 0 admits none."""
+    """Hashes with a setting, within a budget; 0 allows no hash. A failure leaves "*0" or "*1"."""
     return _ask_for_text(
         _HASH, password, len(password), setting_or_hash, len(setting_or_hash), budget
     )
 
 
 def needs_rehash(stored: bytes, numbers: Numbers) -> Answer:
-    """The report says whether the stored hash is outdated."""
+    """Reports whether the stored hash is outdated."""
     return _ask(_NEEDS_REHASH, stored, len(stored), numbers.method, numbers.rounds)
 
 
 def audit(field: bytes, numbers: Numbers) -> Answer:
-    """The report says what is wrong with a stored hash, and whether it is outdated."""
+    """Reports what is wrong with a stored hash, and whether it is outdated."""
     return _ask(_AUDIT, field, len(field), *numbers)
 
 
 def limit(numbers: Numbers) -> Answer:
-    """What a hash may cost, the longest password, and the rounds of new hashes."""
+    """Reports what a hash may cost, the longest password, and the rounds of new hashes."""
     return _ask(_LIMIT, *numbers)
 
 
 def rounds(password_len: int, numbers: Numbers) -> Answer:
-    """Rounds by which each password of this length is within that limit."""
+    """Reports rounds with which each password of this length is within that limit."""
     return _ask(_ROUNDS, password_len, *numbers)
 
 
 def bound(stored: bytes, password_len: int) -> Answer:
-    """The most that a hash with this setting costs."""
+    """Reports the most that a hash with this setting can cost."""
     return _ask(_BOUND, stored, len(stored), password_len)
 
 
 def setting(numbers: Numbers, salt: bytes) -> Answer:
-    """A setting with a given salt."""
+    """Makes a setting with a given salt."""
     return _ask_for_text(_SETTING, numbers.method, numbers.rounds, salt, len(salt))
 
 
 def scheme_name(number: int) -> str:
-    """The name in crypt(5) of a scheme that an audit reports."""
+    """Returns crypt(5)'s name of a scheme that an audit reports."""
     return text_of(_SCHEME_NAME, number)
 
 
 def version() -> str:
-    """The library's version, such as "3.0.0"."""
+    """Returns the library's version, such as "3.0.0"."""
     number: int = _VERSION()
     return f"{number // 10000}.{number // 100 % 100}.{number % 100}"

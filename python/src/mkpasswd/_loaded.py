@@ -1,4 +1,4 @@
-"""The C library, loaded."""
+"""Loads the C library, and declares its calls."""
 from __future__ import annotations
 
 import ctypes
@@ -10,14 +10,14 @@ SONAME = "libmkpasswd.so.3"
 # The size of a buffer for any hash, setting, message or name, as in the header.
 TEXT_SIZE = 145
 
-# Bytes and their number, as most calls take them.
+# A pointer to bytes and their number, as most calls take them.
 STRING = [ctypes.c_char_p, ctypes.c_size_t]
 
 
 def _load() -> ctypes.CDLL:
     """Loads the library beside the package (a wheel's), or else the system's.
 
-    If a library of this name is loaded already, from whatever path, the loader takes that one.
+    If the process has loaded a library of this name from any path, the loader returns that one.
     """
     beside = os.path.join(os.path.dirname(os.path.abspath(__file__)), SONAME)
     try:
@@ -34,7 +34,7 @@ LIBRARY = _load()
 
 
 def declared(name: str, arguments: Sequence[Any], result: Any = ctypes.c_int32) -> Any:
-    """A call of the library, with the types of its arguments and of its result."""
+    """Returns a call of the library, with the types of its arguments and of its result."""
     try:
         call = getattr(LIBRARY, name)
     except AttributeError as error:
@@ -44,7 +44,7 @@ def declared(name: str, arguments: Sequence[Any], result: Any = ctypes.c_int32) 
 
 
 def text_of(call: Any, number: int) -> str:
-    """What a call puts into a buffer for a number."""
+    """Returns the string that a call writes for a number."""
     out = ctypes.create_string_buffer(TEXT_SIZE)
     call(number, out, TEXT_SIZE)
     return out.value.decode("ascii")

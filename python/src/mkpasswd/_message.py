@@ -9,12 +9,12 @@ _CALL = declared("mkpasswd_message_bytes", [ctypes.c_uint32, *STRING])
 
 
 def message(error: int) -> str:
-    """The message for the number of an error. The library has one for every number."""
+    """Returns the message for the number of an error. The library has one for every number."""
     return text_of(_CALL, error)
 
 
 class HasMessage:
-    """What Reason has besides names and numbers."""
+    """The base class of Reason, which adds messages to names and numbers."""
 
     value: int
 

@@ -1,6 +1,6 @@
-"""A service's policy, whose calls are the package's, and what they return.
+"""The policy of a service, whose methods are the calls of the package, and their results.
 
-The package is imported by commands that start often, so its modules import nothing slow.
+Commands that start often import the package, so its modules import nothing slow.
 """
 from __future__ import annotations
 
@@ -20,17 +20,15 @@ if TYPE_CHECKING:
 
 
 class State(enum.Enum):
-    """What describe() finds a stored field to be. The value is the word that an audit prints.
+    """What a stored field is, according to describe(). The value is the word that an audit prints.
 
-    CURRENT      a whole hash, which needs_rehash() leaves as it is
-    OUTDATED     a whole hash that a new one should replace: needs_rehash() is True
-    DEAD         a valid setting, but no password matches, since the hash was cut or changed
-    OVER_BUDGET  a hash that costs too much, at least with a long password
-    LOCKED       begins with "!" or "*"
-    NONE         is empty, or None
-    NO_SCHEME    no hash: a password that was stored as it is, or a damaged hash
-    UNKNOWN      a hash of another scheme, such as yescrypt, of which nothing more is known
-    MALFORMED    a setting that is invalid; the description's `reason` says why
+    CURRENT a whole hash that no new one should replace: needs_rehash() is False OUTDATED a whole
+    hash that a new one should replace: needs_rehash() is True DEAD a valid setting, but no password
+    matches, since the hash was cut or changed OVER_BUDGET a hash that costs too much, at least with
+    a long password LOCKED begins with "!" or "*" NONE is empty, or None NO_SCHEME no hash: a
+    password that was stored as it is, or a damaged hash UNKNOWN a hash of another scheme, such as
+    yescrypt, of which nothing more is known MALFORMED an invalid setting; the description's
+    `reason` says why
     """
 
     CURRENT = "current"
@@ -56,16 +54,14 @@ _STATES: Dict[Optional[Reason], State] = {
 
 
 class Description(NamedTuple):
-    """What describe() returns. str() is what `mkpasswd --audit` prints behind the name.
+    """What describe() returns. str() of it is what `mkpasswd --audit` prints after the name.
 
-    What a field doesn't have is None.
+    An attribute is None if the field has no such thing.
 
-    state    a State
-    scheme   the name of the scheme in crypt(5), also of another scheme if it is known
-    cost     the most that a hash with this setting can cost, for a password of 1,024 bytes
-    rounds   those of SHA-crypt and md5crypt
-    n, r, p  scrypt's numbers
-    reason   the first rule that a malformed setting breaks, a Reason
+    state a State scheme the name in crypt(5) of the method, or of another scheme if that is known
+    cost the most that a hash with this setting can cost, for a password of 1,024 bytes rounds those
+    of SHA-crypt and md5crypt n, r, p scrypt's numbers reason the first rule that a malformed
+    setting breaks, a Reason
     """
 
     state: State
@@ -91,9 +87,9 @@ class Description(NamedTuple):
 class Limit(NamedTuple):
     """What limit() returns.
 
-    cost              the most that a hash may cost, as cost() counts it
-    longest_password  the bytes of the longest password that hash() takes; 0 if it takes none
-    rounds            those of new hashes; 0 for md5crypt, and if hash() takes no password
+    cost the most that a hash may cost, as cost() counts it longest_password the length in bytes of
+    the longest password that hash() accepts, or 0 rounds those of new hashes; 0 for md5crypt, and
+    if hash() accepts no password
     """
 
     cost: int
@@ -113,15 +109,15 @@ class Policy:
     rounds of SHA-crypt, 1000 to 999999999; for scrypt it is 6 to 11, for N = 2^(rounds + 7), r = 32
     and p = 1. None and 0 stand for the recommended number. md5crypt ignores it.
 
-    `budget` is the most that a hash may cost, as cost() counts it. None stands for twice what a new
-    hash costs with a password of 64 bytes, and at least for 150,000,000; limit() says how much that
-    is. A budget of 1,300,000,000 admits every password with the recommended rounds.
+    `budget` is the most that a hash may cost, as cost() counts it. None stands for twice the cost
+    of a new hash of a password of 64 bytes, but at least 150,000,000; limit() says how much that
+    is. With the recommended rounds, a budget of 1,300,000,000 allows every password.
 
-    With a budget below the cost of a new hash, login() refuses unknown names at once, which tells
-    that they don't exist.
+    If the budget is below the cost of a new hash, login() refuses unknown names at once, which
+    shows that they don't exist.
 
-    Raises TypeError, also for a float or a bool; ValueError for a budget below 1; Refused, which is
-    a ValueError, for an unknown method or rounds that it does not take.
+    Raises TypeError for another type, including a float or a bool; ValueError for a budget below 1;
+    Refused, which is a ValueError, for an unknown method or rounds out of its range.
     """
 
     __slots__ = ("_method", "_rounds", "_budget", "_numbers", "_limit")
@@ -139,7 +135,7 @@ class Policy:
         admitted = _calls.admitted(self._numbers, self._method).report
         self._limit = Limit(admitted.cost, admitted.length, admitted.rounds)
 
-    # Without a setter these can't change.
+    # Properties without a setter, so that a policy can't change.
     @property
     def method(self) -> str:
         """The method of new hashes."""
@@ -172,7 +168,7 @@ class Policy:
         return Policy, self._parts()
 
     def login(self, password: Text, *, field: Optional[Text]) -> bool:
-        """Return True exactly if the password matches the field that is stored for the name.
+        """Return True exactly if the password matches the field that is stored for a name.
 
         `field` is None for a name that does not exist.
 
@@ -181,7 +177,7 @@ class Policy:
         >>> mkpasswd.login("password", field=None)
         False
 
-        It is False for a wrong password, and for a password that no hash can have; for a field that
+        It is False for a wrong password, and for a password that can't be hashed; for a field that
         is empty, locked, malformed, of another scheme, or that costs more than the budget; and if
         there is too little memory for scrypt.
 
@@ -189,14 +185,14 @@ class Policy:
 
         - A stored hash takes as long as its rounds need. An old one with fewer rounds than this
           policy's takes less time than a new hash. While such hashes are stored, the time of a
-          failure can tell which names exist; mkpasswd.fixed_time hides that.
+          failure can show which names exist; mkpasswd.fixed_time hides that.
         - A field that can't be checked takes as long as a new hash, and so does None. So an unknown
           name takes as long as a user whose hash is new.
-        - A password that no hash can have is refused at once, for every name. So is one above
-          limit().longest_password, unless the policy has a budget of its own.
+        - A password that can't be hashed is refused at once, for every name. So is one that is
+          longer than limit().longest_password, unless the policy has a budget of its own.
 
-        At level DEBUG the logger "mkpasswd" says why it is False. Password and field are not in the
-        message.
+        The logger "mkpasswd" says at level DEBUG why it is False. Its message contains neither the
+        password nor the field.
 
         Raises TypeError for what is neither str nor bytes, and nothing else.
         """
@@ -216,7 +212,7 @@ class Policy:
 
         It is True if the new hash would have another method, whatever the stored one costs; more
         rounds; or for scrypt a greater N * r * p. It is False for a hash with as many rounds or
-        more, and for an empty or locked field. It checks no password.
+        more, and for an empty or locked field. No password is checked.
 
         >>> mkpasswd.needs_rehash("$6$rounds=20000$salt$x")
         True
@@ -229,7 +225,7 @@ class Policy:
         answer = _library.needs_rehash(field, self._numbers)
         if answer.report.error == 0:
             return answer.report.outdated == 1
-        # Of these calls only an audit knows a locked field.
+        # To the library's needs_rehash a locked field is invalid; only an audit recognizes it.
         if self.describe(field).state in (State.LOCKED, State.NONE):
             return False
         raise _calls.failure(answer)
@@ -240,12 +236,13 @@ class Policy:
         >>> mkpasswd.hash("password").startswith("$6$rounds=656000$")
         True
 
-        Raises ValueError if no hash can have the password: one with a zero byte, a lone surrogate
-        or more than 1,024 bytes. Raises TooCostly, which is a ValueError too, if the hash would
-        cost more than the budget: login() would not accept it. Nothing is hashed then.
+        Raises ValueError if the password can't be hashed, since it has a zero byte, a lone
+        surrogate or more than 1,024 bytes. Raises TooCostly, which is a ValueError too, if the hash
+        would cost more than the budget, so that login() would not accept it. Nothing is hashed
+        then.
 
-        Raises MemoryError if there is too little for scrypt, and OSError if the system has no
-        random bytes.
+        Raises MemoryError if there is too little memory for scrypt, and OSError if the system has
+        no random bytes.
         """
         answer = _library.new(_calls.password_bytes(password), self._numbers)
         if not answer.is_yes:
@@ -253,7 +250,7 @@ class Policy:
         return answer.text
 
     def describe(self, field: Optional[Text]) -> Description:
-        """Return what `mkpasswd --audit` says of a stored field. Nothing is hashed.
+        """Return what `mkpasswd --audit` says about a stored field. Nothing is hashed.
 
         >>> mkpasswd.describe("$1$xxxxxxxx$UYCIxa628.9qXjpQCjM4a.").state
         <State.OUTDATED: 'outdated'>
@@ -292,23 +289,24 @@ class Policy:
         return Description(state, scheme, report.cost, report.rounds)
 
     def limit(self) -> Limit:
-        """Return what this policy admits: the most that a hash may cost, and the longest password.
+        """Return what this policy allows: the most that a hash may cost, and the longest password.
 
         >>> mkpasswd.limit()
         Limit(cost=253921472, longest_password=168, rounds=656000)
 
-        The cost is the budget, or what None stands for. hash() takes every password of up to
+        The cost is the budget, or what None stands for. hash() accepts every password of up to
         `longest_password` bytes, and raises TooCostly for a longer one; see for_length().
         """
         return self._limit
 
     def cost(self, stored: Text, password_len: int) -> int:
-        """Return the most that a hash with this setting costs, for any password of so many bytes.
+        """Return the most that a hash with this setting can cost, for a password of this length.
 
-        It is what a budget is compared with: the bytes that are digested, and for scrypt those that
-        are mixed. It is the same for every policy. Nothing is hashed.
+        The cost is what a budget limits: the number of bytes that the hash digests, and for scrypt
+        also of those that it mixes. `password_len` is in bytes. The cost is the same for every
+        policy, and nothing is hashed.
 
-        Don't log it: with a setting, it tells how long a password is.
+        Don't log it: together with the setting, it shows how long the password is.
 
         >>> mkpasswd.cost("$1$xxxxxxxx$UYCIxa628.9qXjpQCjM4a.", 8)
         36239
@@ -328,10 +326,11 @@ class Policy:
         >>> mkpasswd.Policy().setting("saltstring")
         '$6$rounds=656000$saltstring'
 
-        Give each password a salt of its own, as hash() does: those with one salt can be guessed
-        together.
+        Give each password a salt of its own, as hash() does: passwords with the same salt can be
+        guessed together.
 
-        Raises Refused for a salt that the method does not take whole.
+        Raises Refused if the salt is empty, too long for the method, or has other characters than
+        ./0-9A-Za-z.
         """
         given = _calls.new_salt(self._method) if salt is None else salt
         answer = _library.setting(self._numbers, _calls.text_bytes(given, "salt"))
@@ -340,18 +339,18 @@ class Policy:
         return answer.text
 
     def for_length(self, password_len: int) -> Policy:
-        """Return a policy with which a password of so many bytes is within this policy's limit.
+        """Return a policy by which a password of this length is within this policy's limit.
 
-        It is this policy itself if that admits the password, and otherwise one with fewer rounds of
-        SHA-crypt. It is for services that can't refuse long passwords.
+        It is this policy itself if that allows the password, and otherwise one with fewer rounds of
+        SHA-crypt. It is for services that can't refuse long passwords. `password_len` is in bytes.
 
-        A hash with fewer rounds tells whoever sees it about how long the password is, and
-        needs_rehash() of this policy is True for it.
+        A hash with fewer rounds shows whoever sees it about how long the password is, and this
+        policy's needs_rehash() is True for it.
 
         >>> mkpasswd.Policy().for_length(1024)
         Policy(method='sha512crypt', rounds=118822, budget=253921472)
 
-        Raises TooCostly if even the fewest rounds cost more than a budget of your own, and
+        Raises TooCostly if even the fewest rounds cost more than the policy's budget, and
         ValueError above 1,024 bytes.
         """
         answer = _library.rounds(_calls.length(password_len), self._numbers)
@@ -363,8 +362,8 @@ class Policy:
 
 
 def _state_of(answer: Answer) -> State:
-    """The state that an audit reports."""
-    # A report that no call has filled has no scheme.
+    """Returns the state that an audit reports."""
+    # The scheme is 0 in a report that no call has filled.
     if answer.report.error == 0 and answer.report.scheme != 0:
         return State.OUTDATED if answer.report.outdated == 1 else State.CURRENT
     state = _STATES.get(answer.reason)
@@ -375,13 +374,13 @@ def _state_of(answer: Answer) -> State:
 
 @functools.lru_cache(maxsize=None)
 def _scheme_name(number: int) -> Optional[str]:
-    """The name of a scheme that an audit reports, or None if it knows none."""
+    """Returns the name of the scheme that an audit reports, or None if it reports none."""
     return _library.scheme_name(number) if number else None
 
 
 @functools.lru_cache(maxsize=None)
 def _logger() -> logging.Logger:
-    """The logger "mkpasswd". To import logging takes longer than the rest, so it waits."""
+    """Returns the logger "mkpasswd", and imports logging only now, since that takes long."""
     logger: logging.Logger = importlib.import_module("logging").getLogger("mkpasswd")
     return logger
 

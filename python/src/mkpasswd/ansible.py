@@ -1,4 +1,4 @@
-"""Filters for Ansible: a file `filter_plugins/mkpasswd.py` with this line makes them known.
+"""Filters for Ansible. To use them, put this line into a file `filter_plugins/mkpasswd.py`:
 
     from mkpasswd.ansible import FilterModule
 """
@@ -12,7 +12,7 @@ from . import Policy, State
 
 __all__ = ["FilterModule"]
 
-# What can't be checked: a task that asks whether it matches has a mistake in it.
+# States that can't be checked: a task that asks whether such a field matches has a mistake.
 _UNCHECKED = (State.NO_SCHEME, State.UNKNOWN, State.MALFORMED)
 
 
@@ -23,9 +23,9 @@ def mkpasswd_hash(
     current: Any = None,
     budget: Optional[int] = None,
 ) -> str:
-    """Return a hash of the password: `current` if that matches and is not outdated.
+    """Return a hash of the password: `current` if that matches and is not outdated, else a new one.
 
-    So a task changes nothing if there is nothing to change.
+    So a task reports no change if nothing has to change. Raises AnsibleFilterError.
     """
     try:
         secret, policy = _decrypted(password), Policy(method, rounds, budget)
@@ -38,7 +38,7 @@ def mkpasswd_hash(
 
 
 def mkpasswd_verify(password: Any, stored: Any, budget: Optional[int] = None) -> bool:
-    """Return whether the password matches the stored hash."""
+    """Return whether the password matches the stored hash. Raises AnsibleFilterError."""
     try:
         policy, secret, field = Policy(budget=budget), _decrypted(password), _decrypted(stored)
         found = policy.describe(field)
@@ -56,13 +56,13 @@ def _is_current(policy: Policy, password: Any, stored: Any) -> bool:
 
 
 def _decrypted(value: Any) -> Any:
-    # What a vault holds is no str before it is decrypted.
+    # A value from a vault isn't a str until it is decrypted.
     return str(value) if type(value).__name__ == "AnsibleVaultEncryptedUnicode" else value
 
 
 class FilterModule:
-    """What Ansible looks for in a file of filters."""
+    """The class that Ansible looks for in a file of filters."""
 
     def filters(self) -> Dict[str, Callable[..., Any]]:
-        """The filters by their names."""
+        """Return the filters by their names."""
         return {"mkpasswd_hash": mkpasswd_hash, "mkpasswd_verify": mkpasswd_verify}

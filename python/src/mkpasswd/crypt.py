@@ -1,4 +1,4 @@
-"""The module crypt that the standard library had up to Python 3.12, over mkpasswd.
+"""A replacement for the standard library's module crypt, which Python 3.13 removed.
 
 >>> from mkpasswd import crypt
 >>> crypt.crypt("password", "$1$xxxxxxxx$")
@@ -24,7 +24,7 @@ __all__ = [
 
 
 class _Method(NamedTuple):
-    """A method of crypt(), with the attributes that the standard library's have."""
+    """A method of crypt(), with the attributes of the standard library's methods."""
 
     name: str
     ident: Optional[str]
@@ -39,28 +39,27 @@ METHOD_SHA512 = _Method("SHA512", "6", 16, 106)
 METHOD_SHA256 = _Method("SHA256", "5", 16, 63)
 METHOD_MD5 = _Method("MD5", "1", 8, 34)
 
-#: Two names of the standard library's. A salt of one raises Refused.
+#: Methods that the standard library has, too, but not this module: mksalt() raises Refused.
 METHOD_BLOWFISH = _Method("BLOWFISH", "2b", 22, 60)
 METHOD_CRYPT = _Method("CRYPT", None, 2, 13)
 
 #: The methods of crypt(), strongest first.
 methods = [METHOD_SHA512, METHOD_SHA256, METHOD_MD5]
 
-# As the standard library says it.
+# The standard library's own message.
 _OUT_OF_RANGE = "rounds out of the range 1000 to 999_999_999"
 
 _NAMES = {METHOD_SHA512: "sha512crypt", METHOD_SHA256: "sha256crypt", METHOD_MD5: "md5crypt"}
 
 
 def mksalt(method: Optional[_Method] = None, *, rounds: Optional[int] = None) -> str:
-    """Return a new setting for crypt(), by the recommended rounds unless others are given.
+    """Return a new setting for crypt(), with the recommended rounds unless others are given.
 
     >>> mksalt(METHOD_SHA256, rounds=20000).startswith("$5$rounds=20000$")
     True
 
-    Raises ValueError for rounds out of their range, or any of METHOD_MD5; Refused, which is a
-    ValueError, for a method that `methods` does not have; OSError if the system has no random
-    bytes.
+    Raises ValueError for rounds out of range, and for any rounds with METHOD_MD5; Refused, which is
+    a ValueError, for a method that isn't in `methods`; OSError if the system has no random bytes.
     """
     method = methods[0] if method is None else method
     if not isinstance(method, _Method):
@@ -73,7 +72,7 @@ def mksalt(method: Optional[_Method] = None, *, rounds: Optional[int] = None) ->
         policy = Policy(_NAMES[method], rounds)
     except Refused:
         raise ValueError(_OUT_OF_RANGE) from None
-    # For a policy 0 stands for the recommended rounds.
+    # A policy takes 0 for the recommended rounds.
     if policy.rounds == 0:
         raise ValueError(_OUT_OF_RANGE)
     return policy.setting()
@@ -84,27 +83,28 @@ def crypt(
 ) -> str:
     """Return the hash of `word` with a setting.
 
-    `salt` is a setting or a stored hash; one of `methods`, for a new salt; or None, for the first
-    of them.
+    `salt` is a setting or a stored hash; or one of `methods`, for a new salt; or None, for a new
+    salt of the first of them.
 
-    If it is no setting of these methods, the result is "*0", which no password matches ("*1" if the
-    salt begins with "*0"). That is so for "$2b$", too, and for all others that crypt(3) may know.
+    If it isn't a setting of these methods, the result is "*0" ("*1" if the salt begins with "*0"),
+    which no password matches. So it is for "$2b$" and other schemes that crypt(3) may know.
 
     >>> crypt("password", "!")
     '*0'
 
-    Unlike the standard library's, it takes bytes too. The result is always a str, so decode a field
-    of bytes before you compare them.
+    Unlike the standard library's function, it takes bytes too. The result is always a str, so
+    decode a field of bytes before you compare it.
 
-    Unlike the standard library's, it raises TooCostly if the hash can cost more than the budget, by
-    default that of mkpasswd.Policy(). Raises ValueError too if no hash can have the password, or
-    for a budget below 1; MemoryError if there is too little for scrypt.
+    Raises TooCostly if the hash can cost more than the budget, whose default is that of
+    mkpasswd.Policy(); the standard library has no such limit. Raises ValueError if the password
+    can't be hashed, or for a budget below 1, and MemoryError if there is too little memory for
+    scrypt.
     """
     setting = mksalt(salt) if salt is None or isinstance(salt, _Method) else salt
     secret = _calls.password_bytes(word)
     limit = Policy(budget=budget).limit().cost
     answer = _library.hash_by(secret, _calls.text_bytes(setting, "salt"), limit)
-    # Where there is no setting, the library leaves a token as the text.
+    # If there is no valid setting, the text is "*0" or "*1".
     if not answer.is_yes and answer.reason not in _calls.NO_SETTING:
         raise _calls.failure(answer, limit)
     return answer.text

@@ -3,12 +3,12 @@
     class SitePasswordHasher(MkpasswdPasswordHasher):
         rounds = 900000
 
-Django reads the algorithm in front of the first "$", so a hash is stored as "mkpasswd$6$..". Put
-"mkpasswd" in front of hashes of these methods that come from elsewhere.
+Django expects the name of the algorithm before the first "$", so a hash is stored as
+"mkpasswd$6$..". Put "mkpasswd" before hashes of these methods that come from elsewhere.
 
-When Django renews the hash of a user who logs in, it can't ask for a shorter password. So one whose
-hash would cost more than the policy's limit gets fewer rounds; see Policy.for_length().
-PasswordValidator refuses such passwords when they are chosen.
+When Django renews the hash of a user who logs in, it can't ask for a shorter password. So a
+password whose hash would cost more than the policy's limit gets fewer rounds; see
+Policy.for_length(). PasswordValidator refuses such passwords when users choose them.
 """
 from __future__ import annotations
 
@@ -33,8 +33,8 @@ _LONGEST_SETTING = 128 - 86
 _METHODS = {"1": "md5crypt", "5": "sha256crypt", "6": "sha512crypt", "7": "scrypt"}
 _LEAST_ROUNDS = 1000  # of SHA-crypt
 
-# Number, rounds, salt and digest of a whole hash. scrypt's salt begins after eleven characters of
-# cost.
+# The number, rounds, salt and digest of a whole hash. In scrypt's, eleven characters of cost come
+# before the salt.
 _FORMS = (
     re.compile(r"\$([156])\$(?:rounds=([0-9]+)\$)?([^$]*)\$([^$]+)\Z"),
     re.compile(r"\$(7)\$.{11}()(.*)\$([^$]+)\Z"),
@@ -42,12 +42,12 @@ _FORMS = (
 
 
 class InvalidPassword(PermissionDenied, ValueError):
-    """A password that no hash can have: of more than 1,024 bytes, or with a zero byte.
+    """A password that can't be hashed: it has more than 1,024 bytes, or a zero byte.
 
-    It is raised too if scrypt finds no memory.
+    Also raised if scrypt finds no memory.
 
-    For an unknown name, Django's authenticate() hashes the password that was typed. Because this is
-    a PermissionDenied, that is a failed login there, and no error by which the name stood out.
+    For an unknown name, Django's authenticate() hashes the password that was typed. Because this
+    is a PermissionDenied, the login just fails there, and no error shows that the name is unknown.
     """
 
 
@@ -60,7 +60,7 @@ class MkpasswdPasswordHasher(BasePasswordHasher):
     budget: Optional[int] = None
 
     def __init_subclass__(cls, **options: Any) -> None:
-        """Refuses a wrong policy when the class is made."""
+        """Refuses an invalid policy when the class is defined. Raises ValueError."""
         super().__init_subclass__(**options)
         policy = Policy(cls.method, cls.rounds, cls.budget)
         try:
@@ -74,7 +74,7 @@ class MkpasswdPasswordHasher(BasePasswordHasher):
 
     @property
     def policy(self) -> Policy:
-        """The policy of the attributes."""
+        """The policy that the attributes describe."""
         return Policy(self.method, self.rounds, self.budget)
 
     def salt(self) -> str:
@@ -82,7 +82,7 @@ class MkpasswdPasswordHasher(BasePasswordHasher):
         return _calls.new_salt(self.method)
 
     def encode(self, password: str, salt: str) -> str:
-        """Return the hash to store of a password of up to 1,024 bytes, however long."""
+        """Return the hash to store for a password of up to 1,024 bytes. Raises InvalidPassword."""
         try:
             policy = self._policy_for(password)
         except ValueError as error:
@@ -94,7 +94,7 @@ class MkpasswdPasswordHasher(BasePasswordHasher):
             raise InvalidPassword(str(error)) from None
 
     def verify(self, password: str, encoded: str) -> bool:
-        """Return whether it matches. A field that can't be checked costs what a new hash does."""
+        """Return whether it matches. If it can't be checked, this takes as long as a new hash."""
         field = self._field(encoded)
         try:
             policy = self._policy_for(password)
@@ -109,9 +109,9 @@ class MkpasswdPasswordHasher(BasePasswordHasher):
         return False
 
     def harden_runtime(self, password: str, encoded: str) -> None:
-        """Hash as much as a new hash costs more than verify() has done with this one."""
+        """Hash so often that this and verify() together cost as much as a new hash."""
         field = self._field(encoded)
-        # What can't be hashed costs nothing for an unknown name either.
+        # A password that can't be hashed costs nothing for an unknown name either.
         with suppress(MemoryError, ValueError):
             policy = self._policy_for(password)
             missing = self._missing(policy, len(_calls.password_bytes(password)), field)
@@ -135,7 +135,7 @@ class MkpasswdPasswordHasher(BasePasswordHasher):
         raise ValueError("the hash has none of these methods, or was cut")
 
     def safe_summary(self, encoded: str) -> Dict[str, Any]:
-        """Return what Django's page of a user shows, whatever is stored."""
+        """Return what Django's page for a user shows. Accepts any stored field."""
         field = self._field(encoded)
         try:
             decoded = self.decode(encoded)
@@ -157,12 +157,12 @@ class MkpasswdPasswordHasher(BasePasswordHasher):
         return rest if rest[:1] in ("", "!", "*") else dollar + rest
 
     def _policy_for(self, password: str) -> Policy:
-        """The policy by which a hash of this password is within the limit."""
+        """Returns the policy by which a hash of this password is within the limit."""
         return self.policy.for_length(len(_calls.password_bytes(password)))
 
     @staticmethod
     def _missing(policy: Policy, password_len: int, field: str) -> Optional[Policy]:
-        """What is to be hashed besides, after verify() with a policy; None if that did it all."""
+        """Returns the policy of a hash that makes up for what verify() did less, or None."""
         if policy.cost(field, password_len) > policy.limit().cost:
             return None  # verify() has made a new hash
         stored = policy.describe(field)
@@ -177,11 +177,11 @@ class MkpasswdPasswordHasher(BasePasswordHasher):
 class PasswordValidator:
     """Refuses new passwords that the site's hasher would hash with fewer rounds, or not at all.
 
-    It is for AUTH_PASSWORD_VALIDATORS.
+    Name it in AUTH_PASSWORD_VALIDATORS.
     """
 
     def validate(self, password: str, user: Any = None) -> None:
-        """Raise ValidationError for such a password, whoever the user is."""
+        """Raise ValidationError for such a password. The user makes no difference."""
         del user
         try:
             length = len(_calls.password_bytes(password))
@@ -191,18 +191,18 @@ class PasswordValidator:
             raise ValidationError(self.get_help_text(), code="password_too_long")
 
     def get_help_text(self) -> str:
-        """Return what the form says."""
+        """Return the sentence that the form shows."""
         return f"Your password can have at most {self._longest()} bytes."
 
     @staticmethod
     def _longest() -> int:
-        # The hashers of tests are often other ones.
+        # Tests often use another hasher, which has no policy.
         policy: Policy = getattr(hashers.get_hasher(), "policy", Policy())
         return policy.limit().longest_password
 
 
 def _rounds(number: str, digits: Optional[str]) -> Optional[int]:
-    """The rounds of a hash of SHA-crypt."""
+    """Returns the rounds of a hash of SHA-crypt, or None for another method."""
     if digits:
         return int(digits)
     return 5000 if number in ("5", "6") else None

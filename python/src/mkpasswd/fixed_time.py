@@ -1,16 +1,16 @@
-"""Answers failed logins a fixed time after they began, so that timing tells nothing about names.
+"""Answers failed logins a fixed time after they began, so that timing doesn't reveal names.
 
     logins = FixedTime(seconds=6, threads=4, queued=4, failed=1000)
     future = logins.submit(login, database, name, password)
 
-A login is a function of yours that returns True or False. submit() returns a future of
-concurrent.futures: in a thread, future.result() waits for the answer, and in asyncio
-`await asyncio.wrap_future(future)`.
+`login` is a function of yours that returns True or False. submit() returns a future of
+concurrent.futures: in a thread, future.result() waits for the answer; in asyncio, use `await
+asyncio.wrap_future(future)`.
 
 1. The login waits for one of the threads, and runs there.
 2. If it returns True, that is the answer, at once.
 3. If it fails, the answer comes when the fixed time since submit() has passed. Meanwhile the
-   failure holds no thread and no place in the queue, so the next login already runs.
+   failure occupies no thread and no place in the queue, so the next login already runs.
 """
 from __future__ import annotations
 
@@ -34,8 +34,8 @@ class FixedTime:
 
     A login fails if it returns anything but True, or raises an exception.
 
-    `seconds` is when a failure is answered, counted from submit(). A failure that took longer is
-    answered at twice that time, at three times, and so on. To avoid that, choose more seconds than
+    `seconds` is the time from submit() to the answer of a failure. A failure that takes longer is
+    answered after twice that time, three times, and so on. To avoid that, choose more seconds than
     the costliest login takes behind a full queue: math.ceil(1 + queued / threads) times the seconds
     of one login.
 
@@ -43,10 +43,10 @@ class FixedTime:
     `failed` how many failures may wait for their time. Above these numbers, submit() raises Busy.
 
     The threads start with the first login. Until then, a server may make its worker processes by
-    fork(); each has these numbers of its own. Later, fork() copies no thread, and submit() raises
-    RuntimeError in the new process.
+    fork(), and each process has these limits for itself. After that, fork() copies no thread, and
+    submit() raises RuntimeError in the new process.
 
-    Raises ValueError for seconds that are negative or not finite, and without a thread.
+    Raises ValueError for seconds that are negative or not finite, and for less than one thread.
     """
 
     def __init__(self, *, seconds: float, threads: int, queued: int, failed: int) -> None:
@@ -55,12 +55,12 @@ class FixedTime:
         self._seconds = float(seconds)
         self._most_running = threads + queued
         self._most_failed = failed
-        self._lock = threading.Lock()  # for what follows
+        self._lock = threading.Lock()  # of the members below
         self._running = 0
         self._failed = 0
         self._pool = ThreadPoolExecutor(threads, thread_name_prefix="login")
         self._clock: Optional[asyncio.AbstractEventLoop] = None
-        self._process: Optional[int] = None  # the one that has the threads
+        self._process: Optional[int] = None  # the process that has the threads
 
     def submit(self, login: Callable[..., bool], *arguments: Any, **named: Any) -> Future[bool]:
         """Run login(*arguments, **named) in a thread, and return its answer as a future.
@@ -68,7 +68,7 @@ class FixedTime:
         If the login raises an exception, so does the future, after the fixed time.
 
         Raises Busy if there are too many logins; OSError or RuntimeError if the system has no more
-        files or threads; and RuntimeError if the process was made by fork() after the first login.
+        files or threads; and RuntimeError in a process that fork() made after the first login.
         """
         began = time.monotonic()
         if self._process not in (None, os.getpid()):
@@ -81,7 +81,7 @@ class FixedTime:
             clock = self._running_clock()
             self._running += 1
         answer: Future[bool] = Future()
-        answer.set_running_or_notify_cancel()  # from now on, nobody can cancel it
+        answer.set_running_or_notify_cancel()  # so that nobody can cancel it
         try:
             done = self._pool.submit(login, *arguments, **named)
         except RuntimeError:
@@ -92,7 +92,7 @@ class FixedTime:
         return answer
 
     def _running_clock(self) -> asyncio.AbstractEventLoop:
-        """The event loop of the failures: it waits for any number of moments in one thread."""
+        """Returns the event loop in which failures wait, all in one thread, and starts it."""
         if self._clock is None:
             clock = asyncio.new_event_loop()
             name = "failed logins"
@@ -108,7 +108,7 @@ class FixedTime:
         clock: asyncio.AbstractEventLoop,
         began: float,
     ) -> None:
-        """Answers a login that has run: at once if it succeeded, else at a moment of the clock."""
+        """Answers a login that has run: at once if it succeeded, else after the fixed time."""
         succeeded = done.exception() is None and done.result() is True
         with self._lock:
             self._running -= 1
@@ -121,10 +121,10 @@ class FixedTime:
             clock.call_soon_threadsafe(clock.call_at, moment, self._fail, done, answer)
 
     def _moment_of_failure(self, began: float) -> float:
-        """When a failure is answered that began then and has run now.
+        """Returns when to answer a login that has failed, and began at `began`.
 
-        On a machine that is too busy it may be late. If it were answered as soon as it has run,
-        the time would tell which kind of hash was checked.
+        If it took longer than the fixed time, that is at the next multiple of it. If it were
+        answered at once, the time would show which kind of hash was checked.
         """
         if self._seconds == 0:
             return began

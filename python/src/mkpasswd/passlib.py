@@ -1,20 +1,20 @@
-"""md5_crypt, sha256_crypt and sha512_crypt of passlib, hashed by mkpasswd.
+"""passlib's handlers md5_crypt, sha256_crypt and sha512_crypt, with hashing by mkpasswd.
 
     handlers = [mkpasswd.passlib.sha512_crypt, mkpasswd.passlib.md5_crypt]
     context = passlib.context.CryptContext(handlers, deprecated="auto")
 
-They take passlib's options (`sha512_crypt__rounds`, ..), and their hashes are the same. By default
-they make the recommended rounds, and hashes with fewer are outdated.
+They take passlib's options (`sha512_crypt__rounds`, ..), and make the same hashes. The default is
+the recommended rounds, and hashes with fewer are outdated.
 
 A hash may cost as much as mkpasswd.Policy's limit for the handler's rounds. The option `budget`
 sets another limit: `sha512_crypt__budget` of a CryptContext, or `sha512_crypt.using(budget=..)`.
-For a stored hash above it, verify() is false.
+verify() returns False for a stored hash that costs more.
 
-hash() takes every password of up to 1,024 bytes without a zero byte. One whose hash would cost more
-than the limit gets fewer rounds; see mkpasswd.Policy.for_length().
+hash() accepts every password of up to 1,024 bytes without a zero byte. If its hash would cost more
+than the limit, it gets fewer rounds; see mkpasswd.Policy.for_length().
 
-They are registered in place of passlib's own handlers, so that CryptContext.from_string() and
-others that know only a name find them.
+They are registered in place of passlib's own handlers, so that CryptContext.from_string() and other
+code that knows only a name finds them.
 """
 from __future__ import annotations
 
@@ -39,21 +39,22 @@ _LOG = logging.getLogger("mkpasswd")
 
 
 class _Crypt(GenericHandler, metaclass=ABCMeta):
-    """What the three handlers have in common. Each is also passlib's handler of its name."""
+    """The common part of the three handlers. Each also derives from passlib's handler."""
 
     name: str
     budget: Optional[int] = None
 
-    # Otherwise passlib's parsehash() would read a budget from a hash.
+    # So that passlib's parsehash() doesn't look for a budget in a hash.
     _unparsed_settings = (*getattr(_md5.md5_crypt, "_unparsed_settings", ()), "budget")
 
     @classmethod
     def using(
         cls, relaxed: bool = False, budget: Union[int, str, None] = None, **options: Any
     ) -> Any:
-        """As passlib's, with the option `budget`, which in a file of options is a str.
+        """Like passlib's, with the option `budget`, which is a str in a file of options.
 
-        Raises ValueError for a budget that is no number, or too low for a password of 1,024 bytes.
+        Raises ValueError for a budget that isn't a number, or that is too low for passwords of
+        1,024 bytes.
         """
         changed: Any = super().using(relaxed=relaxed, **options)
         if budget is not None:
@@ -72,12 +73,12 @@ class _Crypt(GenericHandler, metaclass=ABCMeta):
 
     @classmethod
     def verify(cls, secret: Any, hash: Any, **context: Any) -> bool:
-        """As passlib's, but false where no hash can be made: anybody can type such a password."""
+        """Like passlib's, but False for a password that can't be hashed: anybody can type one."""
         try:
             password_bytes(secret)
         except ValueError as error:
             return cls._refused(error)
-        # passlib raises ValueError for a field that is no hash of this handler.
+        # passlib raises ValueError for a field that isn't a hash of this handler.
         try:
             is_match: bool = super().verify(secret, hash, **context)
         except TooCostly as error:
@@ -96,7 +97,7 @@ class _Crypt(GenericHandler, metaclass=ABCMeta):
 
 
 def _number(budget: str) -> int:
-    """The budget that a file of options has."""
+    """Returns the budget in a file of options."""
     try:
         return int(budget)
     except ValueError:
@@ -104,7 +105,7 @@ def _number(budget: str) -> int:
 
 
 class _Rounds(_Crypt, metaclass=ABCMeta):
-    """What the two of SHA-crypt have in common besides."""
+    """The common part of the two handlers of SHA-crypt."""
 
     default_rounds = limit().rounds
     min_desired_rounds: Optional[int]
@@ -112,18 +113,18 @@ class _Rounds(_Crypt, metaclass=ABCMeta):
     rounds: int
 
     def _calc_checksum(self, secret: Any) -> str:
-        if self.use_defaults:  # for a new hash, not one that is checked
+        if self.use_defaults:  # for a new hash, not for a check
             self.rounds = self._fitting(secret, self.rounds)
         return super()._calc_checksum(secret)
 
     @classmethod
     def _fitting(cls, secret: Any, rounds: int) -> int:
-        """These rounds, or as many as keep the hash of a long password within the limit."""
+        """Returns `rounds`, or fewer if the hash of a long password would exceed the limit."""
         policy = Policy(cls.policy().method, rounds, cls.policy().limit().cost)
         return policy.for_length(len(password_bytes(secret))).limit().rounds
 
     def _calc_needs_update(self, secret: Any = None, **options: Any) -> bool:
-        # For passlib any rounds will do, unless it is given the least.
+        # passlib accepts any rounds, unless an option says how many a hash needs.
         is_given = self.min_desired_rounds is not None or self.vary_rounds is not None
         if not is_given and self.rounds < self._least_rounds(secret):
             return True
@@ -132,7 +133,7 @@ class _Rounds(_Crypt, metaclass=ABCMeta):
 
     @classmethod
     def _least_rounds(cls, secret: Any) -> int:
-        """The rounds of a new hash, for a password if that is known."""
+        """Returns the rounds of a new hash: for this password, if it is known."""
         if secret is not None:
             with suppress(ValueError):
                 return cls._fitting(secret, cls.default_rounds)

@@ -1,4 +1,4 @@
-"""FIELDS, such as /etc/shadow, and the passwords that are to be tried for its accounts."""
+"""The accounts in FIELDS, such as /etc/shadow, and the passwords to try for them."""
 
 from __future__ import annotations
 
@@ -11,11 +11,11 @@ from pwhash.stored import stored_in
 from pwhash.text import is_utf8
 
 MOST_NAMED = 20  # numbers of lines in a message
-MOST_TOGETHER = 1 << 10  # lines that one word becomes at once
+MOST_TOGETHER = 1 << 10  # lines in a group
 
 
 class Accounts:
-    """The stored field of each account, and what is odd about the lines to try."""
+    """The stored field of each account, and the odd lines among those to try."""
 
     def __init__(self, path: str, console: Console) -> None:
         self._fields = read_fields(path, console)
@@ -24,7 +24,7 @@ class Accounts:
         self.odd = 0  # how many lines aren't UTF-8, or have a zero byte
 
     def lines_to_check(self, arrivals: Arrivals) -> Arrivals:
-        """Makes lines name:field:password of lines name:password, or of passwords for all names."""
+        """Makes lines name:field:password from name:password, or from a password for all names."""
         for group in arrivals:
             if not group:
                 yield []
@@ -42,7 +42,7 @@ class Accounts:
                 yield tries
 
     def _names_for(self, line: Line) -> Iterable[tuple[bytes, bytes]]:
-        """The accounts for which a line is tried, each with the password."""
+        """Returns the accounts for which a line is tried, each with the password."""
         if line.refused_row is not None:
             return ()
         self._note(line)
@@ -66,7 +66,7 @@ class Accounts:
 
 
 def read_fields(path: str, console: Console) -> Dict[bytes, bytes]:
-    """The first field of each name in a file name:field."""
+    """Returns the first field of each name in a file of lines name:field."""
     fields: Dict[bytes, bytes] = {}
     for stored in stored_in(path, console):
         fields.setdefault(stored.name, stored.field)

@@ -1,4 +1,4 @@
-"""The answers to lines, and how they are written: in the order of the lines."""
+"""The answers to lines, which are written in the order of the lines."""
 
 from __future__ import annotations
 
@@ -14,7 +14,7 @@ from pwhash.text import readable
 
 
 class Answer(NamedTuple):
-    """An answer to a line for standard output or OUT, or else a message for standard error."""
+    """The answer to a line: a text for standard output or OUT, or a message for standard error."""
 
     line: Line
     text: Optional[bytes] = None
@@ -25,12 +25,12 @@ class Answer(NamedTuple):
 
 
 def refused(line: Line, refusal: Refusal) -> Answer:
-    """The answer to a line that breaks a rule of mkpasswd, whose message it is."""
+    """Returns the answer to a line that breaks a rule of mkpasswd, with mkpasswd's message."""
     return Answer(line, None, f"mkpasswd: line {line.number}: {refusal.words}", refusal)
 
 
 def refused_row(line: Line) -> Answer:
-    """The answer to a row that pwhash refuses."""
+    """Returns the answer to a row that pwhash refuses."""
     return Answer(line, message=f"pwhash: line {line.number}: {line.refused_row}")
 
 

@@ -47,14 +47,14 @@ def run(options: AuditOptions, session: Session) -> bool:
 
 
 def report_of(options: AuditOptions, console: Console) -> Report:
-    """What shows the findings."""
+    """Returns the report that the options ask for."""
     if options.json:
         return JsonReport(console)
     return WorstFirstReport(console) if options.only_problems else TableReport(console)
 
 
 def judged(policy: mkpasswd.Policy, line: Line) -> Judgement:
-    """What is found about a line."""
+    """Judges a line."""
     refusal = refused_name(line.data)
     if refusal is not None:
         return findings.refused(line.number, refusal.words)

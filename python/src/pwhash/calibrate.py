@@ -1,7 +1,7 @@
-"""pwhash calibrate: the rounds and the budget with which no login takes longer than a time.
+"""pwhash calibrate: finds rounds and a budget with which no login takes longer than a time.
 
-The time covers one hash, as a login computes one. A login that renews a hash computes two, but only
-of whoever knows the password, and once for each account.
+The time covers one hash, which is what a login computes. A login that renews a hash computes two,
+but only if the password is right, and once for each account.
 """
 
 from __future__ import annotations
@@ -16,7 +16,7 @@ from pwhash.console import STDOUT
 from pwhash.options import CalibrateOptions
 from pwhash.session import Session
 
-# Of two digits at most, so that two runs print nearly the same.
+# Rounds with at most two significant digits, so that two runs print nearly the same.
 PLAIN_ROUNDS = (
     *range(1, 100),
     *(digits * 10**zeros for zeros in range(1, 9) for digits in range(10, 100)),
@@ -29,7 +29,7 @@ class Limited(NamedTuple):
     method: str
     rounds: int
     budget: int
-    own_limit: int  # what the library takes where no budget is given
+    own_limit: int  # the library's limit if no budget is given
 
     @property
     def needs_budget(self) -> bool:
@@ -38,12 +38,12 @@ class Limited(NamedTuple):
 
     @property
     def options(self) -> str:
-        """It as options of pwhash and mkpasswd."""
+        """The policy as options of pwhash and mkpasswd."""
         return f"-m {self.method} -R {self.rounds} --budget {self.budget}"
 
     @property
     def code(self) -> str:
-        """It as a policy in C and in Python."""
+        """The policy in C and in Python."""
         numbers = f"{self.rounds}, {self.budget if self.needs_budget else 0}"
         in_c = f"{{MKPASSWD_{self.method.upper()}, {numbers}}}"
         arguments = f'"{self.method}", {numbers if self.needs_budget else self.rounds}'
@@ -51,7 +51,7 @@ class Limited(NamedTuple):
 
 
 def run(options: CalibrateOptions, session: Session) -> bool:
-    """Prints a policy of each method that has one. Returns whether none has."""
+    """Prints a policy for each method that is fast enough. Returns whether none is."""
     console = session.console
     seconds_of_cost = speed.seconds_of_cost(console, options.quiet)
     most = int(options.seconds / seconds_of_cost)
@@ -65,9 +65,9 @@ def run(options: CalibrateOptions, session: Session) -> bool:
 
 
 def costliest_within(method: str, most: int) -> Limited:
-    """The policy with the most rounds whose budget is at most so much; if there's none, the least.
+    """Returns the policy with the most rounds whose budget is at most this, else the cheapest one.
 
-    The library's own limit has a floor. Where that is too high, the budget is the same without it.
+    The library's own limit has a floor. If that is too high, the budget is the limit without it.
     """
     policies: List[Limited] = []
     for rounds in PLAIN_ROUNDS:
@@ -83,7 +83,7 @@ def costliest_within(method: str, most: int) -> Limited:
 def about_found(
     options: CalibrateOptions, found: Sequence[Limited], seconds_of_cost: float
 ) -> List[str]:
-    """What to know about the policies that are printed."""
+    """Returns sentences about the policies that are printed."""
     sentences = [
         f"with these, a login takes at most {options.time} of one core here, whatever hash is "
         f"stored: a cost of 1,000,000,000 takes up to {shown(1e9 * seconds_of_cost)}.",
@@ -100,7 +100,7 @@ def about_found(
 
 
 def about_others(policies: Sequence[Limited], most: int, seconds_of_cost: float) -> List[str]:
-    """Of which methods even the least rounds take too long."""
+    """Returns a sentence for each method whose fewest rounds take too long."""
     return [
         f"{each.method} takes longer: even with -R {each.rounds}, a login needs a budget of "
         f"{each.budget:,}, and takes up to {shown(each.budget * seconds_of_cost)} here."
@@ -110,7 +110,7 @@ def about_others(policies: Sequence[Limited], most: int, seconds_of_cost: float)
 
 
 def shown(seconds: float) -> str:
-    """A time, rounded up."""
+    """Returns a time in words, rounded up."""
     if seconds < 1:
         return f"{math.ceil(1000 * seconds)} ms"
     return f"{math.ceil(10 * seconds) / 10:,.1f} s"

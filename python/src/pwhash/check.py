@@ -28,14 +28,14 @@ from pwhash.table import lines_of
 from pwhash.text import named, readable
 from pwhash.workers import Memory, Workers
 
-# Refusals of a password, whatever the account.
+# Refusals of a password for every account.
 PASSWORD_REFUSALS = (LINE_TOO_LONG, PASSWORD_TOO_LONG, PASSWORD_ZERO_BYTE)
 
 
 def run(options: CheckOptions, session: Session) -> bool:
     """Checks lines name:field:password, where the field is what is stored: a hash, ! or nothing.
 
-    Returns whether something is wrong with a line.
+    Returns whether a password is wrong, or a line has a problem.
     """
     source = Source(options.input, session.console)
     checking = Checking(options, source, session)
@@ -52,14 +52,14 @@ def run(options: CheckOptions, session: Session) -> bool:
 
 
 class Checked(NamedTuple):
-    """What a check found, and with --rehash the new hash, if one was needed."""
+    """The result of a check, and with --rehash the new hash, if one was needed."""
 
     verdict: Verdict
     new_hash: Optional[bytes] = None
 
 
 class Checking:
-    """Checks lines."""
+    """Checks lines in several threads."""
 
     def __init__(self, options: CheckOptions, source: Source, session: Session) -> None:
         self._options = options
@@ -72,12 +72,12 @@ class Checking:
         self._has_bad_line = False
 
     def has_problem(self) -> bool:
-        """Whether something is wrong with a line."""
+        """Whether a password was wrong, or a line had a problem."""
         accounts = self._accounts
         return self._has_bad_line or bool(accounts and (accounts.absent or accounts.marked))
 
     def check_lines(self, writer: Writer, part: Optional[Part] = None) -> None:
-        """Checks the lines, and writes the answers; into a part with --rehash only new hashes."""
+        """Checks the lines, and writes the answers. With --rehash, a part gets only new hashes."""
         progress = Progress(self._console, "checking", self._source.total)
         for answers in Workers(self._answer).answers(self._lines()):
             if part is not None:
@@ -91,7 +91,7 @@ class Checking:
         self._source.refuse_nothing()
 
     def tell_odd(self) -> None:
-        """Tells which lines of a list of passwords are odd."""
+        """Reports odd lines in a list of passwords."""
         accounts = self._accounts
         if accounts is None:
             return
@@ -118,7 +118,7 @@ class Checking:
             self._has_bad_line = True
 
     def _answer(self, line: Line) -> Answer:
-        """Checks one line, in some thread."""
+        """Checks one line. Called in a worker's thread."""
         if line.refused_row is not None:
             return refused_row(line)
         refusal = refused_name(line.data)
@@ -137,7 +137,7 @@ class Checking:
         return Answer(line, text + b":" + checked.new_hash, renewed=renewed)
 
     def _checked(self, fields: FieldsToCheck) -> Union[Checked, Refusal]:
-        """The verdict on a password, with a new hash where that is asked for and needed."""
+        """Checks a password, and with --rehash makes a new hash if one is needed."""
         policy = self._options.policy
         refusal = library.refused_password(fields.password)
         if refusal is not None:
@@ -155,22 +155,22 @@ class Checking:
         return new_hash if isinstance(new_hash, Refusal) else Checked(verdict, new_hash)
 
     def _verdict(self, fields: FieldsToCheck) -> Union[Verdict, Refusal]:
-        """The verdict on a password, once there is memory for the check."""
+        """Checks a password, once there is memory for that."""
         budget = self._options.policy.budget
         table = library.memory(fields.stored)
-        if table > budget:  # then the library refuses it, and takes no memory
+        if table > budget:  # the library refuses this, and takes no memory
             table = 0
         with self._memory.taken(table):
             return library.verify(fields.password, fields.stored, budget)
 
     def _has_budget_for_both(self, fields: FieldsToCheck) -> bool:
-        """Whether the check and the new hash cost at most the budget, together."""
+        """Whether the check and the new hash together cost at most the budget."""
         policy, length = self._options.policy, len(fields.password)
         cost = library.cost(fields.stored, length) + library.new_cost(policy, length)
         return cost <= policy.budget
 
     def _said_once(self, answer: Answer) -> Answer:
-        """The answer to a line of a list. The same sentence is said once for all passwords."""
+        """Returns an answer without its message, if another line of a list had the same one."""
         if answer.message is None:
             return answer
         sentence = f"pwhash: {self._about(answer)}"
@@ -180,7 +180,7 @@ class Checking:
         return answer._replace(message=sentence)
 
     def _about(self, answer: Answer) -> str:
-        """Why a password isn't tried: the password is wrong, or the account can't be checked."""
+        """Says why a password isn't tried: it can't be hashed, or the account can't be checked."""
         line, refusal = answer.line, answer.refusal
         if refusal is None:
             return f"line {line.number}: {line.refused_row}"
@@ -195,5 +195,5 @@ class Checking:
 
 
 def only_new(answers: Sequence[Answer]) -> List[Answer]:
-    """The same answers with the messages and the new hashes alone, as chpasswd -e takes them."""
+    """Returns the answers with only messages and new hashes, as chpasswd -e reads them."""
     return [answer._replace(text=answer.renewed) for answer in answers]

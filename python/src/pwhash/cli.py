@@ -1,4 +1,4 @@
-"""The command line: what each command takes, and how that becomes its options."""
+"""Reads the command line: the arguments of each command, and the options made from them."""
 
 from __future__ import annotations
 
@@ -82,7 +82,7 @@ CONTROL_CHARACTER = re.compile("[\0-\x1f\x7f-\x9f]")
 NAME_OF_LINE = re.compile("[^:#\\0-\\x1f\\x7f][^:\\0-\\x1f\\x7f]*")
 OPTION_NAME = re.compile("--[a-z-]+")
 FORMS = {form.word: form for form in Form}
-# What a method takes as rounds, in words; md5crypt has none to choose.
+# The rounds that a method accepts, in words. md5crypt's can't be chosen.
 ROUNDS = {
     "sha512crypt": "1000 to 999999999",
     "sha256crypt": "1000 to 999999999",
@@ -91,14 +91,14 @@ ROUNDS = {
 
 
 class Shown(Exception):
-    """A help or a version was asked for. The message is its text."""
+    """Ends the run after --help or --version. The message is the text to print."""
 
 
 def read_options(words: Sequence[str]) -> Options:
-    """The options of the command that the words ask for.
+    """Returns the options of the command that these arguments name.
 
-    The command has to be the first word. Each has a parser of its own, since those of argparse
-    for subcommands would let options stand in front of the command, and then forget them.
+    The command has to be the first argument. Each command has a parser of its own, since argparse's
+    subcommands would accept options in front of the command, and then forget them.
     """
     name = words[0] if words and words[0] in COMMANDS else ""
     command = COMMANDS[name]
@@ -110,7 +110,7 @@ def read_options(words: Sequence[str]) -> Options:
 
 
 def about_unknown(words: Sequence[str]) -> str:
-    """The message about words that pwhash doesn't know. One may be a password."""
+    """Describes arguments that pwhash doesn't know. A word isn't shown: it may be a password."""
     options = [word for word in words if OPTION_NAME.fullmatch(word)]
     if options:
         return f"no option {' '.join(options)}"
@@ -118,7 +118,7 @@ def about_unknown(words: Sequence[str]) -> str:
 
 
 class Formatter(argparse.HelpFormatter):
-    """Lays out a help. argparse's own would import shutil to ask for the width."""
+    """Formats help. argparse's own formatter would import shutil to find the width."""
 
     def __init__(self, prog: str) -> None:
         super().__init__(prog, width=help_columns() - 2)
@@ -126,7 +126,7 @@ class Formatter(argparse.HelpFormatter):
 
 @functools.lru_cache(maxsize=None)
 def help_columns() -> int:
-    """The columns of a help."""
+    """Returns the width of help texts, in columns."""
     given = os.environ.get("COLUMNS", "")
     if given.isascii() and given.isdecimal() and 20 <= int(given) < 1000:
         return int(given)
@@ -134,7 +134,7 @@ def help_columns() -> int:
 
 
 class Parser(argparse.ArgumentParser):
-    """Ends the run by exceptions, where argparse would print and exit by itself."""
+    """Raises exceptions where argparse would print and exit."""
 
     def __init__(self, command: str, description: Optional[str]) -> None:
         super().__init__(
@@ -151,20 +151,20 @@ class Parser(argparse.ArgumentParser):
         self.add_argument("--version", action=ShowVersion, nargs=0, help=version_text)
 
     def error(self, message: str) -> NoReturn:
-        """Refuses the arguments in argparse's words, but for a value that may be a password."""
+        """Refuses the arguments with argparse's message, but hides values, maybe passwords."""
         option, ignored, _ = message.partition(": ignored explicit argument ")
         raise self.refusal(f"{option} takes no value" if ignored else message)
 
     def refusal(self, message: str) -> UsageError:
-        """The error for arguments that don't fit."""
+        """Returns the error for wrong arguments, with a hint at --help."""
         return UsageError(f"{message}. See {self.prog} --help.")
 
     def flag(self, name: str, text: str) -> None:
-        """An option without a value."""
+        """Adds an option without a value."""
         self.add_argument(name, action="store_true", help=text)
 
     def value(self, *names: str, **properties: Any) -> None:
-        """An option with a value."""
+        """Adds an option with a value."""
         self.add_argument(*names, action=Once, **properties)
 
 
@@ -183,7 +183,7 @@ class ShowVersion(argparse.Action):
 
 
 class Once(argparse.Action):
-    """An option of which two values contradict each other."""
+    """An option that may be given only once."""
 
     def __init__(self, *names: Any, **properties: Any) -> None:
         super().__init__(*names, **properties)
@@ -203,18 +203,18 @@ class Once(argparse.Action):
 
 
 def usage() -> str:
-    """What `pwhash --help` begins with. The rounds are the library's."""
+    """Returns the beginning of `pwhash --help`, with the library's recommended rounds."""
     method = next(iter(library.METHODS))
     return USAGE.format(method=method, rounds=usual_rounds(method))
 
 
 def usual_rounds(method: str) -> int:
-    """The rounds of new hashes of a method, if nobody chooses others."""
+    """Returns the rounds of a method's new hashes, if nobody chooses others."""
     return library.limit(method, None, None).rounds
 
 
 def number(text: str) -> int:
-    """A number, for which 656k stands as well as 656000."""
+    """Returns the number in a text such as 656000 or 656k."""
     found = NUMBER.fullmatch(text)
     if not found:
         message = f"{text!r} isn't a number: digits, or digits and one k or M, as 656k"
@@ -222,11 +222,11 @@ def number(text: str) -> int:
     return int(found[1]) * FACTORS[found[2]]
 
 
-# Each command: its parser, and the options that it makes of what is given.
+# For each command its parser, and the function that makes its options.
 
 
 def one_parser() -> Parser:
-    """What `pwhash` takes."""
+    """Returns the parser of `pwhash` without a command."""
     parser = Parser("", None)
     forms = [form.word for form in Form if form is not Form.BARE]
     parser.value("--for", dest="form", choices=forms, default="bare", help="print its line")
@@ -239,7 +239,7 @@ def one_parser() -> Parser:
 
 
 def one_options(parser: Parser, given: argparse.Namespace) -> Options:
-    """The options of `pwhash`."""
+    """Returns the options of `pwhash` without a command."""
     policy = policy_of(parser, given)
     form = FORMS[given.form]
     if bool(given.name) != form.has_name:
@@ -252,7 +252,7 @@ def one_options(parser: Parser, given: argparse.Namespace) -> Options:
 
 
 def file_parser() -> Parser:
-    """What `pwhash file` takes."""
+    """Returns the parser of `pwhash file`."""
     parser = Parser("file", FILE_TEXT)
     add_input(parser, "by default -", STDIN)
     add_out(parser)
@@ -274,7 +274,7 @@ def file_parser() -> Parser:
 
 
 def file_options(parser: Parser, given: argparse.Namespace) -> Options:
-    """The options of `pwhash file`."""
+    """Returns the options of `pwhash file`."""
     refuse_lonely(parser, given, {"resume": "out", "columns": "csv"})
     refuse_empty(parser, given, "out", "columns", "skip_locked", "skip_unknown")
     refuse_out(parser, given.out)
@@ -297,7 +297,7 @@ def file_options(parser: Parser, given: argparse.Namespace) -> Options:
 
 
 def check_parser() -> Parser:
-    """What `pwhash check` takes."""
+    """Returns the parser of `pwhash check`."""
     parser = Parser("check", CHECK_TEXT)
     add_input(parser, "by default -", STDIN)
     shadow_text = "lines are name:password; the hashes are in the file FIELDS"
@@ -311,7 +311,10 @@ def check_parser() -> Parser:
 
 
 def check_options(parser: Parser, given: argparse.Namespace) -> Options:
-    """The options of `pwhash check`. By default a check and a new hash may cost a limit each."""
+    """Returns the options of `pwhash check`.
+
+    With --rehash a line is checked and hashed, so the default budget is twice as high.
+    """
     refuse_lonely(parser, given, {"columns": "csv", "csv": "shadow"})
     refuse_empty(parser, given, "out", "shadow", "columns")
     refuse_out(parser, given.out)
@@ -329,7 +332,7 @@ def check_options(parser: Parser, given: argparse.Namespace) -> Options:
 
 
 def audit_parser() -> Parser:
-    """What `pwhash audit` takes."""
+    """Returns the parser of `pwhash audit`."""
     parser = Parser("audit", AUDIT_TEXT)
     add_input(parser, "a file such as /etc/shadow, or - for standard input", None)
     parser.flag("--only-problems", "show what needs care, and nothing if all is well")
@@ -340,7 +343,7 @@ def audit_parser() -> Parser:
 
 
 def audit_options(parser: Parser, given: argparse.Namespace) -> Options:
-    """The options of `pwhash audit`."""
+    """Returns the options of `pwhash audit`."""
     if given.file is None:
         raise parser.refusal(
             "name a file: pwhash audit /etc/shadow, or for standard input pwhash audit -"
@@ -355,7 +358,7 @@ def audit_options(parser: Parser, given: argparse.Namespace) -> Options:
 
 
 def set_parser() -> Parser:
-    """What `pwhash set` takes."""
+    """Returns the parser of `pwhash set`."""
     parser = Parser("set", SET_TEXT)
     parser.add_argument("file", nargs="?", metavar="FILE", help="the password file of a service")
     parser.add_argument("name", nargs="?", metavar="NAME", help="whose line is changed")
@@ -371,7 +374,7 @@ def set_parser() -> Parser:
 
 
 def set_options(parser: Parser, given: argparse.Namespace) -> Options:
-    """The options of `pwhash set`."""
+    """Returns the options of `pwhash set`."""
     if not given.file or not given.name:
         raise parser.refusal("name a password file and whose line to change: pwhash set FILE NAME")
     refuse_unfit_name(parser, given.name)
@@ -388,7 +391,7 @@ def set_options(parser: Parser, given: argparse.Namespace) -> Options:
 
 
 def action_of(parser: Parser, given: argparse.Namespace) -> Action:
-    """What is to be done. Two things at once contradict each other."""
+    """Returns what to do to the line. Refuses two actions at once."""
     chosen = [each for each in Action if getattr(given, each.name.lower(), False)]
     if len(chosen) + given.generate > 1:
         raise parser.refusal("give one of --generate, --delete, --lock and --unlock")
@@ -396,7 +399,7 @@ def action_of(parser: Parser, given: argparse.Namespace) -> Action:
 
 
 def refuse_unfit_name(parser: Parser, name: str) -> None:
-    """Refuses a name that no line can begin with, or that services skip as a comment."""
+    """Refuses a name with which no line can begin, or that services skip as a comment."""
     if ":" in name:
         raise parser.refusal("NAME has a colon in it, with which names end in password files")
     if CONTROL_CHARACTER.search(name):
@@ -406,7 +409,7 @@ def refuse_unfit_name(parser: Parser, name: str) -> None:
 
 
 def install_parser() -> Parser:
-    """What `pwhash install` takes."""
+    """Returns the parser of `pwhash install`."""
     parser = Parser("install", INSTALL_TEXT)
     parser.add_argument("hashes", nargs="?", metavar="HASHES", help="lines name:hash")
     parser.add_argument("target", nargs="?", metavar="TARGET", help="the password file")
@@ -422,7 +425,7 @@ def install_parser() -> Parser:
 
 
 def install_options(parser: Parser, given: argparse.Namespace) -> Options:
-    """The options of `pwhash install`. Hashes are judged as in an audit."""
+    """Returns the options of `pwhash install`. Hashes are judged as in an audit."""
     if not given.hashes or not given.target:
         raise parser.refusal("name two files: pwhash install HASHES TARGET")
     return InstallOptions(
@@ -439,7 +442,7 @@ def install_options(parser: Parser, given: argparse.Namespace) -> Options:
 
 
 def mode_of(parser: Parser, given: argparse.Namespace) -> Optional[int]:
-    """The mode of a password file, which its owner alone writes, and nobody runs."""
+    """Returns the mode of a new password file, which only its owner may write and nobody run."""
     if given.mode is None:
         return None
     mode = int(given.mode, 8) if MODE.fullmatch(given.mode) else None
@@ -451,7 +454,7 @@ def mode_of(parser: Parser, given: argparse.Namespace) -> Optional[int]:
 
 
 def verify_parser() -> Parser:
-    """What `pwhash verify` takes."""
+    """Returns the parser of `pwhash verify`."""
     parser = Parser("verify", VERIFY_TEXT)
     add_input(parser, "a file with lines name:hash, such as /etc/shadow", None)
     parser.add_argument("name", nargs="?", metavar="NAME", help="whose hash it is")
@@ -460,7 +463,10 @@ def verify_parser() -> Parser:
 
 
 def verify_options(parser: Parser, given: argparse.Namespace) -> Options:
-    """The options of `pwhash verify`. No argument is shown, since one may be the password."""
+    """Returns the options of `pwhash verify`.
+
+    No message shows an argument, since that may be the password.
+    """
     budget = min(limit_of(parser, given).budget, library.GREATEST_BUDGET)
     if given.file is None:
         return VerifyOptions(budget, "", "")
@@ -479,7 +485,7 @@ def verify_options(parser: Parser, given: argparse.Namespace) -> Options:
 
 
 def calibrate_parser() -> Parser:
-    """What `pwhash calibrate` takes."""
+    """Returns the parser of `pwhash calibrate`."""
     parser = Parser("calibrate", CALIBRATE_TEXT)
     time_text = "with its unit: 300ms, 0.3s, 2s"
     parser.add_argument("time", nargs="?", metavar="TIME", help=time_text)
@@ -491,7 +497,7 @@ def calibrate_parser() -> Parser:
 
 
 def calibrate_options(parser: Parser, given: argparse.Namespace) -> Options:
-    """The options of `pwhash calibrate`."""
+    """Returns the options of `pwhash calibrate`."""
     if given.time is None:
         raise parser.refusal("name the time that a login may take: pwhash calibrate 300ms")
     found = TIME.fullmatch(given.time)
@@ -525,19 +531,19 @@ COMMANDS: Dict[str, Command] = {
 
 
 def add_input(parser: Parser, text: str, default: Optional[str]) -> None:
-    """FILE."""
+    """Adds FILE."""
     parser.add_argument("file", nargs="?", default=default, metavar="FILE", help=text)
 
 
 def add_out(parser: Parser) -> None:
-    """-o."""
+    """Adds -o."""
     parser.value(
         "-o", "--out", help="write the file OUT once it is whole; until then it is OUT.part"
     )
 
 
 def add_table(parser: Parser) -> None:
-    """What a file of Windows or of a spreadsheet needs."""
+    """Adds the options for files from Windows or from a spreadsheet."""
     parser.flag("--windows", "leave out carriage returns at ends of lines, and byte order marks")
     parser.flag("--csv", "FILE is a table, as spreadsheets export it")
     text = f"names in its first row, or numbers; by default {DEFAULT_COLUMNS}"
@@ -545,13 +551,13 @@ def add_table(parser: Parser) -> None:
 
 
 def add_service(parser: Parser, text: str) -> None:
-    """--for SERVICE."""
+    """Adds --for SERVICE."""
     services = [service.value for service in Service]
     parser.value("--for", dest="service", choices=services, help=text)
 
 
 def add_generate(parser: Parser) -> None:
-    """What new passwords for names need."""
+    """Adds the options for generated passwords."""
     parser.flag("--generate", "FILE has names alone: make a password for each")
     passwords_text = "write names and passwords to the new file LIST, as CSV"
     parser.value("--passwords", metavar="LIST", help=passwords_text)
@@ -564,13 +570,13 @@ def add_generate(parser: Parser) -> None:
 
 
 def add_salt(parser: Parser) -> None:
-    """-S."""
+    """Adds -S."""
     text = "up to 16 (md5crypt 8, scrypt 86) of a-zA-Z0-9./, in place of new ones"
     parser.value("-S", "--salt", help=text)
 
 
 def add_common(parser: Parser) -> None:
-    """What each command takes."""
+    """Adds the options that all commands have."""
     methods = list(library.METHODS)
     method_text = ", ".join(methods)
     parser.value(
@@ -589,7 +595,7 @@ def add_common(parser: Parser) -> None:
 
 
 def policy_of(parser: Parser, given: argparse.Namespace) -> Policy:
-    """How new hashes are made. By default each may cost what a login may."""
+    """Returns the policy of new hashes. By default a hash may cost as much as a login."""
     limit = limit_of(parser, given)
     budget = min(limit.budget, library.GREATEST_BUDGET)
     if given.salt is None:
@@ -603,14 +609,17 @@ def policy_of(parser: Parser, given: argparse.Namespace) -> Policy:
 
 
 def judging_policy(parser: Parser, given: argparse.Namespace) -> Policy:
-    """How stored hashes are judged. A budget of 0, or none, stands for the library's own."""
+    """Returns the policy by which stored hashes are judged.
+
+    A budget of 0, or none, stands for the library's own.
+    """
     limit_of(parser, given)
     own_budget = min(given.budget or 0, library.GREATEST_BUDGET)
     return Policy(given.method, given.rounds or 0, own_budget, None, None)
 
 
 def limit_of(parser: Parser, given: argparse.Namespace) -> library.Limit:
-    """What the method, rounds and budget admit."""
+    """Returns what the method, rounds and budget allow."""
     try:
         return library.limit(given.method, given.rounds, given.budget)
     except library.RefusedRounds:
@@ -618,7 +627,7 @@ def limit_of(parser: Parser, given: argparse.Namespace) -> library.Limit:
 
 
 def about_rounds(method: str, rounds: int) -> str:
-    """The message about rounds that new hashes of a method can't have."""
+    """Describes rounds that new hashes of a method can't have."""
     if method not in ROUNDS:
         return f"-R {rounds}: leave it out, since {method} has no rounds to choose"
     usual = usual_rounds(method)
@@ -626,26 +635,26 @@ def about_rounds(method: str, rounds: int) -> str:
 
 
 def refuse_lonely(parser: Parser, given: argparse.Namespace, needs: Dict[str, str]) -> None:
-    """Refuses an option without the one that it needs."""
+    """Refuses an option without another one that it needs."""
     for option, needed in needs.items():
         if getattr(given, option) and not getattr(given, needed):
             raise parser.refusal(f"{typed(option)} needs {typed(needed)}")
 
 
 def refuse_empty(parser: Parser, given: argparse.Namespace, *options: str) -> None:
-    """Refuses an empty value, as of a variable of a script that isn't set."""
+    """Refuses an empty value, such as that of an unset variable in a script."""
     for option in options:
         if getattr(given, option) == "":
             raise parser.refusal(f"{typed(option)} is empty")
 
 
 def typed(option: str) -> str:
-    """An option as it is typed."""
+    """Returns an option as a user types it."""
     return f"--{option.replace('_', '-')}"
 
 
 def refuse_out(parser: Parser, out: Optional[str]) -> None:
-    """Refuses an OUT that is there already."""
+    """Refuses an OUT that already exists."""
     if out == STDIN:
         raise parser.refusal(
             "-o - would write a file: leave it out for standard output, or name ./-"
@@ -656,14 +665,14 @@ def refuse_out(parser: Parser, out: Optional[str]) -> None:
 
 
 def input_of(parser: Parser, given: argparse.Namespace) -> Input:
-    """The file of lines."""
+    """Returns the file of lines, and how to read it."""
     columns = (given.columns or DEFAULT_COLUMNS) if given.csv else None
     path = path_of(parser, given)
     return Input(path, given.windows, columns, counts_lines=not given.quiet)
 
 
 def generate_of(parser: Parser, given: argparse.Namespace, policy: Policy) -> Optional[Generate]:
-    """The passwords to make, if they are to be made."""
+    """Returns which passwords to generate, or None without --generate."""
     needing = ("passwords", "length", "by", "list_columns")
     refuse_lonely(parser, given, {option: "generate" for option in needing})
     refuse_empty(parser, given, "passwords", "by", "list_columns")
@@ -681,7 +690,7 @@ def generate_of(parser: Parser, given: argparse.Namespace, policy: Policy) -> Op
 
 
 def refuse_lists(parser: Parser, given: argparse.Namespace) -> None:
-    """Refuses a LIST that is missing, that is OUT, or that is there although none was written."""
+    """Refuses a LIST that isn't given, that is OUT, or that already exists."""
     if not given.out or not given.passwords:
         raise parser.refusal(
             "--generate needs -o OUT for the hashes, and --passwords LIST for the passwords"
@@ -694,7 +703,7 @@ def refuse_lists(parser: Parser, given: argparse.Namespace) -> None:
 
 
 def about_list_that_exists(given: argparse.Namespace) -> str:
-    """The message about a LIST that is there. With OUT.part, it is perhaps of an earlier run."""
+    """Describes a LIST that already exists. Beside OUT.part, an earlier run may have made it."""
     name, part = named(given.passwords), part_of(given.out)
     if os.path.lexists(part):
         return f"{name} already exists, and so does {named(part)}: add --resume, or remove both"
@@ -702,7 +711,7 @@ def about_list_that_exists(given: argparse.Namespace) -> str:
 
 
 def names_of(parser: Parser, given: argparse.Namespace) -> Input:
-    """The file of names, of which a table has one in a column, and perhaps a group in another."""
+    """Returns the file of names. A table has names in one column, and maybe groups in another."""
     names = given.columns or "name"
     if "," in names:
         raise parser.refusal("--columns names one column with --generate, that of the names")
@@ -718,14 +727,14 @@ def names_of(parser: Parser, given: argparse.Namespace) -> Input:
 
 
 def path_of(parser: Parser, given: argparse.Namespace) -> Optional[str]:
-    """FILE, or None for standard input."""
+    """Returns FILE, or None for standard input."""
     if given.file == "":
         raise parser.refusal("FILE is empty")
     return None if given.file == STDIN else str(given.file)
 
 
 def doubtful_of(given: argparse.Namespace) -> Doubtful:
-    """What becomes of doubtful lines. With both options they are left out."""
+    """Returns what to do with doubtful lines. With both options they are left out."""
     if given.skip_doubtful:
         return Doubtful.SKIP
     return Doubtful.ACCEPT if given.accept_doubtful else Doubtful.STOP

@@ -1,7 +1,7 @@
 """The outputs of a run, and the progress line on the terminal.
 
-Everything is bytes in the end, since names have no encoding, and is written without buffers, so
-that a full disk or a closed pipe is met at the line that is lost.
+All output is bytes, since names have no encoding. It isn't buffered, so that an error such as a
+full disk or a closed pipe arises at the line that is lost.
 """
 
 from __future__ import annotations
@@ -22,14 +22,14 @@ from pwhash.text import readable_text
 STDIN, STDOUT, STDERR = 0, 1, 2
 OUTPUT_NAMES = {STDOUT: "standard output", STDERR: "standard error"}
 RETRY_SECONDS = 0.02
-# How long a run that ends waits until somebody reads, and how much a pipe then surely takes.
+# How long a run that ends waits for a reader, and how many bytes a pipe then takes for sure.
 LAST_MILLISECONDS = 100
 LAST_BYTES = select.PIPE_BUF
 CLEAR_LINE = "\r\x1b[K"
 
 
 def open_terminal() -> Optional[int]:
-    """Opens the terminal, if there is one. Whatever else has its name isn't taken for it."""
+    """Opens /dev/tty, if there is one and it is a terminal."""
     with contextlib.suppress(OSError):
         terminal = os.open("/dev/tty", os.O_RDWR | os.O_NOCTTY)
         if os.isatty(terminal):
@@ -39,29 +39,29 @@ def open_terminal() -> Optional[int]:
 
 
 class Console:
-    """Writes answers and sentences. The progress line gives way to them."""
+    """Writes answers and messages. Clears the progress line before them."""
 
     def __init__(self) -> None:
         self._shows_progress = False
         self._is_last = False
 
     def wait_for_nobody(self) -> None:
-        """From here on the run ends, so that it writes only what somebody takes at once."""
+        """From here on, drops output that nobody reads soon, since the run is ending."""
         self._is_last = True
 
     def say(self, sentence: str) -> None:
-        """Tells the user something."""
+        """Writes a message to standard error."""
         self.lines(STDERR, [f"pwhash: {readable_text(sentence)}".encode()])
 
     def lines(self, fd: int, lines: Sequence[bytes]) -> None:
         """Writes lines to standard output, standard error or a file.
 
-        A standard error that is closed, full, or that nobody reads, ends no run.
+        Failing to write to standard error doesn't end the run.
         """
         if not lines:
             return
         try:
-            if not stat.S_ISREG(os.fstat(fd).st_mode):  # but a terminal, or what may end in one
+            if not stat.S_ISREG(os.fstat(fd).st_mode):  # a terminal, or a pipe that leads to one
                 self.clear_progress()
             self._write(fd, b"\n".join(lines) + b"\n")
         except OSError as error:
@@ -72,9 +72,9 @@ class Console:
             raise
 
     def on_terminal(self, text: str) -> bool:
-        """Writes on the terminal, wherever the outputs go. Returns whether it did.
+        """Writes to the terminal, wherever the outputs go. Returns whether it did.
 
-        There may be none, and in the background it belongs to another process group.
+        It doesn't if there is no terminal, or if the process is in the background.
         """
         terminal = open_terminal()
         if terminal is None:
@@ -90,19 +90,19 @@ class Console:
             os.close(terminal)
 
     def show_progress(self, text: str, short: str) -> None:
-        """Shows this in place of the progress line, or the short text in a narrow terminal."""
-        columns = terminal_columns() - 1  # the last one stays free for the cursor
+        """Shows a new progress line: the short text if the terminal is narrow."""
+        columns = terminal_columns() - 1  # the last column is for the cursor
         line = text if len(text) <= columns else short[:columns]
         self._shows_progress = self.on_terminal(f"\r{line}\x1b[K")
 
     def clear_progress(self) -> None:
-        """Takes the progress line away, if there is one."""
+        """Clears the progress line, if there is one."""
         if self._shows_progress:
             self._shows_progress = False
             self.on_terminal(CLEAR_LINE)
 
     def end_last_line(self, fd: int) -> None:
-        """Ends the last line of a file to which the shell's >> adds, so that answers begin one."""
+        """Ends the last line of a file after the shell's >>, so that answers begin a new one."""
         status = os.fstat(fd)
         is_added_to = fcntl.fcntl(fd, fcntl.F_GETFL) & os.O_APPEND
         if not stat.S_ISREG(status.st_mode) or not is_added_to or not status.st_size:
@@ -111,11 +111,11 @@ class Console:
             self.lines(fd, [b""])
 
     def silence_errors(self) -> None:
-        """Lets standard error go nowhere, so that nothing is added to the file that it is."""
+        """Redirects standard error to /dev/null, so that nothing is added to a file."""
         os.dup2(os.open(os.devnull, os.O_WRONLY), STDERR)
 
     def _write(self, fd: int, data: bytes) -> None:
-        """Writes all of the data, also where somebody made the descriptor non-blocking."""
+        """Writes all of the data, even if somebody has made the descriptor non-blocking."""
         while data:
             if self._is_last and not is_taken_at_once(fd):
                 return
@@ -127,14 +127,14 @@ class Console:
 
 
 def is_taken_at_once(fd: int) -> bool:
-    """Whether a write of a few bytes doesn't wait."""
+    """Whether a few bytes can be written soon."""
     poll = select.poll()
     poll.register(fd, select.POLLOUT)
     return bool(poll.poll(LAST_MILLISECONDS))
 
 
 def terminal_columns() -> int:
-    """The width of the terminal, 80 where it doesn't say."""
+    """Returns the width of the terminal, or 80 if it is unknown."""
     terminal = open_terminal()
     if terminal is None:
         return 80
@@ -147,7 +147,7 @@ def terminal_columns() -> int:
 
 
 def last_byte(fd: int) -> bytes:
-    """The last byte of a file that is open for writing, or a line feed if it can't be read."""
+    """Returns the last byte of a file that is open for writing, or a line feed if unreadable."""
     try:
         with open(f"/proc/self/fd/{fd}", "rb") as file:
             file.seek(-1, os.SEEK_END)

@@ -1,4 +1,4 @@
-"""What mkpasswd hashes as it is, and hardly anybody wants."""
+"""Doubts about lines that mkpasswd accepts, but that are probably mistakes."""
 
 from __future__ import annotations
 
@@ -14,7 +14,7 @@ from pwhash.options import Service
 from pwhash.text import APART, is_utf8, is_visible
 
 SEPARATOR = re.compile(rb"[,;\t| ]")
-# A line of which only the words and signs of its fields may be doubtful.
+# A line without unusual characters. Only its name and password as words may be doubtful.
 PLAIN_LINE = re.compile(rb"[!-9;-~]+:[!-~]+")
 
 LONGEST_OF_CRYPT = 511
@@ -23,7 +23,7 @@ TOO_LONG_FOR_CRYPT = (
 )
 
 # The names that each service reads as they are. It takes others for somebody else's, as Apache does
-# with a blank in front, or skips them, as behind a #.
+# with a leading blank, or skips their lines, such as those that begin with #.
 WEB_SERVER_NAME = rb"[^#\s\0-\x1f\x7f][^\0-\x1f\x7f]*"
 SERVICE_NAMES = {
     Service.APACHE: re.compile(WEB_SERVER_NAME),
@@ -38,7 +38,7 @@ NOT_UTF8 = (
 
 
 class Doubts:
-    """Doubts about lines, given in their order, of which it remembers the names."""
+    """Finds doubts about lines, in the order of the file, and remembers their names."""
 
     def __init__(self, service: Optional[Service], is_table: bool, windows: bool) -> None:
         self._service_name = SERVICE_NAMES[service] if service else None
@@ -47,7 +47,7 @@ class Doubts:
         self._names = FirstLines()
 
     def about(self, line: Line) -> List[str]:
-        """All doubts about a line that mkpasswd takes."""
+        """Returns all doubts about a line that mkpasswd accepts."""
         name, _, password = line.data.partition(b":")
         found: List[str] = []
         if not PLAIN_LINE.fullmatch(line.data):
@@ -66,14 +66,14 @@ class Doubts:
         return [*found, again] if again else found
 
     def note_refused(self, line: Line) -> None:
-        """Notes a refused line. A later line of its name may be an old one, so it is doubtful."""
+        """Notes a refused line. A later line of the same name may be outdated: it is doubtful."""
         name, colon, _ = line.data.partition(b":")
         if name and (colon or line.refused_row):
             self._names.note_refused(name, line.number)
 
 
 def about_marks(data: bytes, password: bytes, windows: bool) -> Iterator[str]:
-    """Doubts about an empty password, and about what only programs put in a line."""
+    """Yields doubts about an empty password, carriage returns and byte order marks."""
     if password in (b"", b"\r"):
         yield "an empty password: Return alone logs in"
     if password.endswith(b"\r") and not windows:
@@ -87,8 +87,8 @@ def about_marks(data: bytes, password: bytes, windows: bool) -> Iterator[str]:
 
 
 def about_text(data: bytes) -> Iterator[str]:
-    """Doubts about characters that nobody sees, or that nobody types in this form."""
-    # Carriage returns and marks have doubts of their own.
+    """Yields doubts about characters that are invisible, or that nobody types in this form."""
+    # find_marks() reports carriage returns and byte order marks.
     text = data.decode(errors="replace").replace("\r", "").replace("\ufeff", "")
     if any(each != each.strip() for each in text.split(":", 1)):
         yield "a blank at an end of name or password"
@@ -105,7 +105,7 @@ def about_text(data: bytes) -> Iterator[str]:
 
 
 def about_fields(name: bytes, password: bytes, is_table: bool) -> Iterator[str]:
-    """Doubts about a name or password that is a heading, or that a program put in its place."""
+    """Yields doubts about a heading, or a value that a program has put in place of another."""
     if headings.is_heading_of_names(name):
         yield "a heading, and no user"
     if headings.is_heading_of_passwords(name, password):
@@ -119,7 +119,7 @@ def about_fields(name: bytes, password: bytes, is_table: bool) -> Iterator[str]:
 
 
 def about_list(data: bytes, name: bytes, password: bytes) -> Iterator[str]:
-    """Doubts about a line of a list that looks like a row of a table."""
+    """Yields doubts about a line of a list that looks like a row of a table."""
     if SEPARATOR.search(name.strip()):
         yield "a separator of tables in the name: is it a table? See --csv"
     if any(is_quoted(field) for field in (data, name, password)):
@@ -127,15 +127,15 @@ def about_list(data: bytes, name: bytes, password: bytes) -> Iterator[str]:
 
 
 def is_quoted(field: bytes) -> bool:
-    """Whether it begins with a quote and ends with another."""
+    """Whether a field begins and ends with a quote."""
     field = field[:-1] if field.endswith(b"\r") else field
     return len(field) > 1 and field.startswith(b'"') and field.endswith(b'"')
 
 
 def shown_name(line: Line, is_table: bool) -> bytes:
-    """What may be shown of a line: the name. Without a colon it is perhaps a password.
+    """Returns the part of a line that may be shown: the name, or nothing without a colon.
 
-    In a list, a password may stand behind a separator of tables.
+    In a list, what follows a separator of tables may be a password.
     """
     name, colon, _ = line.data.partition(b":")
     if not colon or line.refused_row is not None:

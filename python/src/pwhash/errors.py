@@ -1,4 +1,4 @@
-"""How a run can end early, and the exit statuses of the manual."""
+"""The exceptions that end a run early, and the exit statuses of the manual."""
 
 from __future__ import annotations
 
@@ -8,7 +8,7 @@ import errno
 import os
 from collections.abc import Iterator
 
-# What a user can do about an error of the system.
+# Which limit a user can raise after an error of the system.
 LIMITS = {errno.EMFILE: " (ulimit -n)", errno.EFBIG: " (ulimit -f)"}
 
 
@@ -22,9 +22,9 @@ class Status(enum.IntEnum):
 
 
 class Stop(Exception):
-    """Ends the run with a whole sentence for the user. By itself, it is a failure.
+    """Ends the run as a failure, with a sentence for the user.
 
-    The advice says how to go on, where a run knows better than to type its command again.
+    The advice says how to continue, if that isn't by the same command with --resume.
     """
 
     status = Status.FAILED
@@ -36,26 +36,26 @@ class Stop(Exception):
 
 
 class UsageError(Stop):
-    """The arguments, or the files or the password that they name, don't fit."""
+    """The arguments, or the files or the password that they name, are wrong."""
 
     status = Status.USAGE
 
 
 class ProblemsFound(Stop):
-    """The input has problems, about which the user has to decide first."""
+    """The input has problems, and the user has to decide what to do."""
 
     status = Status.PROBLEM
 
 
 def reason_of(error: OSError) -> str:
-    """An error of the system in words, without what it was about."""
+    """Returns an error of the system in words, without the name of the file."""
     number = error.errno or 0
     return f"{os.strerror(number)}{LIMITS.get(number, '')}"
 
 
 @contextlib.contextmanager
 def errors_named(name: str) -> Iterator[None]:
-    """Makes each error of the system in the block a sentence that begins with the name."""
+    """Turns errors of the system in the block into sentences that begin with the name."""
     try:
         yield
     except OSError as error:

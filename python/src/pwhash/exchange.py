@@ -1,7 +1,7 @@
 """Exchanges the new version of a password file for the old one, as pam_mkpasswd(8) describes.
 
-Whatever comes out keeps a name until this process knows what it is, so no version of the file is
-lost, even if the process is killed in between.
+The file that comes out keeps a name until the process knows which one it is. So no version is lost,
+even if the process is killed in between.
 """
 
 from __future__ import annotations
@@ -17,17 +17,17 @@ from pwhash import system
 from pwhash.errors import Stop
 from pwhash.place import Place
 
-# Each exchange after the first needs somebody who changed the file between two calls.
+# Each exchange after the first is needed only if somebody changed the file between two calls.
 MOST_EXCHANGES = 8
 NO_EXCHANGE = (errno.EINVAL, errno.ENOSYS, errno.EOPNOTSUPP)
 NOTE = re.compile("([0-9]+) ([0-9]+)")
 
 
 class Outcome(enum.Enum):
-    """What became of an exchange."""
+    """The outcome of an exchange."""
 
     DONE = enum.auto()
-    FILE_CHANGED = enum.auto()  # and somebody's version stays
+    FILE_CHANGED = enum.auto()  # by somebody else, whose version stays
 
 
 class Pair(NamedTuple):
@@ -38,7 +38,7 @@ class Pair(NamedTuple):
 
 
 def exchange_files(place: Place, old: os.stat_result, new: os.stat_result) -> Outcome:
-    """Exchanges the new file, which has its name, for the old one, if nobody has changed that."""
+    """Exchanges the new file, which has its name, for the old one, unless that has changed."""
     pair = Pair(old.st_ino, new.st_ino)
     held: List[int] = []
     try:
@@ -59,9 +59,9 @@ def exchange_files(place: Place, old: os.stat_result, new: os.stat_result) -> Ou
 
 
 def clear_up(place: Place, pair: Pair, is_known: bool) -> None:
-    """Removes what the exchange has left, and then the note. If that fails, the next one does it.
+    """Removes the file that came out, and then the note. If it fails, the next exchange does it.
 
-    If it isn't known what was left, it may be somebody's version, which stays.
+    If it isn't known which file came out, that may be somebody's version, which stays.
     """
     with contextlib.suppress(OSError, Stop):
         if is_known:
@@ -74,11 +74,12 @@ def clear_up(place: Place, pair: Pair, is_known: bool) -> None:
 def exchange_until_expected(
     place: Place, old: os.stat_result, new: os.stat_result, held: List[int]
 ) -> Outcome:
-    """Exchanges the two until what is expected comes out, which is the old file at first.
+    """Exchanges the two files until the expected one comes out: at first the old one.
 
-    Whenever somebody's version comes out instead, it goes back by the next exchange, and what is in
-    its place is expected. So the newest of somebody's versions stays. What came out is held open:
-    until it is closed, no later file gets its inode, by which this process knows a file.
+    If somebody's version comes out instead, the next exchange puts it back, and should take out the
+    file that is in its place now. So the newest of their versions stays. The files that come out
+    are held open: until one is closed, no new file can get its inode, by which the process knows
+    it.
     """
     expected, in_place = old, new
     for _ in range(MOST_EXCHANGES):
@@ -95,7 +96,7 @@ def exchange_until_expected(
 
 
 def swap(place: Place) -> None:
-    """Exchanges what has the new file's name and the password file."""
+    """Exchanges the file that has the new file's name and the password file."""
     try:
         system.exchange(place.folder, place.new, place.name)
     except OSError as error:
@@ -110,7 +111,7 @@ def swap(place: Place) -> None:
 def is_untouched(now: os.stat_result, before: os.stat_result) -> bool:
     """Whether a file is the same one, and nobody has changed anything of it, attributes included.
 
-    After an exchange nobody can tell, since that sets the time of the last change.
+    This works only before an exchange, which sets the time of the last change (ctime).
     """
     return os.path.samestat(now, before) and now.st_ctime_ns == before.st_ctime_ns
 
@@ -121,7 +122,7 @@ def is_unchanged(now: os.stat_result, before: os.stat_result) -> bool:
 
 
 def version(status: os.stat_result) -> "tuple[int, ...]":
-    """What an exchange doesn't change of a file."""
+    """Returns the parts of a status that an exchange doesn't change."""
     return (
         *(status.st_dev, status.st_ino, status.st_size, status.st_mtime_ns),
         *(status.st_mode, status.st_uid, status.st_gid),
@@ -133,7 +134,7 @@ def end_earlier(place: Place) -> None:
     try:
         note = os.readlink(place.note, dir_fd=place.folder)
     except FileNotFoundError:
-        with contextlib.suppress(FileNotFoundError):  # without a note it was never in use
+        with contextlib.suppress(FileNotFoundError):  # without a note it was never in place
             os.unlink(place.new, dir_fd=place.folder)
         return
     pair = read_note(place, note)
@@ -143,7 +144,7 @@ def end_earlier(place: Place) -> None:
 
 
 def read_note(place: Place, note: str) -> Pair:
-    """The two inodes of a note."""
+    """Returns the two inodes in a note."""
     found = NOTE.fullmatch(note)
     if found is None:
         raise Stop(
@@ -154,7 +155,7 @@ def read_note(place: Place, note: str) -> Pair:
 
 
 def put_back(place: Place, pair: Pair) -> None:
-    """Puts back what was exchanged by mistake, if the new file is still in its place."""
+    """Puts back a file that was exchanged by mistake, if the new file is still in its place."""
     left, now = place.look(place.new), place.look(place.name)
     if left is None or now is None:
         return
@@ -163,7 +164,7 @@ def put_back(place: Place, pair: Pair) -> None:
 
 
 def remove_one_of(place: Place, pair: Pair) -> None:
-    """Removes the file that was replaced, or the one that didn't replace it, and no other."""
+    """Removes the old file after an exchange, or the new one if there was none, but no other."""
     left = place.look(place.new)
     if left is None:
         return

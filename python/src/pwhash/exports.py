@@ -1,10 +1,10 @@
-"""What spreadsheets, databases and password files have where a list should have a password."""
+"""Recognizes what spreadsheets, databases and password files put in place of a password."""
 
 from __future__ import annotations
 
 import re
 
-# What stands behind a name in /etc/shadow, /etc/passwd, htpasswd and tables of users of databases.
+# What follows a name in /etc/shadow, /etc/passwd, htpasswd files and databases' tables of users.
 STORED = re.compile(
     rb"(?s)\$(?:[A-Za-z0-9]{1,2}|[A-Za-z-]*[0-9][A-Za-z0-9-]*)[$,].{8,}"  # the name of a scheme
     rb"|[!*]+(?:\$.*)?(?::[0-9]*)*"  # a lock
@@ -16,7 +16,7 @@ STORED = re.compile(
     rb"|SCRAM-SHA-256\$[0-9]+:.{16,}|md5[0-9a-f]{32}"  # of PostgreSQL
     rb"|\*[0-9A-F]{40}"  # of MySQL
 )
-# What spreadsheets show in place of a value. The language is the spreadsheet's: #NAME?, #NAAM?.
+# Errors that spreadsheets show in place of a value, in the user's language: #NAME?, #NAAM?.
 ERROR = re.compile(r"#[\u00a1\u00bf]?([^\W\d_][\w/]+)[!?]")
 ERROR_WITHOUT_MARK = re.compile(
     "#(?:N/A|N/D|N/B|NV|I/T|\u041d/\u0414|YOK|HI\u00c1NYZIK|GETTING_DATA)|(?:Err|Fehler):[0-9]{3}"
@@ -29,22 +29,22 @@ TRUTHS = frozenset(
         "YANLIŞ",
     ]
 )
-# What they save in a table, or exports for them: a column that is too narrow, a number that is too
-# long, formulas, and nothing of Python and pandas.
+# Values that spreadsheets change when they save a table: ### in a narrow column, a long number,
+# formulas; and what Python and pandas write for no value.
 CHANGED = re.compile(
     r"#{3,}|[+-]?[0-9](?:[.,][0-9]+)?E[+-]?[0-9]+|=\"[^\"]*\"|'[=+@-].*|null|None|na[nN]|NaN"
 )
-# What databases export in place of nothing.
+# What databases export for no value.
 NOTHING = frozenset(["NULL", "\\N", "(null)"])
 
 
 def is_stored(password: bytes) -> bool:
-    """Whether it is a stored hash or the fields of a password file."""
+    """Whether this is a stored hash, or the fields of a password file."""
     return STORED.fullmatch(password) is not None
 
 
 def is_damaged(field: bytes, is_of_table: bool) -> bool:
-    """Whether a program exported this in place of a value, or changed the value."""
+    """Whether a program has exported this in place of a value, or has changed the value."""
     text = field.decode(errors="replace")
     if text in NOTHING or ERROR_WITHOUT_MARK.fullmatch(text):
         return True
@@ -55,7 +55,7 @@ def is_damaged(field: bytes, is_of_table: bool) -> bool:
 
 
 def is_misread(text: str) -> bool:
-    """Whether a program took UTF-8 for Windows-1252, as Excel does without a byte order mark."""
+    """Whether a program has read UTF-8 as Windows-1252, as Excel does without a byte order mark."""
     try:
         return text.encode("cp1252").decode() != text
     except UnicodeError:

@@ -27,7 +27,7 @@ from pwhash.workers import Memory, Workers
 
 
 def run(options: FileOptions, session: Session) -> bool:
-    """Hashes the lines of a file, of which it first looks for problems, or of a pipe.
+    """Hashes the lines of a pipe, or of a file, in which it looks for problems first.
 
     Returns whether a line was refused or left out.
     """
@@ -59,7 +59,7 @@ def run(options: FileOptions, session: Session) -> bool:
 
 
 class Wanted:
-    """The lines of a source that are to be hashed, which can be read several times."""
+    """The lines of a source that are to be hashed. They can be read several times."""
 
     def __init__(self, source: Source, options: FileOptions, console: Console) -> None:
         self.left_out: Set[int] = set()  # numbers of lines with problems
@@ -74,7 +74,7 @@ class Wanted:
             self._skipping.append(self.locked)
 
     def lines(self) -> Arrivals:
-        """The lines, but for those that are left out. Names have a placeholder as password."""
+        """Reads the lines to hash. Names get a placeholder as password."""
         arrivals = lines_of(self._source)
         if self._generate is not None:
             arrivals = with_placeholders(arrivals, self._generate)
@@ -84,14 +84,14 @@ class Wanted:
 
 
 def without(left_out: Set[int], arrivals: Arrivals) -> Arrivals:
-    """The lines but for some."""
+    """Leaves out the lines with these numbers."""
     if not left_out:
         return arrivals
     return ([line for line in group if line.number not in left_out] for group in arrivals)
 
 
 class Hashing:
-    """Hashes lines."""
+    """Hashes lines in several threads."""
 
     def __init__(
         self, options: FileOptions, source: Source, locked: Optional[Locked], session: Session
@@ -117,12 +117,12 @@ class Hashing:
 
     def hash_lines(self, arrivals: Arrivals, writer: Writer) -> None:
         """Hashes lines, and writes the answers."""
-        # A pipe can't be looked at first.
+        # A pipe can be read only once, so its lines are looked at as they come.
         if not self._source.is_regular and self._options.doubtful is not Doubtful.ACCEPT:
             arrivals = ([self._looked_at(line) for line in group] for group in arrivals)
         progress = Progress(self._console, "hashing", self._source.total)
         for answers in Workers(self._answer).answers(arrivals):
-            refuse_changed(self._source, self._part)  # what was hashed may be old by now
+            refuse_changed(self._source, self._part)  # these lines may be outdated by now
             self.has_refused = self.has_refused or any(each.message for each in answers)
             writer.write(answers)
             progress.reached(answers[-1].line.number)
@@ -133,7 +133,7 @@ class Hashing:
             self._locked.refuse_new(self._part.name if self._part else None)
 
     def _looked_at(self, line: Line) -> Line:
-        """The line, which is refused if it is doubtful."""
+        """Returns the line, as a refused one if it is doubtful."""
         if self._refusal(line) is not None or line.refused_row is not None:
             self._doubts.note_refused(line)
             return line
@@ -141,7 +141,7 @@ class Hashing:
         return line._replace(refused_row=doubts[0]) if doubts else line
 
     def _refusal(self, line: Line) -> Optional[Refusal]:
-        """Why mkpasswd refuses a line, if it does."""
+        """Returns why mkpasswd refuses a line, or None."""
         refusal = refused_to_hash(line.data)
         if refusal is not None:
             return refusal
@@ -149,7 +149,7 @@ class Hashing:
         return OVER_BUDGET if library.is_over_budget(self._options.policy, length) else None
 
     def _answer(self, line: Line) -> Answer:
-        """Hashes one line, in some thread."""
+        """Hashes one line. Called in a worker's thread."""
         if line.refused_row is not None:
             return refused_row(line)
         refusal = refused_to_hash(line.data)

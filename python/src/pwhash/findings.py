@@ -1,4 +1,4 @@
-"""What an audit finds about stored hashes, and what to do about it."""
+"""The findings of an audit, and what to do about each."""
 
 from __future__ import annotations
 
@@ -9,12 +9,12 @@ import mkpasswd
 
 RED, YELLOW, CYAN, GREEN, PLAIN = 31, 33, 36, 32, 0
 
-# Schemes that mkpasswd doesn't judge, and that are no problem.
+# Schemes that mkpasswd can't judge, but that are no problem.
 FINE_SCHEMES = frozenset(["yescrypt", "gost-yescrypt", "bcrypt"])
 
 
 class Finding(enum.Enum):
-    """The findings, the worst first: the word, its colour, and what to do."""
+    """The findings, worst first: the word, its colour, and what to do."""
 
     NO_PASSWORD = (
         "no password",
@@ -62,7 +62,7 @@ class Finding(enum.Enum):
 
 
 class Judgement(NamedTuple):
-    """What is found about one line. The fields are the keys of --json."""
+    """The finding about one line. The fields are the keys of --json."""
 
     line: int
     name: str
@@ -74,7 +74,7 @@ class Judgement(NamedTuple):
     problem: bool
 
 
-# Where a finding stands among them: the worst is 0.
+# The rank of each finding; 0 is the worst.
 SEVERITY: Dict[Finding, int] = {finding: place for place, finding in enumerate(Finding)}
 BY_STATE: Dict[mkpasswd.State, Finding] = {
     mkpasswd.State.NONE: Finding.NO_PASSWORD,
@@ -90,7 +90,7 @@ BY_STATE: Dict[mkpasswd.State, Finding] = {
 
 
 def judged(number: int, name: str, description: mkpasswd.Description) -> Judgement:
-    """What is found about the stored field of an account."""
+    """Returns the judgement on the stored field of an account."""
     finding = BY_STATE[description.state]
     rounds: Union[int, str, None] = description.rounds
     if description.n is not None:
@@ -111,7 +111,7 @@ def judged(number: int, name: str, description: mkpasswd.Description) -> Judgeme
 
 
 def refused(number: int, message: str) -> Judgement:
-    """What is found about a line that is none of an account."""
+    """Returns the judgement on a line that isn't an account's."""
     return Judgement(
         line=number,
         name=f"line {number}",

@@ -1,7 +1,7 @@
 """pwhash file --generate: makes a password for each name of a list or a table.
 
-Lines are first looked at with a placeholder in place of the password. Then all passwords are
-written to lists, and only then is the first one hashed, so that none is lost.
+The lines are checked with a placeholder in place of the password. Then all passwords are written to
+lists, and only then is the first one hashed, so that no password is lost.
 """
 
 from __future__ import annotations
@@ -24,7 +24,7 @@ from pwhash.source import Source
 from pwhash.text import is_utf8, is_visible, named, readable
 
 PLACEHOLDER = b"x"
-# In a spreadsheet these begin a formula, and in some their wide forms of East Asia too.
+# What begins a formula in a spreadsheet. Some also accept the fullwidth forms of East Asia.
 FORMULA = re.compile("[\\s\ufeff\u200b]*[-=+@\uff1d\uff0b\uff0d\uff20]")
 BEFORE_FORMULA = re.compile('[,;|"]')
 IN_NO_LIST = re.compile(rb"[,;|\"\0-\x1f\x7f]")
@@ -33,21 +33,21 @@ MOST_SHOWN = 20  # names in a message
 
 
 class Names(NamedTuple):
-    """The names that get passwords, and in which list they stand."""
+    """The names that get passwords, and the list in which each name is."""
 
     passwords: Dict[bytes, bytes]
-    groups: Dict[bytes, List[Row]]  # each list but for passwords; one of no name without --by
+    groups: Dict[bytes, List[Row]]  # rows without passwords, by list; without --by its name is b""
 
 
 def with_placeholders(arrivals: Arrivals, generate: Generate) -> Arrivals:
-    """Lines name:password of lines that are names, with a placeholder that no hash is made of."""
+    """Makes lines name:password from names, with a placeholder that is never hashed."""
     placeholder = PLACEHOLDER * generate.length
     for group in arrivals:
         yield [with_placeholder(line, placeholder, generate.has_groups) for line in group]
 
 
 def with_placeholder(line: Line, placeholder: bytes, has_groups: bool) -> Line:
-    """A line with a placeholder, or refused."""
+    """Returns a line with a placeholder, or a refused line."""
     if line.refused_row is not None:
         return line
     reason = about_name(line.data) or (about_group(line.group) if has_groups else None)
@@ -58,7 +58,7 @@ def with_placeholder(line: Line, placeholder: bytes, has_groups: bool) -> Line:
 
 
 def about_name(name: bytes) -> Optional[str]:
-    """Why a list of passwords can't have a name, if it can't."""
+    """Says why a list of passwords can't contain a name, or returns None."""
     if not name:
         return "no name"
     if b":" in name:
@@ -71,7 +71,7 @@ def about_name(name: bytes) -> Optional[str]:
 
 
 def about_group(group: bytes) -> Optional[str]:
-    """Why the value in the column of --by names no file, if it doesn't."""
+    """Says why a value in the column of --by can't name a file, or returns None."""
     if not group:
         return "nothing in the column of --by, which names the list"
     if b"/" in group or group.startswith(b"."):
@@ -86,7 +86,7 @@ def about_group(group: bytes) -> Optional[str]:
 
 
 def about_others(fields: Tuple[bytes, ...]) -> Optional[str]:
-    """Why a list can't have what stands in the columns of --list-columns, if it can't."""
+    """Says why a list can't contain these fields of --list-columns, or returns None."""
     for field in fields:
         text = field.decode(errors="replace")
         if not is_visible(text):
@@ -97,15 +97,15 @@ def about_others(fields: Tuple[bytes, ...]) -> Optional[str]:
 
 
 def with_passwords(arrivals: Arrivals, passwords: Dict[bytes, bytes], source: Source) -> Arrivals:
-    """The lines with their passwords in place of the placeholder."""
+    """Replaces the placeholders in the lines with passwords."""
     for group in arrivals:
         yield [with_password(line, passwords, source) for line in group]
 
 
 def with_password(line: Line, passwords: Dict[bytes, bytes], source: Source) -> Line:
-    """A line with its password."""
+    """Returns a line with its password."""
     name = name_of(line)
-    if name not in passwords:  # of an earlier run, whose FILE or whose locked names were others
+    if name not in passwords:  # the earlier run had another FILE, or other locked names
         raise UsageError(
             f"{source.name}, line {line.number}: the name has no password in the lists. Remove "
             "them and OUT.part, and start again."
@@ -116,7 +116,7 @@ def with_password(line: Line, passwords: Dict[bytes, bytes], source: Source) -> 
 def passwords_on_disk(
     arrivals: Arrivals, part: Part, source: Source, options: FileOptions, session: Session
 ) -> Dict[bytes, bytes]:
-    """The password of each name, once it is in a list on disk."""
+    """Returns the password of each name, once all lists are on disk."""
     generate = options.generate
     assert generate is not None
     has_hashes = os.fstat(part.fd).st_size > 0
@@ -155,7 +155,7 @@ def name_useless_passwords(
 
 
 def list_in_the_way(path: str, part: Part) -> UsageError:
-    """The error for a list that may be cut, since the run ended before it kept its options."""
+    """Returns the error for a list that may be incomplete, since its run ended too early."""
     name = named(path)
     return UsageError(
         f"{name} already exists, and {part.name} has no hash yet. If a run that ended early left "
@@ -164,7 +164,7 @@ def list_in_the_way(path: str, part: Part) -> UsageError:
 
 
 def new_passwords(arrivals: Arrivals, generate: Generate) -> Names:
-    """Makes a password for each name. One that stands twice has the same in both places."""
+    """Makes a password for each name. A name in several lines gets one password."""
     names = Names({}, {})
     for group in arrivals:
         for line in group:
@@ -176,7 +176,7 @@ def new_passwords(arrivals: Arrivals, generate: Generate) -> Names:
 
 
 def new_password(length: int) -> bytes:
-    """Letters and digits. With letters at both ends, a spreadsheet shows them as they are."""
+    """Makes a password of letters and digits, with letters at both ends for spreadsheets."""
     while True:
         password = "".join(random_letter() for _ in range(length))
         if password[0].isalpha() and password[-1].isalpha():
@@ -186,7 +186,7 @@ def new_password(length: int) -> bytes:
 def write_lists(
     names: Names, generate: Generate, separator: str, part: Part, options: FileOptions
 ) -> None:
-    """Writes all lists and what --resume needs, or nothing of that remains."""
+    """Writes all lists, and what --resume needs. After an error none of these files remains."""
     written = Written()
     heading = heading_of(options)
     try:
@@ -205,7 +205,7 @@ def write_lists(
 
 
 def heading_of(options: FileOptions) -> Row:
-    """The first row of a list."""
+    """Returns the first row of a list."""
     columns = options.input.list_columns
     others = [] if columns is None else os.fsencode(columns).split(b",")
     return (*(each.strip() for each in others), b"name", b"password")

@@ -1,6 +1,7 @@
-"""One new password that somebody gives: asked for, or the first line of standard input.
+"""Reads one new password, at the terminal or from the first line of standard input.
 
-What hardly anybody wants is refused, as pwhash file refuses it, unless it is accepted.
+Passwords that are probably mistakes are refused, as pwhash file refuses them, without
+--accept-doubtful.
 """
 
 from __future__ import annotations
@@ -23,7 +24,7 @@ AS_IT_IS = "To hash it as it is, add --accept-doubtful."
 
 
 def given_password(policy: Policy, accepts_doubtful: bool, console: Console) -> bytes:
-    """The password that is to be hashed by a policy, if it can be meant."""
+    """Reads the password to hash. Refuses one that is probably a mistake."""
     is_typed = os.isatty(STDIN)
     password = ask_password() if is_typed else first_line(console)
     if not password:
@@ -36,7 +37,7 @@ def given_password(policy: Policy, accepts_doubtful: bool, console: Console) -> 
 
 
 def first_line(console: Console) -> bytes:
-    """The first line of standard input. Further ones are named if they are there by now."""
+    """Returns the first line of standard input. Warns if further ones are there already."""
     lines = PipedLines(console)
     first = lines.next()
     if lines.next_at_once():
@@ -45,7 +46,7 @@ def first_line(console: Console) -> bytes:
 
 
 def refuse_doubtful(policy: Policy, password: bytes, is_typed: bool) -> None:
-    """Refuses a password that hardly anybody wants."""
+    """Refuses a password that is probably a mistake."""
     doubt = about_marks(password) or about_stored(password) or about_characters(password)
     if doubt is None and not is_typed:
         doubt = about_bytes(password)
@@ -56,7 +57,7 @@ def refuse_doubtful(policy: Policy, password: bytes, is_typed: bool) -> None:
 
 
 def about_marks(password: bytes) -> Optional[str]:
-    """What files of Windows have around lines."""
+    """Finds carriage returns and byte order marks, as files from Windows have."""
     if b"\r" in password:
         return (
             "the password has a carriage return in it, with which lines of Windows end. "
@@ -71,7 +72,7 @@ def about_marks(password: bytes) -> Optional[str]:
 
 
 def about_stored(password: bytes) -> Optional[str]:
-    """What is no password, by itself or with the line that it stands in."""
+    """Recognizes a stored hash, or a line with one, in place of a password."""
     behind_name = password.partition(b":")[2]
     is_line = behind_name.startswith(b"$") and exports.is_stored(behind_name)
     if not is_line and not exports.is_stored(password):
@@ -83,7 +84,7 @@ def about_stored(password: bytes) -> Optional[str]:
 
 
 def about_characters(password: bytes) -> Optional[str]:
-    """Characters that nobody sees."""
+    """Finds characters that nobody sees."""
     text = password.decode(errors="replace")
     if not is_visible(text.replace("\0", "")):  # a zero byte is refused later
         return (
@@ -96,7 +97,7 @@ def about_characters(password: bytes) -> Optional[str]:
 
 
 def about_bytes(password: bytes) -> Optional[str]:
-    """A password that logins send by other bytes."""
+    """Finds characters that logins send as other bytes."""
     text = password.decode(errors="replace")
     if not unicodedata.is_normalized("NFC", text):
         return f"the password has {APART}. Give it in NFC."
@@ -109,14 +110,14 @@ def about_bytes(password: bytes) -> Optional[str]:
 
 
 def about_length(password: bytes) -> Optional[str]:
-    """A password that is too long for most logins."""
+    """Finds a password that is too long for most logins."""
     if len(password) <= LONGEST_OF_CRYPT:
         return None
     return f"the password has {TOO_LONG_FOR_CRYPT}. Give a shorter one."
 
 
 def tell_of_bytes(password: bytes, console: Console) -> None:
-    """A later login on the same terminal sends the same bytes, so they are hashed."""
+    """Warns about unusual bytes. They are hashed, since a login on this terminal sends them too."""
     if not unicodedata.is_normalized("NFC", password.decode(errors="replace")):
         console.say(f"the password has {APART}. Its bytes are hashed.")
     if not is_utf8(password):

@@ -1,4 +1,4 @@
-"""HASHES, which becomes a password file: every line of it is judged before it is installed."""
+"""HASHES, which becomes a password file. Each line is judged before it is installed."""
 
 from __future__ import annotations
 
@@ -29,7 +29,7 @@ REASONS = {
     mkpasswd.State.DEAD: "dead: no password matches, since the hash was cut or changed",
     mkpasswd.State.NO_SCHEME: "no scheme: a password as it is, or a damaged hash",
 }
-# The only prefixes that these services know, which they compare as they are.
+# The only prefixes that these services know. They compare them exactly.
 PREFIXES_OF_SERVICES = {Service.APACHE: (b"{SHA}",), Service.NGINX: (b"{SHA}", b"{SSHA}")}
 
 
@@ -41,7 +41,7 @@ class Hash(NamedTuple):
     rest: bytes  # with the colon that begins it
 
     def data(self) -> bytes:
-        """The line."""
+        """Returns the line."""
         return self.name + b":" + self.field.data() + self.rest
 
 
@@ -85,7 +85,7 @@ class HashesFile:
             )
 
     def _judged(self, number: int, line: bytes) -> Optional[str]:
-        """What is wrong with a line, if anything is."""
+        """Says what is wrong with a line, or returns None."""
         name, colon, rest = line.partition(b":")
         refusal = refused_name(line)
         if refusal is not None:
@@ -97,7 +97,7 @@ class HashesFile:
         return self._about_name(number, name) or self._about_field(line, field_of(stored))
 
     def _about_name(self, number: int, name: bytes) -> Optional[str]:
-        """What is wrong with a name."""
+        """Says what is wrong with a name, or returns None."""
         text = name.decode(errors="replace")
         if name.startswith(b"#") or not is_visible(text) or text != text.strip():
             return "a name that begins with #, has an invisible character or a blank at an end"
@@ -107,7 +107,7 @@ class HashesFile:
         return f"the name again, after line {first}" if first != number else None
 
     def _about_field(self, line: bytes, field: Field) -> Optional[str]:
-        """What is wrong with a field."""
+        """Says what is wrong with a field, or returns None."""
         if b"\r" in line:
             return "a carriage return, with which lines of Windows end (tr -d '\\r')"
         reason = self._about_prefix(field) if field.prefix else None
@@ -116,7 +116,7 @@ class HashesFile:
         return self._about_hash(field)
 
     def _about_prefix(self, field: Field) -> Optional[str]:
-        """What is wrong with a prefix."""
+        """Says what is wrong with a prefix, or returns None."""
         known = PREFIXES_OF_SERVICES.get(self._service) if self._service else None
         if known is not None and field.prefix not in known:
             return "a prefix that the service doesn't know"
@@ -126,7 +126,7 @@ class HashesFile:
         return "a prefix that pwhash doesn't know, perhaps of a password as it is"
 
     def _about_hash(self, field: Field) -> Optional[str]:
-        """What is wrong with a hash that lets somebody in."""
+        """Says what is wrong with a hash that isn't locked, or returns None."""
         if field.is_of_other_scheme:
             return self._about_other_scheme(field)
         description = self._policy.describe(field.stored)
@@ -139,7 +139,7 @@ class HashesFile:
         return None
 
     def _about_other_scheme(self, field: Field) -> Optional[str]:
-        """What is wrong with a hash that pwhash can't judge."""
+        """Says what is wrong with a hash of another scheme, or returns None."""
         if not field.stored:
             return REASONS[mkpasswd.State.NONE]
         if not self._accepts_others:
@@ -154,12 +154,12 @@ class HashesFile:
         self._kinds[kind] += 1
         if self._kinds[kind] <= MOST_SHOWN:
             name, colon, _ = line[:64].partition(b":")
-            whose = f" ({readable(name)})" if colon and name else ""  # else perhaps a password
+            whose = f" ({readable(name)})" if colon and name else ""  # it may be a password
             self._console.say(f"{self._shown}, line {number}{whose}: {reason}")
 
 
 def read(path: str) -> "tuple[os.stat_result, bytes]":
-    """The status and the content of a regular file."""
+    """Returns the status and the content of a regular file."""
     with errors_named(named(path)):
         fd = os.open(path, os.O_RDONLY | os.O_CLOEXEC | os.O_NONBLOCK | os.O_NOCTTY)
         try:

@@ -34,7 +34,7 @@ MOST_NAMED = 20
 
 
 def run(options: InstallOptions, session: Session) -> bool:
-    """Looks at each line of HASHES, and installs the file if all are right."""
+    """Judges each line of HASHES, and installs the file if all are right."""
     wanted = Wanted(options)
     hashes = HashesFile(options, session.console)
     with opened_place(options.target) as place:
@@ -54,7 +54,7 @@ def run(options: InstallOptions, session: Session) -> bool:
 
 
 class Wanted:
-    """The owner, group and mode that were asked for, of which each may be None."""
+    """The owner, group and mode that the options ask for. Each may be None."""
 
     def __init__(self, options: InstallOptions) -> None:
         self.user = user_of(options.owner) if options.owner is not None else None
@@ -62,7 +62,7 @@ class Wanted:
         self.mode = options.mode
 
     def refuse_others(self, shown: str, status: os.stat_result) -> None:
-        """Refuses to give a file that is there another owner, group or mode."""
+        """Refuses an owner, group or mode that an existing file doesn't have."""
         pairs = (
             ("--owner", self.user, status.st_uid, "chown"),
             ("--group", self.group, status.st_gid, "chgrp"),
@@ -77,7 +77,7 @@ class Wanted:
 
 
 def user_of(name: str) -> int:
-    """The number of a user."""
+    """Returns the number of a user."""
     with contextlib.suppress(KeyError):
         return pwd.getpwnam(name).pw_uid
     if name.isascii() and name.isdecimal() and int(name) < 1 << 32:
@@ -86,7 +86,7 @@ def user_of(name: str) -> int:
 
 
 def group_of(name: str) -> int:
-    """The number of a group."""
+    """Returns the number of a group."""
     with contextlib.suppress(KeyError):
         return grp.getgrnam(name).gr_gid
     if name.isascii() and name.isdecimal() and int(name) < 1 << 32:
@@ -95,7 +95,7 @@ def group_of(name: str) -> int:
 
 
 def refuse_unfit(place: Place, found: os.stat_result, wanted: Wanted, hashes: HashesFile) -> None:
-    """Refuses to replace a file of the system, or one that others than its owner can change."""
+    """Refuses to replace a system file, or one that others than its owner can replace."""
     refuse_strange_file(place, found)
     system_files.refuse_place(place, found)
     if os.path.samestat(found, hashes.status):
@@ -106,7 +106,7 @@ def refuse_unfit(place: Place, found: os.stat_result, wanted: Wanted, hashes: Ha
 
 
 class Content:
-    """What TARGET becomes. Whoever is locked in it stays so."""
+    """The new content of TARGET. Names that are locked in it stay locked."""
 
     def __init__(self, shown: str, hashes: HashesFile) -> None:
         self.sentences: List[str] = []
@@ -138,7 +138,7 @@ class Content:
 
 
 def fields_of(content: bytes) -> Dict[bytes, Field]:
-    """The fields of all names, of a name that stands twice the one that is locked, if one is."""
+    """Returns the field of each name. If a name has several lines, a locked one counts."""
     found: Dict[bytes, Field] = {}
     for line in content.split(b"\n"):
         name, colon, rest = line.partition(b":")
@@ -154,7 +154,7 @@ def fields_of(content: bytes) -> Dict[bytes, Field]:
 
 
 def make(place: Place, wanted: Wanted, hashes: HashesFile, session: Session) -> None:
-    """Makes TARGET, which isn't there."""
+    """Creates TARGET, which doesn't exist."""
     user = os.geteuid() if wanted.user is None else wanted.user
     refuse_open_folder(place, user)
     refuse_folder_of_others(place)
@@ -170,7 +170,7 @@ def make(place: Place, wanted: Wanted, hashes: HashesFile, session: Session) -> 
 
 
 def make_whole(new: NewFile, owner: Owner, mode: Optional[int], hashes: HashesFile) -> None:
-    """Writes the new file, and gives it what was asked for, and no ACL of its folder's."""
+    """Writes the new file, with the owner and mode that it should have, and without an ACL."""
     try:
         new.write(b"".join(line.data() + b"\n" for line in hashes.lines))
         if ACL in attributes(new.fd):
@@ -183,7 +183,7 @@ def make_whole(new: NewFile, owner: Owner, mode: Optional[int], hashes: HashesFi
 
 
 def give_name(place: Place, new: NewFile) -> None:
-    """Gives the new file its name, unless somebody else has made a file of that name."""
+    """Gives the new file its name, unless somebody has created another file of that name."""
     try:
         if new.has_name:
             system.rename(place.folder, place.new, place.name, system.RENAME_NOREPLACE)

@@ -1,6 +1,6 @@
-"""OUT.part.options, which tells --resume what the hashes in OUT.part are of.
+"""OUT.part.options, which tells --resume from which file and with which options OUT.part is.
 
-It never has a digest of the file, since that would be one of passwords.
+It never contains a digest of the file, since that would be a digest of passwords.
 """
 
 from __future__ import annotations
@@ -29,30 +29,30 @@ FLAGS = {Doubtful.SKIP: ["--skip-doubtful"], Doubtful.ACCEPT: ["--accept-doubtfu
 
 
 class Kept(NamedTuple):
-    """What is kept."""
+    """What OUT.part.options says."""
 
-    file: bytes  # its size, time and inode
-    choice: bytes  # the options by which lines are left out
-    options: bytes  # those that change a line before it is hashed
+    file: bytes  # FILE's size, time and inode
+    choice: bytes  # the options that decide which lines are left out
+    options: bytes  # the options that change a line before it is hashed
 
 
-CUT = Kept(b"", b"", b"")  # of a run that ended while it wrote this
+CUT = Kept(b"", b"", b"")  # stands for an incomplete file: its run ended while it wrote that
 
 
 def path_of(part: str) -> str:
-    """The name of the file beside a part."""
+    """Returns the name of the file beside a part."""
     return part + SUFFIX
 
 
 def kept_of(options: FileOptions, source: Source) -> Kept:
-    """What this run keeps. Reading and chmod change the time of a status, so it isn't kept."""
+    """Returns what this run saves. Not the ctime, since reading and chmod change that."""
     begun = source.begun
     file = f"{begun.st_size} bytes, time {begun.st_mtime_ns}, inode {begun.st_ino}"
     return Kept(file.encode(), options_of_choice(options), options_of_lines(options))
 
 
 def options_of_lines(options: FileOptions) -> bytes:
-    """The options that change a line before it is hashed. The columns have that of --by, too."""
+    """Returns the options that change a line before it is hashed. --by is among the columns."""
     begin = b"--generate " if options.generate else b""
     if options.input.columns is not None:
         others = options.input.list_columns
@@ -62,7 +62,7 @@ def options_of_lines(options: FileOptions) -> bytes:
 
 
 def options_of_choice(options: FileOptions) -> bytes:
-    """The options by which lines are left out."""
+    """Returns the options that decide which lines are left out."""
     words = [f"--budget={options.policy.budget}"]
     if options.skip_refused:
         words.append("--skip-refused")
@@ -77,13 +77,13 @@ def options_of_choice(options: FileOptions) -> bytes:
 
 
 def read(part: str) -> Optional[Kept]:
-    """What a run of this user has kept, or None. Whatever else has the name stays as it is."""
+    """Returns what a run of this user has saved, or None. Refuses any other file of that name."""
     path = path_of(part)
     try:
         fault = own_file.unfit(os.lstat(path))
     except (FileNotFoundError, NotADirectoryError):
         return None
-    except OSError as error:  # the name is too long, say, so nothing could be kept
+    except OSError as error:  # the name is too long, for example, so nothing could be saved
         raise Stop(f"{named(path)}: {reason_of(error)}.") from None
     data = b""
     if not fault:
@@ -102,7 +102,7 @@ def read(part: str) -> Optional[Kept]:
 
 
 def write(part: str, kept: Kept) -> None:
-    """Writes all of it, or nothing remains."""
+    """Writes the file. After an error, nothing of it remains."""
     path = path_of(part)
     try:
         fd = own_file.create(path)
@@ -119,6 +119,6 @@ def write(part: str, kept: Kept) -> None:
 
 
 def remove(part: str) -> None:
-    """Removes it, if it is there."""
+    """Removes the file, if it exists."""
     with contextlib.suppress(FileNotFoundError):
         os.unlink(path_of(part))

@@ -1,4 +1,4 @@
-"""The calls of the library that pwhash makes. No other module knows the package mkpasswd.
+"""The calls of the library that pwhash makes. Only this module uses private modules of mkpasswd.
 
 Each hash and each verdict is one proved call. Calls that hash let other threads run meanwhile.
 """
@@ -16,7 +16,7 @@ from mkpasswd._library import PASSWORD_LIMIT, Answer, Numbers
 from pwhash.errors import Stop
 
 METHODS = ("sha512crypt", "sha256crypt", "md5crypt", "scrypt")
-LENGTH_OF_LIMITS = 64  # of the password by whose cost the library sets limits
+LENGTH_OF_LIMITS = 64  # of the password whose cost sets the library's own limits
 GREATEST_ROUNDS, GREATEST_BUDGET = 2**32 - 1, 2**64 - 1
 
 
@@ -25,14 +25,14 @@ class RefusedRounds(Exception):
 
 
 class RefusedSalt(Exception):
-    """A salt that a method can't have. The message says why not."""
+    """A salt that a method can't have. The message says why."""
 
 
 class Limit(NamedTuple):
-    """What a method, rounds and a budget admit."""
+    """What a method, rounds and a budget allow."""
 
-    budget: int  # what a new hash or a login may cost, in bytes
-    longest: Optional[int]  # the longest password whose new hash is within it
+    budget: int  # the most that a new hash or a login may cost, in bytes
+    longest: Optional[int]  # the length of the longest password within it, or None
     rounds: int  # of new hashes
 
 
@@ -42,8 +42,8 @@ class Policy(NamedTuple):
     method: str
     rounds: int
     budget: int
-    longest: Optional[int]  # the longest password whose new hash is within the budget
-    setting: Optional[bytes]  # with the salt that was given
+    longest: Optional[int]  # the length of the longest password within the budget, or None
+    setting: Optional[bytes]  # with the salt of -S, or None for new salts
 
     @property
     def numbers(self) -> Numbers:
@@ -52,7 +52,7 @@ class Policy(NamedTuple):
 
 
 class Verdict(enum.Enum):
-    """What a password is to a stored field. The value is how it is printed."""
+    """The result of checking a password against a stored field. The value is what is printed."""
 
     MATCH = b"ok"
     WRONG = b"no"
@@ -61,7 +61,7 @@ class Verdict(enum.Enum):
 
 
 class Refusal(NamedTuple):
-    """Why a line has no hash or verdict, in the words of mkpasswd."""
+    """Why a line gets no hash or verdict, with mkpasswd's message."""
 
     words: str
 
@@ -78,13 +78,13 @@ PASSWORD_ZERO_BYTE = Refusal(Reason.PASSWORD_ZERO_BYTE.message)
 
 
 def version() -> str:
-    """The version, which the library and pwhash share."""
+    """Returns the version of the library and of pwhash, which is the same."""
     return mkpasswd.__version__
 
 
 def limit(method: str, rounds: Optional[int], budget: Optional[int]) -> Limit:
-    """What a method admits, by the recommended rounds and budget where none are given."""
-    if rounds is not None and not 1 <= rounds <= GREATEST_ROUNDS:  # 0 would be the recommended ones
+    """Returns what a method allows. None stands for recommended rounds and the library's budget."""
+    if rounds is not None and not 1 <= rounds <= GREATEST_ROUNDS:  # the library takes 0 as None
         raise RefusedRounds
     given_budget = min(budget or 0, GREATEST_BUDGET)
     answer = _library.limit(Numbers(_calls.METHODS[method], rounds or 0, given_budget))
@@ -93,13 +93,13 @@ def limit(method: str, rounds: Optional[int], budget: Optional[int]) -> Limit:
         raise RefusedRounds
     if not answer.is_yes and answer.reason is not Reason.OVER_BUDGET:
         raise unexpected(answer)
-    if budget == 0:  # which the library takes for its own
+    if budget == 0:  # the library takes this as None, too
         return Limit(0, None, report.rounds)
     return Limit(report.cost, report.length if answer.is_yes else None, report.rounds)
 
 
 def setting(method: str, rounds: int, salt: bytes) -> bytes:
-    """The setting with a given salt."""
+    """Returns the setting with a given salt. Raises RefusedSalt."""
     answer = _library.setting(Numbers(_calls.METHODS[method], rounds, 0), salt)
     if answer.is_yes:
         return answer.text.encode("ascii")
@@ -109,16 +109,16 @@ def setting(method: str, rounds: int, salt: bytes) -> bytes:
 
 
 def longest_password(given_setting: bytes, budget: int) -> Optional[int]:
-    """The longest password whose hash with this setting is within the budget, if any is.
+    """Returns the length of the longest password within the budget, with this setting, or None.
 
-    A limit tells that only of new salts, and a hash costs more with a longer one.
+    limit() knows that only for new salts, and a hash with a longer salt costs more.
     """
     lengths = range(PASSWORD_LIMIT + 1)
     return max((each for each in lengths if cost(given_setting, each) <= budget), default=None)
 
 
 def refused_password(password: bytes) -> Optional[Refusal]:
-    """Why no hash can have this password, if none can."""
+    """Returns why a password can't be hashed, or None."""
     if len(password) > PASSWORD_LIMIT:
         return PASSWORD_TOO_LONG
     return PASSWORD_ZERO_BYTE if 0 in password else None
@@ -130,7 +130,7 @@ def is_over_budget(policy: Policy, length: int) -> bool:
 
 
 def how_long(policy: Policy) -> str:
-    """How long a password may be by a policy."""
+    """Says how long a password may be by a policy."""
     if policy.longest is None:
         return "with these rounds even the empty password costs more"
     return f"with these rounds and this budget a password may have at most {policy.longest} bytes"
@@ -138,7 +138,7 @@ def how_long(policy: Policy) -> str:
 
 @functools.lru_cache(maxsize=4096)
 def cost(stored: bytes, length: int) -> int:
-    """The greatest cost of a hash with this setting, for a password of this length."""
+    """Returns the most that a hash with this setting can cost, for a password of this length."""
     answer = _library.bound(stored, length)
     if not answer.is_yes:
         raise unexpected(answer)
@@ -146,7 +146,7 @@ def cost(stored: bytes, length: int) -> int:
 
 
 def new_cost(policy: Policy, length: int) -> int:
-    """The greatest cost of a new hash of a password of this length."""
+    """Returns the most that a new hash can cost, for a password of this length."""
     if policy.setting is not None:
         return cost(policy.setting, length)
     return cost(setting_of_new_hash(policy.method, policy.rounds), length)
@@ -154,28 +154,28 @@ def new_cost(policy: Policy, length: int) -> int:
 
 @functools.lru_cache(maxsize=1)
 def setting_of_new_hash(method: str, rounds: int) -> bytes:
-    """A setting with a salt as long as those of new hashes, on whose length a cost depends."""
+    """Returns a setting with a salt as long as those of new hashes, to find their cost."""
     return setting(method, rounds, _calls.new_salt(method).encode("ascii"))
 
 
 def limit_without_floor(method: str, rounds: int) -> int:
-    """What the library takes for the limit of a method and rounds, unless its floor is higher."""
+    """Returns the library's own limit for a method and rounds, without its floor."""
     return 2 * cost(setting_of_new_hash(method, rounds), LENGTH_OF_LIMITS)
 
 
 def memory_of_new_hash(policy: Policy) -> int:
-    """The bytes of memory that a new hash takes, which only scrypt's does."""
+    """Returns how many bytes of memory a new hash takes: 0 except with scrypt."""
     return memory(policy.setting or setting_of_new_hash(policy.method, policy.rounds))
 
 
 def memory(stored: bytes) -> int:
-    """The bytes of memory that a hash with this setting takes; 0 for what is none."""
+    """Returns how many bytes of memory a hash with this setting takes: 0 if it is no setting."""
     answer = _library.bound(stored, 0)
     return answer.report.work.table + answer.report.work.scratch if answer.is_yes else 0
 
 
 def new_hash(policy: Policy, password: bytes) -> Union[bytes, Refusal]:
-    """The hash of a password by a policy, with a new salt if none was given."""
+    """Returns the hash of a password by a policy, with a new salt unless -S gave one."""
     refusal = refused_password(password)
     if refusal is not None:
         return refusal
@@ -188,13 +188,13 @@ def new_hash(policy: Policy, password: bytes) -> Union[bytes, Refusal]:
 
 
 def hash_by(password: bytes, stored: bytes, budget: int) -> Union[bytes, Refusal]:
-    """The hash of a password with a setting, which may be that of a stored hash."""
+    """Returns the hash of a password with a setting, which may be a stored hash."""
     answer = _library.hash_by(password, stored, budget)
     return answer.text.encode("ascii") if answer.is_yes else refusal_of(answer)
 
 
 def verify(password: bytes, field: bytes, budget: int) -> Union[Verdict, Refusal]:
-    """What a password is to a stored field, if the check costs at most the budget."""
+    """Checks a password against a stored field, if that costs at most the budget."""
     answer = _library.verify(password, field, budget)
     if answer.is_yes:
         return Verdict.MATCH
@@ -203,18 +203,18 @@ def verify(password: bytes, field: bytes, budget: int) -> Union[Verdict, Refusal
 
 
 def describe(field: bytes) -> mkpasswd.Description:
-    """What a stored field is, whatever it costs."""
+    """Describes a stored field, whatever it costs."""
     return without_budget().describe(field)
 
 
 def is_locked(field: bytes) -> bool:
-    """Whether a stored field lets nobody in, and begins with a mark that says so."""
+    """Whether a stored field begins with a mark that locks it."""
     return describe(field).state is mkpasswd.State.LOCKED
 
 
 @functools.lru_cache(maxsize=None)
 def without_budget() -> mkpasswd.Policy:
-    """A policy by which no field is over the budget."""
+    """Returns a policy by which no field is over budget."""
     return mkpasswd.Policy(budget=GREATEST_BUDGET)
 
 
@@ -225,12 +225,12 @@ def needs_rehash(policy: Policy, field: bytes) -> bool:
 
 
 def auditor(policy: Policy) -> mkpasswd.Policy:
-    """What describes stored fields by a policy."""
+    """Returns the package's policy that judges stored fields by this one."""
     return mkpasswd.Policy(policy.method, policy.rounds or None, policy.budget or None)
 
 
 def refusal_of(answer: Answer) -> Refusal:
-    """Why a call did nothing. What is wrong with the machine or the library ends the run."""
+    """Returns why a call refused. Raises Stop if the machine or the library is at fault."""
     if answer.reason is None:
         raise unexpected(answer)
     if answer.reason in (Reason.OUT_OF_MEMORY, Reason.NO_RANDOM_NUMBERS):
@@ -239,5 +239,5 @@ def refusal_of(answer: Answer) -> Refusal:
 
 
 def unexpected(answer: Answer) -> Stop:
-    """A library that reports what none of this version would."""
+    """Returns the error for a report that no library of this version makes."""
     return Stop(f"the library reports {answer.report.error}: it isn't of this version.")

@@ -1,6 +1,6 @@
-"""What a line is on its way through a run, and the rules that each line has to keep.
+"""The lines of a run, and the rules that each line has to keep.
 
-The rules, their order and their words are those of mkpasswd, which reads the same lines.
+The rules, their order and their messages are those of mkpasswd, which reads the same lines.
 """
 
 from __future__ import annotations
@@ -20,13 +20,13 @@ NO_PASSWORD = Refusal("no password field")
 
 
 class Line(NamedTuple):
-    """A line of the input by its number, or what a row of a table stands for."""
+    """A line of the input with its number, or the line that a row of a table stands for."""
 
     number: int
-    data: bytes  # of a refused row only the name
-    refused_row: Optional[str] = None  # why pwhash refuses a row
-    group: bytes = b""  # what the row has in the column of --by
-    others: Tuple[bytes, ...] = ()  # and in those of --list-columns
+    data: bytes  # without the line feed; only the name if the row is refused
+    refused_row: Optional[str] = None  # why pwhash refuses the row
+    group: bytes = b""  # the row's value in the column of --by
+    others: Tuple[bytes, ...] = ()  # its values in the columns of --list-columns
 
 
 class FieldsToCheck(NamedTuple):
@@ -37,20 +37,20 @@ class FieldsToCheck(NamedTuple):
     password: bytes
 
 
-# With Python 3.8 an alias, which is evaluated, can't be of collections.abc's classes.
+# In Python 3.8 an alias can't use the classes of collections.abc, since it is evaluated.
 #
-# Lines in the order of the input, in groups that came at once. An empty group says that nothing
-# came for a moment, in which answers can be passed on.
+# Lines in the order of the input, in groups that arrived together. An empty group means that
+# nothing arrived for a moment, so that finished answers can be written.
 Arrivals = Iterator[List[Line]]
 
 
 def name_of(line: Line) -> bytes:
-    """What is in front of the first colon."""
+    """Returns what is before the first colon."""
     return line.data.partition(b":")[0]
 
 
 def refused_name(data: bytes) -> Optional[Refusal]:
-    """Why a line can't be one of an account, if its length or its name says so."""
+    """Returns why a line is refused for its length or its name, or None."""
     if len(data) > LONGEST_LINE:
         return LINE_TOO_LONG
     name = data.partition(b":")[0]
@@ -60,7 +60,7 @@ def refused_name(data: bytes) -> Optional[Refusal]:
 
 
 def refused_to_hash(data: bytes) -> Optional[Refusal]:
-    """The first rule that a line name:password breaks, whatever its hash costs."""
+    """Returns the first rule that a line name:password breaks, apart from the budget, or None."""
     refusal = refused_name(data)
     if refusal is not None:
         return refusal
@@ -69,12 +69,12 @@ def refused_to_hash(data: bytes) -> Optional[Refusal]:
 
 
 def fields_to_check(data: bytes) -> Optional[FieldsToCheck]:
-    """The fields of a line name:field:password, or None if it lacks one."""
+    """Returns the fields of a line name:field:password, or None if one is missing."""
     fields = data.split(b":", 2)
     return FieldsToCheck(*fields) if len(fields) == 3 else None
 
 
 def field_to_audit(data: bytes) -> Optional[bytes]:
-    """The stored field of a line, or None if it lacks one."""
+    """Returns the stored field of a line, or None if it has none."""
     fields = data.split(b":", 2)
     return fields[1] if len(fields) > 1 else None

@@ -1,7 +1,7 @@
-"""The lists of new passwords: CSV for people, on disk before any of their passwords is hashed.
+"""The lists of new passwords: CSV files for people, on disk before any password is hashed.
 
-A list is a new file, which only its owner can read. No spreadsheet takes a field in it for a
-formula, since generate.py refuses those.
+A list is a new file that only its owner can read. No field in it looks like a formula to a
+spreadsheet, since generate.py refuses such fields.
 """
 
 from __future__ import annotations
@@ -23,21 +23,21 @@ from pwhash.text import is_utf8, named
 SUFFIX = ".csv"
 HEADING = re.compile(rb"(?:.*[,;\t])?name([,;\t])password\n")
 FOLDER_MODE = 0o700
-# Each byte becomes the character with its number and back, so that no encoding matters.
+# Maps each byte to the character of that number and back, so that the encoding doesn't matter.
 BYTES = "latin-1"
 
-Row = Tuple[bytes, ...]  # columns that were asked for, then a name and its password
+Row = Tuple[bytes, ...]  # the columns of --list-columns, then a name and its password
 
 
 class Written:
-    """The lists that this run has written, which it can remove while nothing depends on them."""
+    """The lists that this run has written, to remove them if the run fails before it hashes."""
 
     def __init__(self) -> None:
         self._files: List[str] = []
         self._folders: List[str] = []
 
     def make_folder(self, path: str) -> None:
-        """Makes the folder of several lists."""
+        """Creates the folder for several lists."""
         refuse_open_folder(path)
         before = os.umask(0o777 & ~FOLDER_MODE)
         try:
@@ -79,7 +79,7 @@ class Written:
 
 
 def content_of(separator: str, rows: Iterable[Row]) -> bytes:
-    """A list as a spreadsheet opens it. Excel knows UTF-8 by its byte order mark."""
+    """Returns a list as CSV. Excel recognizes UTF-8 only by a byte order mark."""
     text = io.StringIO()
     writer = csv.writer(text, delimiter=separator, lineterminator="\n")
     writer.writerows([field.decode(BYTES) for field in row] for row in rows)
@@ -89,7 +89,7 @@ def content_of(separator: str, rows: Iterable[Row]) -> bytes:
 
 
 def read(path: str, is_folder: bool) -> Dict[bytes, bytes]:
-    """The passwords of all names in the lists of an earlier run."""
+    """Returns the passwords of all names in the lists of an earlier run."""
     passwords: Dict[bytes, bytes] = {}
     with errors_named(named(path)):
         files = files_in(path) if is_folder else [path]
@@ -99,7 +99,7 @@ def read(path: str, is_folder: bool) -> Dict[bytes, bytes]:
 
 
 def files_in(folder: str) -> List[str]:
-    """The lists in a folder that this user's run has made."""
+    """Returns the paths of the lists in a folder that a run of this user has created."""
     status = os.lstat(folder)
     is_own = stat.S_ISDIR(status.st_mode) and status.st_uid == os.geteuid()
     if not is_own or stat.S_IMODE(status.st_mode) != FOLDER_MODE:
@@ -108,7 +108,7 @@ def files_in(folder: str) -> List[str]:
 
 
 def read_list(path: str) -> Dict[bytes, bytes]:
-    """The passwords of the names in one list."""
+    """Returns the passwords of the names in one list."""
     with errors_named(named(path)):
         with open(os.open(path, own_file.FLAGS), "rb") as file:
             fault = own_file.unfit(os.fstat(file.fileno()))
@@ -128,14 +128,14 @@ def read_list(path: str) -> Dict[bytes, bytes]:
 
 
 def rows_of(content: bytes, separator: str) -> List[Row]:
-    """The rows of a list. Raises a csv.Error if it is no table."""
-    lines = content.decode(BYTES).split("\n")[:-1]  # behind the last end is nothing
+    """Returns the rows of a list. Raises csv.Error if it isn't CSV."""
+    lines = content.decode(BYTES).split("\n")[:-1]  # nothing follows the last line feed
     rows = csv.reader(lines, delimiter=separator, strict=True)
     return [tuple(field.encode(BYTES) for field in row) for row in rows]
 
 
 def changed(path: str, fault: str) -> UsageError:
-    """The error for a list that isn't as a run has left it."""
+    """Returns the error for a list that has changed since a run wrote it."""
     return UsageError(
         f"{named(path)} isn't as the run that began left it ({fault}), so --resume doesn't know "
         "the passwords. Remove the lists and OUT.part, and start again."
@@ -143,14 +143,14 @@ def changed(path: str, fault: str) -> UsageError:
 
 
 def exists(path: str) -> UsageError:
-    """The error for a name that somebody has."""
+    """Returns the error for a file or folder that already exists."""
     return UsageError(
         f"{named(path)} already exists: name another after --passwords, or remove it."
     )
 
 
 def refuse_open_folder(path: str) -> None:
-    """Refuses a folder where anybody could remove a list, whose passwords would be lost."""
+    """Refuses a folder in which anybody could remove a list, and so lose its passwords."""
     folder = folder_of(path)
     with errors_named(named(folder)):
         mode = os.stat(folder).st_mode
@@ -162,7 +162,7 @@ def refuse_open_folder(path: str) -> None:
 
 
 def sync_folder_of(path: str) -> None:
-    """The name of a file is on disk, too."""
+    """Flushes the folder of a file to disk, and with it the file's name."""
     with errors_named(named(folder_of(path))):
         fd = os.open(folder_of(path), os.O_RDONLY | os.O_DIRECTORY)
         try:
@@ -172,5 +172,5 @@ def sync_folder_of(path: str) -> None:
 
 
 def folder_of(path: str) -> str:
-    """The folder in which a file is."""
+    """Returns the folder of a file."""
     return os.path.dirname(path.rstrip("/")) or "."

@@ -1,7 +1,6 @@
-"""The lock of a password file: flock(2) of a file that stays where it is.
+"""The lock of a password file: flock(2) of a file beside it, which is never removed.
 
-pam_mkpasswd(8) describes it. A renewal waits a second for it at a login; pwhash, at which somebody
-looks, waits longer.
+pam_mkpasswd(8) describes it. At a login, a renewal waits a second for it. pwhash waits longer.
 """
 
 from __future__ import annotations
@@ -26,7 +25,7 @@ NEW_FLAGS = os.O_RDWR | os.O_CREAT | os.O_EXCL | os.O_CLOEXEC | os.O_NOFOLLOW
 
 
 class Owner(NamedTuple):
-    """Whose a file is."""
+    """The owner and group of a file."""
 
     user: int
     group: int
@@ -34,7 +33,7 @@ class Owner(NamedTuple):
 
 @contextlib.contextmanager
 def held(place: Place, owner: Owner) -> Iterator[None]:
-    """Holds the lock for the block. A new one gets the password file's owner."""
+    """Holds the lock during the block. A new lock file gets this owner, the password file's."""
     with errors_named(f"{place.shown}.mkpasswd.lock"):
         lock = take(place, owner)
     try:
@@ -59,7 +58,7 @@ def take(place: Place, owner: Owner) -> int:
 
 
 def try_once(place: Place, owner: Owner) -> Optional[int]:
-    """The descriptor of the lock, or None where somebody has it."""
+    """Returns the descriptor of the lock, or None if another process holds it."""
     lock = open_lock(place, owner)
     try:
         fcntl.flock(lock, fcntl.LOCK_EX | fcntl.LOCK_NB)
@@ -77,15 +76,15 @@ def try_once(place: Place, owner: Owner) -> Optional[int]:
 
 
 def open_lock(place: Place, owner: Owner) -> int:
-    """Opens the lock, or makes it."""
+    """Opens the lock file, or creates it."""
     with contextlib.suppress(FileNotFoundError):
         return os.open(place.lock, FLAGS, dir_fd=place.folder)
     try:
         lock = os.open(place.lock, NEW_FLAGS, OWN_MODE, dir_fd=place.folder)
-    except FileExistsError:  # somebody else has just made it
+    except FileExistsError:  # another process has just created it
         return os.open(place.lock, FLAGS, dir_fd=place.folder)
     # A service of that user can then take the lock even if the superuser was the first to change
-    # the file. Only the superuser can give it away, and nobody else has to.
+    # the file. Only the superuser can do this, and nobody else needs to.
     with contextlib.suppress(OSError):
         os.fchown(lock, owner.user, owner.group)
     return lock

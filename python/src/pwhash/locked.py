@@ -1,7 +1,7 @@
 """Leaves out lines whose names are locked in a file such as /etc/shadow.
 
-chpasswd -e would unlock them without a word. A name that has only ! there, as useradd leaves it,
-never had a password, so it isn't left out.
+chpasswd -e would silently unlock them. A name with only a ! there, as useradd writes it, has never
+had a password, so it isn't left out.
 """
 
 from __future__ import annotations
@@ -18,11 +18,11 @@ from pwhash.skipping import Skipping
 from pwhash.stored import stored_in
 
 NO_PASSWORD_YET = (b"!", b"!!")  # the latter on Red Hat's systems
-IN_SHADOW = b"x"  # what /etc/passwd says of each name
+IN_SHADOW = b"x"  # the field of every name in /etc/passwd
 
 
 class Locked(Skipping):
-    """The names that are locked in a file, of which lines are left out."""
+    """Leaves out lines whose names are locked in a file."""
 
     def __init__(self, path: str, source_name: str, console: Console) -> None:
         super().__init__(path, source_name, console)
@@ -41,7 +41,7 @@ class Locked(Skipping):
         return name_of(line) in self._names
 
     def refuse_new(self, part_name: Optional[str]) -> None:
-        """Ends the run if a name was locked after it began, and may have been hashed."""
+        """Ends the run if a name was locked during it, since its line may have been hashed."""
         if not self._can_be_read_again:
             return
         before = self._names

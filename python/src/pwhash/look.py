@@ -1,4 +1,4 @@
-"""Looks for the problems of a file before anything of it is hashed."""
+"""Looks for problems in a file before any line is hashed."""
 
 from __future__ import annotations
 
@@ -21,7 +21,7 @@ MOST_SHOWN = 20  # of each kind
 
 
 class Look:
-    """One look through a file, which shows its problems and finds the lines to leave out."""
+    """Looks through a file, shows its problems, and finds the lines to leave out."""
 
     def __init__(self, source: Source, options: FileOptions, console: Console) -> None:
         self._source = source
@@ -30,12 +30,12 @@ class Look:
         self._is_table = options.input.columns is not None
         self._doubts = Doubts(options.service, self._is_table, options.input.windows)
         self._shown: Counter[str] = Counter()
-        self._has_lines = False  # that aren't left out since their names are locked, say
+        self._has_lines = False  # after --skip-locked and --skip-unknown
         self._refused: Set[int] = set()
         self._doubtful: Set[int] = set()
 
     def left_out(self, arrivals: Arrivals) -> Set[int]:
-        """The numbers of the lines to leave out; if the user has to decide first, the run ends."""
+        """Returns the numbers of the lines to leave out. Ends the run if the user has to decide."""
         progress = Progress(self._console, "looking", self._source.total)
         for group in arrivals:
             for line in group:
@@ -79,7 +79,7 @@ class Look:
         for reason in reasons:
             kind = re.sub("[0-9]+", "", reason)
             self._shown[kind] += 1
-            if self._shown[kind] > 1:  # what to do about it was said
+            if self._shown[kind] > 1:  # the first message of a kind says what to do
                 reason = reason.partition(";")[0]
             if self._shown[kind] <= MOST_SHOWN:
                 self._console.say(f"{self._source.name}, line {line.number}{whose}: {reason}")

@@ -1,4 +1,4 @@
-"""How many processors and how much memory a run may use: the machine's, or a control group's."""
+"""Finds how many processors and how much memory a run may use, also in a control group."""
 
 from __future__ import annotations
 
@@ -11,14 +11,14 @@ UNKNOWN_MEMORY = 1 << 62
 
 
 def processors() -> int:
-    """As many as this process may run on and has time for in its control groups."""
+    """Returns how many processors this process may use, by its affinity and control groups."""
     quotas = [quota_of(folder) for folder in group_folders("cpu")]
     known = [quota for quota in quotas if quota is not None]
     return max(1, min([len(os.sched_getaffinity(0)), *known]))
 
 
 def free_memory() -> int:
-    """Bytes that can be allocated without swapping, as far as control groups allow."""
+    """Returns how many bytes can be allocated without swapping, within its control groups."""
     available = re.search(r"(?m)^MemAvailable: +([0-9]+) kB$", content("/proc/meminfo"))
     rests = [rest_of(folder) for folder in group_folders("memory")]
     known = [rest for rest in rests if rest is not None]
@@ -26,7 +26,7 @@ def free_memory() -> int:
 
 
 def group_folders(controller: str) -> List[str]:
-    """The folders of the control groups that this process is in, and of those above them."""
+    """Returns the folders of this process's control groups, and of those above them."""
     found = []
     for line in content("/proc/self/cgroup").splitlines():
         hierarchy, controllers, path = line.split(":", 2)
@@ -38,13 +38,13 @@ def group_folders(controller: str) -> List[str]:
 
 
 def upwards(path: str) -> List[str]:
-    """The path and those above it, also where a container sees only the lowest one, at the top."""
+    """Returns a path and those above it. A container may see only the lowest group, as the root."""
     parts = [part for part in path.split("/") if part]
     return ["".join(f"/{part}" for part in parts[:length]) for length in range(len(parts), -1, -1)]
 
 
 def quota_of(folder: str) -> Optional[int]:
-    """The processors that a group has time for, rounded up, or None."""
+    """Returns how many processors a group may use, rounded up, or None if it has no quota."""
     quota, period = (content(f"{folder}/cpu.max").split() + ["", ""])[:2]
     if not quota:  # version 1
         quota = content(f"{folder}/cpu.cfs_quota_us").strip()
@@ -55,7 +55,7 @@ def quota_of(folder: str) -> Optional[int]:
 
 
 def rest_of(folder: str) -> Optional[int]:
-    """The bytes that a group may still use, or None. What it has of files can be given up."""
+    """Returns how many bytes a group may still use, or None. Cached files count as free."""
     numbers = [number_in(f"{folder}/memory.{name}") for name in ("max", "high", "limit_in_bytes")]
     limits = [limit for limit in numbers if limit is not None]
     if not limits:
@@ -69,13 +69,13 @@ def rest_of(folder: str) -> Optional[int]:
 
 
 def number_in(path: str) -> Optional[int]:
-    """The number that a file of the kernel holds, or None."""
+    """Returns the number in a file of the kernel, or None."""
     text = content(path).strip()
     return int(text) if text.isdecimal() else None
 
 
 def content(path: str) -> str:
-    """What a file of the kernel holds; nothing if it can't be read."""
+    """Returns the content of a file of the kernel, or nothing if it can't be read."""
     try:
         with open(path, encoding="latin-1") as file:
             return file.read()

@@ -1,4 +1,4 @@
-"""Remembers the first line of each name, in little memory, since a file may have a million."""
+"""Remembers the first line of each name. It takes little memory, since there may be millions."""
 
 from __future__ import annotations
 
@@ -6,24 +6,24 @@ from array import array
 from typing import Dict, Optional
 
 FIRST_SIZE = 1 << 8  # a power of two, as is each later size
-TABLES = 16  # of which one at a time grows, so that little is there twice
+TABLES = 16  # only one grows at a time, so that only little is in memory twice
 HASH_MASK = (1 << 64) - 1
 
 
 class Table:
-    """Numbers by the hash of a name, without the name.
+    """A hash table from names to numbers, which stores the hash of a name and not the name.
 
-    Python hashes names with a secret of each process. That two of a million names have the same
-    hash of 64 bits happens once in 37 million runs; then a line is called doubtful.
+    Python hashes names with a secret of each process. In one of 37 million runs, two of a million
+    names have the same hash of 64 bits; then a line is called doubtful by mistake.
     """
 
     def __init__(self) -> None:
-        self._keys = array("Q", bytes(8 * FIRST_SIZE))  # 0 is a free place
+        self._keys = array("Q", bytes(8 * FIRST_SIZE))  # 0 marks a free slot
         self._numbers = array("I", bytes(4 * FIRST_SIZE))
         self._count = 0
 
     def first(self, key: int, number: int) -> int:
-        """The number that was given with this key first, which may be this one."""
+        """Returns the number that came first with this key, and stores it if it is this one."""
         place = self._place(key)
         if self._keys[place] == 0:
             self._keys[place], self._numbers[place] = key, number
@@ -34,7 +34,7 @@ class Table:
         return self._numbers[place]
 
     def _place(self, key: int) -> int:
-        """Where a key is, or the free place where it belongs."""
+        """Returns the slot of a key, or the free slot where it belongs."""
         last = len(self._keys) - 1
         place = key // TABLES & last
         while self._keys[place] not in (0, key):
@@ -53,14 +53,14 @@ class Table:
 
 
 class FirstLines:
-    """The first line of each name, and why it is unsure, if it is."""
+    """The first line of each name, and whether that is doubtful or refused."""
 
     def __init__(self) -> None:
         self._tables = [Table() for _ in range(TABLES)]
         self._unsure: Dict[int, str] = {}
 
     def about(self, name: bytes, number: int, is_doubtful: bool) -> Optional[str]:
-        """What is doubtful about a name that was there before."""
+        """Returns a doubt about a name that an earlier line has, or None."""
         first = self._first(name, number)
         if first == number:
             if is_doubtful:
@@ -71,7 +71,7 @@ class FirstLines:
         return f"the name again, after line {first}{why}"
 
     def note_refused(self, name: bytes, number: int) -> None:
-        """Notes a line that is refused."""
+        """Notes that a line is refused."""
         if self._first(name, number) == number:
             self._unsure[number] = "refused"
 

@@ -1,6 +1,7 @@
-"""Makes the new version of a password file: whole, on the disk, and with what the old one has.
+"""Makes the new version of a password file, and flushes it to disk.
 
-That is the owner, the mode, and the extended attributes, which hold ACLs and security labels.
+It gets the owner, the mode and the extended attributes of the old one; these hold ACLs and
+security labels.
 """
 
 from __future__ import annotations
@@ -21,7 +22,7 @@ NAMED = os.O_CREAT | os.O_EXCL | os.O_NOFOLLOW | os.O_RDWR | os.O_CLOEXEC
 
 
 class NewFile:
-    """A new file, which has no name at first if the file system has such files."""
+    """A new file. At first it has no name, if the file system supports that."""
 
     def __init__(self, place: Place) -> None:
         self._place = place
@@ -41,8 +42,8 @@ class NewFile:
     def give(self, owner: Owner, mode: int) -> None:
         """Gives the file its owner and mode.
 
-        The owner comes first, since a new owner clears bits of the mode. Calls that succeed aren't
-        enough: the system may drop bits silently.
+        It sets the owner first, since that clears bits of the mode. It looks at the result, since
+        the system may drop bits silently.
         """
         os.fchown(self.fd, owner.user, owner.group)
         os.fchmod(self.fd, mode)
@@ -51,18 +52,18 @@ class NewFile:
             raise OSError(errno.EPERM, os.strerror(errno.EPERM))
 
     def status(self) -> os.stat_result:
-        """The status of the file, once all of it is on the disk."""
+        """Flushes the file to disk, and returns its status."""
         os.fsync(self.fd)
         return os.fstat(self.fd)
 
     def link(self, name: str) -> None:
-        """Gives the file a name that nothing has."""
-        # With a folder, Python calls linkat, which follows the link.
+        """Gives the file a name that no other file has."""
+        # Given a folder, Python calls linkat, which follows the link.
         source = f"/proc/self/fd/{self.fd}"
         os.link(source, name, dst_dir_fd=self._place.folder, follow_symlinks=True)
 
     def link_as_new(self) -> None:
-        """Gives the file the name by which it is exchanged."""
+        """Gives the file the name that the exchange uses."""
         if not self.has_name:
             self.link(self._place.new)
             self.has_name = True
@@ -76,7 +77,7 @@ class NewFile:
 
 @contextlib.contextmanager
 def opened_new(place: Place) -> Iterator[NewFile]:
-    """Makes a new file for the block."""
+    """Opens a new file for the block."""
     new = NewFile(place)
     try:
         yield new
@@ -87,7 +88,7 @@ def opened_new(place: Place) -> Iterator[NewFile]:
 def copy_attributes(source: int, target: int) -> None:
     """Gives a file all extended attributes of another one, and no others.
 
-    A new file may have got some from its folder, such as an ACL.
+    A new file may have got others from its folder, such as an ACL.
     """
     wanted = attributes(source)
     for name in attributes(target):
@@ -95,13 +96,13 @@ def copy_attributes(source: int, target: int) -> None:
             os.removexattr(target, name)
     for name in wanted:
         value = os.getxattr(source, name)
-        # This process may not be allowed to set one that the file has already, such as a label.
+        # If the file has the value already, as it may have a label, setting it may be forbidden.
         if value_of(target, name) != value:
             os.setxattr(target, name, value)
 
 
 def attributes(fd: int) -> List[str]:
-    """The names of a file's extended attributes. A file system without them has none."""
+    """Returns the names of a file's extended attributes: none if the file system has none."""
     try:
         return os.listxattr(fd)
     except OSError as error:
@@ -111,7 +112,7 @@ def attributes(fd: int) -> List[str]:
 
 
 def value_of(fd: int, name: str) -> Optional[bytes]:
-    """The value of an attribute, or None if the file doesn't have it."""
+    """Returns the value of an attribute, or None if the file doesn't have it."""
     try:
         return os.getxattr(fd, name)
     except OSError:

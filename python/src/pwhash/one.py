@@ -20,7 +20,7 @@ SECONDS_OF_DAY = 86400
 
 
 def run(options: OneOptions, session: Session) -> bool:
-    """Hashes one password: asks for it, or reads the first line of standard input."""
+    """Hashes one password: asks for it, reads it from standard input, or generates it."""
     console = session.console
     if options.generate:
         password = generated(options.policy, console)
@@ -37,14 +37,14 @@ def run(options: OneOptions, session: Session) -> bool:
 
 
 def about_refusal(refusal: Refusal, policy: Policy) -> UsageError:
-    """The error for a password that has no hash."""
+    """Returns the error for a password that can't be hashed."""
     if refusal == OVER_BUDGET:
         return UsageError(f"{OVER_BUDGET.words}: {library.how_long(policy)}.")
     return UsageError(f"{refusal.words}. Give a password of at most 1,024 bytes, none of them 0.")
 
 
 def generated(policy: Policy, console: Console) -> bytes:
-    """A new password, which is shown once."""
+    """Makes a new password, and shows it once on the terminal."""
     if library.is_over_budget(policy, GENERATED_LENGTH):
         raise about_refusal(OVER_BUDGET, policy)
     password = "".join(random_letter() for _ in range(GENERATED_LENGTH))
@@ -54,7 +54,7 @@ def generated(policy: Policy, console: Console) -> bytes:
 
 
 def random_letter() -> str:
-    """A letter or digit, each as likely as the others. The module secrets takes long to import."""
+    """Returns a letter or digit, all equally likely. The module secrets is slow to import."""
     while True:
         number = os.urandom(1)[0] & 63
         if number < len(LETTERS):

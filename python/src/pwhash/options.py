@@ -1,4 +1,4 @@
-"""What the command line asks for, once it is checked: one class for each command."""
+"""The options of a run, checked: one class for each command."""
 
 from __future__ import annotations
 
@@ -29,17 +29,17 @@ class Form(enum.Enum):
 
     @property
     def word(self) -> str:
-        """Its name on the command line."""
+        """The name on the command line."""
         return self.name.lower().replace("_", "-")
 
     @property
     def has_name(self) -> bool:
-        """Whether it has the user's name too."""
+        """Whether it contains the user's name."""
         return "{name}" in self.value
 
 
 class Service(enum.Enum):
-    """A service that reads the hashes, and may take a name for another."""
+    """A service that will read the hashes, and may take one name for another."""
 
     APACHE = "apache"
     NGINX = "nginx"
@@ -48,7 +48,7 @@ class Service(enum.Enum):
 
 
 class Doubtful(enum.Enum):
-    """What becomes of doubtful lines."""
+    """What to do with doubtful lines."""
 
     STOP = enum.auto()
     SKIP = enum.auto()
@@ -56,15 +56,15 @@ class Doubtful(enum.Enum):
 
 
 class Input(NamedTuple):
-    """A file of lines, and what has to be left out or read differently."""
+    """A file of lines, and how to read it."""
 
     path: Optional[str]  # None is standard input
     windows: bool = False  # lines end with a carriage return, and begin with a byte order mark
-    columns: Optional[str] = None  # of a table, which have the name and the password
-    unlock: bool = False  # what is in front of a locked hash is left out
-    counts_lines: bool = True  # for the progress
+    columns: Optional[str] = None  # those of a table that have the name and the password
+    unlock: bool = False  # leave out the marks in front of a locked hash
+    counts_lines: bool = True  # for the progress line
     names_only: bool = False  # lines and rows have no password
-    list_columns: Optional[str] = None  # of a table of names, which lists of passwords have too
+    list_columns: Optional[str] = None  # those of a table of names to copy to the password lists
 
 
 class OneOptions(NamedTuple):
@@ -78,9 +78,9 @@ class OneOptions(NamedTuple):
 
 
 class Generate(NamedTuple):
-    """Passwords that pwhash file makes."""
+    """The passwords that pwhash file --generate makes."""
 
-    passwords: str  # the file of all, or a folder with a file for each group
+    passwords: str  # the file for all of them, or the folder with a file for each group
     length: int
     has_groups: bool
 
@@ -163,14 +163,14 @@ class VerifyOptions(NamedTuple):
     """pwhash verify."""
 
     budget: int
-    path: str  # empty where the hash is asked for
+    path: str  # empty if pwhash asks for the hash
     name: str
 
 
 class CalibrateOptions(NamedTuple):
     """pwhash calibrate."""
 
-    time: str  # that a login may take, as it was typed
+    time: str  # that a login may take, as the user typed it
     seconds: float
     methods: Tuple[str, ...]
     quiet: bool
@@ -189,5 +189,5 @@ Options = Union[
 
 
 def part_of(out: str) -> str:
-    """What OUT is called until it is whole."""
+    """Returns the name of OUT until it is whole."""
     return out + PART_SUFFIX

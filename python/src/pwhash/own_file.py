@@ -1,7 +1,7 @@
-"""Opens and makes files of this user's runs, and no others.
+"""Opens and creates files of this user's runs, and no others.
 
-Whoever can write in the folder may have put another file or a link there, and root may load what
-it has.
+Somebody else who can write in the folder may have put another file or a link there, and root must
+not read that.
 """
 
 from __future__ import annotations
@@ -13,13 +13,13 @@ from typing import Optional
 from pwhash.errors import errors_named
 from pwhash.text import named
 
-# O_NONBLOCK is there for pipes: to open one that somebody put there doesn't wait for its other end.
+# O_NONBLOCK is for a pipe that somebody put there: opening it doesn't wait for a writer.
 FLAGS = os.O_RDWR | os.O_NOFOLLOW | os.O_NONBLOCK
 OWN_MODE = 0o600
 
 
 def unfit(status: os.stat_result) -> Optional[str]:
-    """Why a file can't be one that this user's run has left, or None."""
+    """Says why a file can't be from a run of this user, or returns None."""
     if stat.S_ISLNK(status.st_mode):
         return "it is a symbolic link"
     if not stat.S_ISREG(status.st_mode):
@@ -32,7 +32,7 @@ def unfit(status: os.stat_result) -> Optional[str]:
 
 
 def create(path: str) -> int:
-    """Makes a new file. Raises FileExistsError if there is one, or a link."""
+    """Creates a file. Raises FileExistsError if there is a file or a link of that name."""
     fd = os.open(path, FLAGS | os.O_CREAT | os.O_EXCL, OWN_MODE)
     with errors_named(named(path)):
         os.fchmod(fd, OWN_MODE)

@@ -1,7 +1,7 @@
-"""OUT.part, in which a run writes, and which becomes OUT once it is whole.
+"""OUT.part, to which a run writes, and which becomes OUT once it is whole.
 
-It is a new file, or with --resume one of the user's own, and OUT is that very file, whoever else
-can write in its folder.
+It is a new file, or with --resume a file of the user's own. OUT is that same file, even if others
+can write in the folder.
 """
 
 from __future__ import annotations
@@ -22,7 +22,7 @@ from pwhash.signals import Signals
 from pwhash.source import Source
 from pwhash.text import named, quoted
 
-# What a file system without links, or a machine without /proc, answers.
+# The errors of a file system without links, or a machine without /proc.
 NO_LINKS = (errno.EPERM, errno.EOPNOTSUPP, errno.ENOSYS, errno.EMLINK, errno.EXDEV, errno.ENOENT)
 NO_SUCH_RENAME = (errno.EINVAL, errno.ENOSYS)
 
@@ -36,25 +36,25 @@ class Part:
         self.name = named(self.path)
         self.out_name = named(out)
         self.is_resumable = is_resumable
-        self.is_whole = False  # it is OUT
+        self.is_whole = False  # and has become OUT
         self._out = out
         self._source = source
 
     def refuse_changed(self) -> None:
-        """Ends the run if FILE was changed meanwhile."""
+        """Ends the run if FILE has changed since it was opened."""
         refuse_changed(self._source, self)
 
     def keep(self, options: FileOptions) -> None:
-        """Keeps what --resume needs, once the lines of the part are known to be right."""
+        """Saves what --resume needs, once the lines of the part are known to be right."""
         before, now = kept.read(self.path), kept.kept_of(options, self._source)
         if before is not None and (os.fstat(self.fd).st_size or before == now):
             return
-        if before is not None:  # of a run whose part was removed
+        if before is not None:  # it is from a run whose part was removed
             kept.remove(self.path)
         kept.write(self.path, now)
 
     def finish(self, signals: Signals, console: Console) -> None:
-        """The part gets the name OUT, if nobody has it by now, and loses its own."""
+        """Renames the part to OUT, unless another file has that name by now."""
         with errors_named(self.name):
             os.fsync(self.fd)
         self.refuse_changed()
@@ -66,11 +66,11 @@ class Part:
             self._remove_names(console)
 
     def leave(self, is_wrong_use: bool) -> None:
-        """Leaves the part as --resume may take it, where the run ends early."""
+        """Leaves the part of a run that ends early, so that --resume accepts or refuses it."""
         if self.is_whole:
             return
         if self._source.change():
-            os.utime(self.fd, (0, 0))  # so FILE is newer, and --resume refuses
+            os.utime(self.fd, (0, 0))  # FILE is newer then, so --resume refuses
         elif is_wrong_use and os.fstat(self.fd).st_size == 0:
             if self.is_resumable:
                 kept.remove(self.path)
@@ -78,15 +78,15 @@ class Part:
                 os.unlink(self.path)
 
     def advice(self) -> str:
-        """What to do if FILE was changed during the run."""
+        """Says what to do if FILE has changed during the run."""
         return changed(self._source, self) or ""
 
     def _become_out(self) -> None:
-        """Links the file that was written, whatever has its name; without links renames it."""
+        """Links the open file as OUT, whatever file has its name now. Without links, renames it."""
         try:
             link = f"/proc/self/fd/{self.fd}"
-            # Python follows the link only by linkat, which it calls only if a folder is given. The
-            # path is absolute, so which one doesn't matter.
+            # Only linkat follows the link, and Python calls it only if a folder is given. The path
+            # is absolute, so any folder will do.
             os.link(link, self._out, src_dir_fd=self.fd, follow_symlinks=True)
         except FileExistsError:
             raise self._out_exists() from None
@@ -96,7 +96,7 @@ class Part:
             self._rename()
 
     def _rename(self) -> None:
-        """Renames the part, but to no name that somebody has."""
+        """Renames the part, and replaces no other file."""
         try:
             system.rename_to_new(self.path, self._out)
         except FileExistsError:
@@ -105,7 +105,7 @@ class Part:
             if error.errno in NO_SUCH_RENAME:
                 raise self._can_not_rename() from None
             raise Stop(f"{self.out_name}: {reason_of(error)}.") from None
-        # Whoever writes in the folder may have given the name to another file before.
+        # Somebody who can write in the folder may have put another file in the part's place.
         if not own_file.has_name(self.fd, self._out):
             raise Stop(
                 f"{self.out_name} isn't what was written: another file took the place of "
@@ -128,7 +128,7 @@ class Part:
         )
 
     def _remove_names(self, console: Console) -> None:
-        """Removes what is kept, while the part keeps other runs out, and then the part's name."""
+        """Removes the saved options while the part's lock keeps others out, then its name."""
         try:
             if self.is_resumable:
                 kept.remove(self.path)
@@ -139,7 +139,7 @@ class Part:
 
 
 def changed(source: Source, part: Optional[Part]) -> Optional[str]:
-    """What changed of FILE during the run, and what to do about it, or None."""
+    """Says how FILE has changed during the run, and what to do about it, or returns None."""
     what = source.change()
     if what is None:
         return None
@@ -148,7 +148,7 @@ def changed(source: Source, part: Optional[Part]) -> Optional[str]:
 
 
 def refuse_changed(source: Source, part: Optional[Part]) -> None:
-    """Ends the run if FILE was changed meanwhile."""
+    """Ends the run if FILE has changed since it was opened."""
     sentence = changed(source, part)
     if sentence is not None:
         raise UsageError(sentence)
@@ -156,10 +156,10 @@ def refuse_changed(source: Source, part: Optional[Part]) -> None:
 
 @contextlib.contextmanager
 def opened(out: str, source: Source, options: Optional[FileOptions]) -> Iterator[Part]:
-    """Opens OUT.part, for this run alone. Only pwhash file, whose options these are, resumes."""
+    """Opens OUT.part for this run alone. `options` are those of pwhash file, which can resume."""
     path = part_of(out)
     if options is not None:
-        kept.read(path)  # before a part is made, in case another file has the name
+        kept.read(path)  # this refuses other files of that name before it makes a part
     part = Part(out, open_part(path, source, options), source, options is not None)
     try:
         yield part
@@ -174,7 +174,7 @@ def opened(out: str, source: Source, options: Optional[FileOptions]) -> Iterator
 
 
 def open_part(path: str, source: Source, options: Optional[FileOptions]) -> int:
-    """A new part, or one that this run goes on with."""
+    """Opens a new part, or the one that this run continues."""
     is_resumed = options is not None and options.resume
     try:
         with contextlib.suppress(FileNotFoundError):
@@ -187,7 +187,7 @@ def open_part(path: str, source: Source, options: Optional[FileOptions]) -> int:
 
 
 def refuse_strange(path: str, found: os.stat_result, source: Source, is_resumed: bool) -> None:
-    """Refuses a part that can't be one of this user's run."""
+    """Refuses a part that can't be from a run of this user."""
     name = named(path)
     if os.path.samestat(found, source.begun):
         raise UsageError(f"{name} is the file to read: name another file after -o.")
@@ -208,7 +208,7 @@ def open_again(
     lock(fd, path)
     now = os.fstat(fd)
     is_other = own_file.unfit(now) or not os.path.samestat(now, found)
-    # A run that held the lock until now has made the part its OUT, and removed the name.
+    # A run that held the lock until now may have made the part its OUT, and removed the name.
     if is_other or not own_file.has_name(fd, path):
         raise UsageError(f"{named(path)} was replaced just now. Start again.")
     refuse_to_go_on(path, now, source, options)
@@ -216,7 +216,7 @@ def open_again(
 
 
 def new_part(path: str) -> int:
-    """Makes a part."""
+    """Creates a part."""
     try:
         fd = own_file.create(path)
     except FileExistsError:
@@ -226,7 +226,7 @@ def new_part(path: str) -> int:
 
 
 def lock(fd: int, path: str) -> None:
-    """Keeps other runs from the part, as long as it is open."""
+    """Keeps other runs from the part as long as it is open."""
     try:
         fcntl.flock(fd, fcntl.LOCK_EX | fcntl.LOCK_NB)
     except BlockingIOError:
@@ -236,7 +236,7 @@ def lock(fd: int, path: str) -> None:
 def refuse_to_go_on(
     path: str, status: os.stat_result, source: Source, options: Optional[FileOptions]
 ) -> None:
-    """Refuses a part of an earlier run, unless --resume was given and it is of the same FILE."""
+    """Refuses a part of an earlier run, unless --resume is given and it is of the same FILE."""
     exists = f"{named(path)} already exists"
     if options is None:
         raise UsageError(f"{exists}: remove it, or name another file after -o.")
@@ -249,11 +249,11 @@ def refuse_to_go_on(
 def refuse_another_file(
     path: str, status: os.stat_result, source: Source, options: FileOptions
 ) -> None:
-    """Refuses lines of a part that may be hashes of other passwords than FILE's."""
+    """Refuses a part whose lines may be hashes of other passwords than FILE's."""
     before, now = kept.read(path), kept.kept_of(options, source)
     name = named(path)
     both = f"{name} and {named(kept.path_of(path))}"
-    if before is None:  # of GNU parallel, say: nothing but the times tells anything
+    if before is None:  # of GNU parallel, for example: only the times can be compared
         refuse_newer(path, status, source)
         before = Kept(now.file, now.choice, b"")
     if before == kept.CUT:
@@ -268,7 +268,7 @@ def refuse_another_file(
 
 
 def refuse_other_options(before: Kept, now: Kept, name: str, both: str) -> None:
-    """Refuses options by which other lines, or other passwords, would be hashed."""
+    """Refuses options with which other lines, or other passwords, would be hashed."""
     if before.options != now.options:
         raise UsageError(
             f"{name} was begun with other --windows, --csv, --columns, --generate, --by or "
@@ -283,7 +283,7 @@ def refuse_other_options(before: Kept, now: Kept, name: str, both: str) -> None:
 
 
 def refuse_newer(path: str, status: os.stat_result, source: Source) -> None:
-    """Refuses a FILE that is newer than a part of which nothing else is known."""
+    """Refuses a FILE that is newer than the part, if nothing else is known about the part."""
     if source.begun.st_mtime_ns > status.st_mtime_ns:
         touch = f"touch -r {source.path_for_shell()} {quoted(path)} and add --resume"
         way_out = f"if no line changed: {touch}; else remove {named(path)}"

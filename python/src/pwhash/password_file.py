@@ -1,4 +1,4 @@
-"""A password file's bytes: who has a line, what its field is, and what a change makes of them."""
+"""Reads a password file, finds the line of a name, and changes lines in its content."""
 
 from __future__ import annotations
 
@@ -18,18 +18,18 @@ MOST_BYTES = 1 << 30
 
 
 class Entry(NamedTuple):
-    """Where a name's line and its field are in a file."""
+    """Where the line of a name and its field are in a file: offsets in bytes."""
 
     number: int
     begin: int
-    end: int  # with the line feed
+    end: int  # after the line feed
     field_begin: int
     field_end: int
     field: Field
 
 
 class Opened(NamedTuple):
-    """A file that is open, with what it was before it was read."""
+    """An open file, its status before it was read, and its content."""
 
     fd: int
     status: os.stat_result
@@ -49,7 +49,7 @@ def opened(place: Place) -> Iterator[Opened]:
 
 
 def read_all(fd: int, status: os.stat_result, shown: str) -> bytes:
-    """All bytes of an open file, which are kept in memory."""
+    """Returns all bytes of an open file. Refuses one that is too large for a password file."""
     if status.st_size > MOST_BYTES:
         raise UsageError(f"{shown} has more than 1 GiB, as no password file has.")
     pieces: List[bytes] = []
@@ -61,7 +61,7 @@ def read_all(fd: int, status: os.stat_result, shown: str) -> bytes:
 
 
 def find(content: bytes, name: bytes, shown: str) -> Optional[Entry]:
-    """The line of a name, or None. A name that stands twice is refused."""
+    """Finds the line of a name, or returns None. Refuses a name with several lines."""
     found = list(re.finditer(rb"(?m)^" + re.escape(name) + rb":([^:\n]*)[^\n]*\n?", content))
     if not found:
         return None
@@ -76,31 +76,31 @@ def find(content: bytes, name: bytes, shown: str) -> Optional[Entry]:
 
 
 def with_field(content: bytes, entry: Entry, field: Field) -> bytes:
-    """The content with another field in a line."""
+    """Returns the content with another field in a line."""
     return content[: entry.field_begin] + field.data() + content[entry.field_end :]
 
 
 def without_line(content: bytes, entry: Entry) -> bytes:
-    """The content without a line."""
+    """Returns the content without a line."""
     return content[: entry.begin] + content[entry.end :]
 
 
 def with_line(content: bytes, line: bytes) -> bytes:
-    """The content with a line more, on a line of its own."""
+    """Returns the content with one more line."""
     if content and not content.endswith(b"\n"):
         content += b"\n"
     return content + line + b"\n"
 
 
 def common_prefix(content: bytes) -> bytes:
-    """The prefix that all fields have, or nothing."""
+    """Returns the prefix that all fields have, or nothing."""
     fields = re.findall(rb"(?m)^[^#:\n][^:\n]*:([^:\n]*)", content)
     prefixes = {field_of(each).prefix for each in fields}
     return prefixes.pop() if len(prefixes) == 1 else b""
 
 
 def first_odd_line(content: bytes) -> Optional[int]:
-    """The number of the first line that no password file has: without a colon, and no comment."""
+    """Returns the number of the first line that has no colon and isn't a comment, or None."""
     for number, line in enumerate(content.split(b"\n"), 1):
         if line.strip() and not line.startswith(b"#") and b":" not in line:
             return number

@@ -1,6 +1,6 @@
-"""A hash that was pasted, as from an e-mail: perhaps with blanks, line breaks or its whole line.
+"""Reads a hash that was pasted, from an e-mail perhaps: with blanks, line breaks or a whole line.
 
-No hash has any of these in it, so they can be left out.
+No hash contains any of these, so they can be left out.
 """
 
 from __future__ import annotations
@@ -23,16 +23,16 @@ QUOTES = b"'\"`"
 
 
 class Pasted(NamedTuple):
-    """A password, and the field of the hash that it is compared with."""
+    """A password, and the field with the hash to compare it with."""
 
     password: bytes
     field: bytes
 
 
 def ask_for_both(ask: Ask) -> Pasted:
-    """A password and a hash that are asked for at a terminal.
+    """Asks for a password and a hash at a terminal.
 
-    A line break in what is pasted ends an answer. The rest of it is there when it is asked for.
+    A line break in a pasted text ends an answer. The rest of the text answers the next prompt.
     """
     password = ask(PASSWORD_PROMPT)
     pasted = b""
@@ -46,7 +46,7 @@ def ask_for_both(ask: Ask) -> Pasted:
 
 
 def piped_both(console: Console) -> Pasted:
-    """A password and a hash on standard input, the hash perhaps in several lines."""
+    """Reads a password and a hash from standard input, the hash perhaps in several lines."""
     lines = PipedLines(console)
     password = lines.password()
     first = lines.next()
@@ -66,18 +66,18 @@ def piped_both(console: Console) -> Pasted:
 
 
 def without_blanks(pasted: bytes) -> bytes:
-    """What was pasted, without blanks and characters that show nothing."""
+    """Removes blanks and invisible characters from a pasted text."""
     text = "".join(pasted.decode("utf-8", "surrogateescape").split())
     return text.translate(SHOWS_NOTHING).encode("utf-8", "surrogateescape")
 
 
 def field_of_pasted(pasted: bytes) -> bytes:
-    """The field of a hash, of which the whole line may have been pasted, or quotes around it."""
+    """Returns the field with the hash from a pasted hash or line, perhaps in quotes."""
     line = without_blanks(pasted).strip(QUOTES)
     name, colon, rest = line.partition(b":")
     return rest.partition(b":")[0].strip(QUOTES) if colon else name
 
 
 def is_cut(pasted: bytes) -> bool:
-    """Whether the beginning of a hash was pasted, whose rest may follow."""
+    """Whether only the beginning of a hash was pasted, so that the rest may follow."""
     return library.describe(without_prefix(field_of_pasted(pasted))).state is State.DEAD

@@ -1,4 +1,4 @@
-"""The lines of standard input that isn't a terminal, the first of which is a password."""
+"""Reads standard input that isn't a terminal. Its first line is a password."""
 
 from __future__ import annotations
 
@@ -11,7 +11,7 @@ from pwhash.source import Source
 
 
 class PipedLines:
-    """Lines as they come."""
+    """The lines of standard input, as they come."""
 
     def __init__(self, console: Console) -> None:
         self._console = console
@@ -19,14 +19,14 @@ class PipedLines:
         self._waiting: List[bytes] = []
 
     def password(self) -> bytes:
-        """The first line."""
+        """Returns the first line."""
         line = self.next()
         if line is None:
             raise UsageError("standard input is empty: its first line has to be the password.")
         return line
 
     def next(self) -> Optional[bytes]:
-        """The next line, for which it waits, or None at the end."""
+        """Waits for the next line, and returns it, or None at the end."""
         while not self._waiting:
             group = next(self._groups, None)
             if group is None:
@@ -35,12 +35,12 @@ class PipedLines:
         return self._waiting.pop(0)
 
     def next_at_once(self) -> Optional[bytes]:
-        """The next line if it is there by now, or None."""
+        """Returns the next line if it is there already, or None."""
         if not self._waiting:
             self._waiting += [line.data for line in next(self._groups, [])]
         return self._waiting.pop(0) if self._waiting else None
 
     def tell_of_further(self, last: str) -> None:
-        """Names lines that don't count, if they are there by now."""
+        """Warns about further lines, which are ignored, if they are there already."""
         if self.next_at_once():
             self._console.say(f"lines of standard input behind {last} don't count.")

@@ -1,7 +1,7 @@
-"""Where a password file is: its folder, and the files that others who replace it put beside it.
+"""Where a password file is: its folder, and the names of the files that a replacement needs there.
 
-The folder is opened once, and everything in it is reached through that descriptor. So whoever
-renames a folder or puts a link in its place meanwhile leads nothing elsewhere.
+The folder is opened once, and everything in it is reached through that descriptor. So it makes no
+difference if somebody renames the folder meanwhile, or puts a link in its place.
 """
 
 from __future__ import annotations
@@ -15,16 +15,16 @@ from typing import NamedTuple, Optional, Set
 from pwhash.errors import UsageError, errors_named
 from pwhash.text import named, quoted
 
-# What others can write, they can exchange for a file of theirs at any moment.
+# In a folder that others can write, they can replace a file at any moment.
 WRITABLE_BY_OTHERS = stat.S_IWGRP | stat.S_IWOTH
 SUPERUSER = 0
 AS_SUPERUSER = "Run pwhash as its owner or as the superuser, by sudo say."
 
 
 class Place(NamedTuple):
-    """A password file by its open folder and its name there, as pam_mkpasswd(8) calls its files."""
+    """A password file: its open folder, its name, and the names in pam_mkpasswd(8) beside it."""
 
-    path: str  # as it was typed
+    path: str  # as the user typed it
     folder: int
     name: str
 
@@ -35,41 +35,41 @@ class Place(NamedTuple):
 
     @property
     def lock(self) -> str:
-        """The file that is locked."""
+        """The name of the file that is locked."""
         return f"{self.name}.mkpasswd.lock"
 
     @property
     def new(self) -> str:
-        """The new file, before it takes the place of the old one, and then the old one."""
+        """The name of the new file before the exchange, and of the old one after it."""
         return f"{self.name}.mkpasswd.new"
 
     @property
     def note(self) -> str:
-        """The link that says which files are exchanged."""
+        """The name of the link that says which files are exchanged."""
         return f"{self.name}.mkpasswd.exchange"
 
     def look(self, name: str) -> Optional[os.stat_result]:
-        """What has a name in the folder, or None."""
+        """Returns the status of the file with a name in the folder, or None."""
         try:
             return os.stat(name, dir_fd=self.folder, follow_symlinks=False)
         except FileNotFoundError:
             return None
 
     def sync(self) -> None:
-        """Writes the names in the folder to the disk. Not every file system can."""
+        """Flushes the names in the folder to disk. Some file systems can't."""
         with contextlib.suppress(OSError):
             os.fsync(self.folder)
 
 
 @contextlib.contextmanager
 def opened_place(path: str) -> Iterator[Place]:
-    """Opens the folder of a password file, once it is sure that this process may be trusted."""
+    """Opens the folder of a password file. Refuses to run set-user-ID or set-group-ID."""
     refuse_set_id()
     folder, name = os.path.split(path)
     if name in ("", ".", ".."):
         raise UsageError(f"{named(path)} is a folder. Name a password file.")
     with errors_named(named(path)):
-        # The kernel follows links here, which refuses those of strangers in /tmp, say.
+        # The kernel follows links here. It refuses those of strangers in /tmp, for example.
         descriptor = os.open(folder or ".", os.O_RDONLY | os.O_DIRECTORY | os.O_CLOEXEC)
     try:
         yield Place(path, descriptor, name)
@@ -78,7 +78,7 @@ def opened_place(path: str) -> Iterator[Place]:
 
 
 def refuse_set_id() -> None:
-    """Refuses to write for a caller who lends this process the rights of somebody else."""
+    """Refuses to run with the rights of another user than the caller."""
     if len(set(os.getresuid())) != 1 or len(set(os.getresgid())) != 1:
         raise UsageError(
             "a set-user-ID or set-group-ID program runs pwhash, which then changes no file. "
@@ -87,7 +87,7 @@ def refuse_set_id() -> None:
 
 
 def found_file(place: Place) -> os.stat_result:
-    """The status of the file. A link, and all that is no regular file, are refused."""
+    """Returns the status of the file. Refuses a link, and anything but a regular file."""
     found = place.look(place.name)
     if found is None:
         raise UsageError(
@@ -99,7 +99,7 @@ def found_file(place: Place) -> os.stat_result:
 
 
 def refuse_strange_file(place: Place, found: os.stat_result) -> None:
-    """Refuses a link, and anything else that is no regular file with one name."""
+    """Refuses a link, and anything but a regular file with a single name."""
     if stat.S_ISLNK(found.st_mode):
         target = os.path.realpath(place.path)
         raise UsageError(f"{place.shown} is a symbolic link. Name the file: {named(target)}.")
@@ -115,14 +115,14 @@ def refuse_strange_file(place: Place, found: os.stat_result) -> None:
 
 
 def refuse_unwritable(place: Place) -> None:
-    """Refuses a file that this user may not change, before a password is asked for."""
+    """Refuses a file that this user may not change. Called before pwhash asks for a password."""
     if not may(place, place.name, os.R_OK | os.W_OK):
         raise UsageError(f"you aren't allowed to write {place.shown}. {AS_SUPERUSER}")
     refuse_folder_of_others(place)
 
 
 def refuse_folder_of_others(place: Place) -> None:
-    """Refuses a folder in which this user may make no files."""
+    """Refuses a folder in which this user may not create files."""
     if not may(place, ".", os.W_OK | os.X_OK):
         raise UsageError(
             f"you aren't allowed to make files in the folder of {place.shown}, where the new "
@@ -131,15 +131,15 @@ def refuse_folder_of_others(place: Place) -> None:
 
 
 def may(place: Place, name: str, mode: int) -> bool:
-    """Whether this process may do this with what has a name in the folder."""
+    """Whether this process has this access to a name in the folder."""
     return os.access(name, mode, dir_fd=place.folder, effective_ids=True)
 
 
 def refuse_open_folder(place: Place, owner: int) -> None:
-    """Refuses a folder that others can write, or can put another one in the place of.
+    """Refuses a folder that others can write, or that they can replace.
 
-    The file's owner can change the file anyway. Above the folder, a sticky one, such as /tmp, lets
-    nobody rename what isn't theirs.
+    The file's owner may write it, since they can change the file anyway. Above the folder, a sticky
+    one such as /tmp is fine: there nobody can rename what isn't theirs.
     """
     trusted = {SUPERUSER, os.geteuid(), owner}
     with errors_named(f"{place.shown}, a folder above it"):
@@ -148,7 +148,7 @@ def refuse_open_folder(place: Place, owner: int) -> None:
 
 
 def folders_upwards(folder: int) -> Iterator[os.stat_result]:
-    """The status of an open folder, and of each above it."""
+    """Yields the status of an open folder, and of each folder above it."""
     descriptor = os.dup(folder)
     try:
         status, below = os.fstat(descriptor), None
@@ -165,7 +165,7 @@ def folders_upwards(folder: int) -> Iterator[os.stat_result]:
 def refuse_untrusted(
     place: Place, status: os.stat_result, trusted: Set[int], is_first: bool
 ) -> None:
-    """Refuses a folder of somebody else, or that somebody else can write."""
+    """Refuses a folder that belongs to somebody else, or that others can write."""
     which = "its folder" if is_first else "a folder above it"
     if status.st_uid not in trusted:
         raise UsageError(

@@ -1,4 +1,4 @@
-"""What this process inherits and may not do, before it reads a password."""
+"""Protects the process from what it inherits, before it reads a password."""
 
 from __future__ import annotations
 
@@ -10,12 +10,12 @@ import signal
 from pwhash import system
 from pwhash.console import STDERR
 
-# Lines are no garbage while they are there, and there may be many.
+# A run may keep many lines, none of which is garbage, so collections are rare.
 OBJECTS_BETWEEN_COLLECTIONS = 1 << 20
 
 
 def prepare() -> None:
-    """Makes the process one that a run can rely on, however it was begun."""
+    """Puts the process into a known state, however it was started."""
     never_dump()
     occupy_standard_descriptors()
     gc.set_threshold(OBJECTS_BETWEEN_COLLECTIONS)
@@ -23,10 +23,10 @@ def prepare() -> None:
 
 
 def never_dump() -> None:
-    """No signal writes the memory of this process to a file.
+    """Prevents core dumps, which would contain passwords.
 
-    With a limit of 0 bytes the kernel still gives the memory to a program that collects dumps,
-    with 1 byte it doesn't, and a file begins with more than that.
+    With a limit of 0 bytes the kernel still passes the memory to a program that collects dumps.
+    With 1 byte it doesn't, and a dump to a file needs more than that.
     """
     _, hard = resource.getrlimit(resource.RLIMIT_CORE)
     soft = 0 if hard == 0 else 1
@@ -35,6 +35,6 @@ def never_dump() -> None:
 
 
 def occupy_standard_descriptors() -> None:
-    """Lets nothing else get the number of an input or output that the caller closed."""
+    """Opens the standard descriptors that the caller closed, so that no file gets their numbers."""
     while os.open("/", os.O_PATH) <= STDERR:
         pass

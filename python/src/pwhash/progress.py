@@ -1,4 +1,4 @@
-"""How far a run is, in place on the terminal."""
+"""The progress line on the terminal."""
 
 from __future__ import annotations
 
@@ -10,21 +10,21 @@ FIRST_AFTER, INTERVAL = 1.0, 0.5  # seconds
 
 
 class Progress:
-    """Shows how far a run is, unless nobody knows how many lines come."""
+    """Shows how far a run is, if the number of lines is known."""
 
     def __init__(self, console: Console, verb: str, total: int) -> None:
         self._console = console
         self._verb = verb
         self._total = total
         self._next = FIRST_AFTER
-        self._first = 0  # the line at which the time below was taken
+        self._first = 0  # the line at which the time below begins
         self._begun = 0.0
 
     def reached(self, line: int) -> None:
-        """The run has come to this line."""
+        """Notes that the run has done this line, and updates the progress line now and then."""
         if not self._total:
             return
-        if not self._begun:  # the first lines say nothing about speed: they wait for all threads
+        if not self._begun:  # the first lines are slow, while threads start: they don't count
             self._first, self._begun = line, time.monotonic()
             return
         seconds = time.monotonic() - self._begun
@@ -34,7 +34,7 @@ class Progress:
             self._show(line, (line - self._first) / seconds)
 
     def end(self) -> None:
-        """Shows nothing more."""
+        """Clears the progress line."""
         self._console.clear_progress()
 
     def _show(self, line: int, rate: float) -> None:

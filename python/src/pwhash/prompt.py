@@ -1,4 +1,4 @@
-"""Asks at the terminal for passwords, as bytes, since nothing says which encoding they have."""
+"""Asks for passwords at the terminal. They are bytes, since their encoding is unknown."""
 
 from __future__ import annotations
 
@@ -13,7 +13,7 @@ from typing import Any, Callable, List, NamedTuple, Set, TypeVar
 from pwhash.console import STDERR, STDIN, open_terminal
 from pwhash.errors import Stop, UsageError
 
-# All that end a process, or would if it caught none, but SIGKILL.
+# All signals that end a process by default, except SIGKILL, which can't be blocked.
 FATAL = signal.valid_signals() - {
     signal.SIGKILL,
     signal.SIGSTOP,
@@ -25,13 +25,13 @@ FATAL = signal.valid_signals() - {
     signal.SIGURG,
     signal.SIGWINCH,
 }
-# Places in what termios.tcgetattr returns.
+# Indexes into the list that termios.tcgetattr returns.
 INPUT_FLAGS, LOCAL_FLAGS = 0, 3
 ECHO = termios.ECHO | termios.ECHOE | termios.ECHOK | termios.ECHONL
-# A terminal with XCASE shows and reads capitals as small letters behind a backslash.
+# With XCASE a terminal shows and reads a capital as a backslash and a small letter.
 XCASE = getattr(termios, "XCASE", 0o4)
 CHANGES_LINES = ECHO | XCASE
-# What makes another byte of a key, or two.
+# The flags that turn a key's byte into another one, or into two.
 IUCLC = getattr(termios, "IUCLC", 0o1000)
 CHANGES_KEYS = termios.ISTRIP | IUCLC | termios.PARMRK | termios.IGNCR | termios.INLCR
 POLL_SECONDS = 0.05
@@ -42,7 +42,7 @@ Answers = TypeVar("Answers")
 
 
 class Terminal(NamedTuple):
-    """A terminal as it was before it asked, and the signals that wait."""
+    """A terminal, its settings before the prompt, and the signals that are blocked meanwhile."""
 
     fd: int
     before: List[Any]
@@ -50,7 +50,7 @@ class Terminal(NamedTuple):
 
 
 def ask_password() -> bytes:
-    """A new password, if it is the same at both prompts."""
+    """Asks twice for a new password, and returns it if both are the same."""
     password, again = ask_each(b"Password: ", b"Again: ")
     if again != password:
         raise UsageError("the two passwords differ. Start again.")
@@ -58,14 +58,14 @@ def ask_password() -> bytes:
 
 
 def ask_each(*prompts: bytes) -> List[bytes]:
-    """What is typed at each prompt, while the terminal shows nothing of it."""
+    """Returns what is typed at each prompt. The terminal doesn't show it."""
     return hidden(lambda ask: [ask(prompt) for prompt in prompts])
 
 
 def hidden(conversation: Callable[[Ask], Answers]) -> Answers:
-    """What comes of prompts, while the terminal shows nothing of what is typed.
+    """Returns the result of a conversation, during which the terminal doesn't show what is typed.
 
-    Standard input is a terminal, and serves where there is no /dev/tty.
+    Standard input has to be a terminal. It is used if there is no /dev/tty.
     """
     signal.signal(signal.SIGTSTP, signal.SIG_IGN)  # the shell would show what is typed after Ctrl-Z
     fd = open_terminal()
@@ -78,7 +78,7 @@ def hidden(conversation: Callable[[Ask], Answers]) -> Answers:
 
 
 def ask_hidden(fd: int, conversation: Callable[[Ask], Answers]) -> Answers:
-    """Asks while signals wait until the terminal is as it was."""
+    """Asks at a terminal. Signals are blocked until its settings are restored."""
     wait_for_foreground(fd)
     try:
         before = termios.tcgetattr(fd)
@@ -89,7 +89,7 @@ def ask_hidden(fd: int, conversation: Callable[[Ask], Answers]) -> Answers:
     signal.pthread_sigmask(signal.SIG_BLOCK, waiting)
     try:
         hide(terminal)
-        # A shell shows keys while the program is stopped.
+        # While the program is stopped, a shell makes the terminal show keys again.
         signal.signal(signal.SIGCONT, lambda *_: hide_again(terminal))
         return conversation(lambda prompt: ask(terminal, prompt))
     finally:
@@ -121,9 +121,10 @@ def wait_for_foreground(fd: int) -> None:
 
 
 def hide_again(terminal: Terminal) -> None:
-    """After the process was stopped.
+    """Hides keys again after the process was stopped.
 
-    If it goes on in the background, to change the terminal would stop it while signals wait.
+    If it continues in the background, changing the terminal would stop it with signals blocked.
+    So it waits until it is in the foreground.
     """
     while is_in_background(terminal.fd):
         if signal.sigpending().intersection(terminal.waiting):
@@ -133,7 +134,7 @@ def hide_again(terminal: Terminal) -> None:
 
 
 def hide(terminal: Terminal) -> None:
-    """From here on the terminal shows no key, gives whole lines, and Ctrl-C works."""
+    """Makes the terminal show no keys, return whole lines, and handle Ctrl-C."""
     changed = [*terminal.before]
     changed[INPUT_FLAGS] = changed[INPUT_FLAGS] & ~CHANGES_KEYS | termios.ICRNL
     changed[LOCAL_FLAGS] = changed[LOCAL_FLAGS] & ~CHANGES_LINES | termios.ICANON | termios.ISIG
@@ -147,7 +148,7 @@ def hide(terminal: Terminal) -> None:
 
 
 def cant_hide() -> Stop:
-    """The error for a terminal that would show a password."""
+    """Returns the error for a terminal that would show a password."""
     return Stop(
         "this terminal can't hide what is typed, so no password is asked for. "
         "Give it on standard input."
@@ -155,9 +156,9 @@ def cant_hide() -> Stop:
 
 
 def restore(terminal: Terminal) -> None:
-    """Nothing that was typed and not read is left for the shell, either.
+    """Restores the terminal, and discards unread input, so that no shell gets it.
 
-    In the background the terminal is another's, who has set it.
+    In the background the terminal belongs to another program, which has set it.
     """
     if is_in_background(terminal.fd):
         return
@@ -168,7 +169,7 @@ def restore(terminal: Terminal) -> None:
 
 
 def ask(terminal: Terminal, prompt: bytes) -> bytes:
-    """What is typed at a prompt."""
+    """Shows a prompt, and returns what is typed there."""
     show(terminal.fd, prompt)
     try:
         return read_line(terminal)
@@ -177,7 +178,7 @@ def ask(terminal: Terminal, prompt: bytes) -> bytes:
 
 
 def show(fd: int, text: bytes) -> None:
-    """Standard input can be a terminal that is open for reading only."""
+    """Writes to the terminal, or to standard error if it is open for reading only."""
     try:
         os.write(fd, text)
     except OSError:
@@ -185,7 +186,7 @@ def show(fd: int, text: bytes) -> None:
 
 
 def read_line(terminal: Terminal) -> bytes:
-    """What is typed before Return, unless one of the signals comes that wait."""
+    """Returns what is typed before Return. Stops if a blocked signal is pending."""
     line = b""
     while not line.endswith(b"\n"):
         while not select.select([terminal.fd], [], [], POLL_SECONDS)[0]:

@@ -1,6 +1,6 @@
-"""Replaces a password file by a new version of it, in the order of the steps in pam_mkpasswd(8).
+"""Replaces a password file with a new version, in the order of the steps in pam_mkpasswd(8).
 
-Renewals of logins and changes of passwords can do the same at any moment.
+Logins that renew a hash, and changes of passwords, can do the same at any moment.
 """
 
 from __future__ import annotations
@@ -22,16 +22,16 @@ from pwhash.session import Session
 
 MOST_TRIES = 8
 
-# Makes the new content of the present one. It raises a Stop if nothing can or need be changed.
+# Returns the new content of a file with this content. Raises Stop if that can't be changed.
 Change = Callable[[bytes], bytes]
 
 
 def replace(place: Place, change: Change, session: Session) -> None:
-    """Makes a change of a file, of whatever somebody else has made of it by then."""
+    """Changes a file. If somebody else changes it meanwhile, starts again from their version."""
     status = found_file(place)
     with held(place, Owner(status.st_uid, status.st_gid)), errors_named_of(place):
         for _ in range(MOST_TRIES):
-            # A signal that comes meanwhile ends the run behind it.
+            # A signal that arrives meanwhile ends the run after the block.
             with session.signals.postponed():
                 if replace_once(place, change) is Outcome.DONE:
                     session.changed = place.shown
@@ -41,7 +41,7 @@ def replace(place: Place, change: Change, session: Session) -> None:
 
 @contextlib.contextmanager
 def errors_named_of(place: Place) -> Iterator[None]:
-    """Makes each error of the system in the block a sentence: then the old file is in its place."""
+    """Turns errors of the system in the block into sentences, which say that the file stays."""
     try:
         yield
     except OSError as error:

@@ -1,4 +1,4 @@
-"""Shows what an audit finds: as a table with a summary, or as JSON."""
+"""Prints what an audit finds: as a table with a summary, or as JSON."""
 
 from __future__ import annotations
 
@@ -13,12 +13,12 @@ from typing import List, Tuple
 from pwhash.console import STDOUT, Console
 from pwhash.findings import SEVERITY, Finding, Judgement
 
-INDENT = " " * 8  # of a sentence that goes on
-ANY_COLUMNS = 1 << 16  # of an output that is no terminal
+INDENT = " " * 8  # of the further lines of a sentence
+ANY_COLUMNS = 1 << 16  # for an output that isn't a terminal
 
 
 class Report(abc.ABC):
-    """Takes judgements, of which it shows what it can, and at the end the rest."""
+    """Takes judgements and prints them, at once or at the end."""
 
     def __init__(self, console: Console) -> None:
         self._console = console
@@ -29,7 +29,7 @@ class Report(abc.ABC):
 
     @abc.abstractmethod
     def end(self, counts: Counter[Finding], source_name: str) -> None:
-        """Shows the rest."""
+        """Prints the rest."""
 
     def print(self, lines: Sequence[str]) -> None:
         """Prints lines on standard output."""
@@ -37,7 +37,7 @@ class Report(abc.ABC):
 
 
 class JsonReport(Report):
-    """An object a line."""
+    """Prints a JSON object for each line."""
 
     def add(self, judgements: Sequence[Judgement]) -> None:
         self.print([as_json(judgement) for judgement in judgements])
@@ -47,7 +47,7 @@ class JsonReport(Report):
 
 
 class TableReport(Report):
-    """A row for each line, in the order of the lines, and then what to do about each finding."""
+    """Prints a row for each line, in their order, and then what to do about each finding."""
 
     def __init__(self, console: Console) -> None:
         super().__init__(console)
@@ -68,17 +68,17 @@ class TableReport(Report):
         )
 
     def heading(self) -> str:
-        """The row above all."""
+        """Returns the first row."""
         return self._laid_out("NAME", "METHOD", "ROUNDS", "FINDING")
 
     def row(self, found: Judgement) -> str:
-        """The row of a judgement."""
+        """Returns the row of a judgement."""
         finding = f"{found.finding.word} {found.message or ''}".rstrip()
         text = self._laid_out(found.name, found.method or "", str(found.rounds or ""), finding)
         return self._coloured(found.finding, text)
 
     def _laid_out(self, name: str, method: str, rounds: str, finding: str) -> str:
-        """The columns of a row, or in a narrow terminal the name above the others."""
+        """Returns the columns of a row. In a narrow terminal the name is above the others."""
         row = f"{name:20}  {method:12}  {rounds:>11}  {finding}"
         if len(row) <= self._columns:
             return row
@@ -97,7 +97,7 @@ class TableReport(Report):
 
 
 class WorstFirstReport(TableReport):
-    """As a table, but the worst first, and nothing at all if there is no row."""
+    """Prints the table with the worst findings first, or nothing if it would be empty."""
 
     def __init__(self, console: Console) -> None:
         super().__init__(console)
@@ -114,12 +114,12 @@ class WorstFirstReport(TableReport):
 
 
 def as_json(found: Judgement) -> str:
-    """An object with the fields of a judgement."""
+    """Returns a judgement as a JSON object."""
     return json.dumps({**found._asdict(), "finding": found.finding.word})
 
 
 def columns_of_output() -> int:
-    """The width of the terminal that is standard output; any other output is as wide as needed."""
+    """Returns the width of standard output. Only a terminal's is limited."""
     try:
         return os.get_terminal_size(STDOUT).columns or ANY_COLUMNS
     except OSError:

@@ -1,4 +1,4 @@
-"""Goes on with the OUT.part of an earlier run, whose lines are compared with the input's."""
+"""Continues the OUT.part of an earlier run, once its lines are compared with the input's."""
 
 from __future__ import annotations
 
@@ -24,16 +24,16 @@ LINES_TOGETHER = 1 << 10
 
 
 class Parts(NamedTuple):
-    """The parts of a hash that all of a run have in common."""
+    """The parts that all hashes of a run have in common."""
 
     setting: bytes  # method and cost
-    salt: bytes  # if one was given
+    salt: bytes  # empty unless -S gave one
     salt_length: int
     digest_length: int
 
 
 def skip_made(part: Part, arrivals: Arrivals, policy: Policy, source_name: str) -> Arrivals:
-    """The lines whose hashes aren't in the part yet. What is behind its last hash is cut off."""
+    """Returns the lines without a hash in the part. Cuts an incomplete line off its end."""
     lines = itertools.chain.from_iterable(arrivals)
     with errors_named(part.name):
         count, size = whole_lines(part.fd)
@@ -45,7 +45,7 @@ def skip_made(part: Part, arrivals: Arrivals, policy: Policy, source_name: str) 
 
 
 def whole_lines(fd: int) -> Tuple[int, int]:
-    """How many lines of a part have an end, and how many bytes they are."""
+    """Returns the number of complete lines in a part, and their bytes."""
     count = size = 0
     with open(fd, "rb", closefd=False) as file:
         for line in file:
@@ -58,8 +58,8 @@ def whole_lines(fd: int) -> Tuple[int, int]:
 class Comparison(NamedTuple):
     """Compares the lines of a part with the lines of the input.
 
-    Each hash has to be behind the name of its line, and like the first one. The first and the last
-    are made again, which shows that passwords and options are the same.
+    Each line has to have the name of its input line, and a hash with the setting of the first one.
+    The first and the last hash are computed again, to see that passwords and options are the same.
     """
 
     part_name: str
@@ -67,7 +67,7 @@ class Comparison(NamedTuple):
     policy: Policy
 
     def compare(self, answers: Iterator[bytes], count: int, lines: Iterator[Line]) -> None:
-        """Refuses a part unless its lines are hashes of the input's, one for each."""
+        """Refuses a part unless its lines belong to the first lines of the input, one to each."""
         first: Optional[Parts] = None
         for place, answer in enumerate(answers):
             line = next(lines, None)
@@ -90,7 +90,7 @@ class Comparison(NamedTuple):
 
 
 def hash_in(answer: bytes, line: Optional[Line]) -> Optional[Match[bytes]]:
-    """The hash behind the name of a line, or None if the answer is to another one."""
+    """Returns the hash in an answer, or None if the answer isn't to this line."""
     if line is None:
         return None
     name = name_of(line) + b":"
@@ -98,13 +98,13 @@ def hash_in(answer: bytes, line: Optional[Line]) -> Optional[Match[bytes]]:
 
 
 def parts_of(found: Match[bytes], policy: Policy) -> Parts:
-    """What a hash has in common with others of its run."""
+    """Returns what a hash has in common with others of its run."""
     setting, salt, digest = found.groups()
     return Parts(setting, salt if policy.setting else b"", len(salt), len(digest))
 
 
 def is_made_again(found: Match[bytes], line: Line, policy: Policy) -> bool:
-    """Whether a new hash by the policy with the salt of the kept one is the same."""
+    """Whether hashing the line again, with the salt of the old hash, gives the same hash."""
     try:
         setting = policy.setting or library.setting(policy.method, policy.rounds, found[2])
     except library.RefusedSalt:
@@ -114,7 +114,7 @@ def is_made_again(found: Match[bytes], line: Line, policy: Policy) -> bool:
 
 
 def together(lines: Iterable[Line]) -> Iterator[List[Line]]:
-    """Lines in groups."""
+    """Yields lines in groups."""
     lines = iter(lines)
     group = list(itertools.islice(lines, LINES_TOGETHER))
     while group:

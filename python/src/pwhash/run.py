@@ -49,27 +49,27 @@ class Command(Protocol):
 
 
 def main() -> NoReturn:
-    """Runs pwhash, as a script of pip does. The process ends."""
+    """Runs pwhash from a script that pip installs. The process ends."""
     run(sys.argv[0], sys.argv[1:])
 
 
 def run(command: str, words: Sequence[str]) -> NoReturn:
-    """Runs the words of a command line, whose command was typed so. The process ends."""
+    """Runs a command line. `command` is how pwhash was called. The process ends."""
     unforeseen.watch()
     process.prepare()
     session = Session(command, words)
     session.signals.watch()
-    # os._exit leaves out what Python does at its end, which can fail and then change the status.
+    # os._exit skips Python's own cleanup, which can fail and then change the status.
     os._exit(status_of(session, words))
 
 
 def status_of(session: Session, words: Sequence[str]) -> Status:
-    """Runs a command, and returns its exit status. Where nobody reads the output, it dies."""
+    """Runs a command, and returns its exit status. Dies of SIGPIPE if nobody reads the output."""
     try:
         return answer(session, words)
     except Stop as stop:
         return session.fail(stop)
-    except BrokenPipeError:  # as of `| head`: others end so, too, and quietly
+    except BrokenPipeError:  # by `| head`, for example: end quietly, as other programs do
         session.console.clear_progress()
         die_of(signal.SIGPIPE)
     except OSError as error:
@@ -80,7 +80,7 @@ def status_of(session: Session, words: Sequence[str]) -> Status:
 
 
 def answer(session: Session, words: Sequence[str]) -> Status:
-    """Runs a command to its end."""
+    """Reads the options, and runs the command."""
     try:
         session.options = read_options(words)
     except Shown as shown:
@@ -90,7 +90,7 @@ def answer(session: Session, words: Sequence[str]) -> Status:
 
 
 def has_problem(options: Options, session: Session) -> bool:
-    """Runs the command that the options are of. Returns whether there is a problem."""
-    # Only its module is loaded, since each needs others that take a while, such as json or csv.
+    """Runs the command to which the options belong. Returns whether there is a problem."""
+    # Only its module is loaded, since each imports others that load slowly, such as json or csv.
     command: Command = importlib.import_module(MODULES[type(options)])
     return command.run(options, session)

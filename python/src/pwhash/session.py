@@ -1,4 +1,4 @@
-"""One run: what it was asked for, what it has begun, and how it ends."""
+"""The state of one run: its options, the files that it writes, and how it ends."""
 
 from __future__ import annotations
 
@@ -17,7 +17,7 @@ from pwhash.text import quoted, readable_text
 
 
 class Session:
-    """A run. Where it ends early, it says why and how to go on."""
+    """A run. If it ends early, it says why and how to continue."""
 
     def __init__(self, command: str, words: Sequence[str]) -> None:
         self.console = Console()
@@ -30,24 +30,24 @@ class Session:
         self._status_if_whole = Status.OK
 
     def finish(self, part: Part, has_problem: bool) -> None:
-        """The part becomes OUT. From then on a signal doesn't change the status."""
+        """Makes the part OUT. From then on a signal doesn't change the exit status."""
         self._status_if_whole = Status.PROBLEM if has_problem else Status.OK
         part.finish(self.signals, self.console)
 
     def fail(self, stop: Stop) -> Status:
-        """Says why the run ended, on the terminal too if standard error goes elsewhere."""
+        """Says why the run ended, also on the terminal if standard error goes elsewhere."""
         lines = [f"pwhash: {readable_text(stop.sentence)}"]
         if stop.status is Status.FAILED:
             lines = self._with_way_on(lines[0], stop.advice)
         self.console.clear_progress()
         if stop.status is Status.FAILED and not os.isatty(STDERR):
             self.console.on_terminal("".join(f"{line}\n" for line in lines))
-        with contextlib.suppress(Stop):  # where standard error is full, the status still tells
+        with contextlib.suppress(Stop):  # if standard error is full, the exit status still tells
             self.console.lines(STDERR, [line.encode() for line in lines])
         return stop.status
 
     def _with_way_on(self, sentence: str, advice: str) -> List[str]:
-        """The sentence, and how to go on with OUT.part of this run or an earlier one."""
+        """Returns the sentence, and how to continue with OUT.part of this or an earlier run."""
         options = self.options
         if not has_part(options):
             return [sentence]
@@ -61,8 +61,8 @@ class Session:
         return [f"{sentence} To start again, remove {self.part.name}."]
 
     def _typed_again(self, options: FileOptions) -> str:
-        """The command of this run, with --resume."""
-        name, *rest = self._words  # a -- may stand in the rest
+        """Returns the command of this run, with --resume."""
+        name, *rest = self._words  # --resume goes first, since there may be a -- in the rest
         resume = [] if options.resume else ["--resume"]
         command = " ".join(quoted(word) for word in [self._command, name, *resume, *rest])
         if options.input.path is None:
@@ -72,7 +72,7 @@ class Session:
     def _end_by_signal(self, number: signal.Signals) -> None:
         self.console.wait_for_nobody()
         if self.part is not None and self.part.is_whole:
-            with contextlib.suppress(Stop):  # the status still tells
+            with contextlib.suppress(Stop):  # the exit status still tells
                 self.console.say(f"{number.name} came when {self.part.out_name} was whole.")
             os._exit(self._status_if_whole)
         if self.changed is not None:

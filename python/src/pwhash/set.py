@@ -26,7 +26,7 @@ from pwhash.session import Session
 from pwhash.text import is_visible, readable
 from pwhash.workers import in_thread
 
-# What stands in front of a new hash where the old one had a prefix that doesn't fit it.
+# The prefix of a new hash if the old one's doesn't fit it.
 NEW_PREFIXES = {
     Service.APACHE: b"",
     Service.NGINX: b"",
@@ -36,7 +36,7 @@ NEW_PREFIXES = {
 
 
 def run(options: SetOptions, session: Session) -> bool:
-    """Changes one line. What may keep it from that is found before a password is asked for."""
+    """Changes one line. Asks for a password only if nothing else prevents the change."""
     with opened_place(options.path) as place:
         refuse_unfit(place)
         line = Line(place, options, session)
@@ -50,7 +50,7 @@ def run(options: SetOptions, session: Session) -> bool:
 
 
 def refuse_unfit(place: Place) -> None:
-    """Refuses a file of the system, and one that others than its owner can change."""
+    """Refuses a system file, and one that others than its owner can replace."""
     status = found_file(place)
     system_files.refuse_place(place, status)
     refuse_open_folder(place, status.st_uid)
@@ -58,7 +58,7 @@ def refuse_unfit(place: Place) -> None:
 
 
 def hash_of_password(options: SetOptions, session: Session) -> bytes:
-    """The hash of a new password, which is made here or asked for."""
+    """Returns the hash of a new password, which it makes or asks for."""
     policy = options.policy
     if options.generate:
         password = generated(policy, session.console)
@@ -71,11 +71,11 @@ def hash_of_password(options: SetOptions, session: Session) -> bytes:
 
 
 class Line:
-    """The line of a name, and what becomes of it."""
+    """The line of a name, and the change to it."""
 
     def __init__(self, place: Place, options: SetOptions, session: Session) -> None:
         self.new_hash = b""  # until the password is known
-        self.is_so_already = False  # what is asked for, so nothing has to be changed
+        self.is_so_already = False  # the name is already locked or unlocked, as it should be
         self._options = options
         self._console = session.console
         self._place = place
@@ -85,7 +85,7 @@ class Line:
         self._sentence = ""
 
     def look(self) -> None:
-        """Looks whether the change is possible, and whether it is needed."""
+        """Finds out whether the change is possible, and whether it is needed."""
         with password_file.opened(self._place) as file:
             self.changed(file.content)
             entry = password_file.find(file.content, self._name, self._file)
@@ -93,7 +93,7 @@ class Line:
             self._say(f"{self._file} has no {self._who} yet: a line is added.")
 
     def changed(self, content: bytes) -> bytes:
-        """The content of the file with the line changed."""
+        """Returns the content of the file with the line changed."""
         system_files.refuse_shape(content, self._file)
         entry = password_file.find(content, self._name, self._file)
         if entry is None:
@@ -104,7 +104,7 @@ class Line:
         return password_file.with_field(content, entry, self._new_field(entry))
 
     def tell(self) -> None:
-        """Tells what was done."""
+        """Prints what was done."""
         self._say(self._sentence)
 
     def _say(self, sentence: str) -> None:
@@ -112,7 +112,7 @@ class Line:
             self._console.say(sentence)
 
     def _added(self, content: bytes) -> bytes:
-        """The content with a new line."""
+        """Returns the content with a new line."""
         if self._options.action is not Action.PASSWORD:
             raise ProblemsFound(f"{self._file} has no {self._who}.")
         refuse_new_name(self._name, self._options.service)
@@ -129,7 +129,7 @@ class Line:
         return password_file.with_line(content, self._name + b":" + prefix + self.new_hash)
 
     def _new_field(self, entry: Entry) -> Field:
-        """What the name's field becomes."""
+        """Returns the new field of the name."""
         if self._options.action is Action.LOCK:
             return self._locked(entry.field)
         if self._options.action is Action.UNLOCK:
@@ -137,7 +137,7 @@ class Line:
         return self._with_hash(entry.field)
 
     def _with_hash(self, old: Field) -> Field:
-        """The field with the new hash. A locked name stays locked."""
+        """Returns the field with the new hash. A locked name stays locked."""
         if not field.fits(old.prefix, self._options.policy.method):
             if self._options.service is None:
                 raise self._unfit_prefix(old.prefix)
@@ -147,7 +147,7 @@ class Line:
         return old._replace(stored=self.new_hash)
 
     def _unfit_prefix(self, prefix: bytes) -> UsageError:
-        """The error for a prefix that doesn't fit a hash of the method."""
+        """Returns the error for a prefix that doesn't fit a hash of the method."""
         shown, fitting = readable(prefix), field.method_of_prefix(prefix)
         way_out = f"give -m {fitting}, or" if fitting else "give"
         return UsageError(
@@ -157,7 +157,7 @@ class Line:
         )
 
     def _locked(self, old: Field) -> Field:
-        """The field with a mark that lets no password in."""
+        """Returns the field with a mark that locks it."""
         self.is_so_already = old.is_locked
         if old.is_locked:
             self._sentence = f"{self._who} is locked in {self._file} already."
@@ -171,7 +171,7 @@ class Line:
         return old._replace(mark=field.LOCK)
 
     def _unlocked(self, old: Field) -> Field:
-        """The field without its marks, if a hash is left."""
+        """Returns the field without its marks, if it has a hash."""
         self.is_so_already = not old.is_locked
         if not old.is_locked:
             self._sentence = f"{self._who} isn't locked in {self._file}."
@@ -186,7 +186,7 @@ class Line:
 
 
 def refuse_new_name(name: bytes, service: Optional[Service]) -> None:
-    """Refuses a name that services take for another."""
+    """Refuses a name that a service may take for another one."""
     refusal = refused_name(name)
     if refusal is not None:
         raise UsageError(f"NAME: {refusal.words}.")

@@ -1,8 +1,8 @@
 """The signals that end a run.
 
-Their handler ends the process by itself, and raises nothing: an exception could be lost, as in a
-__del__, and would wait for a hash that takes minutes. A run that hashes in the first thread would
-not come to the handler, so hashes are made in others.
+The handler ends the process itself, and doesn't raise an exception: that could be lost, in a
+__del__ for example, and would have to wait for a hash that takes minutes. While the first thread
+hashes, Python can't run the handler, so other threads hash.
 """
 
 from __future__ import annotations
@@ -17,7 +17,7 @@ ENDING = (signal.SIGINT, signal.SIGTERM, signal.SIGHUP, signal.SIGQUIT)
 
 
 class Signals:
-    """Calls a function when the first of the signals comes. It ends the process."""
+    """Calls a function when the first signal arrives. The function ends the process."""
 
     def __init__(self, end: Callable[[signal.Signals], None]) -> None:
         self._end = end
@@ -25,14 +25,14 @@ class Signals:
         self._came: Optional[signal.Signals] = None
 
     def watch(self) -> None:
-        """Begins to handle them. One that the caller ignores, as nohup does, stays ignored."""
+        """Installs the handlers. A signal that the caller ignores, as nohup does, stays ignored."""
         for number in ENDING:
             if signal.getsignal(number) != signal.SIG_IGN:
                 signal.signal(number, self._handle)
 
     @contextlib.contextmanager
     def postponed(self) -> Iterator[None]:
-        """A signal that comes in the block ends the process behind it."""
+        """Postpones signals: one that arrives in the block ends the process after it."""
         self._is_postponed = True
         try:
             yield
@@ -52,4 +52,4 @@ def die_of(number: signal.Signals) -> NoReturn:
     signal.signal(number, signal.SIG_DFL)
     signal.pthread_sigmask(signal.SIG_UNBLOCK, [number])
     os.kill(os.getpid(), number)
-    os._exit(128 + number)  # the first process of a container, which no signal ends
+    os._exit(128 + number)  # no signal ends the first process of a container

@@ -1,4 +1,4 @@
-"""Leaves out lines by what another file says of their names, and tells which lines those are."""
+"""Leaves out lines because of what another file says about their names, and reports them."""
 
 from __future__ import annotations
 
@@ -8,11 +8,11 @@ from pwhash.console import Console
 from pwhash.lines import Arrivals, Line, name_of
 from pwhash.text import named, readable
 
-MOST_SHOWN = 20  # lines that are named
+MOST_SHOWN = 20  # lines that are reported
 
 
 class Skipping(abc.ABC):
-    """Leaves out lines. Which ones, it tells while they are read for the first time."""
+    """Leaves out lines. It reports them when they are read for the first time."""
 
     def __init__(self, path: str, source_name: str, console: Console) -> None:
         self.path = path
@@ -24,7 +24,7 @@ class Skipping(abc.ABC):
     @property
     @abc.abstractmethod
     def reason(self) -> str:
-        """Why a line is left out, behind its name."""
+        """Why a line is left out: the end of a message that begins with the line."""
 
     @property
     @abc.abstractmethod
@@ -41,7 +41,7 @@ class Skipping(abc.ABC):
         return named(self.path)
 
     def without(self, arrivals: Arrivals) -> Arrivals:
-        """The other lines. What is left out is told once."""
+        """Yields the other lines. Reports those that are left out, the first time only."""
         for group in arrivals:
             kept = [line for line in group if not self._is_left_out(line)]
             if kept or not group:

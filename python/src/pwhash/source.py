@@ -1,4 +1,4 @@
-"""Reads lines from a file or a pipe, as they come, and notices whether a file changes."""
+"""Reads lines from a file or a pipe as they come, and notices if a file changes."""
 
 from __future__ import annotations
 
@@ -17,17 +17,17 @@ from pwhash.options import Input
 from pwhash.text import named, quoted
 
 PIECE = 1 << 18
-# The bytes that are kept of a line whose end hasn't come. A row may have 128 KiB, so one byte more
-# shows that the row is too long, and the bytes behind that are never needed.
+# How many bytes of an unfinished line are kept. A row may have 128 KiB, so one byte more shows that
+# the row is too long, and later bytes aren't needed.
 LONGEST_KEPT = (1 << 17) + 1
 IDLE_MILLISECONDS = 20
-SECONDS_UNTIL_WRITER = 3  # until somebody writes a pipe with a name
+SECONDS_UNTIL_WRITER = 3  # that a named pipe may take to get a writer
 IN_FRONT_OF_LOCKED = re.compile(rb"^([^:]*:)[!*]+(?=\$)")
 READ_TWICE = "-o and --look need a file, which can be read twice. Give its name, or leave them out."
 
 
 class Source:
-    """The input of a run. A regular file can be read again, and its lines can be counted."""
+    """The input of a run. If it is a regular file, it can be read again, and its lines counted."""
 
     def __init__(self, wanted: Input, console: Console, is_read_twice: bool = False) -> None:
         self.input = wanted
@@ -36,18 +36,18 @@ class Source:
         self.begun = os.fstat(self.fd)
         self.is_regular = stat.S_ISREG(self.begun.st_mode)
         self.has_lines = False
-        self.separator = ","  # of the columns, once its table is read
+        self.separator = ","  # between the columns of a table; known once it is read
         self._refuse_unfit(is_read_twice)
         refuse_as_output(self.begun, self.name, console)
         if os.isatty(self.fd):
             console.say("reading lines from the terminal, which shows them; Ctrl-D ends them.")
-        # Standard input can be a file that somebody has read a part of.
+        # Standard input can be a file of which another program has read the beginning.
         self._start = os.lseek(self.fd, 0, os.SEEK_CUR) if self.is_regular else 0
-        # Of 0 lines no progress is shown.
+        # With a total of 0, no progress is shown.
         self.total = self._count() if self.is_regular and wanted.counts_lines else 0
 
     def lines(self) -> Arrivals:
-        """All lines, from the beginning."""
+        """Yields all lines from the beginning."""
         if self.is_regular:
             os.lseek(self.fd, self._start, os.SEEK_SET)
         first, rest, is_end = 1, b"", False
@@ -65,25 +65,25 @@ class Source:
             first, rest = first + len(whole), rest[:LONGEST_KEPT]
 
     def is_ready(self) -> bool:
-        """Whether there is something to read, or the end; it waits a moment for that."""
+        """Waits a moment for input or its end, and returns whether there is any."""
         poll = select.poll()
         poll.register(self.fd, select.POLLIN)
         return bool(poll.poll(IDLE_MILLISECONDS))
 
     def path_for_shell(self) -> str:
-        """A name of the file for a shell."""
+        """Returns a name of the file for a shell."""
         path = self.input.path
         return quoted(os.readlink(f"/proc/self/fd/{STDIN}") if path is None else path)
 
     def refuse_nothing(self) -> None:
-        """An empty file is a mistake, such as `pwhash file list > list`."""
+        """Refuses an empty file, which is a mistake such as `pwhash file list > list`."""
         if not self.has_lines:
             raise UsageError(f"{self.name} has no lines.")
 
     def change(self) -> Optional[str]:
-        """What changed of the file since it was opened, or None.
+        """Says what has changed about the file since it was opened, or returns None.
 
-        The time of its status isn't asked: reading and chmod change it.
+        It ignores the ctime, which reading and chmod change.
         """
         if not self.is_regular:
             return None
@@ -100,9 +100,9 @@ class Source:
         return "its time" if now.st_mtime_ns != self.begun.st_mtime_ns else None
 
     def _refuse_unfit(self, is_read_twice: bool) -> None:
-        """Refuses a folder, and what can't be read twice where that is needed."""
+        """Refuses a folder, and a pipe that would have to be read twice."""
         if stat.S_ISDIR(self.begun.st_mode):
-            # Where the caller closed standard input, its number was given to a folder.
+            # process.py opens a folder as standard input if the caller has closed that.
             closed = "closed, or " if self.input.path is None else ""
             raise Stop(f"{self.name} is {closed}a folder.")
         if is_read_twice and not self.is_regular:
@@ -129,7 +129,7 @@ class Source:
 
 
 def without_signs_of_windows(line: bytes) -> bytes:
-    """A line without the byte order mark that begins it, as in joined lists, and its \\r."""
+    """Returns a line without its \\r, and without a byte order mark at its beginning."""
     if line.endswith(b"\r"):
         line = line[:-1]
     return line[len(BYTE_ORDER_MARK) :] if line.startswith(BYTE_ORDER_MARK) else line
@@ -145,7 +145,7 @@ def open_file(path: str, is_read_twice: bool) -> int:
 
 
 def open_in_time(path: str) -> int:
-    """Opens a file, but doesn't wait for ever until somebody writes a pipe."""
+    """Opens a file. If it is a pipe, waits only a few seconds for a writer."""
 
     def give_up(*_: object) -> NoReturn:
         raise UsageError(f"{named(path)} is a pipe that nobody writes.")
@@ -160,18 +160,18 @@ def open_in_time(path: str) -> int:
 
 
 def refuse_as_output(status: os.stat_result, name: str, console: Console) -> None:
-    """Refuses a file to which this run would add what it prints, and would read that again."""
+    """Refuses a file that is also an output of this run, which would then read what it writes."""
     if not stat.S_ISREG(status.st_mode) or not status.st_size:
         return
     if is_same_file(STDERR, status):
         sentence = f"{name} is standard error too. Write to another file."
         console.on_terminal(f"pwhash: {sentence}\n")
-        console.silence_errors()  # the sentence isn't added to the file, either
+        console.silence_errors()  # so that the sentence isn't added to the file
         raise UsageError(sentence)
     if is_same_file(STDOUT, status):
         raise UsageError(f"{name} is standard output too. Write to another file.")
 
 
 def is_same_file(fd: int, status: os.stat_result) -> bool:
-    """Whether an open descriptor is of this file."""
+    """Whether a descriptor is open on this file."""
     return os.path.samestat(os.fstat(fd), status)

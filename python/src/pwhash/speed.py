@@ -1,8 +1,8 @@
-"""How long hashes take on this machine for what they cost: the most that is measured.
+"""Measures how long hashes take on this machine in relation to their cost.
 
-A cost counts bytes, but digests work on blocks. So a hash takes longest for its cost where its
-messages are a byte too long for a block, or empty. A login computes any hash within its budget,
-whoever stored it, so that these are measured, of each method.
+A cost counts bytes, but digests work on blocks. So a hash takes longest for its cost if its
+messages are empty, or a byte too long for a block. A login computes any hash within its budget,
+whoever stored it, so such hashes of each method are measured, and the slowest counts.
 """
 
 from __future__ import annotations
@@ -17,20 +17,20 @@ from pwhash.errors import Stop
 from pwhash.library import Refusal
 from pwhash.workers import in_thread
 
-SECONDS = 2.0  # for which hashes are measured, again and again
+SECONDS = 2.0  # during which hashes are measured again and again
 LEAST_TIMES = 3
 COST_AT_ONCE = 5_000_000  # or the cost of one hash, if that is more
 
 
 class Dear(NamedTuple):
-    """A hash that takes long for its cost, by its setting and the length of the password."""
+    """A hash that takes long for its cost: its setting, and the length of the password."""
 
     setting: bytes
     length: int
 
 
-# Found by counting instructions for other lengths of password and salt. Scrypt mixes faster than it
-# digests, so this has N = 2, with r = 3300, p = 1 and a salt that takes another block.
+# Found by counting instructions for many lengths of password and salt. Scrypt mixes faster than it
+# digests, so its setting has N = 2, with r = 3300, p = 1 and a salt that needs one more block.
 DEAREST = (
     Dear(b"$1$", 0),
     Dear(b"$5$rounds=90000$", 12),
@@ -41,7 +41,7 @@ DEAREST = (
 
 
 def seconds_of_cost(console: Console, is_quiet: bool) -> float:
-    """The seconds of a processor that a cost of 1 takes at most."""
+    """Returns the most processor time that a cost of 1 takes, in seconds."""
     measured: Dict[Dear, List[float]] = {dear: [] for dear in DEAREST}
     begun = time.monotonic()
     elapsed = 0.0
@@ -57,7 +57,7 @@ def seconds_of_cost(console: Console, is_quiet: bool) -> float:
 
 
 def measure(dear: Dear) -> float:
-    """The seconds that a cost of 1 takes once, in this thread."""
+    """Measures how many seconds a cost of 1 takes in this thread."""
     cost = library.cost(dear.setting, dear.length)
     password = b"x" * dear.length
     times = max(1, COST_AT_ONCE // cost)
@@ -70,5 +70,5 @@ def measure(dear: Dear) -> float:
 
 
 def median(numbers: List[float]) -> float:
-    """The number in the middle, or the greater of two. The module statistics is slow to import."""
+    """Returns the median, or the greater of two. The module statistics is slow to import."""
     return sorted(numbers)[len(numbers) // 2]

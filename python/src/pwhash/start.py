@@ -2,8 +2,8 @@
 
     python3 -I -S FOLDER/pwhash/start.py LIBRARY COMMAND WORDS..
 
-LIBRARY is the absolute path of the C library, and COMMAND how pwhash was called. Nothing is looked
-for elsewhere: neither modules nor libraries, since root may run this in anybody's folder.
+LIBRARY is the absolute path of the C library, and COMMAND is how pwhash was called. Modules and
+libraries are loaded from nowhere else, since root may run this in anybody's folder.
 """
 
 from __future__ import annotations
@@ -22,10 +22,10 @@ FAILED = 3
 def start(library: str, command: str, words: "list[str]") -> NoReturn:
     """Runs pwhash. The process ends."""
     try:
-        # The package mkpasswd asks for a library of this name, and then gets this one.
+        # The package mkpasswd loads the library by its name, and gets the one loaded here.
         importlib.import_module("ctypes").CDLL(library)
         sys.path.insert(0, os.path.dirname(os.path.dirname(os.path.realpath(__file__))))
-        # So that a module that can't begin ends the process with status 3, too.
+        # From here on an error in a module that is being loaded ends the process with status 3.
         watch_unforeseen()
         run = importlib.import_module("pwhash.run").run
     except PermissionError as error:  # of a module: ctypes raises OSError alone
@@ -47,7 +47,7 @@ def start(library: str, command: str, words: "list[str]") -> NoReturn:
 
 
 def watch_unforeseen() -> None:
-    """Loads the module that tells of what is unforeseen, as damage of the others is."""
+    """Loads the module that reports unforeseen exceptions, such as those of damaged modules."""
     name = "pwhash.unforeseen"
     try:
         importlib.import_module(name).watch()
@@ -56,7 +56,7 @@ def watch_unforeseen() -> None:
 
 
 def about_import(error: ImportError) -> str:
-    """Why a module can't be loaded."""
+    """Says why a module can't be loaded."""
     if error.name is None:  # the package mkpasswd says what is wrong with the library
         return f"{error}."
     package = error.name.partition(".")[0]
@@ -70,15 +70,14 @@ def about_import(error: ImportError) -> str:
 
 
 def fail(sentence: str) -> NoReturn:
-    """Says why nothing begins, if standard error takes it."""
+    """Ends the process, and says why on standard error if that works."""
     with contextlib.suppress(OSError):
         os.write(STDERR, os.fsencode(f"pwhash: {sentence}\n"))
     os._exit(FAILED)
 
 
 if __name__ == "__main__":
-    # From the moment when process.py lets Ctrl-C come, until pwhash handles it, it ends the process
-    # without a KeyboardInterrupt.
+    # Until pwhash handles Ctrl-C, it ends the process by the signal, without a KeyboardInterrupt.
     if signal.getsignal(signal.SIGINT) is signal.default_int_handler:
         signal.signal(signal.SIGINT, signal.SIG_DFL)
     start(sys.argv[1], sys.argv[2], sys.argv[3:])

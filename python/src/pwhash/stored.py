@@ -1,4 +1,4 @@
-"""Reads what a file such as /etc/shadow stores for each name, line by line."""
+"""Reads the stored field of each name in a file such as /etc/shadow, line by line."""
 
 from __future__ import annotations
 
@@ -15,7 +15,7 @@ LONGEST_LINE = 1 << 17
 
 
 class Stored(NamedTuple):
-    """What a line name:field says of the name, without what a second colon begins."""
+    """The number, name and field of a line name:field. A second colon ends the field."""
 
     number: int
     name: bytes
@@ -23,7 +23,7 @@ class Stored(NamedTuple):
 
 
 def stored_in(path: str, console: Console) -> Iterator[Stored]:
-    """All lines of a file that have a colon."""
+    """Yields all lines of a file that have a colon."""
     name_of_file = named(path)
     has_fields = False
     with errors_named(name_of_file), open(open_fields(path), "rb") as file:
@@ -45,7 +45,7 @@ def stored_in(path: str, console: Console) -> Iterator[Stored]:
 
 
 def open_fields(path: str) -> int:
-    """Opens a file, or a pipe that somebody writes, as a shell's <(..) is."""
+    """Opens a file, or a pipe with a writer, such as a shell's <(..)."""
     fd = open_in_time(path)
     kind = os.fstat(fd).st_mode
     if stat.S_ISREG(kind) or stat.S_ISFIFO(kind):

@@ -1,4 +1,4 @@
-"""Calls of the system that Python has none for."""
+"""System calls that Python doesn't offer."""
 
 from __future__ import annotations
 
@@ -11,30 +11,30 @@ AT_FDCWD, RENAME_NOREPLACE, RENAME_EXCHANGE = -100, 1, 2
 
 
 def never_dumpable() -> None:
-    """The kernel gives the memory of this process to no file and to no other program."""
+    """Tells the kernel to give this process's memory to no core dump and no other program."""
     control = getattr(ctypes.CDLL(None), "prctl", None)
     if control is not None:
         control(PR_SET_DUMPABLE, 0, 0, 0, 0)
 
 
 def rename_to_new(old: str, new: str) -> None:
-    """Renames a file, but to no name that somebody has.
+    """Renames a file, and replaces no other one.
 
-    Raises the OSError ENOSYS or EINVAL where the kernel or the file system can't do that.
+    Raises the OSError ENOSYS or EINVAL if the kernel or the file system can't do that.
     """
     rename(AT_FDCWD, old, new, RENAME_NOREPLACE)
 
 
 def exchange(folder: int, one: str, other: str) -> None:
-    """Exchanges two files of an open folder, in one step.
+    """Exchanges two files of an open folder in one step.
 
-    Raises the OSError ENOSYS or EINVAL where the kernel or the file system can't do that.
+    Raises the OSError ENOSYS or EINVAL if the kernel or the file system can't do that.
     """
     rename(folder, one, other, RENAME_EXCHANGE)
 
 
 def rename(folder: int, old: str, new: str, flags: int) -> None:
-    """renameat2(2) within a folder."""
+    """Calls renameat2(2) within a folder."""
     call = getattr(ctypes.CDLL(None, use_errno=True), "renameat2", None)
     if call is None:
         raise OSError(errno.ENOSYS, os.strerror(errno.ENOSYS), new)

@@ -1,6 +1,7 @@
-"""The system's own files of accounts, which pwhash never replaces.
+"""Recognizes the system's own files of accounts, which pwhash never replaces.
 
-Other programs lock them by other rules, keep a second file of each, and know dates and ages.
+The programs that change them lock them by other rules, keep a second file of each, and maintain
+dates and ages.
 """
 
 from __future__ import annotations
@@ -18,16 +19,16 @@ PATHS = (
     *(f"/var/backups/{name}.bak" for name in NAMES),
     "/etc/security/opasswd",
 )
-# The name of such a file, of a copy or of a version that is being edited.
+# The name of such a file, of a copy, or of a version that somebody is editing.
 NAME = re.compile(f"(?:{'|'.join(NAMES)}|opasswd)(?:[-+~]|\\.(?:bak|edit|old|orig|org))?")
 FOLDERS = ("etc", "backups", "security")
 # A line of shadow(5): nine fields, of which the third to the eighth are numbers or empty. Lines of
-# Dovecot's have fewer, or a folder or other words among them.
+# Dovecot's files have fewer fields, or a folder or other words among them.
 SHADOW_LINE = re.compile(rb"(?m)^[^:\n]*:[^:\n]*(?::-?[0-9]*){6}:[^:\n]*$")
 
 
 def refuse_place(place: Place, status: os.stat_result) -> None:
-    """Refuses a file that is one of them by its inode, or by its name in any root."""
+    """Refuses a file that has the inode of a system file, or the name of one in any root."""
     for path in PATHS:
         with contextlib.suppress(OSError):
             if os.path.samestat(os.stat(path), status):
@@ -36,7 +37,7 @@ def refuse_place(place: Place, status: os.stat_result) -> None:
 
 
 def refuse_name(place: Place) -> None:
-    """Refuses a name that such a file has, in a root that may be that of another system."""
+    """Refuses the name of a system file, also below the root of another system."""
     if NAME.fullmatch(place.name) and any(is_called(place, folder) for folder in FOLDERS):
         raise refusal(place.shown)
 
@@ -56,7 +57,7 @@ def is_called(place: Place, folder: str) -> bool:
 
 
 def refusal(shown: str) -> UsageError:
-    """The error for such a file."""
+    """Returns the error for a system file."""
     return UsageError(
         f"{shown} is a file of the system's own accounts, and pwhash changes none. "
         "Use passwd(1), or for hashes chpasswd(8): chpasswd -e."

@@ -1,4 +1,4 @@
-"""Reads the rows of a table, as spreadsheets export it, as lines name:password."""
+"""Reads the rows of a CSV table, as spreadsheets export it, as lines name:password."""
 
 from __future__ import annotations
 
@@ -14,13 +14,13 @@ from pwhash.errors import Stop, UsageError
 from pwhash.lines import Arrivals, Line
 from pwhash.source import Source
 
-LONGEST_ROW = 1 << 17  # bytes, of a field too; csv takes no longer ones
+LONGEST_ROW = 1 << 17  # bytes of a row or a field; csv accepts no longer fields
 SEPARATORS = {",": "a comma", ";": "a semicolon", "\t": "a tab"}
-NUMBERS = [str(number) for number in range(1, 100)]  # by which columns can be chosen
-# Each byte becomes the character with its number and back, so that no encoding matters.
+NUMBERS = [str(number) for number in range(1, 100)]  # that can be given instead of names
+# Maps each byte to the character of that number and back, so that the encoding doesn't matter.
 BYTES = "latin-1"
 IN_QUOTES = re.compile('"[^"]*"')
-OPEN_QUOTE = re.compile('(?:^|[,;\t])"')  # where IN_QUOTES were left out
+OPEN_QUOTE = re.compile('(?:^|[,;\t])"')  # after IN_QUOTES was removed
 UTF16_MARKS = ("\xff\xfe", "\xfe\xff")
 
 Row = List[str]
@@ -39,22 +39,22 @@ class Reader(Protocol):
 
 
 class Columns(NamedTuple):
-    """Which columns of a table are read: the headings of all, and the places of these."""
+    """The columns of a table that are read, by their indexes."""
 
-    headings: Row  # empty where the columns are numbered
+    headings: Row  # of all columns; empty if columns are chosen by number
     name: int
-    second: Optional[int]  # of the password, or of the group if there is one
+    second: Optional[int]  # the password, or the group if there is one
     others: Tuple[int, ...]  # those of --list-columns
-    width: int  # the fields of the first row
+    width: int  # the number of fields in the first row
 
     def wanted_in(self, row: Row) -> Row:
-        """The fields of a row that are in these columns."""
+        """Returns the fields of a row that are in the first two columns above."""
         places = [self.name] if self.second is None else [self.name, self.second]
         return [cell(row, place) for place in places]
 
 
 def lines_of(source: Source) -> Arrivals:
-    """The lines of a source, or those that the rows of its table stand for."""
+    """Yields the lines of a source, or if it is a table, lines made from its rows."""
     groups = source.lines() if source.input.columns is None else Table(source).lines()
     for group in groups:
         source.has_lines = source.has_lines or bool(group)
@@ -74,7 +74,7 @@ class Table:
         self._row_begin, self._row_size = 1, 0
 
     def lines(self) -> Arrivals:
-        """The rows as lines."""
+        """Yields the rows as lines."""
         counts = (1, 2) if self._names_only else (2,)
         is_any_twice = any(has_twice(columns) for columns in (self._wanted, self._others))
         if len(self._wanted) not in counts or is_any_twice:
@@ -96,11 +96,11 @@ class Table:
             row = self._next_row(reader)
 
     def _has_names(self) -> bool:
-        """Whether columns are chosen by their names, and not by their numbers."""
+        """Whether columns are chosen by name, and not by number."""
         return not self._wanted[0].isdecimal()
 
     def _first_row_with_blank_ones(self) -> List[str]:
-        """The texts of blank rows in front, and of the first other one."""
+        """Reads the texts of leading blank rows, and of the first row that isn't blank."""
         begin = [next(self._texts, "")]
         while begin[-1] == "\n":
             begin.append(next(self._texts, ""))
@@ -113,7 +113,7 @@ class Table:
         return [*begin, *self._rest_of_row(begin[-1])]
 
     def _rest_of_row(self, first: str) -> Iterator[str]:
-        """The further texts of a row in which a heading has line feeds, as far as one may reach."""
+        """Yields the further texts of a row whose headings contain line feeds, up to the limit."""
         is_open = OPEN_QUOTE.search(IN_QUOTES.sub("", first)) is not None
         size = len(first)
         while is_open and size <= LONGEST_ROW:
@@ -125,7 +125,7 @@ class Table:
             is_open = text.count('"') % 2 == 0
 
     def _separator(self, begin: List[str]) -> str:
-        """What is between columns: that of the wanted names, or the only one in the first row."""
+        """Finds the separator: the one that yields the wanted names, or the only one there."""
         bare = IN_QUOTES.sub("", "".join(begin))
         found = sorted((each for each in SEPARATORS if each in bare), key=bare.index)
         if self._has_names():
@@ -154,7 +154,7 @@ class Table:
             raise self._no_columns()
         name, second = [*(known.index(each) for each in self._wanted), None][:2]
         assert name is not None
-        # Where columns are numbered, the second field may be a password such as "name".
+        # If columns are numbered, the second field may be a password such as "name".
         above = self._wanted if self._has_names() else [cell(names, name), ""]
         if self._names_only:
             self._refuse_passwords([*above, *self._others])
@@ -167,7 +167,7 @@ class Table:
         return Columns(names if self._has_names() else [], name, second, others, len(first))
 
     def _refuse_passwords(self, above: Row) -> None:
-        """Refuses passwords in place of names, or as names of lists."""
+        """Refuses a column of passwords where names are needed."""
         if any(each in headings.PASSWORDS for each in above):
             raise UsageError(
                 "--columns, --by or --list-columns names a column that is headed as passwords are. "
@@ -187,7 +187,7 @@ class Table:
         )
 
     def _limited(self, texts: Iterator[str]) -> Iterator[str]:
-        """The texts, of a row not more than 128 KiB."""
+        """Yields the texts, and stops the run if a row is longer than 128 KiB."""
         for text in texts:
             self._row_size += len(text)
             if self._row_size > LONGEST_ROW + 1:  # with its line feed
@@ -198,7 +198,7 @@ class Table:
             yield text
 
     def _next_row(self, reader: Reader) -> Optional[Row]:
-        """The next row that isn't blank, or None behind the last."""
+        """Returns the next row that isn't blank, or None after the last one."""
         row: Optional[Row] = []
         try:
             while row is not None and not row:
@@ -209,7 +209,7 @@ class Table:
         return row
 
     def _line(self, number: int, row: Row, columns: Columns) -> Line:
-        """A row as a line, which is refused if it can't be one."""
+        """Returns a row as a line, as a refused one if something is wrong with it."""
         name = cell(row, columns.name)
         reason = self._refused(row, columns)
         if reason is not None:
@@ -235,7 +235,7 @@ class Table:
         return self._joined_lines(row) or self._refused_fields(row, columns)
 
     def _refused_fields(self, row: Row, columns: Columns) -> Optional[str]:
-        """What is wrong with the fields of a row that are used."""
+        """Says what is wrong with the fields that are used of a row, or returns None."""
         if columns.second is not None and columns.second >= len(row):
             return "no field in the column of --by" if self._names_only else "no password field"
         if columns.name >= len(row):
@@ -246,7 +246,7 @@ class Table:
         return "a colon in the name" if ":" in name else None
 
     def _joined_lines(self, row: Row) -> Optional[str]:
-        """What is wrong with a row of several lines: a stray quote hides them up to the next one.
+        """Refuses a row of several lines: a stray quote may have joined them, up to the next one.
 
         That can happen in any field, and in a heading too.
         """
@@ -255,9 +255,9 @@ class Table:
         return None
 
     def _is_heading(self, row: Row, columns: Columns) -> bool:
-        """Whether a row is the heading again, as where another table was joined to this one.
+        """Whether a row is the heading again, perhaps because another table was appended.
 
-        If that table may have its columns in other places, the run ends.
+        Ends the run if that table has its columns in another order.
         """
         fields = folded_row(row)
         if columns.headings and columns.wanted_in(fields) == columns.wanted_in(columns.headings):
@@ -271,7 +271,7 @@ class Table:
 
 
 def is_heading_of_others(fields: Row, columns: Columns) -> bool:
-    """Whether a row heads a table whose names or passwords are in other columns than these."""
+    """Whether a row is the heading of a table with names or passwords in other columns."""
     wanted = columns.wanted_in(fields)
     if wanted[0] in headings.PASSWORDS and wanted[-1] in headings.NAMES:
         return True
@@ -283,7 +283,7 @@ def is_heading_of_others(fields: Row, columns: Columns) -> bool:
 
 
 class Texts(Iterator[str]):
-    """The lines of a source as texts for csv, which wants one after the other."""
+    """The lines of a source, one after the other, as csv needs them."""
 
     def __init__(self, source: Source) -> None:
         self._source = source
@@ -306,13 +306,13 @@ class Texts(Iterator[str]):
         return line.data.decode(BYTES) + "\n"
 
     def is_ready(self) -> bool:
-        """Whether the next text, or the end, is there; it waits a moment for that."""
+        """Waits a moment for the next text or the end, and returns whether it is there."""
         if self._next is None and not self._is_end:
             self._take()
         return self._next is not None or self._is_end
 
     def _take(self) -> None:
-        """Takes the next line, if there is one by now."""
+        """Takes the next line, if it is there already."""
         self._next = next(self._waiting, None)
         if self._next is not None:
             return
@@ -323,7 +323,7 @@ class Texts(Iterator[str]):
 
 
 def about(error: csv.Error) -> str:
-    """What is wrong with a row, in words."""
+    """Says what is wrong with a row."""
     if "field limit" in str(error):
         return "a field is longer than 128 KiB, or the quote that begins it has no end"
     if "new-line" in str(error):
@@ -332,7 +332,7 @@ def about(error: csv.Error) -> str:
 
 
 def wanted_columns(names: Optional[str]) -> Row:
-    """The names of columns in the value of an option, as they are compared."""
+    """Returns the names of columns in the value of an option, ready to be compared."""
     return [] if names is None else folded_all(os.fsencode(names).split(b","))
 
 
@@ -342,15 +342,15 @@ def has_twice(columns: Row) -> bool:
 
 
 def folded_all(fields: Sequence[bytes]) -> Row:
-    """Names of columns, as they are compared."""
+    """Returns names of columns, ready to be compared."""
     return [headings.folded(field) for field in fields]
 
 
 def folded_row(row: Row) -> Row:
-    """The fields of a row, as names of columns are compared."""
+    """Returns the fields of a row, ready to be compared with names of columns."""
     return folded_all([field.encode(BYTES) for field in row])
 
 
 def cell(row: Row, place: int) -> str:
-    """A field of a row, which is empty if the row is shorter."""
+    """Returns a field of a row. It is empty if the row is too short."""
     return row[place] if place < len(row) else ""

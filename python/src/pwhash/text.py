@@ -1,4 +1,4 @@
-"""Bytes from outside as text: for a terminal, which none of them can command, and for a shell."""
+"""Makes bytes from outside safe to print on a terminal, and to paste into a shell."""
 
 from __future__ import annotations
 
@@ -6,8 +6,8 @@ import os
 import re
 import shlex
 
-# Python takes these for printable, but they show nothing: fillers, selectors of a variant, an empty
-# pattern of Braille.
+# Characters that Python calls printable, but that show nothing: fillers, variation selectors, the
+# empty Braille pattern.
 SHOWS_NOTHING = re.compile(
     "[\u034f\u115f\u1160\u17b4\u17b5\u180b-\u180f\u2800\u3164\ufe00-\ufe0f\uffa0"
     "\U000e0100-\U000e01ef]"
@@ -31,7 +31,7 @@ def is_visible(text: str) -> bool:
 
 
 def readable(data: bytes) -> str:
-    """Bytes as text that can't command a terminal: no control character is left."""
+    """Returns bytes as text without control characters, which can't control a terminal."""
     text = data.decode("utf-8", "backslashreplace")
     if text.isprintable():
         return text
@@ -39,19 +39,19 @@ def readable(data: bytes) -> str:
 
 
 def readable_text(text: str) -> str:
-    """The same of text that may have bytes of a file's name in it."""
+    """Does the same for text that may contain the bytes of a file's name."""
     return readable(text.encode("utf-8", "surrogateescape"))
 
 
 def named(path: str) -> str:
-    """The name of a file for a message."""
+    """Returns the name of a file for a message."""
     return readable(os.fsencode(path))
 
 
 def quoted(word: str) -> str:
-    """A word for a shell, in which nothing commands the terminal.
+    """Quotes a word for a shell, without characters that control a terminal.
 
-    bash, zsh and ksh read $'..', in which each odd byte is a number.
+    Such bytes are written as numbers in $'..', which bash, zsh and ksh read.
     """
     if named(word) == word:
         return shlex.quote(word)

@@ -1,6 +1,6 @@
-"""Exceptions that no module has foreseen: what they are and where they arose is shown.
+"""Reports exceptions that no other module handles: their type, and where they were raised.
 
-Their messages are never shown: they can carry data, and data can be a password.
+It never shows their messages, which can contain data, and data can be a password.
 """
 
 from __future__ import annotations
@@ -17,7 +17,7 @@ FAILED = 3
 
 
 def watch() -> None:
-    """From here on each ends the process with a sentence, in whatever thread it is raised."""
+    """From here on, each such exception ends the process with a sentence, in any thread."""
     sys.excepthook = end
     threading.excepthook = end_in_thread
     sys.unraisablehook = ignore
@@ -26,23 +26,23 @@ def watch() -> None:
 def end(
     kind: Type[BaseException], _: Optional[BaseException], place: Optional[TracebackType]
 ) -> None:
-    """Ends the process."""
+    """Ends the process, and reports the exception."""
     say(f"{about(kind, place)}: pwhash is damaged, or has a fault.")
     os._exit(FAILED)
 
 
 def end_in_thread(arguments: threading.ExceptHookArgs) -> None:
-    """Ends the process for an exception of another thread."""
+    """Ends the process after an exception in another thread."""
     end(arguments.exc_type, arguments.exc_value, arguments.exc_traceback)
 
 
 def ignore(arguments: "sys.UnraisableHookArgs") -> None:
-    """Tells of an error within a __del__, say, which Python can't raise."""
+    """Reports an exception that Python can't raise, such as one in a __del__."""
     say(f"{about(arguments.exc_type, arguments.exc_traceback)}, which ends nothing.")
 
 
 def about(kind: Type[BaseException], place: Optional[TracebackType]) -> str:
-    """What an exception is, and where it arose."""
+    """Returns the type of an exception, and where it was raised."""
     if place is None:
         return kind.__name__
     while place.tb_next:
@@ -52,6 +52,6 @@ def about(kind: Type[BaseException], place: Optional[TracebackType]) -> str:
 
 
 def say(sentence: str) -> None:
-    """Tells the user, if standard error takes it."""
+    """Writes a sentence to standard error, if that works."""
     with contextlib.suppress(OSError):
         os.write(STDERR, f"pwhash: {sentence}\n".encode())

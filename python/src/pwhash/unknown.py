@@ -1,6 +1,6 @@
-"""Leaves out lines whose names stand in no line of a file such as /etc/passwd.
+"""Leaves out lines whose names have no line in a file such as /etc/passwd.
 
-If chpasswd gets one name without an account, it changes none.
+If chpasswd gets one name without an account, it changes no password at all.
 """
 
 from __future__ import annotations
@@ -12,7 +12,7 @@ from pwhash.stored import stored_in
 
 
 class Unknown(Skipping):
-    """The names that a file doesn't have, of which lines are left out."""
+    """Leaves out lines whose names a file doesn't have."""
 
     def __init__(self, path: str, source_name: str, console: Console) -> None:
         super().__init__(path, source_name, console)
@@ -27,6 +27,6 @@ class Unknown(Skipping):
         return f"their names aren't in {self.file}"
 
     def skips(self, line: Line) -> bool:
-        """A row that is refused is a problem of its own, and so is a line without a name."""
+        """Keeps refused rows and lines without a name, which are reported as problems."""
         name = name_of(line)
         return line.refused_row is None and bool(name) and name not in self._names

@@ -1,7 +1,7 @@
 """pwhash verify: says whether a password matches a stored hash.
 
-Yes and no are only said of a whole hash that could match. What is wrong with any other field ends
-the run, so that no script takes it for a wrong password.
+It says yes or no only for a whole hash that could match. For any other field it ends with an error,
+so that no script mistakes that for a wrong password.
 """
 
 from __future__ import annotations
@@ -38,11 +38,11 @@ ABOUT_STATES = {
 
 
 class Given(NamedTuple):
-    """A password and the stored hash that it is compared with."""
+    """A password, and the stored hash to compare it with."""
 
     password: bytes
     stored: bytes
-    whose: str  # begins a sentence about the hash
+    whose: str  # the beginning of a sentence about the hash
 
 
 def run(options: VerifyOptions, session: Session) -> bool:
@@ -63,7 +63,7 @@ def run(options: VerifyOptions, session: Session) -> bool:
 
 
 def given_by_file(options: VerifyOptions, console: Console) -> Given:
-    """A password that is asked for once it can be compared with the hash of a name in a file."""
+    """Finds the hash of a name in a file, and asks for the password if that can match."""
     line = only_line_of(options, console)
     whose = f"{named(options.path)}, line {line.number} ({readable(line.name)})"
     stored = whole_hash(line.field, whose)
@@ -77,7 +77,7 @@ def given_by_file(options: VerifyOptions, console: Console) -> Given:
 
 
 def given_by_user(console: Console) -> Given:
-    """A password and a hash that are asked for."""
+    """Asks for a password and a hash."""
     both = hidden(ask_for_both) if os.isatty(STDIN) else piped_both(console)
     has_hash = begins_as_hash(without_prefix(both.field))
     if begins_as_hash(field_of_pasted(both.password)) and not has_hash:
@@ -90,12 +90,12 @@ def given_by_user(console: Console) -> Given:
 
 
 def begins_as_hash(field: bytes) -> bool:
-    """Whether a field has the mark of a scheme, such as $6$, as any hash that is checked."""
+    """Whether a field begins like a hash of a known scheme, such as $6$."""
     return field.startswith(b"$") and library.describe(field).scheme is not None
 
 
 def only_line_of(options: VerifyOptions, console: Console) -> Stored:
-    """The line of a name, which has to be the only one."""
+    """Returns the line of a name. Refuses a name with several lines, or with none."""
     name = os.fsencode(options.name)
     found = [each for each in stored_in(options.path, console) if each.name == name]
     file = named(options.path)
@@ -111,7 +111,7 @@ def only_line_of(options: VerifyOptions, console: Console) -> Stored:
 
 
 def whole_hash(field: bytes, whose: str) -> bytes:
-    """The hash in a field, without a prefix. Refuses what no password can match."""
+    """Returns the hash in a field, without a prefix. Refuses what no password can match."""
     stored = without_prefix(field)
     about = about_field(stored)
     if about is not None:
@@ -120,7 +120,7 @@ def whole_hash(field: bytes, whose: str) -> bytes:
 
 
 def about_field(stored: bytes) -> Optional[str]:
-    """Why a stored field isn't a whole hash that some password can match, if it isn't."""
+    """Says why no password can match a stored field, or returns None."""
     found = library.describe(stored)
     if found.state is State.UNKNOWN or stored.startswith(b"{"):
         return f"a hash of {found.scheme or 'another scheme'}, which pwhash can't check"
@@ -131,7 +131,7 @@ def about_field(stored: bytes) -> Optional[str]:
 
 
 def about_refusal(refusal: Refusal, whose: str) -> UsageError:
-    """The error for a comparison that wasn't made."""
+    """Returns the error for a password that wasn't compared."""
     if refusal == OVER_BUDGET:
         return UsageError(
             f"{whose}: {refusal.words}, since it costs more than a login may. If you trust it, "
@@ -141,7 +141,7 @@ def about_refusal(refusal: Refusal, whose: str) -> UsageError:
 
 
 def tell_of_bytes(password: bytes, console: Console) -> None:
-    """Tells why a password that somebody holds for right may differ."""
+    """Says why a password that seems right may differ in its bytes."""
     text = password.decode(errors="replace")
     if b"\r" in password or BYTE_ORDER_MARK in password:
         console.say(

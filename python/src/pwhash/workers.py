@@ -1,7 +1,7 @@
-"""Threads that hash: as many at once as processors, and answers in the order of the lines.
+"""Threads that hash: as many as there are processors. Answers come in the order of the lines.
 
-The library releases the interpreter's lock, so its calls run beside each other. The first thread
-only deals out lines and writes answers: there signals arrive, and no call keeps them waiting.
+The library releases the interpreter's lock, so its calls run in parallel. The first thread only
+distributes lines and writes answers. Signals arrive there, and never have to wait for a hash.
 """
 
 from __future__ import annotations
@@ -22,8 +22,8 @@ from pwhash.lines import Arrivals, Line
 
 # The stack of a thread: the library asks for 64 KiB, and Python needs some for itself.
 STACK_BYTES = 512 << 10
-PIECE_SECONDS = 0.05  # for which a thread works on a piece, if a line doesn't take longer
-MOST_LINES = 1 << 11  # of a piece
+PIECE_SECONDS = 0.05  # that a job should take, if a single line doesn't take longer
+MOST_LINES = 1 << 11  # of a job
 
 Result = TypeVar("Result")
 
@@ -39,7 +39,7 @@ class Job(Generic[Result]):
         self.seconds = 0.0
 
     def run(self) -> None:
-        """Makes the call. What ends the run is kept for the thread that wants the result."""
+        """Makes the call. An exception is kept for the thread that asks for the result."""
         begun = time.perf_counter()
         try:
             self._results.append(self._call())
@@ -55,7 +55,7 @@ class Job(Generic[Result]):
         return self._done.is_set()
 
     def result(self) -> Result:
-        """What the call returned, for which it waits."""
+        """Waits for the call, and returns what it returned or raises what it raised."""
         self._done.wait()
         if self._failure is not None:
             raise self._failure
@@ -63,7 +63,7 @@ class Job(Generic[Result]):
 
 
 class Memory:
-    """Half of the memory that is free, of which each hash of scrypt takes its part."""
+    """Limits the memory that hashes of scrypt use at once to half of what is free."""
 
     def __init__(self) -> None:
         self._room = machine.free_memory() // 2
@@ -72,7 +72,10 @@ class Memory:
 
     @contextlib.contextmanager
     def taken(self, size: int) -> Iterator[None]:
-        """Waits until there is room beside what others have. The first one always has it."""
+        """Waits until this much memory is left, and reserves it during the block.
+
+        If no other hash has any, it doesn't wait, whatever the size.
+        """
         if not size:
             yield
             return
@@ -88,7 +91,7 @@ class Memory:
 
 
 class Workers:
-    """Answers lines by threads, each by a call of `work`."""
+    """Answers lines in several threads, each line by a call of `work`."""
 
     def __init__(self, work: Callable[[Line], Answer]) -> None:
         self._work = work
@@ -96,10 +99,10 @@ class Workers:
         self._threads = 0
         self._queue: queue.SimpleQueue[Job[List[Answer]]] = queue.SimpleQueue()
         self._order: Deque[Job[List[Answer]]] = collections.deque()
-        self._size = 1  # the lines of a job
+        self._size = 1  # lines in a job
 
     def answers(self, arrivals: Arrivals) -> Iterator[List[Answer]]:
-        """The answers to all lines, as they come."""
+        """Yields the answers to all lines, in their order, as soon as they are there."""
         waiting: List[Line] = []
         for group in arrivals:
             waiting += group
@@ -120,7 +123,7 @@ class Workers:
             self._begin_thread()
 
     def _done(self, most: int) -> Iterator[List[Answer]]:
-        """The answers that are there; while more than `most` jobs wait, those of the first one."""
+        """Yields the answers that are ready, and waits while more than `most` jobs are queued."""
         while self._order and (len(self._order) > most or self._order[0].is_done()):
             job = self._order.popleft()
             answers = job.result()
@@ -144,14 +147,14 @@ class Workers:
 
 
 def in_thread(call: Callable[[], Result]) -> Result:
-    """What a call returns, which another thread makes, while signals reach this one."""
+    """Makes a call in another thread, so that signals reach this one, and returns its result."""
     job = Job(call)
     begin_thread(job.run)
     return job.result()
 
 
 def begin_thread(call: Callable[[], None]) -> None:
-    """Begins a thread. Signals go to the first one, so that they interrupt what that waits for."""
+    """Starts a thread that blocks signals, so that they interrupt the first thread's waiting."""
     threading.stack_size(STACK_BYTES)
     before = signal.pthread_sigmask(signal.SIG_BLOCK, signal.valid_signals())
     try:
