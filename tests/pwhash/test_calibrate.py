@@ -164,12 +164,12 @@ def test_with_a_method_for_the_time_the_others_are_named(calibrate: Copy) -> Non
 
 NOISY = """
 SECONDS = 1e-9
-MEASURED = {dear: iter([5e-9, 5e-9, 5e-9]) for dear in DEAREST}
-MEASURED[DEAREST[1]] = iter([1e-8, 9e-8, 1e-8])
+MEASURED = {costly: iter([5e-9, 5e-9, 5e-9]) for costly in COSTLIEST}
+MEASURED[COSTLIEST[1]] = iter([1e-8, 9e-8, 1e-8])
 
 
-def measure(dear):
-    return next(MEASURED[dear])
+def measure(costly):
+    return next(MEASURED[costly])
 """
 
 

@@ -181,9 +181,9 @@ def test_a_module_that_is_missing_is_named(copy: Copy) -> None:
 
 
 def test_the_module_of_a_command_that_is_missing_is_named(copy: Copy) -> None:
-    (copy.modules / "pwhash/one.py").unlink()
+    (copy.modules / "pwhash/single.py").unlink()
     done = copy.run(*MD5CRYPT, stdin=b"x")
-    assert done.status == 3 and b"pwhash.one" in done.stderr, done
+    assert done.status == 3 and b"pwhash.single" in done.stderr, done
     assert b"Error" not in done.stderr, done
 
 

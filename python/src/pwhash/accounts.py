@@ -6,12 +6,12 @@ from collections.abc import Iterable
 from typing import Dict, List
 
 from pwhash.console import Console
-from pwhash.lines import BYTE_ORDER_MARK, Arrivals, Line
+from pwhash.lines import BYTE_ORDER_MARK, Line, LineGroups
 from pwhash.stored import stored_in
 from pwhash.text import is_utf8
 
-MOST_NAMED = 20  # numbers of lines in a message
-MOST_TOGETHER = 1 << 10  # lines in a group
+MAX_NAMED = 20  # numbers of lines in a message
+MAX_GROUP = 1 << 10  # lines in a group
 
 
 class Accounts:
@@ -23,9 +23,9 @@ class Accounts:
         self.marked: List[int] = []  # lines with a carriage return or a byte order mark
         self.odd = 0  # how many lines aren't UTF-8, or have a zero byte
 
-    def lines_to_check(self, arrivals: Arrivals) -> Arrivals:
+    def lines_to_check(self, groups: LineGroups) -> LineGroups:
         """Makes lines name:field:password from name:password, or from a password for all names."""
-        for group in arrivals:
+        for group in groups:
             if not group:
                 yield []
             tries: List[Line] = []
@@ -33,7 +33,7 @@ class Accounts:
                 for name, password in self._names_for(line):
                     data = b"%b:%b:%b" % (name, self._fields[name], password)
                     tries.append(line._replace(data=data))
-                    if len(tries) == MOST_TOGETHER:
+                    if len(tries) == MAX_GROUP:
                         yield tries
                         tries = []
                 if line.refused_row is not None:
@@ -53,13 +53,13 @@ class Accounts:
             return ((each, password) for each in self._fields)
         if name in self._fields:
             return ((name, password),)
-        if len(self.absent) < MOST_NAMED:
+        if len(self.absent) < MAX_NAMED:
             self.absent.append(line.number)
         return ()
 
     def _note(self, line: Line) -> None:
         data = line.data
-        if (b"\r" in data or BYTE_ORDER_MARK in data) and len(self.marked) < MOST_NAMED:
+        if (b"\r" in data or BYTE_ORDER_MARK in data) and len(self.marked) < MAX_NAMED:
             self.marked.append(line.number)
         if b"\0" in data or not is_utf8(data):
             self.odd += 1

@@ -10,7 +10,7 @@ from pwhash.console import STDERR, STDOUT, Console
 from pwhash.errors import errors_named
 from pwhash.library import Refusal
 from pwhash.lines import Line
-from pwhash.text import readable
+from pwhash.text import printable
 
 
 class Answer(NamedTuple):
@@ -24,12 +24,12 @@ class Answer(NamedTuple):
     renewed: Optional[bytes] = None  # the line name:hash, if a check has made a new hash
 
 
-def refused(line: Line, refusal: Refusal) -> Answer:
+def refusal_answer(line: Line, refusal: Refusal) -> Answer:
     """Returns the answer to a line that breaks a rule of mkpasswd, with mkpasswd's message."""
-    return Answer(line, None, f"mkpasswd: line {line.number}: {refusal.words}", refusal)
+    return Answer(line, None, f"mkpasswd: line {line.number}: {refusal.message}", refusal)
 
 
-def refused_row(line: Line) -> Answer:
+def refused_row_answer(line: Line) -> Answer:
     """Returns the answer to a row that pwhash refuses."""
     return Answer(line, message=f"pwhash: line {line.number}: {line.refused_row}")
 
@@ -52,14 +52,14 @@ class Writer:
             if answer.message is not None:
                 self._write_texts(texts)
                 texts = []
-                self._console.lines(STDERR, [answer.message.encode()])
+                self._console.write_lines(STDERR, [answer.message.encode()])
         self._write_texts(texts)
 
     def _write_texts(self, texts: List[bytes]) -> None:
         if self._is_terminal:
-            texts = [readable(text).encode() for text in texts]
+            texts = [printable(text).encode() for text in texts]
         if self._name is None:
-            self._console.lines(self._fd, texts)
+            self._console.write_lines(self._fd, texts)
             return
         with errors_named(self._name):
-            self._console.lines(self._fd, texts)
+            self._console.write_lines(self._fd, texts)

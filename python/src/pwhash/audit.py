@@ -16,7 +16,7 @@ from pwhash.progress import Progress
 from pwhash.report import JsonReport, Report, TableReport, WorstFirstReport
 from pwhash.session import Session
 from pwhash.source import Source
-from pwhash.text import readable
+from pwhash.text import printable
 
 
 def run(options: AuditOptions, session: Session) -> bool:
@@ -26,13 +26,13 @@ def run(options: AuditOptions, session: Session) -> bool:
     """
     console = session.console
     source = Source(options.input, console)
-    report = report_of(options, console)
-    policy = library.auditor(options.policy)
+    report = make_report(options, console)
+    policy = library.auditing_policy(options.policy)
     progress = Progress(console, "auditing", source.total)
     counts: Counter[Finding] = Counter()
     has_problem = False
     for group in source.lines():
-        judgements = [judged(policy, line) for line in group]
+        judgements = [judge(policy, line) for line in group]
         counts.update([each.finding for each in judgements])
         problems = [each for each in judgements if each.problem]
         has_problem = has_problem or bool(problems)
@@ -46,19 +46,19 @@ def run(options: AuditOptions, session: Session) -> bool:
     return has_problem
 
 
-def report_of(options: AuditOptions, console: Console) -> Report:
+def make_report(options: AuditOptions, console: Console) -> Report:
     """Returns the report that the options ask for."""
     if options.json:
         return JsonReport(console)
     return WorstFirstReport(console) if options.only_problems else TableReport(console)
 
 
-def judged(policy: mkpasswd.Policy, line: Line) -> Judgement:
+def judge(policy: mkpasswd.Policy, line: Line) -> Judgement:
     """Judges a line."""
     refusal = refused_name(line.data)
     if refusal is not None:
-        return findings.refused(line.number, refusal.words)
+        return findings.judge_refused_line(line.number, refusal.message)
     field = field_to_audit(line.data)
     if field is None:
-        return findings.refused(line.number, NO_PASSWORD.words)
-    return findings.judged(line.number, readable(name_of(line)), policy.describe(field))
+        return findings.judge_refused_line(line.number, NO_PASSWORD.message)
+    return findings.judge(line.number, printable(name_of(line)), policy.describe(field))

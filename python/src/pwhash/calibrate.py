@@ -23,7 +23,7 @@ PLAIN_ROUNDS = (
 )
 
 
-class Limited(NamedTuple):
+class CalibratedPolicy(NamedTuple):
     """A method and rounds with a budget."""
 
     method: str
@@ -54,44 +54,46 @@ def run(options: CalibrateOptions, session: Session) -> bool:
     """Prints a policy for each method that is fast enough. Returns whether none is."""
     console = session.console
     seconds_of_cost = speed.seconds_of_cost(console, options.quiet)
-    most = int(options.seconds / seconds_of_cost)
-    policies = [costliest_within(method, most) for method in options.methods]
-    found = [each for each in policies if each.budget <= most]
-    console.lines(STDOUT, [each.options.encode() for each in found])
-    advice = about_found(options, found, seconds_of_cost) if found and not options.quiet else []
-    for sentence in [*advice, *about_others(policies, most, seconds_of_cost)]:
+    cost_limit = int(options.seconds / seconds_of_cost)
+    policies = [costliest_within(method, cost_limit) for method in options.methods]
+    found = [each for each in policies if each.budget <= cost_limit]
+    console.write_lines(STDOUT, [each.options.encode() for each in found])
+    sentences = describe_slow_methods(policies, cost_limit, seconds_of_cost)
+    if found and not options.quiet:
+        sentences = describe_policies(options, found, seconds_of_cost) + sentences
+    for sentence in sentences:
         console.say(sentence)
     return not found
 
 
-def costliest_within(method: str, most: int) -> Limited:
+def costliest_within(method: str, cost_limit: int) -> CalibratedPolicy:
     """Returns the policy with the most rounds whose budget is at most this, else the cheapest one.
 
     The library's own limit has a floor. If that is too high, the budget is the limit without it.
     """
-    policies: List[Limited] = []
+    policies: List[CalibratedPolicy] = []
     for rounds in PLAIN_ROUNDS:
         with contextlib.suppress(library.RefusedRounds):
             own_limit = library.limit(method, rounds, None).budget
             without_floor = library.limit_without_floor(method, rounds)
-            budget = own_limit if own_limit <= most else without_floor
-            policies.append(Limited(method, rounds, budget, own_limit))
-    within = [each for each in policies if each.budget <= most]
+            budget = own_limit if own_limit <= cost_limit else without_floor
+            policies.append(CalibratedPolicy(method, rounds, budget, own_limit))
+    within = [each for each in policies if each.budget <= cost_limit]
     return within[-1] if within else policies[0]
 
 
-def about_found(
-    options: CalibrateOptions, found: Sequence[Limited], seconds_of_cost: float
+def describe_policies(
+    options: CalibrateOptions, found: Sequence[CalibratedPolicy], seconds_of_cost: float
 ) -> List[str]:
     """Returns sentences about the policies that are printed."""
     sentences = [
         f"with these, a login takes at most {options.time} of one core here, whatever hash is "
-        f"stored: a cost of 1,000,000,000 takes up to {shown(1e9 * seconds_of_cost)}.",
+        f"stored: a cost of 1,000,000,000 takes up to {in_words(1e9 * seconds_of_cost)}.",
         "a login that renews a hash makes a second one, so it can take twice as long.",
     ]
     first = found[0]
     if first.needs_budget:
-        seconds = shown(first.own_limit * seconds_of_cost)
+        seconds = in_words(first.own_limit * seconds_of_cost)
         sentences.append(
             f"give the budget, too: without it, a login may cost {first.own_limit:,}, and takes "
             f"up to {seconds} here."
@@ -99,17 +101,19 @@ def about_found(
     return [*sentences, *(f"{each.method} {each.code}" for each in found)]
 
 
-def about_others(policies: Sequence[Limited], most: int, seconds_of_cost: float) -> List[str]:
+def describe_slow_methods(
+    policies: Sequence[CalibratedPolicy], cost_limit: int, seconds_of_cost: float
+) -> List[str]:
     """Returns a sentence for each method whose fewest rounds take too long."""
     return [
         f"{each.method} takes longer: even with -R {each.rounds}, a login needs a budget of "
-        f"{each.budget:,}, and takes up to {shown(each.budget * seconds_of_cost)} here."
+        f"{each.budget:,}, and takes up to {in_words(each.budget * seconds_of_cost)} here."
         for each in policies
-        if each.budget > most
+        if each.budget > cost_limit
     ]
 
 
-def shown(seconds: float) -> str:
+def in_words(seconds: float) -> str:
     """Returns a time in words, rounded up."""
     if seconds < 1:
         return f"{math.ceil(1000 * seconds)} ms"

@@ -7,14 +7,14 @@ from typing import List, NamedTuple, Optional, Set, Union
 
 from pwhash import library
 from pwhash.accounts import Accounts
-from pwhash.answers import Answer, Writer, refused, refused_row
+from pwhash.answers import Answer, Writer, refusal_answer, refused_row_answer
 from pwhash.library import OVER_BUDGET, PASSWORD_TOO_LONG, PASSWORD_ZERO_BYTE, Refusal, Verdict
 from pwhash.lines import (
     LINE_TOO_LONG,
     NO_PASSWORD,
-    Arrivals,
     FieldsToCheck,
     Line,
+    LineGroups,
     fields_to_check,
     name_of,
     refused_name,
@@ -25,7 +25,7 @@ from pwhash.progress import Progress
 from pwhash.session import Session
 from pwhash.source import Source
 from pwhash.table import lines_of
-from pwhash.text import named, readable
+from pwhash.text import display_name, printable
 from pwhash.workers import Memory, Workers
 
 # Refusals of a password for every account.
@@ -41,17 +41,17 @@ def run(options: CheckOptions, session: Session) -> bool:
     checking = Checking(options, source, session)
     if options.out is None:
         checking.check_lines(Writer(session.console))
-        checking.tell_odd()
+        checking.report_odd_lines()
         return checking.has_problem()
     with opened(options.out, source, None) as part:
         session.part = part
         checking.check_lines(Writer(session.console, part.fd, part.name), part)
         session.finish(part, checking.has_problem())
-    checking.tell_odd()
+    checking.report_odd_lines()
     return checking.has_problem()
 
 
-class Checked(NamedTuple):
+class CheckResult(NamedTuple):
     """The result of a check, and with --rehash the new hash, if one was needed."""
 
     verdict: Verdict
@@ -68,7 +68,7 @@ class Checking:
         self._accounts = Accounts(options.shadow, session.console) if options.shadow else None
         self._memory = Memory()
         self._new_table = library.memory_of_new_hash(options.policy) if options.rehash else 0
-        self._said: Set[str] = set()
+        self._printed: Set[str] = set()
         self._has_bad_line = False
 
     def has_problem(self) -> bool:
@@ -84,19 +84,19 @@ class Checking:
                 part.refuse_changed()
             self._note(answers)
             if self._accounts is not None:
-                answers = [self._said_once(answer) for answer in answers]
+                answers = [self._without_repeated_message(answer) for answer in answers]
             writer.write(only_new(answers) if part and self._options.rehash else answers)
             progress.reached(answers[-1].line.number)
         progress.end()
         self._source.refuse_nothing()
 
-    def tell_odd(self) -> None:
+    def report_odd_lines(self) -> None:
         """Reports odd lines in a list of passwords."""
         accounts = self._accounts
         if accounts is None:
             return
         if accounts.absent:
-            shadow = named(self._options.shadow or "")
+            shadow = display_name(self._options.shadow or "")
             self._console.say(
                 f"lines without an account in {shadow} (the first 20): {accounts.absent}."
             )
@@ -109,7 +109,7 @@ class Checking:
         if accounts.odd:
             self._console.say(f"lines that aren't UTF-8, or have a zero byte: {accounts.odd:,}.")
 
-    def _lines(self) -> Arrivals:
+    def _lines(self) -> LineGroups:
         lines = lines_of(self._source)
         return lines if self._accounts is None else self._accounts.lines_to_check(lines)
 
@@ -120,23 +120,23 @@ class Checking:
     def _answer(self, line: Line) -> Answer:
         """Checks one line. Called in a worker's thread."""
         if line.refused_row is not None:
-            return refused_row(line)
+            return refused_row_answer(line)
         refusal = refused_name(line.data)
         if refusal is not None:
-            return refused(line, refusal)
+            return refusal_answer(line, refusal)
         fields = fields_to_check(line.data)
         if fields is None:
-            return refused(line, NO_PASSWORD)
-        checked = self._checked(fields)
-        if isinstance(checked, Refusal):
-            return refused(line, checked)
-        text = fields.name + b":" + checked.verdict.value
-        if checked.new_hash is None:
-            return Answer(line, text, is_wrong_password=checked.verdict is Verdict.WRONG)
-        renewed = fields.name + b":" + checked.new_hash
-        return Answer(line, text + b":" + checked.new_hash, renewed=renewed)
+            return refusal_answer(line, NO_PASSWORD)
+        result = self._check(fields)
+        if isinstance(result, Refusal):
+            return refusal_answer(line, result)
+        text = fields.name + b":" + result.verdict.value
+        if result.new_hash is None:
+            return Answer(line, text, is_wrong_password=result.verdict is Verdict.WRONG)
+        renewed = fields.name + b":" + result.new_hash
+        return Answer(line, text + b":" + result.new_hash, renewed=renewed)
 
-    def _checked(self, fields: FieldsToCheck) -> Union[Checked, Refusal]:
+    def _check(self, fields: FieldsToCheck) -> Union[CheckResult, Refusal]:
         """Checks a password, and with --rehash makes a new hash if one is needed."""
         policy = self._options.policy
         refusal = library.refused_password(fields.password)
@@ -149,10 +149,10 @@ class Checking:
         if isinstance(verdict, Refusal):
             return verdict
         if verdict is not Verdict.MATCH or not is_outdated:
-            return Checked(verdict)
-        with self._memory.taken(self._new_table):
+            return CheckResult(verdict)
+        with self._memory.reserved(self._new_table):
             new_hash = library.new_hash(policy, fields.password)
-        return new_hash if isinstance(new_hash, Refusal) else Checked(verdict, new_hash)
+        return new_hash if isinstance(new_hash, Refusal) else CheckResult(verdict, new_hash)
 
     def _verdict(self, fields: FieldsToCheck) -> Union[Verdict, Refusal]:
         """Checks a password, once there is memory for that."""
@@ -160,7 +160,7 @@ class Checking:
         table = library.memory(fields.stored)
         if table > budget:  # the library refuses this, and takes no memory
             table = 0
-        with self._memory.taken(table):
+        with self._memory.reserved(table):
             return library.verify(fields.password, fields.stored, budget)
 
     def _has_budget_for_both(self, fields: FieldsToCheck) -> bool:
@@ -169,29 +169,29 @@ class Checking:
         cost = library.cost(fields.stored, length) + library.new_cost(policy, length)
         return cost <= policy.budget
 
-    def _said_once(self, answer: Answer) -> Answer:
+    def _without_repeated_message(self, answer: Answer) -> Answer:
         """Returns an answer without its message, if another line of a list had the same one."""
         if answer.message is None:
             return answer
-        sentence = f"pwhash: {self._about(answer)}"
-        if sentence in self._said:
+        sentence = f"pwhash: {self._describe(answer)}"
+        if sentence in self._printed:
             return answer._replace(message=None)
-        self._said.add(sentence)
+        self._printed.add(sentence)
         return answer._replace(message=sentence)
 
-    def _about(self, answer: Answer) -> str:
+    def _describe(self, answer: Answer) -> str:
         """Says why a password isn't tried: it can't be hashed, or the account can't be checked."""
         line, refusal = answer.line, answer.refusal
         if refusal is None:
             return f"line {line.number}: {line.refused_row}"
         if refusal in PASSWORD_REFUSALS:
-            return f"line {line.number} isn't tried: {refusal.words}"
+            return f"line {line.number} isn't tried: {refusal.message}"
         fields = fields_to_check(line.data)
         longest = self._options.policy.longest or 0
         if refusal == OVER_BUDGET and fields is not None and len(fields.password) > longest:
-            return f"line {line.number} isn't tried for every name: {refusal.words}"
-        account = readable(name_of(line)) or "an account without a name"
-        return f"{account} isn't checked: {refusal.words}"
+            return f"line {line.number} isn't tried for every name: {refusal.message}"
+        account = printable(name_of(line)) or "an account without a name"
+        return f"{account} isn't checked: {refusal.message}"
 
 
 def only_new(answers: Sequence[Answer]) -> List[Answer]:

@@ -15,8 +15,8 @@ from pwhash.errors import UsageError
 from pwhash.library import Policy
 from pwhash.options import (
     DEFAULT_COLUMNS,
-    Action,
     GENERATED_LENGTH,
+    Action,
     AuditOptions,
     CalibrateOptions,
     CheckOptions,
@@ -26,14 +26,14 @@ from pwhash.options import (
     Generate,
     Input,
     InstallOptions,
-    OneOptions,
     Options,
     Service,
     SetOptions,
+    SingleOptions,
     VerifyOptions,
     part_of,
 )
-from pwhash.text import named
+from pwhash.text import display_name
 
 USAGE = """
   pwhash                             hash a password, which it asks for
@@ -77,7 +77,7 @@ TIME = re.compile("([0-9]{1,6}(?:[.][0-9]{1,6})?)(ms|s)")
 SECONDS = {"ms": 0.001, "s": 1.0}
 USER_NAME = re.compile("[A-Za-z_][A-Za-z0-9_.@-]{0,63}")
 MODE = re.compile("0?[0-7]{3}")
-MOST_MODE = 0o644
+MAX_MODE = 0o644
 CONTROL_CHARACTER = re.compile("[\0-\x1f\x7f-\x9f]")
 NAME_OF_LINE = re.compile("[^:#\\0-\\x1f\\x7f][^:\\0-\\x1f\\x7f]*")
 OPTION_NAME = re.compile("--[a-z-]+")
@@ -90,28 +90,28 @@ ROUNDS = {
 }
 
 
-class Shown(Exception):
+class PrintAndExit(Exception):
     """Ends the run after --help or --version. The message is the text to print."""
 
 
-def read_options(words: Sequence[str]) -> Options:
+def read_options(arguments: Sequence[str]) -> Options:
     """Returns the options of the command that these arguments name.
 
     The command has to be the first argument. Each command has a parser of its own, since argparse's
     subcommands would accept options in front of the command, and then forget them.
     """
-    name = words[0] if words and words[0] in COMMANDS else ""
+    name = arguments[0] if arguments and arguments[0] in COMMANDS else ""
     command = COMMANDS[name]
     parser = command.parser()
-    given, unknown = parser.parse_known_intermixed_args(words[1:] if name else words)
+    parsed, unknown = parser.parse_known_args(arguments[1:] if name else arguments)
     if unknown:
-        raise parser.refusal(about_unknown(unknown))
-    return command.options(parser, given)
+        raise parser.usage_error(describe_unknown(unknown))
+    return command.options(parser, parsed)
 
 
-def about_unknown(words: Sequence[str]) -> str:
+def describe_unknown(arguments: Sequence[str]) -> str:
     """Describes arguments that pwhash doesn't know. A word isn't shown: it may be a password."""
-    options = [word for word in words if OPTION_NAME.fullmatch(word)]
+    options = [word for word in arguments if OPTION_NAME.fullmatch(word)]
     if options:
         return f"no option {' '.join(options)}"
     return "there is a word too many, or an option that doesn't exist"
@@ -127,9 +127,9 @@ class Formatter(argparse.HelpFormatter):
 @functools.lru_cache(maxsize=None)
 def help_columns() -> int:
     """Returns the width of help texts, in columns."""
-    given = os.environ.get("COLUMNS", "")
-    if given.isascii() and given.isdecimal() and 20 <= int(given) < 1000:
-        return int(given)
+    columns = os.environ.get("COLUMNS", "")
+    if columns.isascii() and columns.isdecimal() and 20 <= int(columns) < 1000:
+        return int(columns)
     return terminal_columns()
 
 
@@ -153,9 +153,9 @@ class Parser(argparse.ArgumentParser):
     def error(self, message: str) -> NoReturn:
         """Refuses the arguments with argparse's message, but hides values, maybe passwords."""
         option, ignored, _ = message.partition(": ignored explicit argument ")
-        raise self.refusal(f"{option} takes no value" if ignored else message)
+        raise self.usage_error(f"{option} takes no value" if ignored else message)
 
-    def refusal(self, message: str) -> UsageError:
+    def usage_error(self, message: str) -> UsageError:
         """Returns the error for wrong arguments, with a hint at --help."""
         return UsageError(f"{message}. See {self.prog} --help.")
 
@@ -172,14 +172,14 @@ class ShowHelp(argparse.Action):
     """Shows the help of a command."""
 
     def __call__(self, parser: argparse.ArgumentParser, *_: object) -> NoReturn:
-        raise Shown(parser.format_help().rstrip("\n"))
+        raise PrintAndExit(parser.format_help().rstrip("\n"))
 
 
 class ShowVersion(argparse.Action):
     """Shows the version, which is the library's."""
 
     def __call__(self, *_: object) -> NoReturn:
-        raise Shown(f"pwhash {library.version()}")
+        raise PrintAndExit(f"pwhash {library.version()}")
 
 
 class Once(argparse.Action):
@@ -205,27 +205,27 @@ class Once(argparse.Action):
 def usage() -> str:
     """Returns the beginning of `pwhash --help`, with the library's recommended rounds."""
     method = next(iter(library.METHODS))
-    return USAGE.format(method=method, rounds=usual_rounds(method))
+    return USAGE.format(method=method, rounds=recommended_rounds(method))
 
 
-def usual_rounds(method: str) -> int:
+def recommended_rounds(method: str) -> int:
     """Returns the rounds of a method's new hashes, if nobody chooses others."""
     return library.limit(method, None, None).rounds
 
 
-def number(text: str) -> int:
+def parse_number(text: str) -> int:
     """Returns the number in a text such as 656000 or 656k."""
-    found = NUMBER.fullmatch(text)
-    if not found:
+    match = NUMBER.fullmatch(text)
+    if not match:
         message = f"{text!r} isn't a number: digits, or digits and one k or M, as 656k"
         raise argparse.ArgumentTypeError(message)
-    return int(found[1]) * FACTORS[found[2]]
+    return int(match[1]) * FACTORS[match[2]]
 
 
 # For each command its parser, and the function that makes its options.
 
 
-def one_parser() -> Parser:
+def single_parser() -> Parser:
     """Returns the parser of `pwhash` without a command."""
     parser = Parser("", None)
     forms = [form.word for form in Form if form is not Form.BARE]
@@ -238,17 +238,17 @@ def one_parser() -> Parser:
     return parser
 
 
-def one_options(parser: Parser, given: argparse.Namespace) -> Options:
+def single_options(parser: Parser, parsed: argparse.Namespace) -> Options:
     """Returns the options of `pwhash` without a command."""
-    policy = policy_of(parser, given)
-    form = FORMS[given.form]
-    if bool(given.name) != form.has_name:
+    policy = read_policy(parser, parsed)
+    form = FORMS[parsed.form]
+    if bool(parsed.name) != form.has_name:
         raise UsageError("cloud-init, htpasswd and shadow need a --name; nothing else has one.")
-    if given.name and not USER_NAME.fullmatch(given.name):
+    if parsed.name and not USER_NAME.fullmatch(parsed.name):
         raise UsageError(
             "a --name begins with a letter or _; then up to 63 letters, digits and _.@- follow."
         )
-    return OneOptions(policy, form, given.name, given.generate, given.accept_doubtful)
+    return SingleOptions(policy, form, parsed.name, parsed.generate, parsed.accept_doubtful)
 
 
 def file_parser() -> Parser:
@@ -273,26 +273,26 @@ def file_parser() -> Parser:
     return parser
 
 
-def file_options(parser: Parser, given: argparse.Namespace) -> Options:
+def file_options(parser: Parser, parsed: argparse.Namespace) -> Options:
     """Returns the options of `pwhash file`."""
-    refuse_lonely(parser, given, {"resume": "out", "columns": "csv"})
-    refuse_empty(parser, given, "out", "columns", "skip_locked", "skip_unknown")
-    refuse_out(parser, given.out)
-    policy = policy_of(parser, given)
-    generate = generate_of(parser, given, policy)
+    require_companions(parser, parsed, {"resume": "out", "columns": "csv"})
+    refuse_empty(parser, parsed, "out", "columns", "skip_locked", "skip_unknown")
+    refuse_out(parser, parsed.out)
+    policy = read_policy(parser, parsed)
+    generate = read_generate(parser, parsed, policy)
     return FileOptions(
         policy=policy,
-        input=names_of(parser, given) if generate else input_of(parser, given),
-        out=given.out,
-        resume=given.resume,
-        only_look=given.look,
-        skip_refused=given.skip_refused,
-        skip_locked=given.skip_locked,
-        skip_unknown=given.skip_unknown,
+        input=read_names(parser, parsed) if generate else read_input(parser, parsed),
+        out=parsed.out,
+        resume=parsed.resume,
+        only_look=parsed.look,
+        skip_refused=parsed.skip_refused,
+        skip_locked=parsed.skip_locked,
+        skip_unknown=parsed.skip_unknown,
         generate=generate,
-        doubtful=doubtful_of(given),
-        service=Service(given.service) if given.service else None,
-        quiet=given.quiet,
+        doubtful=read_doubtful(parsed),
+        service=Service(parsed.service) if parsed.service else None,
+        quiet=parsed.quiet,
     )
 
 
@@ -310,24 +310,24 @@ def check_parser() -> Parser:
     return parser
 
 
-def check_options(parser: Parser, given: argparse.Namespace) -> Options:
+def check_options(parser: Parser, parsed: argparse.Namespace) -> Options:
     """Returns the options of `pwhash check`.
 
     With --rehash a line is checked and hashed, so the default budget is twice as high.
     """
-    refuse_lonely(parser, given, {"columns": "csv", "csv": "shadow"})
-    refuse_empty(parser, given, "out", "shadow", "columns")
-    refuse_out(parser, given.out)
-    policy = policy_of(parser, given)
-    if given.rehash and given.budget is None:
+    require_companions(parser, parsed, {"columns": "csv", "csv": "shadow"})
+    refuse_empty(parser, parsed, "out", "shadow", "columns")
+    refuse_out(parser, parsed.out)
+    policy = read_policy(parser, parsed)
+    if parsed.rehash and parsed.budget is None:
         policy = policy._replace(budget=2 * policy.budget)
     return CheckOptions(
         policy=policy,
-        input=input_of(parser, given),
-        out=given.out,
-        shadow=given.shadow,
-        rehash=given.rehash,
-        quiet=given.quiet,
+        input=read_input(parser, parsed),
+        out=parsed.out,
+        shadow=parsed.shadow,
+        rehash=parsed.rehash,
+        quiet=parsed.quiet,
     )
 
 
@@ -342,18 +342,18 @@ def audit_parser() -> Parser:
     return parser
 
 
-def audit_options(parser: Parser, given: argparse.Namespace) -> Options:
+def audit_options(parser: Parser, parsed: argparse.Namespace) -> Options:
     """Returns the options of `pwhash audit`."""
-    if given.file is None:
-        raise parser.refusal(
+    if parsed.file is None:
+        raise parser.usage_error(
             "name a file: pwhash audit /etc/shadow, or for standard input pwhash audit -"
         )
     return AuditOptions(
-        policy=judging_policy(parser, given),
-        input=Input(path_of(parser, given), unlock=given.locked, counts_lines=not given.quiet),
-        only_problems=given.only_problems,
-        json=given.json,
-        quiet=given.quiet,
+        policy=read_judging_policy(parser, parsed),
+        input=Input(read_path(parser, parsed), unlock=parsed.locked, counts_lines=not parsed.quiet),
+        only_problems=parsed.only_problems,
+        json=parsed.json,
+        quiet=parsed.quiet,
     )
 
 
@@ -373,39 +373,41 @@ def set_parser() -> Parser:
     return parser
 
 
-def set_options(parser: Parser, given: argparse.Namespace) -> Options:
+def set_options(parser: Parser, parsed: argparse.Namespace) -> Options:
     """Returns the options of `pwhash set`."""
-    if not given.file or not given.name:
-        raise parser.refusal("name a password file and whose line to change: pwhash set FILE NAME")
-    refuse_unfit_name(parser, given.name)
+    if not parsed.file or not parsed.name:
+        raise parser.usage_error(
+            "name a password file and whose line to change: pwhash set FILE NAME"
+        )
+    refuse_unfit_name(parser, parsed.name)
     return SetOptions(
-        policy=policy_of(parser, given),
-        path=given.file,
-        name=os.fsencode(given.name),
-        action=action_of(parser, given),
-        service=Service(given.service) if given.service else None,
-        generate=given.generate,
-        accepts_doubtful=given.accept_doubtful,
-        quiet=given.quiet,
+        policy=read_policy(parser, parsed),
+        path=parsed.file,
+        name=os.fsencode(parsed.name),
+        action=read_action(parser, parsed),
+        service=Service(parsed.service) if parsed.service else None,
+        generate=parsed.generate,
+        accepts_doubtful=parsed.accept_doubtful,
+        quiet=parsed.quiet,
     )
 
 
-def action_of(parser: Parser, given: argparse.Namespace) -> Action:
+def read_action(parser: Parser, parsed: argparse.Namespace) -> Action:
     """Returns what to do to the line. Refuses two actions at once."""
-    chosen = [each for each in Action if getattr(given, each.name.lower(), False)]
-    if len(chosen) + given.generate > 1:
-        raise parser.refusal("give one of --generate, --delete, --lock and --unlock")
+    chosen = [each for each in Action if getattr(parsed, each.name.lower(), False)]
+    if len(chosen) + parsed.generate > 1:
+        raise parser.usage_error("give one of --generate, --delete, --lock and --unlock")
     return chosen[0] if chosen else Action.PASSWORD
 
 
 def refuse_unfit_name(parser: Parser, name: str) -> None:
     """Refuses a name with which no line can begin, or that services skip as a comment."""
     if ":" in name:
-        raise parser.refusal("NAME has a colon in it, with which names end in password files")
+        raise parser.usage_error("NAME has a colon in it, with which names end in password files")
     if CONTROL_CHARACTER.search(name):
-        raise parser.refusal("NAME has a control character in it")
+        raise parser.usage_error("NAME has a control character in it")
     if name.startswith("#"):
-        raise parser.refusal("NAME begins with a #, as comments do")
+        raise parser.usage_error("NAME begins with a #, as comments do")
 
 
 def install_parser() -> Parser:
@@ -424,30 +426,30 @@ def install_parser() -> Parser:
     return parser
 
 
-def install_options(parser: Parser, given: argparse.Namespace) -> Options:
+def install_options(parser: Parser, parsed: argparse.Namespace) -> Options:
     """Returns the options of `pwhash install`. Hashes are judged as in an audit."""
-    if not given.hashes or not given.target:
-        raise parser.refusal("name two files: pwhash install HASHES TARGET")
+    if not parsed.hashes or not parsed.target:
+        raise parser.usage_error("name two files: pwhash install HASHES TARGET")
     return InstallOptions(
-        policy=judging_policy(parser, given),
-        hashes=given.hashes,
-        target=given.target,
-        service=Service(given.service) if given.service else None,
-        owner=given.owner,
-        group=given.group,
-        mode=mode_of(parser, given),
-        accepts_other_schemes=given.accept_other_schemes,
-        quiet=given.quiet,
+        policy=read_judging_policy(parser, parsed),
+        hashes=parsed.hashes,
+        target=parsed.target,
+        service=Service(parsed.service) if parsed.service else None,
+        owner=parsed.owner,
+        group=parsed.group,
+        mode=read_mode(parser, parsed),
+        accepts_other_schemes=parsed.accept_other_schemes,
+        quiet=parsed.quiet,
     )
 
 
-def mode_of(parser: Parser, given: argparse.Namespace) -> Optional[int]:
+def read_mode(parser: Parser, parsed: argparse.Namespace) -> Optional[int]:
     """Returns the mode of a new password file, which only its owner may write and nobody run."""
-    if given.mode is None:
+    if parsed.mode is None:
         return None
-    mode = int(given.mode, 8) if MODE.fullmatch(given.mode) else None
-    if mode is None or mode & ~MOST_MODE:
-        raise parser.refusal(
+    mode = int(parsed.mode, 8) if MODE.fullmatch(parsed.mode) else None
+    if mode is None or mode & ~MAX_MODE:
+        raise parser.usage_error(
             "--mode is three octal digits, by which others may read the file at most, as 640"
         )
     return mode
@@ -462,26 +464,28 @@ def verify_parser() -> Parser:
     return parser
 
 
-def verify_options(parser: Parser, given: argparse.Namespace) -> Options:
+def verify_options(parser: Parser, parsed: argparse.Namespace) -> Options:
     """Returns the options of `pwhash verify`.
 
     No message shows an argument, since that may be the password.
     """
-    budget = min(limit_of(parser, given).budget, library.GREATEST_BUDGET)
-    if given.file is None:
+    budget = min(read_limit(parser, parsed).budget, library.MAX_BUDGET)
+    if parsed.file is None:
         return VerifyOptions(budget, "", "")
-    if given.name is None:
-        raise parser.refusal(
+    if parsed.name is None:
+        raise parser.usage_error(
             "give FILE and NAME, or neither: the hash is asked for, or is the second line of "
             "standard input. Others can see arguments"
         )
-    if not given.file or not given.name:
-        raise parser.refusal("FILE or NAME is empty")
-    if given.file == STDIN:
-        raise parser.refusal("standard input has the password, so FILE can't be -")
-    if not NAME_OF_LINE.fullmatch(given.name):
-        raise parser.refusal("a NAME has no colon and no control character, and begins with no #")
-    return VerifyOptions(budget, given.file, given.name)
+    if not parsed.file or not parsed.name:
+        raise parser.usage_error("FILE or NAME is empty")
+    if parsed.file == STDIN:
+        raise parser.usage_error("standard input has the password, so FILE can't be -")
+    if not NAME_OF_LINE.fullmatch(parsed.name):
+        raise parser.usage_error(
+            "a NAME has no colon and no control character, and begins with no #"
+        )
+    return VerifyOptions(budget, parsed.file, parsed.name)
 
 
 def calibrate_parser() -> Parser:
@@ -496,16 +500,16 @@ def calibrate_parser() -> Parser:
     return parser
 
 
-def calibrate_options(parser: Parser, given: argparse.Namespace) -> Options:
+def calibrate_options(parser: Parser, parsed: argparse.Namespace) -> Options:
     """Returns the options of `pwhash calibrate`."""
-    if given.time is None:
-        raise parser.refusal("name the time that a login may take: pwhash calibrate 300ms")
-    found = TIME.fullmatch(given.time)
-    if found is None:
-        raise parser.refusal("TIME is a number with its unit, ms or s, as 300ms, 0.3s or 2s")
-    methods = tuple(ROUNDS) if given.method is None else (given.method,)
-    seconds = float(found[1]) * SECONDS[found[2]]
-    return CalibrateOptions(given.time, seconds, methods, given.quiet)
+    if parsed.time is None:
+        raise parser.usage_error("name the time that a login may take: pwhash calibrate 300ms")
+    match = TIME.fullmatch(parsed.time)
+    if match is None:
+        raise parser.usage_error("TIME is a number with its unit, ms or s, as 300ms, 0.3s or 2s")
+    methods = tuple(ROUNDS) if parsed.method is None else (parsed.method,)
+    seconds = float(match[1]) * SECONDS[match[2]]
+    return CalibrateOptions(parsed.time, seconds, methods, parsed.quiet)
 
 
 class Command(NamedTuple):
@@ -516,7 +520,7 @@ class Command(NamedTuple):
 
 
 COMMANDS: Dict[str, Command] = {
-    "": Command(one_parser, one_options),
+    "": Command(single_parser, single_options),
     "file": Command(file_parser, file_options),
     "check": Command(check_parser, check_options),
     "audit": Command(audit_parser, audit_options),
@@ -562,7 +566,7 @@ def add_generate(parser: Parser) -> None:
     passwords_text = "write names and passwords to the new file LIST, as CSV"
     parser.value("--passwords", metavar="LIST", help=passwords_text)
     length_text = "letters and digits of a password, by default 20"
-    parser.value("--length", type=number, metavar="NUMBER", help=length_text)
+    parser.value("--length", type=parse_number, metavar="NUMBER", help=length_text)
     by_text = "LIST is a new folder, with a file for each value of this column"
     parser.value("--by", metavar="COLUMN", help=by_text)
     others_text = "columns of FILE that LIST has too, as those of people's names"
@@ -583,72 +587,72 @@ def add_common(parser: Parser) -> None:
         "-m", "--method", metavar="TYPE", choices=methods, default=methods[0], help=method_text
     )
     rounds_text = (
-        f"from 1000, by default {usual_rounds(methods[0]) // 1000}k; "
-        f"with scrypt 6 to 11, by default {usual_rounds('scrypt')}"
+        f"from 1000, by default {recommended_rounds(methods[0]) // 1000}k; "
+        f"with scrypt 6 to 11, by default {recommended_rounds('scrypt')}"
     )
-    parser.value("-R", "--rounds", type=number, metavar="NUMBER", help=rounds_text)
+    parser.value("-R", "--rounds", type=parse_number, metavar="NUMBER", help=rounds_text)
     budget_text = (
         "what a line may cost in bytes; by default a login's limit, in audits any new hash"
     )
-    parser.value("--budget", type=number, metavar="NUMBER", help=budget_text)
+    parser.value("--budget", type=parse_number, metavar="NUMBER", help=budget_text)
     parser.flag("--quiet", "show no progress")
 
 
-def policy_of(parser: Parser, given: argparse.Namespace) -> Policy:
+def read_policy(parser: Parser, parsed: argparse.Namespace) -> Policy:
     """Returns the policy of new hashes. By default a hash may cost as much as a login."""
-    limit = limit_of(parser, given)
-    budget = min(limit.budget, library.GREATEST_BUDGET)
-    if given.salt is None:
-        return Policy(given.method, limit.rounds, budget, limit.longest, None)
+    limit = read_limit(parser, parsed)
+    budget = min(limit.budget, library.MAX_BUDGET)
+    if parsed.salt is None:
+        return Policy(parsed.method, limit.rounds, budget, limit.longest, None)
     try:
-        setting = library.setting(given.method, limit.rounds, os.fsencode(given.salt))
+        setting = library.setting(parsed.method, limit.rounds, os.fsencode(parsed.salt))
     except library.RefusedSalt as refused:
-        raise parser.refusal(f"-S: {refused}") from None
+        raise parser.usage_error(f"-S: {refused}") from None
     longest = library.longest_password(setting, budget)
-    return Policy(given.method, limit.rounds, budget, longest, setting)
+    return Policy(parsed.method, limit.rounds, budget, longest, setting)
 
 
-def judging_policy(parser: Parser, given: argparse.Namespace) -> Policy:
+def read_judging_policy(parser: Parser, parsed: argparse.Namespace) -> Policy:
     """Returns the policy by which stored hashes are judged.
 
     A budget of 0, or none, stands for the library's own.
     """
-    limit_of(parser, given)
-    own_budget = min(given.budget or 0, library.GREATEST_BUDGET)
-    return Policy(given.method, given.rounds or 0, own_budget, None, None)
+    read_limit(parser, parsed)
+    own_budget = min(parsed.budget or 0, library.MAX_BUDGET)
+    return Policy(parsed.method, parsed.rounds or 0, own_budget, None, None)
 
 
-def limit_of(parser: Parser, given: argparse.Namespace) -> library.Limit:
+def read_limit(parser: Parser, parsed: argparse.Namespace) -> library.Limit:
     """Returns what the method, rounds and budget allow."""
     try:
-        return library.limit(given.method, given.rounds, given.budget)
+        return library.limit(parsed.method, parsed.rounds, parsed.budget)
     except library.RefusedRounds:
-        raise parser.refusal(about_rounds(given.method, given.rounds)) from None
+        raise parser.usage_error(describe_bad_rounds(parsed.method, parsed.rounds)) from None
 
 
-def about_rounds(method: str, rounds: int) -> str:
+def describe_bad_rounds(method: str, rounds: int) -> str:
     """Describes rounds that new hashes of a method can't have."""
     if method not in ROUNDS:
         return f"-R {rounds}: leave it out, since {method} has no rounds to choose"
-    usual = usual_rounds(method)
+    usual = recommended_rounds(method)
     return f"-R {rounds} with -m {method} isn't from {ROUNDS[method]}, by default {usual}"
 
 
-def refuse_lonely(parser: Parser, given: argparse.Namespace, needs: Dict[str, str]) -> None:
+def require_companions(parser: Parser, parsed: argparse.Namespace, needs: Dict[str, str]) -> None:
     """Refuses an option without another one that it needs."""
     for option, needed in needs.items():
-        if getattr(given, option) and not getattr(given, needed):
-            raise parser.refusal(f"{typed(option)} needs {typed(needed)}")
+        if getattr(parsed, option) and not getattr(parsed, needed):
+            raise parser.usage_error(f"{as_typed(option)} needs {as_typed(needed)}")
 
 
-def refuse_empty(parser: Parser, given: argparse.Namespace, *options: str) -> None:
+def refuse_empty(parser: Parser, parsed: argparse.Namespace, *options: str) -> None:
     """Refuses an empty value, such as that of an unset variable in a script."""
     for option in options:
-        if getattr(given, option) == "":
-            raise parser.refusal(f"{typed(option)} is empty")
+        if getattr(parsed, option) == "":
+            raise parser.usage_error(f"{as_typed(option)} is empty")
 
 
-def typed(option: str) -> str:
+def as_typed(option: str) -> str:
     """Returns an option as a user types it."""
     return f"--{option.replace('_', '-')}"
 
@@ -656,85 +660,91 @@ def typed(option: str) -> str:
 def refuse_out(parser: Parser, out: Optional[str]) -> None:
     """Refuses an OUT that already exists."""
     if out == STDIN:
-        raise parser.refusal(
+        raise parser.usage_error(
             "-o - would write a file: leave it out for standard output, or name ./-"
         )
     if out is not None and os.path.lexists(out):
-        way_out = ", or remove it" if os.path.isfile(out) else ""  # but never a device
-        raise parser.refusal(f"{named(out)} already exists: name another file after -o{way_out}")
+        remedy = ", or remove it" if os.path.isfile(out) else ""  # but never a device
+        raise parser.usage_error(
+            f"{display_name(out)} already exists: name another file after -o{remedy}"
+        )
 
 
-def input_of(parser: Parser, given: argparse.Namespace) -> Input:
+def read_input(parser: Parser, parsed: argparse.Namespace) -> Input:
     """Returns the file of lines, and how to read it."""
-    columns = (given.columns or DEFAULT_COLUMNS) if given.csv else None
-    path = path_of(parser, given)
-    return Input(path, given.windows, columns, counts_lines=not given.quiet)
+    columns = (parsed.columns or DEFAULT_COLUMNS) if parsed.csv else None
+    path = read_path(parser, parsed)
+    return Input(path, parsed.windows, columns, counts_lines=not parsed.quiet)
 
 
-def generate_of(parser: Parser, given: argparse.Namespace, policy: Policy) -> Optional[Generate]:
+def read_generate(parser: Parser, parsed: argparse.Namespace, policy: Policy) -> Optional[Generate]:
     """Returns which passwords to generate, or None without --generate."""
     needing = ("passwords", "length", "by", "list_columns")
-    refuse_lonely(parser, given, {option: "generate" for option in needing})
-    refuse_empty(parser, given, "passwords", "by", "list_columns")
-    if not given.generate:
+    require_companions(parser, parsed, {option: "generate" for option in needing})
+    refuse_empty(parser, parsed, "passwords", "by", "list_columns")
+    if not parsed.generate:
         return None
-    length = GENERATED_LENGTH if given.length is None else given.length
+    length = GENERATED_LENGTH if parsed.length is None else parsed.length
     if not SHORTEST_GENERATED <= length <= LONGEST_GENERATED:
-        raise parser.refusal(f"--length isn't from {SHORTEST_GENERATED} to {LONGEST_GENERATED}")
+        raise parser.usage_error(f"--length isn't from {SHORTEST_GENERATED} to {LONGEST_GENERATED}")
     if library.is_over_budget(policy, length):
-        raise parser.refusal(f"--length {length}: over budget, {library.how_long(policy)}")
-    refuse_lonely(parser, given, {"by": "csv", "list_columns": "csv"})
-    if not given.look:
-        refuse_lists(parser, given)
-    return Generate(given.passwords or "", length, given.by is not None)
+        raise parser.usage_error(
+            f"--length {length}: over budget, {library.describe_length_limit(policy)}"
+        )
+    require_companions(parser, parsed, {"by": "csv", "list_columns": "csv"})
+    if not parsed.look:
+        refuse_lists(parser, parsed)
+    return Generate(parsed.passwords or "", length, parsed.by is not None)
 
 
-def refuse_lists(parser: Parser, given: argparse.Namespace) -> None:
+def refuse_lists(parser: Parser, parsed: argparse.Namespace) -> None:
     """Refuses a LIST that isn't given, that is OUT, or that already exists."""
-    if not given.out or not given.passwords:
-        raise parser.refusal(
+    if not parsed.out or not parsed.passwords:
+        raise parser.usage_error(
             "--generate needs -o OUT for the hashes, and --passwords LIST for the passwords"
         )
-    of_out = [given.out, part_of(given.out), part_of(given.out) + ".options"]
-    if os.path.realpath(given.passwords) in [os.path.realpath(each) for each in of_out]:
-        raise parser.refusal("-o and --passwords need two different files")
-    if os.path.lexists(given.passwords) and not given.resume:
-        raise parser.refusal(about_list_that_exists(given))
+    of_out = [parsed.out, part_of(parsed.out), part_of(parsed.out) + ".options"]
+    if os.path.realpath(parsed.passwords) in [os.path.realpath(each) for each in of_out]:
+        raise parser.usage_error("-o and --passwords need two different files")
+    if os.path.lexists(parsed.passwords) and not parsed.resume:
+        raise parser.usage_error(describe_existing_list(parsed))
 
 
-def about_list_that_exists(given: argparse.Namespace) -> str:
+def describe_existing_list(parsed: argparse.Namespace) -> str:
     """Describes a LIST that already exists. Beside OUT.part, an earlier run may have made it."""
-    name, part = named(given.passwords), part_of(given.out)
+    name, part = display_name(parsed.passwords), part_of(parsed.out)
     if os.path.lexists(part):
-        return f"{name} already exists, and so does {named(part)}: add --resume, or remove both"
+        return (
+            f"{name} already exists, and so does {display_name(part)}: add --resume, or remove both"
+        )
     return f"{name} already exists: name another after --passwords, or remove it"
 
 
-def names_of(parser: Parser, given: argparse.Namespace) -> Input:
+def read_names(parser: Parser, parsed: argparse.Namespace) -> Input:
     """Returns the file of names. A table has names in one column, and maybe groups in another."""
-    names = given.columns or "name"
+    names = parsed.columns or "name"
     if "," in names:
-        raise parser.refusal("--columns names one column with --generate, that of the names")
-    columns = f"{names},{given.by}" if given.by else names
+        raise parser.usage_error("--columns names one column with --generate, that of the names")
+    columns = f"{names},{parsed.by}" if parsed.by else names
     return Input(
-        path_of(parser, given),
-        given.windows,
-        columns if given.csv else None,
-        counts_lines=not given.quiet,
+        read_path(parser, parsed),
+        parsed.windows,
+        columns if parsed.csv else None,
+        counts_lines=not parsed.quiet,
         names_only=True,
-        list_columns=given.list_columns,
+        list_columns=parsed.list_columns,
     )
 
 
-def path_of(parser: Parser, given: argparse.Namespace) -> Optional[str]:
+def read_path(parser: Parser, parsed: argparse.Namespace) -> Optional[str]:
     """Returns FILE, or None for standard input."""
-    if given.file == "":
-        raise parser.refusal("FILE is empty")
-    return None if given.file == STDIN else str(given.file)
+    if parsed.file == "":
+        raise parser.usage_error("FILE is empty")
+    return None if parsed.file == STDIN else str(parsed.file)
 
 
-def doubtful_of(given: argparse.Namespace) -> Doubtful:
+def read_doubtful(parsed: argparse.Namespace) -> Doubtful:
     """Returns what to do with doubtful lines. With both options they are left out."""
-    if given.skip_doubtful:
+    if parsed.skip_doubtful:
         return Doubtful.SKIP
-    return Doubtful.ACCEPT if given.accept_doubtful else Doubtful.STOP
+    return Doubtful.ACCEPT if parsed.accept_doubtful else Doubtful.STOP

@@ -17,7 +17,7 @@ from collections.abc import Sequence
 from typing import Optional
 
 from pwhash.errors import Stop, reason_of
-from pwhash.text import readable_text
+from pwhash.text import printable_text
 
 STDIN, STDOUT, STDERR = 0, 1, 2
 OUTPUT_NAMES = {STDOUT: "standard output", STDERR: "standard error"}
@@ -45,15 +45,15 @@ class Console:
         self._shows_progress = False
         self._is_last = False
 
-    def wait_for_nobody(self) -> None:
+    def stop_waiting(self) -> None:
         """From here on, drops output that nobody reads soon, since the run is ending."""
         self._is_last = True
 
     def say(self, sentence: str) -> None:
         """Writes a message to standard error."""
-        self.lines(STDERR, [f"pwhash: {readable_text(sentence)}".encode()])
+        self.write_lines(STDERR, [f"pwhash: {printable_text(sentence)}".encode()])
 
-    def lines(self, fd: int, lines: Sequence[bytes]) -> None:
+    def write_lines(self, fd: int, lines: Sequence[bytes]) -> None:
         """Writes lines to standard output, standard error or a file.
 
         Failing to write to standard error doesn't end the run.
@@ -71,7 +71,7 @@ class Console:
                 raise Stop(f"{OUTPUT_NAMES[fd]}: {reason_of(error)}.") from None
             raise
 
-    def on_terminal(self, text: str) -> bool:
+    def write_to_terminal(self, text: str) -> bool:
         """Writes to the terminal, wherever the outputs go. Returns whether it did.
 
         It doesn't if there is no terminal, or if the process is in the background.
@@ -93,13 +93,13 @@ class Console:
         """Shows a new progress line: the short text if the terminal is narrow."""
         columns = terminal_columns() - 1  # the last column is for the cursor
         line = text if len(text) <= columns else short[:columns]
-        self._shows_progress = self.on_terminal(f"\r{line}\x1b[K")
+        self._shows_progress = self.write_to_terminal(f"\r{line}\x1b[K")
 
     def clear_progress(self) -> None:
         """Clears the progress line, if there is one."""
         if self._shows_progress:
             self._shows_progress = False
-            self.on_terminal(CLEAR_LINE)
+            self.write_to_terminal(CLEAR_LINE)
 
     def end_last_line(self, fd: int) -> None:
         """Ends the last line of a file after the shell's >>, so that answers begin a new one."""
@@ -108,7 +108,7 @@ class Console:
         if not stat.S_ISREG(status.st_mode) or not is_added_to or not status.st_size:
             return
         if last_byte(fd) != b"\n":
-            self.lines(fd, [b""])
+            self.write_lines(fd, [b""])
 
     def silence_errors(self) -> None:
         """Redirects standard error to /dev/null, so that nothing is added to a file."""

@@ -11,7 +11,7 @@ from pwhash import exports, headings
 from pwhash.lines import BYTE_ORDER_MARK, Line
 from pwhash.names import FirstLines
 from pwhash.options import Service
-from pwhash.text import APART, is_utf8, is_visible
+from pwhash.text import DECOMPOSED, is_utf8, is_visible
 
 SEPARATOR = re.compile(rb"[,;\t| ]")
 # A line without unusual characters. Only its name and password as words may be doubtful.
@@ -46,23 +46,21 @@ class Doubts:
         self._windows = windows
         self._names = FirstLines()
 
-    def about(self, line: Line) -> List[str]:
+    def find(self, line: Line) -> List[str]:
         """Returns all doubts about a line that mkpasswd accepts."""
         name, _, password = line.data.partition(b":")
         found: List[str] = []
         if not PLAIN_LINE.fullmatch(line.data):
-            found += about_marks(line.data, password, self._windows)
-            found += about_text(line.data)
+            found += find_marks(line.data, password, self._windows)
+            found += find_odd_text(line.data)
         if NOT_UTF8 not in found and not all(is_utf8(each) for each in line.others):
             found.append(NOT_UTF8)
-        found += about_fields(name, password, self._is_table)
+        found += find_odd_fields(name, password, self._is_table)
         if not self._is_table:
-            found += about_list(line.data, name, password)
-        elif self._service_name is None and b" " in name.strip():
-            found.append("a blank in the name: is it the column of user names? See --columns")
+            found += find_signs_of_table(line.data, name, password)
         if self._service_name and not self._service_name.fullmatch(name):
             found.append("the service takes the name for another, or skips it")
-        again = self._names.about(name, line.number, bool(found))
+        again = self._names.check(name, line.number, bool(found))
         return [*found, again] if again else found
 
     def note_refused(self, line: Line) -> None:
@@ -72,7 +70,7 @@ class Doubts:
             self._names.note_refused(name, line.number)
 
 
-def about_marks(data: bytes, password: bytes, windows: bool) -> Iterator[str]:
+def find_marks(data: bytes, password: bytes, windows: bool) -> Iterator[str]:
     """Yields doubts about an empty password, carriage returns and byte order marks."""
     if password in (b"", b"\r"):
         yield "an empty password: Return alone logs in"
@@ -86,7 +84,7 @@ def about_marks(data: bytes, password: bytes, windows: bool) -> Iterator[str]:
         yield "a byte order mark inside"
 
 
-def about_text(data: bytes) -> Iterator[str]:
+def find_odd_text(data: bytes) -> Iterator[str]:
     """Yields doubts about characters that are invisible, or that nobody types in this form."""
     # find_marks() reports carriage returns and byte order marks.
     text = data.decode(errors="replace").replace("\r", "").replace("\ufeff", "")
@@ -95,7 +93,7 @@ def about_text(data: bytes) -> Iterator[str]:
     if not is_visible(text):
         yield "an invisible character"
     if not unicodedata.is_normalized("NFC", text):
-        yield APART
+        yield DECOMPOSED
     if exports.is_misread(text):
         yield "UTF-8 that was read as Windows-1252, and saved so"
     if not is_utf8(data):
@@ -104,7 +102,7 @@ def about_text(data: bytes) -> Iterator[str]:
         yield "U+FFFD, which programs save in place of what they can't read"
 
 
-def about_fields(name: bytes, password: bytes, is_table: bool) -> Iterator[str]:
+def find_odd_fields(name: bytes, password: bytes, is_table: bool) -> Iterator[str]:
     """Yields doubts about a heading, or a value that a program has put in place of another."""
     if headings.is_heading_of_names(name):
         yield "a heading, and no user"
@@ -118,7 +116,7 @@ def about_fields(name: bytes, password: bytes, is_table: bool) -> Iterator[str]:
         yield TOO_LONG_FOR_CRYPT
 
 
-def about_list(data: bytes, name: bytes, password: bytes) -> Iterator[str]:
+def find_signs_of_table(data: bytes, name: bytes, password: bytes) -> Iterator[str]:
     """Yields doubts about a line of a list that looks like a row of a table."""
     if SEPARATOR.search(name.strip()):
         yield "a separator of tables in the name: is it a table? See --csv"
@@ -132,7 +130,7 @@ def is_quoted(field: bytes) -> bool:
     return len(field) > 1 and field.startswith(b'"') and field.endswith(b'"')
 
 
-def shown_name(line: Line, is_table: bool) -> bytes:
+def printable_part(line: Line, is_table: bool) -> bytes:
     """Returns the part of a line that may be shown: the name, or nothing without a colon.
 
     In a list, what follows a separator of tables may be a password.

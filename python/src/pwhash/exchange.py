@@ -18,7 +18,7 @@ from pwhash.errors import Stop
 from pwhash.place import Place
 
 # Each exchange after the first is needed only if somebody changed the file between two calls.
-MOST_EXCHANGES = 8
+MAX_EXCHANGES = 8
 NO_EXCHANGE = (errno.EINVAL, errno.ENOSYS, errno.EOPNOTSUPP)
 NOTE = re.compile("([0-9]+) ([0-9]+)")
 
@@ -48,17 +48,17 @@ def exchange_files(place: Place, old: os.stat_result, new: os.stat_result) -> Ou
         if is_untouched(now, old):
             outcome = exchange_until_expected(place, old, new, held)
     except BaseException:
-        clear_up(place, pair, is_known=False)
+        clean_up(place, pair, is_known=False)
         raise
     else:
-        clear_up(place, pair, is_known=True)
+        clean_up(place, pair, is_known=True)
         return outcome
     finally:
         for fd in held:
             os.close(fd)
 
 
-def clear_up(place: Place, pair: Pair, is_known: bool) -> None:
+def clean_up(place: Place, pair: Pair, is_known: bool) -> None:
     """Removes the file that came out, and then the note. If it fails, the next exchange does it.
 
     If it isn't known which file came out, that may be somebody's version, which stays.
@@ -67,7 +67,7 @@ def clear_up(place: Place, pair: Pair, is_known: bool) -> None:
         if is_known:
             os.unlink(place.new, dir_fd=place.folder)
         else:
-            remove_one_of(place, pair)
+            remove_own_file(place, pair)
         os.unlink(place.note, dir_fd=place.folder)
 
 
@@ -82,7 +82,7 @@ def exchange_until_expected(
     it.
     """
     expected, in_place = old, new
-    for _ in range(MOST_EXCHANGES):
+    for _ in range(MAX_EXCHANGES):
         swap(place)
         out = os.stat(place.new, dir_fd=place.folder, follow_symlinks=False)
         flags = os.O_PATH | os.O_NOFOLLOW | os.O_CLOEXEC
@@ -102,7 +102,7 @@ def swap(place: Place) -> None:
     except OSError as error:
         if error.errno in NO_EXCHANGE:
             raise Stop(
-                f"the file system of {place.shown} can't exchange two files, as NFS can't. "
+                f"the file system of {place.display_name} can't exchange two files, as NFS can't. "
                 "The file stays as it was. Move it to a disk of this machine."
             ) from None
         raise
@@ -129,7 +129,7 @@ def version(status: os.stat_result) -> "tuple[int, ...]":
     )
 
 
-def end_earlier(place: Place) -> None:
+def end_earlier_exchange(place: Place) -> None:
     """Ends the exchange of a process that was killed."""
     try:
         note = os.readlink(place.note, dir_fd=place.folder)
@@ -139,7 +139,7 @@ def end_earlier(place: Place) -> None:
         return
     pair = read_note(place, note)
     put_back(place, pair)
-    remove_one_of(place, pair)
+    remove_own_file(place, pair)
     os.unlink(place.note, dir_fd=place.folder)
 
 
@@ -148,7 +148,7 @@ def read_note(place: Place, note: str) -> Pair:
     found = NOTE.fullmatch(note)
     if found is None:
         raise Stop(
-            f"{place.shown}.mkpasswd.exchange is no link that pwhash or pam_mkpasswd made. "
+            f"{place.display_name}.mkpasswd.exchange is no link that pwhash or pam_mkpasswd made. "
             "Look at it, and remove it."
         )
     return Pair(int(found[1]), int(found[2]))
@@ -156,21 +156,21 @@ def read_note(place: Place, note: str) -> Pair:
 
 def put_back(place: Place, pair: Pair) -> None:
     """Puts back a file that was exchanged by mistake, if the new file is still in its place."""
-    left, now = place.look(place.new), place.look(place.name)
+    left, now = place.read_status(place.new), place.read_status(place.name)
     if left is None or now is None:
         return
     if left.st_ino not in pair and now.st_ino == pair.new:
         swap(place)
 
 
-def remove_one_of(place: Place, pair: Pair) -> None:
+def remove_own_file(place: Place, pair: Pair) -> None:
     """Removes the old file after an exchange, or the new one if there was none, but no other."""
-    left = place.look(place.new)
+    left = place.read_status(place.new)
     if left is None:
         return
     if left.st_ino not in pair:
         raise Stop(
-            f"{place.shown}.mkpasswd.new is somebody's version of the file, which two others met. "
-            "Look at it, and put it in its place (mv) or remove it."
+            f"{place.display_name}.mkpasswd.new is somebody's version of the file, which two "
+            "others met. Look at it, and put it in its place (mv) or remove it."
         )
     os.unlink(place.new, dir_fd=place.folder)

@@ -89,7 +89,7 @@ BY_STATE: Dict[mkpasswd.State, Finding] = {
 }
 
 
-def judged(number: int, name: str, description: mkpasswd.Description) -> Judgement:
+def judge(number: int, name: str, description: mkpasswd.Description) -> Judgement:
     """Returns the judgement on the stored field of an account."""
     finding = BY_STATE[description.state]
     rounds: Union[int, str, None] = description.rounds
@@ -110,7 +110,7 @@ def judged(number: int, name: str, description: mkpasswd.Description) -> Judgeme
     )
 
 
-def refused(number: int, message: str) -> Judgement:
+def judge_refused_line(number: int, message: str) -> Judgement:
     """Returns the judgement on a line that isn't an account's."""
     return Judgement(
         line=number,

@@ -10,18 +10,17 @@ import os
 import re
 from typing import Dict, List, NamedTuple, Optional, Tuple
 
-from pwhash import kept, lists
-from pwhash.console import Console
+from pwhash import lists, resume_state
 from pwhash.doubts import NOT_UTF8
 from pwhash.errors import UsageError
-from pwhash.lines import Arrivals, Line, name_of
-from pwhash.lists import Row, Written
-from pwhash.one import random_letter
+from pwhash.lines import Line, LineGroups, name_of
+from pwhash.lists import ListWriter, Row
 from pwhash.options import FileOptions, Generate
 from pwhash.part import Part, refuse_changed
 from pwhash.session import Session
+from pwhash.single import random_letter_or_digit
 from pwhash.source import Source
-from pwhash.text import is_utf8, is_visible, named, readable
+from pwhash.text import display_name, is_utf8, is_visible
 
 PLACEHOLDER = b"x"
 # What begins a formula in a spreadsheet. Some also accept the fullwidth forms of East Asia.
@@ -39,10 +38,10 @@ class Names(NamedTuple):
     groups: Dict[bytes, List[Row]]  # rows without passwords, by list; without --by its name is b""
 
 
-def with_placeholders(arrivals: Arrivals, generate: Generate) -> Arrivals:
+def with_placeholders(groups: LineGroups, generate: Generate) -> LineGroups:
     """Makes lines name:password from names, with a placeholder that is never hashed."""
     placeholder = PLACEHOLDER * generate.length
-    for group in arrivals:
+    for group in groups:
         yield [with_placeholder(line, placeholder, generate.has_groups) for line in group]
 
 
@@ -50,14 +49,14 @@ def with_placeholder(line: Line, placeholder: bytes, has_groups: bool) -> Line:
     """Returns a line with a placeholder, or a refused line."""
     if line.refused_row is not None:
         return line
-    reason = about_name(line.data) or (about_group(line.group) if has_groups else None)
-    reason = reason or about_others(line.others)
+    reason = check_name(line.data) or (check_group(line.group) if has_groups else None)
+    reason = reason or check_others(line.others)
     if reason is not None:
         return line._replace(data=name_of(line), refused_row=reason)
     return line._replace(data=line.data + b":" + placeholder)
 
 
-def about_name(name: bytes) -> Optional[str]:
+def check_name(name: bytes) -> Optional[str]:
     """Says why a list of passwords can't contain a name, or returns None."""
     if not name:
         return "no name"
@@ -70,7 +69,7 @@ def about_name(name: bytes) -> Optional[str]:
     return None
 
 
-def about_group(group: bytes) -> Optional[str]:
+def check_group(group: bytes) -> Optional[str]:
     """Says why a value in the column of --by can't name a file, or returns None."""
     if not group:
         return "nothing in the column of --by, which names the list"
@@ -85,7 +84,7 @@ def about_group(group: bytes) -> Optional[str]:
     return None
 
 
-def about_others(fields: Tuple[bytes, ...]) -> Optional[str]:
+def check_others(fields: Tuple[bytes, ...]) -> Optional[str]:
     """Says why a list can't contain these fields of --list-columns, or returns None."""
     for field in fields:
         text = field.decode(errors="replace")
@@ -96,9 +95,9 @@ def about_others(fields: Tuple[bytes, ...]) -> Optional[str]:
     return None
 
 
-def with_passwords(arrivals: Arrivals, passwords: Dict[bytes, bytes], source: Source) -> Arrivals:
+def with_passwords(groups: LineGroups, passwords: Dict[bytes, bytes], source: Source) -> LineGroups:
     """Replaces the placeholders in the lines with passwords."""
-    for group in arrivals:
+    for group in groups:
         yield [with_password(line, passwords, source) for line in group]
 
 
@@ -113,60 +112,43 @@ def with_password(line: Line, passwords: Dict[bytes, bytes], source: Source) -> 
     return line._replace(data=name + b":" + passwords[name])
 
 
-def passwords_on_disk(
-    arrivals: Arrivals, part: Part, source: Source, options: FileOptions, session: Session
+def store_passwords(
+    groups: LineGroups, part: Part, source: Source, options: FileOptions, session: Session
 ) -> Dict[bytes, bytes]:
     """Returns the password of each name, once all lists are on disk."""
     generate = options.generate
     assert generate is not None
     has_hashes = os.fstat(part.fd).st_size > 0
-    is_begun = kept.read(part.path) is not None and os.path.lexists(generate.passwords)
-    if options.resume and is_begun:
-        passwords = lists.read(generate.passwords, generate.has_groups)
-        name_useless_passwords(passwords, arrivals, generate, session.console)
-        return passwords
+    has_lists = resume_state.read(part.path) is not None and os.path.lexists(generate.passwords)
+    if options.resume and has_lists:
+        return lists.read(generate.passwords, generate.has_groups)
     if has_hashes:
         raise UsageError(
-            f"{part.name} has hashes of passwords that were in {named(generate.passwords)}, which "
-            f"is gone. Remove {part.name}, and start again."
+            f"{part.name} has hashes of passwords that were in {display_name(generate.passwords)}, "
+            f"which is gone. Remove {part.name}, and start again."
         )
     if options.resume and os.path.lexists(generate.passwords):
-        raise list_in_the_way(generate.passwords, part)
-    names = new_passwords(arrivals, generate)
+        raise leftover_list_error(generate.passwords, part)
+    names = new_passwords(groups, generate)
     refuse_changed(source, part)
     with session.signals.postponed():
         write_lists(names, generate, source.separator, part, options)
     return names.passwords
 
 
-def name_useless_passwords(
-    passwords: Dict[bytes, bytes], arrivals: Arrivals, generate: Generate, console: Console
-) -> None:
-    """Names the passwords of a list that get no hash, as those of accounts locked since."""
-    hashed_names = {name_of(line) for group in arrivals for line in group}
-    useless = [readable(name) for name in passwords if name not in hashed_names]
-    if useless:
-        shown = ", ".join(useless[:MOST_SHOWN])
-        others = f" and {len(useless) - MOST_SHOWN:,} more" if len(useless) > MOST_SHOWN else ""
-        console.say(
-            f"{named(generate.passwords)} has passwords that get no hash, since their lines are "
-            f"left out now: {shown}{others}."
-        )
-
-
-def list_in_the_way(path: str, part: Part) -> UsageError:
+def leftover_list_error(path: str, part: Part) -> UsageError:
     """Returns the error for a list that may be incomplete, since its run ended too early."""
-    name = named(path)
+    name = display_name(path)
     return UsageError(
         f"{name} already exists, and {part.name} has no hash yet. If a run that ended early left "
         f"{name}, remove it, and type the command again; else name another after --passwords."
     )
 
 
-def new_passwords(arrivals: Arrivals, generate: Generate) -> Names:
+def new_passwords(groups: LineGroups, generate: Generate) -> Names:
     """Makes a password for each name. A name in several lines gets one password."""
     names = Names({}, {})
-    for group in arrivals:
+    for group in groups:
         for line in group:
             name = name_of(line)
             if name not in names.passwords:
@@ -178,7 +160,7 @@ def new_passwords(arrivals: Arrivals, generate: Generate) -> Names:
 def new_password(length: int) -> bytes:
     """Makes a password of letters and digits, with letters at both ends for spreadsheets."""
     while True:
-        password = "".join(random_letter() for _ in range(length))
+        password = "".join(random_letter_or_digit() for _ in range(length))
         if password[0].isalpha() and password[-1].isalpha():
             return password.encode("ascii")
 
@@ -187,24 +169,24 @@ def write_lists(
     names: Names, generate: Generate, separator: str, part: Part, options: FileOptions
 ) -> None:
     """Writes all lists, and what --resume needs. After an error none of these files remains."""
-    written = Written()
-    heading = heading_of(options)
+    writer = ListWriter()
+    heading = list_heading(options)
     try:
         if generate.has_groups:
-            written.make_folder(generate.passwords)
+            writer.make_folder(generate.passwords)
         for group, members in names.groups.items():
             path = generate.passwords
             if generate.has_groups:
                 path = os.path.join(path, os.fsdecode(group) + lists.SUFFIX)
             rows = [(*member, names.passwords[member[-1]]) for member in members]
-            written.write(path, separator, [heading, *rows])
-        part.keep(options)
+            writer.write(path, separator, [heading, *rows])
+        part.save_state(options)
     except BaseException:
-        written.remove()
+        writer.remove()
         raise
 
 
-def heading_of(options: FileOptions) -> Row:
+def list_heading(options: FileOptions) -> Row:
     """Returns the first row of a list."""
     columns = options.input.list_columns
     others = [] if columns is None else os.fsencode(columns).split(b",")

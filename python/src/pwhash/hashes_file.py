@@ -18,9 +18,9 @@ from pwhash.field import ANY_METHOD, PREFIXES, Field, field_of, method_of_prefix
 from pwhash.lines import refused_name
 from pwhash.options import InstallOptions, Service
 from pwhash.password_file import read_all
-from pwhash.text import is_visible, named, readable
+from pwhash.text import display_name, is_visible, printable
 
-MOST_SHOWN = 20  # of each kind
+MAX_SHOWN = 20  # of each kind
 FINE = (mkpasswd.State.CURRENT, mkpasswd.State.OUTDATED, mkpasswd.State.LOCKED)
 REASONS = {
     mkpasswd.State.NONE: "an empty field, with which some services ask for no password",
@@ -51,15 +51,15 @@ class HashesFile:
     def __init__(self, options: InstallOptions, console: Console) -> None:
         self.lines: List[Hash] = []
         self.status, content = read(options.hashes)
-        self._shown = named(options.hashes)
+        self._file_name = display_name(options.hashes)
         self._service = options.service
         self._accepts_others = options.accepts_other_schemes
         self._has_others = False
-        self._policy = library.auditor(options.policy)
+        self._policy = library.auditing_policy(options.policy)
         self._console = console
         self._first: Dict[bytes, int] = {}
         self._kinds: Counter[str] = Counter()
-        system_files.refuse_shape(content, self._shown)
+        system_files.refuse_shape(content, self._file_name)
         self._judge_all(content)
 
     def _judge_all(self, content: bytes) -> None:
@@ -68,35 +68,35 @@ class HashesFile:
         if not lines[-1]:
             lines.pop()
         if not lines:
-            raise UsageError(f"{self._shown} has no lines.")
+            raise UsageError(f"{self._file_name} has no lines.")
         wrong = 0
         for number, line in enumerate(lines, 1):
-            reason = self._judged(number, line)
+            reason = self._check_line(number, line)
             if reason is not None:
                 wrong += 1
                 self._show(number, line, reason)
         if wrong:
-            way_out = ""
+            remedy = ""
             if self._has_others:
-                way_out = ", or take hashes of other schemes as they are (--accept-other-schemes)"
+                remedy = ", or take hashes of other schemes as they are (--accept-other-schemes)"
             raise ProblemsFound(
-                f"nothing was installed: {wrong:,} of {len(lines):,} lines of {self._shown} are "
-                f"wrong. Correct or remove them{way_out}."
+                f"nothing was installed: {wrong:,} of {len(lines):,} lines of {self._file_name} "
+                f"are wrong. Correct or remove them{remedy}."
             )
 
-    def _judged(self, number: int, line: bytes) -> Optional[str]:
+    def _check_line(self, number: int, line: bytes) -> Optional[str]:
         """Says what is wrong with a line, or returns None."""
         name, colon, rest = line.partition(b":")
         refusal = refused_name(line)
         if refusal is not None:
-            return refusal.words
+            return refusal.message
         if not colon:
             return "no colon"
         stored, colon, rest = rest.partition(b":")
         self.lines.append(Hash(name, field_of(stored), colon + rest))
-        return self._about_name(number, name) or self._about_field(line, field_of(stored))
+        return self._check_name(number, name) or self._check_field(line, field_of(stored))
 
-    def _about_name(self, number: int, name: bytes) -> Optional[str]:
+    def _check_name(self, number: int, name: bytes) -> Optional[str]:
         """Says what is wrong with a name, or returns None."""
         text = name.decode(errors="replace")
         if name.startswith(b"#") or not is_visible(text) or text != text.strip():
@@ -106,16 +106,16 @@ class HashesFile:
         first = self._first.setdefault(name, number)
         return f"the name again, after line {first}" if first != number else None
 
-    def _about_field(self, line: bytes, field: Field) -> Optional[str]:
+    def _check_field(self, line: bytes, field: Field) -> Optional[str]:
         """Says what is wrong with a field, or returns None."""
         if b"\r" in line:
             return "a carriage return, with which lines of Windows end (tr -d '\\r')"
-        reason = self._about_prefix(field) if field.prefix else None
+        reason = self._check_prefix(field) if field.prefix else None
         if reason is not None or field.is_locked:
             return reason
-        return self._about_hash(field)
+        return self._check_hash(field)
 
-    def _about_prefix(self, field: Field) -> Optional[str]:
+    def _check_prefix(self, field: Field) -> Optional[str]:
         """Says what is wrong with a prefix, or returns None."""
         known = PREFIXES_OF_SERVICES.get(self._service) if self._service else None
         if known is not None and field.prefix not in known:
@@ -125,20 +125,20 @@ class HashesFile:
             return None
         return "a prefix that pwhash doesn't know, perhaps of a password as it is"
 
-    def _about_hash(self, field: Field) -> Optional[str]:
+    def _check_hash(self, field: Field) -> Optional[str]:
         """Says what is wrong with a hash that isn't locked, or returns None."""
         if field.is_of_other_scheme:
-            return self._about_other_scheme(field)
+            return self._check_other_scheme(field)
         description = self._policy.describe(field.stored)
         if description.state is mkpasswd.State.UNKNOWN:
-            return self._about_other_scheme(field)
+            return self._check_other_scheme(field)
         if description.state not in FINE:
             return REASONS[description.state]
         if method_of_prefix(field.prefix) not in (None, description.scheme):
             return "a prefix of another method"
         return None
 
-    def _about_other_scheme(self, field: Field) -> Optional[str]:
+    def _check_other_scheme(self, field: Field) -> Optional[str]:
         """Says what is wrong with a hash of another scheme, or returns None."""
         if not field.stored:
             return REASONS[mkpasswd.State.NONE]
@@ -152,26 +152,26 @@ class HashesFile:
     def _show(self, number: int, line: bytes, reason: str) -> None:
         kind = re.sub("[0-9]+", "", reason)
         self._kinds[kind] += 1
-        if self._kinds[kind] <= MOST_SHOWN:
+        if self._kinds[kind] <= MAX_SHOWN:
             name, colon, _ = line[:64].partition(b":")
-            whose = f" ({readable(name)})" if colon and name else ""  # it may be a password
-            self._console.say(f"{self._shown}, line {number}{whose}: {reason}")
+            whose = f" ({printable(name)})" if colon and name else ""  # it may be a password
+            self._console.say(f"{self._file_name}, line {number}{whose}: {reason}")
 
 
 def read(path: str) -> "tuple[os.stat_result, bytes]":
     """Returns the status and the content of a regular file."""
-    with errors_named(named(path)):
+    with errors_named(display_name(path)):
         fd = os.open(path, os.O_RDONLY | os.O_CLOEXEC | os.O_NONBLOCK | os.O_NOCTTY)
         try:
             status = os.fstat(fd)
             if not stat.S_ISREG(status.st_mode):
                 raise UsageError(
-                    f"{named(path)} is no regular file. Name one with lines name:hash."
+                    f"{display_name(path)} is no regular file. Name one with lines name:hash."
                 )
-            content = read_all(fd, status, named(path))
+            content = read_all(fd, status, display_name(path))
             now = os.fstat(fd)
             if (now.st_size, now.st_mtime_ns) != (len(content), status.st_mtime_ns):
-                raise UsageError(f"{named(path)} was changed meanwhile. Start again.")
+                raise UsageError(f"{display_name(path)} was changed meanwhile. Start again.")
             return status, content
         finally:
             os.close(fd)

@@ -25,18 +25,18 @@ PASSWORDS = frozenset(
 LOGIN_NAME = re.compile(rb"[a-z_\x80-\xff][a-z0-9_.\x80-\xff-]*")
 
 
-def folded(field: bytes) -> str:
+def fold(field: bytes) -> str:
     """Returns a field as headings are compared: in small letters, and without blanks around it."""
     return field.decode("utf-8", "surrogateescape").strip().casefold()
 
 
 def is_heading_of_names(field: bytes) -> bool:
     """Whether a name is the heading of a column of names or of passwords."""
-    return folded(field) in NAMES or folded(field) in PASSWORDS
+    return fold(field) in NAMES or fold(field) in PASSWORDS
 
 
 def is_heading_of_passwords(name: bytes, password: bytes) -> bool:
     """Whether a password is a heading. With a login name, `password` may be a real password."""
     if password == b"password" and LOGIN_NAME.fullmatch(name):
         return False
-    return folded(password) in PASSWORDS
+    return fold(password) in PASSWORDS

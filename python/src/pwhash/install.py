@@ -11,41 +11,41 @@ from typing import Dict, List, Optional
 
 from pwhash import field, replacing, system, system_files
 from pwhash.errors import Stop, UsageError, errors_named
-from pwhash.exchange import end_earlier
+from pwhash.exchange import end_earlier_exchange
 from pwhash.field import Field
 from pwhash.hashes_file import HashesFile
-from pwhash.lock import Owner, held
+from pwhash.lock import Owner, hold_lock
 from pwhash.new_file import NewFile, attributes, opened_new
 from pwhash.options import InstallOptions
 from pwhash.place import (
     Place,
-    opened_place,
+    open_place,
     refuse_folder_of_others,
     refuse_open_folder,
     refuse_strange_file,
     refuse_unwritable,
 )
 from pwhash.session import Session
-from pwhash.text import named, readable
+from pwhash.text import display_name, printable
 
 OWN_MODE = 0o600
 ACL = "system.posix_acl_access"
-MOST_NAMED = 20
+MAX_NAMED = 20
 
 
 def run(options: InstallOptions, session: Session) -> bool:
     """Judges each line of HASHES, and installs the file if all are right."""
-    wanted = Wanted(options)
+    requested = Requested(options)
     hashes = HashesFile(options, session.console)
-    with opened_place(options.target) as place:
+    with open_place(options.target) as place:
         system_files.refuse_name(place)
-        found = place.look(place.name)
+        found = place.read_status(place.name)
         if found is None:
-            make(place, wanted, hashes, session)
-            sentences = [f"{place.shown} was made, with {len(hashes.lines):,} names."]
+            create(place, requested, hashes, session)
+            sentences = [f"{place.display_name} was made, with {len(hashes.lines):,} names."]
         else:
-            refuse_unfit(place, found, wanted, hashes)
-            content = Content(place.shown, hashes)
+            refuse_unfit(place, found, requested, hashes)
+            content = Content(place.display_name, hashes)
             replacing.replace(place, content.changed, session)
             sentences = content.sentences
     for sentence in sentences if not options.quiet else []:
@@ -53,70 +53,72 @@ def run(options: InstallOptions, session: Session) -> bool:
     return False
 
 
-class Wanted:
+class Requested:
     """The owner, group and mode that the options ask for. Each may be None."""
 
     def __init__(self, options: InstallOptions) -> None:
-        self.user = user_of(options.owner) if options.owner is not None else None
-        self.group = group_of(options.group) if options.group is not None else None
+        self.user = find_user(options.owner) if options.owner is not None else None
+        self.group = find_group(options.group) if options.group is not None else None
         self.mode = options.mode
 
-    def refuse_others(self, shown: str, status: os.stat_result) -> None:
+    def refuse_others(self, file_name: str, status: os.stat_result) -> None:
         """Refuses an owner, group or mode that an existing file doesn't have."""
         pairs = (
             ("--owner", self.user, status.st_uid, "chown"),
             ("--group", self.group, status.st_gid, "chgrp"),
             ("--mode", self.mode, stat.S_IMODE(status.st_mode), "chmod"),
         )
-        for option, wanted, found, command in pairs:
-            if wanted is not None and wanted != found:
+        for option, requested, found, command in pairs:
+            if requested is not None and requested != found:
                 raise UsageError(
-                    f"{shown} is there, and keeps its owner, group and mode, of which {option} is "
-                    f"another. Leave it out, or first use {command}."
+                    f"{file_name} is there, and keeps its owner, group and mode, of which {option} "
+                    f"is another. Leave it out, or first use {command}."
                 )
 
 
-def user_of(name: str) -> int:
+def find_user(name: str) -> int:
     """Returns the number of a user."""
     with contextlib.suppress(KeyError):
         return pwd.getpwnam(name).pw_uid
     if name.isascii() and name.isdecimal() and int(name) < 1 << 32:
         return int(name)
-    raise UsageError(f"--owner: there is no user {named(name)}.")
+    raise UsageError(f"--owner: there is no user {display_name(name)}.")
 
 
-def group_of(name: str) -> int:
+def find_group(name: str) -> int:
     """Returns the number of a group."""
     with contextlib.suppress(KeyError):
         return grp.getgrnam(name).gr_gid
     if name.isascii() and name.isdecimal() and int(name) < 1 << 32:
         return int(name)
-    raise UsageError(f"--group: there is no group {named(name)}.")
+    raise UsageError(f"--group: there is no group {display_name(name)}.")
 
 
-def refuse_unfit(place: Place, found: os.stat_result, wanted: Wanted, hashes: HashesFile) -> None:
+def refuse_unfit(
+    place: Place, found: os.stat_result, requested: Requested, hashes: HashesFile
+) -> None:
     """Refuses to replace a system file, or one that others than its owner can replace."""
     refuse_strange_file(place, found)
     system_files.refuse_place(place, found)
     if os.path.samestat(found, hashes.status):
-        raise UsageError(f"{place.shown} is HASHES too. Name another file.")
+        raise UsageError(f"{place.display_name} is HASHES too. Name another file.")
     refuse_open_folder(place, found.st_uid)
     refuse_unwritable(place)
-    wanted.refuse_others(place.shown, found)
+    requested.refuse_others(place.display_name, found)
 
 
 class Content:
     """The new content of TARGET. Names that are locked in it stay locked."""
 
-    def __init__(self, shown: str, hashes: HashesFile) -> None:
+    def __init__(self, file_name: str, hashes: HashesFile) -> None:
         self.sentences: List[str] = []
-        self._shown = shown
+        self._file_name = file_name
         self._hashes = hashes
 
     def changed(self, content: bytes) -> bytes:
         """The new content in place of the present one."""
-        system_files.refuse_shape(content, self._shown)
-        before = fields_of(content)
+        system_files.refuse_shape(content, self._file_name)
+        before = read_fields(content)
         lines: List[bytes] = []
         locked: List[bytes] = []
         for line in self._hashes.lines:
@@ -125,19 +127,19 @@ class Content:
                 locked.append(line.name)
                 line = line._replace(field=line.field._replace(mark=field.LOCK))
             lines.append(line.data())
-        self.sentences = [f"{self._shown} has {len(lines):,} names now."]
+        self.sentences = [f"{self._file_name} has {len(lines):,} names now."]
         self._note("stay locked, as they were", locked)
         self._note("aren't in HASHES, and were removed", list(before))
         return b"\n".join(lines) + b"\n"
 
     def _note(self, what: str, names: List[bytes]) -> None:
         if names:
-            some = ", ".join(readable(name) for name in names[:MOST_NAMED])
-            more = f" and {len(names) - MOST_NAMED:,} others" if len(names) > MOST_NAMED else ""
+            some = ", ".join(printable(name) for name in names[:MAX_NAMED])
+            more = f" and {len(names) - MAX_NAMED:,} others" if len(names) > MAX_NAMED else ""
             self.sentences.append(f"these {what}: {some}{more}.")
 
 
-def fields_of(content: bytes) -> Dict[bytes, Field]:
+def read_fields(content: bytes) -> Dict[bytes, Field]:
     """Returns the field of each name. If a name has several lines, a locked one counts."""
     found: Dict[bytes, Field] = {}
     for line in content.split(b"\n"):
@@ -153,23 +155,23 @@ def fields_of(content: bytes) -> Dict[bytes, Field]:
 # ---- A new TARGET
 
 
-def make(place: Place, wanted: Wanted, hashes: HashesFile, session: Session) -> None:
+def create(place: Place, requested: Requested, hashes: HashesFile, session: Session) -> None:
     """Creates TARGET, which doesn't exist."""
-    user = os.geteuid() if wanted.user is None else wanted.user
+    user = os.geteuid() if requested.user is None else requested.user
     refuse_open_folder(place, user)
     refuse_folder_of_others(place)
-    group = os.getegid() if wanted.group is None else wanted.group
-    with held(place, Owner(user, group)), errors_named(place.shown):
+    group = os.getegid() if requested.group is None else requested.group
+    with hold_lock(place, Owner(user, group)), errors_named(place.display_name):
         with session.signals.postponed():
-            end_earlier(place)
+            end_earlier_exchange(place)
             with opened_new(place) as new:
-                make_whole(new, Owner(user, group), wanted.mode, hashes)
+                write_new_file(new, Owner(user, group), requested.mode, hashes)
                 give_name(place, new)
             place.sync()
-            session.changed = place.shown
+            session.changed = place.display_name
 
 
-def make_whole(new: NewFile, owner: Owner, mode: Optional[int], hashes: HashesFile) -> None:
+def write_new_file(new: NewFile, owner: Owner, mode: Optional[int], hashes: HashesFile) -> None:
     """Writes the new file, with the owner and mode that it should have, and without an ACL."""
     try:
         new.write(b"".join(line.data() + b"\n" for line in hashes.lines))
@@ -191,7 +193,9 @@ def give_name(place: Place, new: NewFile) -> None:
             new.link(place.name)
     except FileExistsError:
         new.remove()
-        raise Stop(f"{place.shown} was made by another just now, and stays. Try again.") from None
+        raise Stop(
+            f"{place.display_name} was made by another just now, and stays. Try again."
+        ) from None
     except BaseException:
         new.remove()
         raise

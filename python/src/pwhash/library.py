@@ -17,7 +17,7 @@ from pwhash.errors import Stop
 
 METHODS = ("sha512crypt", "sha256crypt", "md5crypt", "scrypt")
 LENGTH_OF_LIMITS = 64  # of the password whose cost sets the library's own limits
-GREATEST_ROUNDS, GREATEST_BUDGET = 2**32 - 1, 2**64 - 1
+MAX_ROUNDS, MAX_BUDGET = 2**32 - 1, 2**64 - 1
 
 
 class RefusedRounds(Exception):
@@ -63,7 +63,7 @@ class Verdict(enum.Enum):
 class Refusal(NamedTuple):
     """Why a line gets no hash or verdict, with mkpasswd's message."""
 
-    words: str
+    message: str
 
 
 VERDICTS = {
@@ -84,15 +84,15 @@ def version() -> str:
 
 def limit(method: str, rounds: Optional[int], budget: Optional[int]) -> Limit:
     """Returns what a method allows. None stands for recommended rounds and the library's budget."""
-    if rounds is not None and not 1 <= rounds <= GREATEST_ROUNDS:  # the library takes 0 as None
+    if rounds is not None and not 1 <= rounds <= MAX_ROUNDS:  # the library takes 0 as None
         raise RefusedRounds
-    given_budget = min(budget or 0, GREATEST_BUDGET)
+    given_budget = min(budget or 0, MAX_BUDGET)
     answer = _library.limit(Numbers(_calls.METHODS[method], rounds or 0, given_budget))
     report = answer.report
     if answer.reason is Reason.ROUNDS:
         raise RefusedRounds
     if not answer.is_yes and answer.reason is not Reason.OVER_BUDGET:
-        raise unexpected(answer)
+        raise unexpected_report_error(answer)
     if budget == 0:  # the library takes this as None, too
         return Limit(0, None, report.rounds)
     return Limit(report.cost, report.length if answer.is_yes else None, report.rounds)
@@ -105,7 +105,7 @@ def setting(method: str, rounds: int, salt: bytes) -> bytes:
         return answer.text.encode("ascii")
     if answer.reason in (Reason.SALT_LENGTH, Reason.SALT_CHARACTER):
         raise RefusedSalt(answer.reason.message)
-    raise unexpected(answer)
+    raise unexpected_report_error(answer)
 
 
 def longest_password(given_setting: bytes, budget: int) -> Optional[int]:
@@ -129,7 +129,7 @@ def is_over_budget(policy: Policy, length: int) -> bool:
     return policy.longest is None or length > policy.longest
 
 
-def how_long(policy: Policy) -> str:
+def describe_length_limit(policy: Policy) -> str:
     """Says how long a password may be by a policy."""
     if policy.longest is None:
         return "with these rounds even the empty password costs more"
@@ -141,7 +141,7 @@ def cost(stored: bytes, length: int) -> int:
     """Returns the most that a hash with this setting can cost, for a password of this length."""
     answer = _library.bound(stored, length)
     if not answer.is_yes:
-        raise unexpected(answer)
+        raise unexpected_report_error(answer)
     return answer.report.cost
 
 
@@ -184,13 +184,13 @@ def new_hash(policy: Policy, password: bytes) -> Union[bytes, Refusal]:
     if policy.setting is not None:
         return hash_by(password, policy.setting, policy.budget)
     answer = _library.new(password, policy.numbers)
-    return answer.text.encode("ascii") if answer.is_yes else refusal_of(answer)
+    return answer.text.encode("ascii") if answer.is_yes else refusal_from(answer)
 
 
 def hash_by(password: bytes, stored: bytes, budget: int) -> Union[bytes, Refusal]:
     """Returns the hash of a password with a setting, which may be a stored hash."""
     answer = _library.hash_by(password, stored, budget)
-    return answer.text.encode("ascii") if answer.is_yes else refusal_of(answer)
+    return answer.text.encode("ascii") if answer.is_yes else refusal_from(answer)
 
 
 def verify(password: bytes, field: bytes, budget: int) -> Union[Verdict, Refusal]:
@@ -199,7 +199,7 @@ def verify(password: bytes, field: bytes, budget: int) -> Union[Verdict, Refusal
     if answer.is_yes:
         return Verdict.MATCH
     verdict = VERDICTS.get(answer.reason) if answer.reason else None
-    return refusal_of(answer) if verdict is None else verdict
+    return refusal_from(answer) if verdict is None else verdict
 
 
 def describe(field: bytes) -> mkpasswd.Description:
@@ -215,7 +215,7 @@ def is_locked(field: bytes) -> bool:
 @functools.lru_cache(maxsize=None)
 def without_budget() -> mkpasswd.Policy:
     """Returns a policy by which no field is over budget."""
-    return mkpasswd.Policy(budget=GREATEST_BUDGET)
+    return mkpasswd.Policy(budget=MAX_BUDGET)
 
 
 def needs_rehash(policy: Policy, field: bytes) -> bool:
@@ -224,20 +224,20 @@ def needs_rehash(policy: Policy, field: bytes) -> bool:
     return report.error == 0 and report.outdated == 1
 
 
-def auditor(policy: Policy) -> mkpasswd.Policy:
+def auditing_policy(policy: Policy) -> mkpasswd.Policy:
     """Returns the package's policy that judges stored fields by this one."""
     return mkpasswd.Policy(policy.method, policy.rounds or None, policy.budget or None)
 
 
-def refusal_of(answer: Answer) -> Refusal:
+def refusal_from(answer: Answer) -> Refusal:
     """Returns why a call refused. Raises Stop if the machine or the library is at fault."""
     if answer.reason is None:
-        raise unexpected(answer)
+        raise unexpected_report_error(answer)
     if answer.reason in (Reason.OUT_OF_MEMORY, Reason.NO_RANDOM_NUMBERS):
         raise Stop(f"{answer.reason.message}.")
     return Refusal(answer.reason.message)
 
 
-def unexpected(answer: Answer) -> Stop:
+def unexpected_report_error(answer: Answer) -> Stop:
     """Returns the error for a report that no library of this version makes."""
     return Stop(f"the library reports {answer.report.error}: it isn't of this version.")

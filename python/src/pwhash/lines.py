@@ -41,7 +41,7 @@ class FieldsToCheck(NamedTuple):
 #
 # Lines in the order of the input, in groups that arrived together. An empty group means that
 # nothing arrived for a moment, so that finished answers can be written.
-Arrivals = Iterator[List[Line]]
+LineGroups = Iterator[List[Line]]
 
 
 def name_of(line: Line) -> bytes:

@@ -18,7 +18,7 @@ from typing import Dict, List, Tuple
 from pwhash import own_file
 from pwhash.errors import Stop, UsageError, errors_named, reason_of
 from pwhash.lines import BYTE_ORDER_MARK
-from pwhash.text import is_utf8, named
+from pwhash.text import display_name, is_utf8
 
 SUFFIX = ".csv"
 HEADING = re.compile(rb"(?:.*[,;\t])?name([,;\t])password\n")
@@ -29,7 +29,7 @@ BYTES = "latin-1"
 Row = Tuple[bytes, ...]  # the columns of --list-columns, then a name and its password
 
 
-class Written:
+class ListWriter:
     """The lists that this run has written, to remove them if the run fails before it hashes."""
 
     def __init__(self) -> None:
@@ -43,9 +43,9 @@ class Written:
         try:
             os.mkdir(path, FOLDER_MODE)
         except FileExistsError:
-            raise exists(path) from None
+            raise exists_error(path) from None
         except OSError as error:
-            raise Stop(f"{named(path)}: {reason_of(error)}.") from None
+            raise Stop(f"{display_name(path)}: {reason_of(error)}.") from None
         finally:
             os.umask(before)
         self._folders.append(path)
@@ -56,11 +56,11 @@ class Written:
         if not self._folders:
             refuse_open_folder(path)
         content = content_of(separator, rows)
-        with errors_named(named(path)):
+        with errors_named(display_name(path)):
             try:
                 fd = own_file.create(path)
             except FileExistsError:
-                raise exists(path) from None
+                raise exists_error(path) from None
             self._files.append(path)
             with open(fd, "wb") as file:
                 file.write(content)
@@ -91,7 +91,7 @@ def content_of(separator: str, rows: Iterable[Row]) -> bytes:
 def read(path: str, is_folder: bool) -> Dict[bytes, bytes]:
     """Returns the passwords of all names in the lists of an earlier run."""
     passwords: Dict[bytes, bytes] = {}
-    with errors_named(named(path)):
+    with errors_named(display_name(path)):
         files = files_in(path) if is_folder else [path]
     for file in files:
         passwords.update(read_list(file))
@@ -103,27 +103,27 @@ def files_in(folder: str) -> List[str]:
     status = os.lstat(folder)
     is_own = stat.S_ISDIR(status.st_mode) and status.st_uid == os.geteuid()
     if not is_own or stat.S_IMODE(status.st_mode) != FOLDER_MODE:
-        raise UsageError(f"{named(folder)} is no folder that a run of yours has made.")
+        raise UsageError(f"{display_name(folder)} is no folder that a run of yours has made.")
     return [os.path.join(folder, name) for name in os.listdir(folder) if name.endswith(SUFFIX)]
 
 
 def read_list(path: str) -> Dict[bytes, bytes]:
     """Returns the passwords of the names in one list."""
-    with errors_named(named(path)):
+    with errors_named(display_name(path)):
         with open(os.open(path, own_file.FLAGS), "rb") as file:
-            fault = own_file.unfit(os.fstat(file.fileno()))
-            content = b"" if fault else file.read()
+            problem = own_file.find_problem(os.fstat(file.fileno()))
+            content = b"" if problem else file.read()
     if content.startswith(BYTE_ORDER_MARK):
         content = content[len(BYTE_ORDER_MARK) :]
     found = HEADING.match(content)
-    if fault or not found or not content.endswith(b"\n"):
-        raise changed(path, fault or "it was changed")
+    if problem or not found or not content.endswith(b"\n"):
+        raise changed_list_error(path, problem or "it was changed")
     try:
         heading, *rows = rows_of(content, found[1].decode(BYTES))
     except csv.Error:
-        raise changed(path, "it was changed") from None
+        raise changed_list_error(path, "it was changed") from None
     if any(len(row) != len(heading) or not all(row[-2:]) for row in rows):
-        raise changed(path, "it was changed")
+        raise changed_list_error(path, "it was changed")
     return {row[-2]: row[-1] for row in rows}
 
 
@@ -134,36 +134,36 @@ def rows_of(content: bytes, separator: str) -> List[Row]:
     return [tuple(field.encode(BYTES) for field in row) for row in rows]
 
 
-def changed(path: str, fault: str) -> UsageError:
+def changed_list_error(path: str, problem: str) -> UsageError:
     """Returns the error for a list that has changed since a run wrote it."""
     return UsageError(
-        f"{named(path)} isn't as the run that began left it ({fault}), so --resume doesn't know "
-        "the passwords. Remove the lists and OUT.part, and start again."
+        f"{display_name(path)} isn't as the run that began left it ({problem}), so --resume "
+        "doesn't know the passwords. Remove the lists and OUT.part, and start again."
     )
 
 
-def exists(path: str) -> UsageError:
+def exists_error(path: str) -> UsageError:
     """Returns the error for a file or folder that already exists."""
     return UsageError(
-        f"{named(path)} already exists: name another after --passwords, or remove it."
+        f"{display_name(path)} already exists: name another after --passwords, or remove it."
     )
 
 
 def refuse_open_folder(path: str) -> None:
     """Refuses a folder in which anybody could remove a list, and so lose its passwords."""
     folder = folder_of(path)
-    with errors_named(named(folder)):
+    with errors_named(display_name(folder)):
         mode = os.stat(folder).st_mode
     if mode & stat.S_IWOTH and not mode & stat.S_ISVTX:
         raise UsageError(
-            f"{named(folder)} is a folder in which everybody can write: name another place after "
-            "--passwords."
+            f"{display_name(folder)} is a folder in which everybody can write: name another place "
+            "after --passwords."
         )
 
 
 def sync_folder_of(path: str) -> None:
     """Flushes the folder of a file to disk, and with it the file's name."""
-    with errors_named(named(folder_of(path))):
+    with errors_named(display_name(folder_of(path))):
         fd = os.open(folder_of(path), os.O_RDONLY | os.O_DIRECTORY)
         try:
             os.fsync(fd)

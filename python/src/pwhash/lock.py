@@ -14,7 +14,7 @@ from typing import NamedTuple, Optional
 
 from pwhash.errors import Stop, errors_named
 from pwhash.place import Place
-from pwhash.text import named
+from pwhash.text import display_name
 
 SECONDS = 10.0
 PAUSE_SECONDS = 0.02
@@ -32,24 +32,24 @@ class Owner(NamedTuple):
 
 
 @contextlib.contextmanager
-def held(place: Place, owner: Owner) -> Iterator[None]:
+def hold_lock(place: Place, owner: Owner) -> Iterator[None]:
     """Holds the lock during the block. A new lock file gets this owner, the password file's."""
-    with errors_named(f"{place.shown}.mkpasswd.lock"):
-        lock = take(place, owner)
+    with errors_named(f"{place.display_name}.mkpasswd.lock"):
+        lock = wait_for_lock(place, owner)
     try:
         yield
     finally:
         os.close(lock)
 
 
-def take(place: Place, owner: Owner) -> int:
+def wait_for_lock(place: Place, owner: Owner) -> int:
     """Waits for the lock, and returns its descriptor."""
     end = time.monotonic() + SECONDS
     lock = try_once(place, owner)
     while lock is None:
         if time.monotonic() > end:
             raise Stop(
-                f"another process holds the lock {named(place.path)}.mkpasswd.lock. "
+                f"another process holds the lock {display_name(place.path)}.mkpasswd.lock. "
                 "Nothing was changed: try again."
             )
         time.sleep(PAUSE_SECONDS)
@@ -62,7 +62,7 @@ def try_once(place: Place, owner: Owner) -> Optional[int]:
     lock = open_lock(place, owner)
     try:
         fcntl.flock(lock, fcntl.LOCK_EX | fcntl.LOCK_NB)
-        named_now = place.look(place.lock)
+        named_now = place.read_status(place.lock)
         # If somebody has removed the file, another process may hold a new one.
         if named_now is not None and os.path.samestat(os.fstat(lock), named_now):
             return lock

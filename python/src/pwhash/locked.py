@@ -47,9 +47,9 @@ class Locked(Skipping):
         before = self._names
         self._names = self._read()
         if self._names - before:
-            way_out = f"remove {part_name}" if part_name else "discard the hashes"
+            remedy = f"remove {part_name}" if part_name else "discard the hashes"
             raise UsageError(
-                f"a name was locked in {self.file} during the run: {way_out}, and start again."
+                f"a name was locked in {self.file} during the run: {remedy}, and start again."
             )
 
     def _read(self) -> Set[bytes]:

@@ -8,16 +8,16 @@ from typing import List, Set
 
 from pwhash import library
 from pwhash.console import Console
-from pwhash.doubts import Doubts, shown_name
+from pwhash.doubts import Doubts, printable_part
 from pwhash.errors import ProblemsFound
 from pwhash.library import OVER_BUDGET
-from pwhash.lines import Arrivals, Line, refused_to_hash
+from pwhash.lines import Line, LineGroups, refused_to_hash
 from pwhash.options import Doubtful, FileOptions
 from pwhash.progress import Progress
 from pwhash.source import Source
-from pwhash.text import readable
+from pwhash.text import printable
 
-MOST_SHOWN = 20  # of each kind
+MAX_SHOWN = 20  # of each kind
 
 
 class Look:
@@ -29,15 +29,15 @@ class Look:
         self._console = console
         self._is_table = options.input.columns is not None
         self._doubts = Doubts(options.service, self._is_table, options.input.windows)
-        self._shown: Counter[str] = Counter()
+        self._counts: Counter[str] = Counter()
         self._has_lines = False  # after --skip-locked and --skip-unknown
         self._refused: Set[int] = set()
         self._doubtful: Set[int] = set()
 
-    def left_out(self, arrivals: Arrivals) -> Set[int]:
+    def left_out(self, groups: LineGroups) -> Set[int]:
         """Returns the numbers of the lines to leave out. Ends the run if the user has to decide."""
         progress = Progress(self._console, "looking", self._source.total)
-        for group in arrivals:
+        for group in groups:
             for line in group:
                 self._look_at(line)
             if group:
@@ -57,13 +57,13 @@ class Look:
 
     def _look_at(self, line: Line) -> None:
         refusal = refused_to_hash(line.data) if line.refused_row is None else None
-        reason = refusal.words if refusal else line.refused_row
+        reason = refusal.message if refusal else line.refused_row
         if reason is not None:
             self._doubts.note_refused(line)
             self._refused.add(line.number)
             self._show(line, [reason])
             return
-        doubts = self._doubts.about(line)
+        doubts = self._doubts.find(line)
         if doubts:
             self._doubtful.add(line.number)
             self._show(line, doubts)
@@ -71,17 +71,18 @@ class Look:
         if library.is_over_budget(self._options.policy, length):
             self._doubts.note_refused(line)
             self._refused.add(line.number)
-            self._show(line, [f"{OVER_BUDGET.words}: {library.how_long(self._options.policy)}"])
+            limit = library.describe_length_limit(self._options.policy)
+            self._show(line, [f"{OVER_BUDGET.message}: {limit}"])
 
     def _show(self, line: Line, reasons: List[str]) -> None:
-        name = readable(shown_name(line, self._is_table))
+        name = printable(printable_part(line, self._is_table))
         whose = f" ({name})" if name else ""
         for reason in reasons:
             kind = re.sub("[0-9]+", "", reason)
-            self._shown[kind] += 1
-            if self._shown[kind] > 1:  # the first message of a kind says what to do
+            self._counts[kind] += 1
+            if self._counts[kind] > 1:  # the first message of a kind says what to do
                 reason = reason.partition(";")[0]
-            if self._shown[kind] <= MOST_SHOWN:
+            if self._counts[kind] <= MAX_SHOWN:
                 self._console.say(f"{self._source.name}, line {line.number}{whose}: {reason}")
 
     def _stop_unless_decided(self) -> None:

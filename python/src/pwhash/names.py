@@ -24,22 +24,22 @@ class Table:
 
     def first(self, key: int, number: int) -> int:
         """Returns the number that came first with this key, and stores it if it is this one."""
-        place = self._place(key)
-        if self._keys[place] == 0:
-            self._keys[place], self._numbers[place] = key, number
+        slot = self._slot(key)
+        if self._keys[slot] == 0:
+            self._keys[slot], self._numbers[slot] = key, number
             self._count += 1
             if 3 * self._count > 2 * len(self._keys):
                 self._grow()
             return number
-        return self._numbers[place]
+        return self._numbers[slot]
 
-    def _place(self, key: int) -> int:
+    def _slot(self, key: int) -> int:
         """Returns the slot of a key, or the free slot where it belongs."""
         last = len(self._keys) - 1
-        place = key // TABLES & last
-        while self._keys[place] not in (0, key):
-            place = place + 1 & last
-        return place
+        slot = key // TABLES & last
+        while self._keys[slot] not in (0, key):
+            slot = slot + 1 & last
+        return slot
 
     def _grow(self) -> None:
         old = zip(self._keys, self._numbers)
@@ -48,8 +48,8 @@ class Table:
         self._numbers = array("I", bytes(4 * size))
         for key, number in old:
             if key:
-                place = self._place(key)
-                self._keys[place], self._numbers[place] = key, number
+                slot = self._slot(key)
+                self._keys[slot], self._numbers[slot] = key, number
 
 
 class FirstLines:
@@ -59,7 +59,7 @@ class FirstLines:
         self._tables = [Table() for _ in range(TABLES)]
         self._unsure: Dict[int, str] = {}
 
-    def about(self, name: bytes, number: int, is_doubtful: bool) -> Optional[str]:
+    def check(self, name: bytes, number: int, is_doubtful: bool) -> Optional[str]:
         """Returns a doubt about a name that an earlier line has, or None."""
         first = self._first(name, number)
         if first == number:

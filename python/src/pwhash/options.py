@@ -67,7 +67,7 @@ class Input(NamedTuple):
     list_columns: Optional[str] = None  # those of a table of names to copy to the password lists
 
 
-class OneOptions(NamedTuple):
+class SingleOptions(NamedTuple):
     """pwhash without a command: one password."""
 
     policy: Policy
@@ -177,7 +177,7 @@ class CalibrateOptions(NamedTuple):
 
 
 Options = Union[
-    OneOptions,
+    SingleOptions,
     FileOptions,
     CheckOptions,
     AuditOptions,

@@ -11,14 +11,14 @@ import stat
 from typing import Optional
 
 from pwhash.errors import errors_named
-from pwhash.text import named
+from pwhash.text import display_name
 
 # O_NONBLOCK is for a pipe that somebody put there: opening it doesn't wait for a writer.
 FLAGS = os.O_RDWR | os.O_NOFOLLOW | os.O_NONBLOCK
 OWN_MODE = 0o600
 
 
-def unfit(status: os.stat_result) -> Optional[str]:
+def find_problem(status: os.stat_result) -> Optional[str]:
     """Says why a file can't be from a run of this user, or returns None."""
     if stat.S_ISLNK(status.st_mode):
         return "it is a symbolic link"
@@ -34,7 +34,7 @@ def unfit(status: os.stat_result) -> Optional[str]:
 def create(path: str) -> int:
     """Creates a file. Raises FileExistsError if there is a file or a link of that name."""
     fd = os.open(path, FLAGS | os.O_CREAT | os.O_EXCL, OWN_MODE)
-    with errors_named(named(path)):
+    with errors_named(display_name(path)):
         os.fchmod(fd, OWN_MODE)
     return fd
 

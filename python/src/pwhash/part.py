@@ -13,14 +13,14 @@ import os
 from collections.abc import Iterator
 from typing import Optional
 
-from pwhash import kept, own_file, system
+from pwhash import own_file, resume_state, system
 from pwhash.console import Console
 from pwhash.errors import Stop, UsageError, errors_named, reason_of
-from pwhash.kept import Kept
 from pwhash.options import FileOptions, part_of
+from pwhash.resume_state import ResumeState
 from pwhash.signals import Signals
 from pwhash.source import Source
-from pwhash.text import named, quoted
+from pwhash.text import display_name, shell_quoted
 
 # The errors of a file system without links, or a machine without /proc.
 NO_LINKS = (errno.EPERM, errno.EOPNOTSUPP, errno.ENOSYS, errno.EMLINK, errno.EXDEV, errno.ENOENT)
@@ -33,8 +33,8 @@ class Part:
     def __init__(self, out: str, fd: int, source: Source, is_resumable: bool) -> None:
         self.fd = fd
         self.path = part_of(out)
-        self.name = named(self.path)
-        self.out_name = named(out)
+        self.name = display_name(self.path)
+        self.out_name = display_name(out)
         self.is_resumable = is_resumable
         self.is_whole = False  # and has become OUT
         self._out = out
@@ -44,14 +44,15 @@ class Part:
         """Ends the run if FILE has changed since it was opened."""
         refuse_changed(self._source, self)
 
-    def keep(self, options: FileOptions) -> None:
+    def save_state(self, options: FileOptions) -> None:
         """Saves what --resume needs, once the lines of the part are known to be right."""
-        before, now = kept.read(self.path), kept.kept_of(options, self._source)
+        before = resume_state.read(self.path)
+        now = resume_state.current_state(options, self._source)
         if before is not None and (os.fstat(self.fd).st_size or before == now):
             return
         if before is not None:  # it is from a run whose part was removed
-            kept.remove(self.path)
-        kept.write(self.path, now)
+            resume_state.remove(self.path)
+        resume_state.write(self.path, now)
 
     def finish(self, signals: Signals, console: Console) -> None:
         """Renames the part to OUT, unless another file has that name by now."""
@@ -73,13 +74,13 @@ class Part:
             os.utime(self.fd, (0, 0))  # FILE is newer then, so --resume refuses
         elif is_wrong_use and os.fstat(self.fd).st_size == 0:
             if self.is_resumable:
-                kept.remove(self.path)
+                resume_state.remove(self.path)
             if own_file.has_name(self.fd, self.path):
                 os.unlink(self.path)
 
     def advice(self) -> str:
         """Says what to do if FILE has changed during the run."""
-        return changed(self._source, self) or ""
+        return describe_change(self._source, self) or ""
 
     def _become_out(self) -> None:
         """Links the open file as OUT, whatever file has its name now. Without links, renames it."""
@@ -89,7 +90,7 @@ class Part:
             # is absolute, so any folder will do.
             os.link(link, self._out, src_dir_fd=self.fd, follow_symlinks=True)
         except FileExistsError:
-            raise self._out_exists() from None
+            raise self._out_exists_error() from None
         except OSError as error:
             if error.errno not in NO_LINKS or not own_file.has_name(self.fd, self.path):
                 raise Stop(f"{self.out_name}: {reason_of(error)}.") from None
@@ -100,10 +101,10 @@ class Part:
         try:
             system.rename_to_new(self.path, self._out)
         except FileExistsError:
-            raise self._out_exists() from None
+            raise self._out_exists_error() from None
         except OSError as error:
             if error.errno in NO_SUCH_RENAME:
-                raise self._can_not_rename() from None
+                raise self._cannot_rename_error() from None
             raise Stop(f"{self.out_name}: {reason_of(error)}.") from None
         # Somebody who can write in the folder may have put another file in the part's place.
         if not own_file.has_name(self.fd, self._out):
@@ -113,43 +114,43 @@ class Part:
                 "you can write."
             )
 
-    def _out_exists(self) -> Stop:
+    def _out_exists_error(self) -> Stop:
         return Stop(
             f"{self.out_name} was made by another during the run, and stays as it is. All lines "
             f"are done, in {self.name}. First rename or remove {self.out_name}.",
             advice="" if self.is_resumable else f"Rename {self.name}.",
         )
 
-    def _can_not_rename(self) -> Stop:
+    def _cannot_rename_error(self) -> Stop:
         return Stop(
             f"all lines are done, but here nothing can give {self.name} another name "
             "without perhaps replacing a file.",
-            advice=f"Type mv -n {quoted(self.path)} {quoted(self._out)}",
+            advice=f"Type mv -n {shell_quoted(self.path)} {shell_quoted(self._out)}",
         )
 
     def _remove_names(self, console: Console) -> None:
         """Removes the saved options while the part's lock keeps others out, then its name."""
         try:
             if self.is_resumable:
-                kept.remove(self.path)
+                resume_state.remove(self.path)
             if own_file.has_name(self.fd, self.path):
                 os.unlink(self.path)
         except OSError as error:
             console.say(f"{self.name} remains: {reason_of(error)}.")
 
 
-def changed(source: Source, part: Optional[Part]) -> Optional[str]:
+def describe_change(source: Source, part: Optional[Part]) -> Optional[str]:
     """Says how FILE has changed during the run, and what to do about it, or returns None."""
     what = source.change()
     if what is None:
         return None
-    way_out = f"remove {part.name}" if part else "discard the hashes"
-    return f"{source.name} was changed during the run ({what}): {way_out}, and start again."
+    remedy = f"remove {part.name}" if part else "discard the hashes"
+    return f"{source.name} was changed during the run ({what}): {remedy}, and start again."
 
 
 def refuse_changed(source: Source, part: Optional[Part]) -> None:
     """Ends the run if FILE has changed since it was opened."""
-    sentence = changed(source, part)
+    sentence = describe_change(source, part)
     if sentence is not None:
         raise UsageError(sentence)
 
@@ -159,7 +160,7 @@ def opened(out: str, source: Source, options: Optional[FileOptions]) -> Iterator
     """Opens OUT.part for this run alone. `options` are those of pwhash file, which can resume."""
     path = part_of(out)
     if options is not None:
-        kept.read(path)  # this refuses other files of that name before it makes a part
+        resume_state.read(path)  # this refuses other files of that name before it makes a part
     part = Part(out, open_part(path, source, options), source, options is not None)
     try:
         yield part
@@ -180,47 +181,49 @@ def open_part(path: str, source: Source, options: Optional[FileOptions]) -> int:
         with contextlib.suppress(FileNotFoundError):
             found = os.lstat(path)
             refuse_strange(path, found, source, is_resumed)
-            return open_again(path, found, source, options)
-        return new_part(path)
+            return open_existing(path, found, source, options)
+        return create_part(path)
     except OSError as error:
-        raise Stop(f"{named(path)}: {reason_of(error)}.") from None
+        raise Stop(f"{display_name(path)}: {reason_of(error)}.") from None
 
 
 def refuse_strange(path: str, found: os.stat_result, source: Source, is_resumed: bool) -> None:
     """Refuses a part that can't be from a run of this user."""
-    name = named(path)
-    if os.path.samestat(found, source.begun):
+    name = display_name(path)
+    if os.path.samestat(found, source.initial_status):
         raise UsageError(f"{name} is the file to read: name another file after -o.")
-    fault = own_file.unfit(found)
-    if fault and is_resumed:
-        way_out = "Remove it, or name another file after -o."
-        raise UsageError(f"--resume doesn't take {name}: {fault}. {way_out}")
-    if fault:
-        way_out = f"remove it, or name another file after -o ({fault})"
-        raise UsageError(f"{name} already exists: {way_out}.")
+    problem = own_file.find_problem(found)
+    if problem and is_resumed:
+        remedy = "Remove it, or name another file after -o."
+        raise UsageError(f"--resume doesn't take {name}: {problem}. {remedy}")
+    if problem:
+        remedy = f"remove it, or name another file after -o ({problem})"
+        raise UsageError(f"{name} already exists: {remedy}.")
 
 
-def open_again(
+def open_existing(
     path: str, found: os.stat_result, source: Source, options: Optional[FileOptions]
 ) -> int:
     """Opens the part of an earlier run."""
     fd = os.open(path, own_file.FLAGS)
     lock(fd, path)
     now = os.fstat(fd)
-    is_other = own_file.unfit(now) or not os.path.samestat(now, found)
+    is_other = own_file.find_problem(now) or not os.path.samestat(now, found)
     # A run that held the lock until now may have made the part its OUT, and removed the name.
     if is_other or not own_file.has_name(fd, path):
-        raise UsageError(f"{named(path)} was replaced just now. Start again.")
+        raise UsageError(f"{display_name(path)} was replaced just now. Start again.")
     refuse_to_go_on(path, now, source, options)
     return fd
 
 
-def new_part(path: str) -> int:
+def create_part(path: str) -> int:
     """Creates a part."""
     try:
         fd = own_file.create(path)
     except FileExistsError:
-        raise UsageError(f"{named(path)} was made by another just now. Start again.") from None
+        raise UsageError(
+            f"{display_name(path)} was made by another just now. Start again."
+        ) from None
     lock(fd, path)
     return fd
 
@@ -230,14 +233,14 @@ def lock(fd: int, path: str) -> None:
     try:
         fcntl.flock(fd, fcntl.LOCK_EX | fcntl.LOCK_NB)
     except BlockingIOError:
-        raise UsageError(f"another run is writing {named(path)}: wait for it.") from None
+        raise UsageError(f"another run is writing {display_name(path)}: wait for it.") from None
 
 
 def refuse_to_go_on(
     path: str, status: os.stat_result, source: Source, options: Optional[FileOptions]
 ) -> None:
     """Refuses a part of an earlier run, unless --resume is given and it is of the same FILE."""
-    exists = f"{named(path)} already exists"
+    exists = f"{display_name(path)} already exists"
     if options is None:
         raise UsageError(f"{exists}: remove it, or name another file after -o.")
     if status.st_size:
@@ -250,14 +253,16 @@ def refuse_another_file(
     path: str, status: os.stat_result, source: Source, options: FileOptions
 ) -> None:
     """Refuses a part whose lines may be hashes of other passwords than FILE's."""
-    before, now = kept.read(path), kept.kept_of(options, source)
-    name = named(path)
-    both = f"{name} and {named(kept.path_of(path))}"
+    before, now = resume_state.read(path), resume_state.current_state(options, source)
+    name = display_name(path)
+    both = f"{name} and {display_name(resume_state.path_of(path))}"
     if before is None:  # of GNU parallel, for example: only the times can be compared
         refuse_newer(path, status, source)
-        before = Kept(now.file, now.choice, b"")
-    if before == kept.CUT:
-        raise UsageError(f"{named(kept.path_of(path))} was cut. Remove {both}, and start again.")
+        before = ResumeState(now.file, now.choice, b"")
+    if before == resume_state.INCOMPLETE:
+        raise UsageError(
+            f"{display_name(resume_state.path_of(path))} was cut. Remove {both}, and start again."
+        )
     if before.file != now.file:
         raise UsageError(
             f"{name} isn't of {source.name} as it is now: that is another file, or was "
@@ -267,7 +272,7 @@ def refuse_another_file(
         refuse_other_options(before, now, name, both)
 
 
-def refuse_other_options(before: Kept, now: Kept, name: str, both: str) -> None:
+def refuse_other_options(before: ResumeState, now: ResumeState, name: str, both: str) -> None:
     """Refuses options with which other lines, or other passwords, would be hashed."""
     if before.options != now.options:
         raise UsageError(
@@ -284,7 +289,9 @@ def refuse_other_options(before: Kept, now: Kept, name: str, both: str) -> None:
 
 def refuse_newer(path: str, status: os.stat_result, source: Source) -> None:
     """Refuses a FILE that is newer than the part, if nothing else is known about the part."""
-    if source.begun.st_mtime_ns > status.st_mtime_ns:
-        touch = f"touch -r {source.path_for_shell()} {quoted(path)} and add --resume"
-        way_out = f"if no line changed: {touch}; else remove {named(path)}"
-        raise UsageError(f"{named(path)} already exists, and {source.name} is newer; {way_out}.")
+    if source.initial_status.st_mtime_ns > status.st_mtime_ns:
+        touch = f"touch -r {source.path_for_shell()} {shell_quoted(path)} and add --resume"
+        remedy = f"if no line changed: {touch}; else remove {display_name(path)}"
+        raise UsageError(
+            f"{display_name(path)} already exists, and {source.name} is newer; {remedy}."
+        )

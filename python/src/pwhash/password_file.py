@@ -14,7 +14,7 @@ from pwhash.place import Place, refuse_strange_file
 
 READ_FLAGS = os.O_RDONLY | os.O_CLOEXEC | os.O_NOCTTY | os.O_NONBLOCK | os.O_NOFOLLOW
 PIECE = 1 << 20
-MOST_BYTES = 1 << 30
+MAX_BYTES = 1 << 30
 
 
 class Entry(NamedTuple):
@@ -43,15 +43,15 @@ def opened(place: Place) -> Iterator[Opened]:
     try:
         status = os.fstat(fd)
         refuse_strange_file(place, status)
-        yield Opened(fd, status, read_all(fd, status, place.shown))
+        yield Opened(fd, status, read_all(fd, status, place.display_name))
     finally:
         os.close(fd)
 
 
-def read_all(fd: int, status: os.stat_result, shown: str) -> bytes:
+def read_all(fd: int, status: os.stat_result, file_name: str) -> bytes:
     """Returns all bytes of an open file. Refuses one that is too large for a password file."""
-    if status.st_size > MOST_BYTES:
-        raise UsageError(f"{shown} has more than 1 GiB, as no password file has.")
+    if status.st_size > MAX_BYTES:
+        raise UsageError(f"{file_name} has more than 1 GiB, as no password file has.")
     pieces: List[bytes] = []
     piece = os.read(fd, PIECE)
     while piece:
@@ -60,7 +60,7 @@ def read_all(fd: int, status: os.stat_result, shown: str) -> bytes:
     return b"".join(pieces)
 
 
-def find(content: bytes, name: bytes, shown: str) -> Optional[Entry]:
+def find(content: bytes, name: bytes, file_name: str) -> Optional[Entry]:
     """Finds the line of a name, or returns None. Refuses a name with several lines."""
     found = list(re.finditer(rb"(?m)^" + re.escape(name) + rb":([^:\n]*)[^\n]*\n?", content))
     if not found:
@@ -68,7 +68,7 @@ def find(content: bytes, name: bytes, shown: str) -> Optional[Entry]:
     numbers = [1 + content.count(b"\n", 0, each.start()) for each in found]
     if len(found) > 1:
         raise UsageError(
-            f"{shown} has the name twice, in lines {numbers[0]} and {numbers[1]}, of which "
+            f"{file_name} has the name twice, in lines {numbers[0]} and {numbers[1]}, of which "
             "services take one or the other. Remove one with an editor."
         )
     first = found[0]

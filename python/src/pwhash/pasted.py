@@ -61,7 +61,7 @@ def piped_both(console: Console) -> Pasted:
         if more is None:
             break
         pasted += without_blanks(more)
-    lines.tell_of_further("the hash")
+    lines.warn_about_extra_lines("the hash")
     return Pasted(password, field_of_pasted(pasted))
 
 

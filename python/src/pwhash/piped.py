@@ -40,7 +40,7 @@ class PipedLines:
             self._waiting += [line.data for line in next(self._groups, [])]
         return self._waiting.pop(0) if self._waiting else None
 
-    def tell_of_further(self, last: str) -> None:
+    def warn_about_extra_lines(self, last: str) -> None:
         """Warns about further lines, which are ignored, if they are there already."""
         if self.next_at_once():
             self._console.say(f"lines of standard input behind {last} don't count.")

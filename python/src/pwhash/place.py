@@ -13,7 +13,7 @@ from collections.abc import Iterator
 from typing import NamedTuple, Optional, Set
 
 from pwhash.errors import UsageError, errors_named
-from pwhash.text import named, quoted
+from pwhash.text import display_name, shell_quoted
 
 # In a folder that others can write, they can replace a file at any moment.
 WRITABLE_BY_OTHERS = stat.S_IWGRP | stat.S_IWOTH
@@ -29,9 +29,9 @@ class Place(NamedTuple):
     name: str
 
     @property
-    def shown(self) -> str:
+    def display_name(self) -> str:
         """The file's name for a message."""
-        return named(self.path)
+        return display_name(self.path)
 
     @property
     def lock(self) -> str:
@@ -48,7 +48,7 @@ class Place(NamedTuple):
         """The name of the link that says which files are exchanged."""
         return f"{self.name}.mkpasswd.exchange"
 
-    def look(self, name: str) -> Optional[os.stat_result]:
+    def read_status(self, name: str) -> Optional[os.stat_result]:
         """Returns the status of the file with a name in the folder, or None."""
         try:
             return os.stat(name, dir_fd=self.folder, follow_symlinks=False)
@@ -62,13 +62,13 @@ class Place(NamedTuple):
 
 
 @contextlib.contextmanager
-def opened_place(path: str) -> Iterator[Place]:
+def open_place(path: str) -> Iterator[Place]:
     """Opens the folder of a password file. Refuses to run set-user-ID or set-group-ID."""
     refuse_set_id()
     folder, name = os.path.split(path)
     if name in ("", ".", ".."):
-        raise UsageError(f"{named(path)} is a folder. Name a password file.")
-    with errors_named(named(path)):
+        raise UsageError(f"{display_name(path)} is a folder. Name a password file.")
+    with errors_named(display_name(path)):
         # The kernel follows links here. It refuses those of strangers in /tmp, for example.
         descriptor = os.open(folder or ".", os.O_RDONLY | os.O_DIRECTORY | os.O_CLOEXEC)
     try:
@@ -86,13 +86,14 @@ def refuse_set_id() -> None:
         )
 
 
-def found_file(place: Place) -> os.stat_result:
+def find_file(place: Place) -> os.stat_result:
     """Returns the status of the file. Refuses a link, and anything but a regular file."""
-    found = place.look(place.name)
+    found = place.read_status(place.name)
     if found is None:
         raise UsageError(
-            f"there is no {place.shown}. If the name is right, make an empty one first, which the "
-            f"group of the service can read: install -m 640 -g GROUP /dev/null {quoted(place.path)}"
+            f"there is no {place.display_name}. If the name is right, make an empty one first, "
+            "which the group of the service can read: install -m 640 -g GROUP /dev/null "
+            f"{shell_quoted(place.path)}"
         )
     refuse_strange_file(place, found)
     return found
@@ -102,35 +103,37 @@ def refuse_strange_file(place: Place, found: os.stat_result) -> None:
     """Refuses a link, and anything but a regular file with a single name."""
     if stat.S_ISLNK(found.st_mode):
         target = os.path.realpath(place.path)
-        raise UsageError(f"{place.shown} is a symbolic link. Name the file: {named(target)}.")
+        raise UsageError(
+            f"{place.display_name} is a symbolic link. Name the file: {display_name(target)}."
+        )
     if stat.S_ISDIR(found.st_mode):
-        raise UsageError(f"{place.shown} is a folder. Name a password file.")
+        raise UsageError(f"{place.display_name} is a folder. Name a password file.")
     if not stat.S_ISREG(found.st_mode):
-        raise UsageError(f"{place.shown} is no regular file.")
+        raise UsageError(f"{place.display_name} is no regular file.")
     if found.st_nlink > 1:
         raise UsageError(
-            f"{place.shown} has another name too (a hard link), which would keep the old file. "
-            "Remove one of the names."
+            f"{place.display_name} has another name too (a hard link), which would keep the old "
+            "file. Remove one of the names."
         )
 
 
 def refuse_unwritable(place: Place) -> None:
     """Refuses a file that this user may not change. Called before pwhash asks for a password."""
-    if not may(place, place.name, os.R_OK | os.W_OK):
-        raise UsageError(f"you aren't allowed to write {place.shown}. {AS_SUPERUSER}")
+    if not has_access(place, place.name, os.R_OK | os.W_OK):
+        raise UsageError(f"you aren't allowed to write {place.display_name}. {AS_SUPERUSER}")
     refuse_folder_of_others(place)
 
 
 def refuse_folder_of_others(place: Place) -> None:
     """Refuses a folder in which this user may not create files."""
-    if not may(place, ".", os.W_OK | os.X_OK):
+    if not has_access(place, ".", os.W_OK | os.X_OK):
         raise UsageError(
-            f"you aren't allowed to make files in the folder of {place.shown}, where the new "
-            f"version has to be. {AS_SUPERUSER}"
+            f"you aren't allowed to make files in the folder of {place.display_name}, where the "
+            f"new version has to be. {AS_SUPERUSER}"
         )
 
 
-def may(place: Place, name: str, mode: int) -> bool:
+def has_access(place: Place, name: str, mode: int) -> bool:
     """Whether this process has this access to a name in the folder."""
     return os.access(name, mode, dir_fd=place.folder, effective_ids=True)
 
@@ -142,7 +145,7 @@ def refuse_open_folder(place: Place, owner: int) -> None:
     one such as /tmp is fine: there nobody can rename what isn't theirs.
     """
     trusted = {SUPERUSER, os.geteuid(), owner}
-    with errors_named(f"{place.shown}, a folder above it"):
+    with errors_named(f"{place.display_name}, a folder above it"):
         for number, status in enumerate(folders_upwards(place.folder)):
             refuse_untrusted(place, status, trusted, is_first=number == 0)
 
@@ -169,12 +172,12 @@ def refuse_untrusted(
     which = "its folder" if is_first else "a folder above it"
     if status.st_uid not in trusted:
         raise UsageError(
-            f"{place.shown}: {which} belongs to another user, who could put another file in its "
-            "place. Move it to a folder of its owner or of the superuser."
+            f"{place.display_name}: {which} belongs to another user, who could put another file in "
+            "its place. Move it to a folder of its owner or of the superuser."
         )
     is_sticky = bool(status.st_mode & stat.S_ISVTX) and not is_first
     if status.st_mode & WRITABLE_BY_OTHERS and not is_sticky:
         raise UsageError(
-            f"{place.shown}: others can write {which}, and put another file in its place. "
-            f"Let only its owner write it (chmod go-w), or move {place.shown}."
+            f"{place.display_name}: others can write {which}, and put another file in its place. "
+            f"Let only its owner write it (chmod go-w), or move {place.display_name}."
         )

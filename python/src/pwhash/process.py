@@ -16,13 +16,13 @@ OBJECTS_BETWEEN_COLLECTIONS = 1 << 20
 
 def prepare() -> None:
     """Puts the process into a known state, however it was started."""
-    never_dump()
-    occupy_standard_descriptors()
+    prevent_core_dumps()
+    open_closed_descriptors()
     gc.set_threshold(OBJECTS_BETWEEN_COLLECTIONS)
     signal.pthread_sigmask(signal.SIG_SETMASK, [])
 
 
-def never_dump() -> None:
+def prevent_core_dumps() -> None:
     """Prevents core dumps, which would contain passwords.
 
     With a limit of 0 bytes the kernel still passes the memory to a program that collects dumps.
@@ -31,10 +31,10 @@ def never_dump() -> None:
     _, hard = resource.getrlimit(resource.RLIMIT_CORE)
     soft = 0 if hard == 0 else 1
     resource.setrlimit(resource.RLIMIT_CORE, (soft, hard))
-    system.never_dumpable()
+    system.forbid_dumps()
 
 
-def occupy_standard_descriptors() -> None:
+def open_closed_descriptors() -> None:
     """Opens the standard descriptors that the caller closed, so that no file gets their numbers."""
     while os.open("/", os.O_PATH) <= STDERR:
         pass

@@ -17,21 +17,21 @@ class Progress:
         self._verb = verb
         self._total = total
         self._next = FIRST_AFTER
-        self._first = 0  # the line at which the time below begins
-        self._begun = 0.0
+        self._first_line = 0  # the line at which the time below begins
+        self._start = 0.0
 
     def reached(self, line: int) -> None:
         """Notes that the run has done this line, and updates the progress line now and then."""
         if not self._total:
             return
-        if not self._begun:  # the first lines are slow, while threads start: they don't count
-            self._first, self._begun = line, time.monotonic()
+        if not self._start:  # the first lines are slow, while threads start: they don't count
+            self._first_line, self._start = line, time.monotonic()
             return
-        seconds = time.monotonic() - self._begun
+        seconds = time.monotonic() - self._start
         line = min(line, self._total - 1)
-        if seconds >= self._next and line > self._first:
+        if seconds >= self._next and line > self._first_line:
             self._next = seconds + INTERVAL
-            self._show(line, (line - self._first) / seconds)
+            self._show(line, (line - self._first_line) / seconds)
 
     def end(self) -> None:
         """Clears the progress line."""

@@ -59,10 +59,10 @@ def ask_password() -> bytes:
 
 def ask_each(*prompts: bytes) -> List[bytes]:
     """Returns what is typed at each prompt. The terminal doesn't show it."""
-    return hidden(lambda ask: [ask(prompt) for prompt in prompts])
+    return with_hidden_input(lambda ask: [ask(prompt) for prompt in prompts])
 
 
-def hidden(conversation: Callable[[Ask], Answers]) -> Answers:
+def with_hidden_input(conversation: Callable[[Ask], Answers]) -> Answers:
     """Returns the result of a conversation, during which the terminal doesn't show what is typed.
 
     Standard input has to be a terminal. It is used if there is no /dev/tty.
@@ -70,20 +70,20 @@ def hidden(conversation: Callable[[Ask], Answers]) -> Answers:
     signal.signal(signal.SIGTSTP, signal.SIG_IGN)  # the shell would show what is typed after Ctrl-Z
     fd = open_terminal()
     if fd is None:
-        return ask_hidden(STDIN, conversation)
+        return ask_on_terminal(STDIN, conversation)
     try:
-        return ask_hidden(fd, conversation)
+        return ask_on_terminal(fd, conversation)
     finally:
         os.close(fd)
 
 
-def ask_hidden(fd: int, conversation: Callable[[Ask], Answers]) -> Answers:
+def ask_on_terminal(fd: int, conversation: Callable[[Ask], Answers]) -> Answers:
     """Asks at a terminal. Signals are blocked until its settings are restored."""
     wait_for_foreground(fd)
     try:
         before = termios.tcgetattr(fd)
     except termios.error:
-        raise cant_hide() from None
+        raise cant_hide_error() from None
     waiting = {int(each) for each in FATAL if signal.getsignal(each) != signal.SIG_IGN}
     terminal = Terminal(fd, before, waiting)
     signal.pthread_sigmask(signal.SIG_BLOCK, waiting)
@@ -117,7 +117,7 @@ def wait_for_foreground(fd: int) -> None:
             return  # something ignores SIGTTOU
         except termios.error as error:
             if error.args[0] != errno.EINTR:
-                raise cant_hide() from None
+                raise cant_hide_error() from None
 
 
 def hide_again(terminal: Terminal) -> None:
@@ -144,10 +144,10 @@ def hide(terminal: Terminal) -> None:
     except termios.error:
         is_hidden = False
     if not is_hidden:
-        raise cant_hide()
+        raise cant_hide_error()
 
 
-def cant_hide() -> Stop:
+def cant_hide_error() -> Stop:
     """Returns the error for a terminal that would show a password."""
     return Stop(
         "this terminal can't hide what is typed, so no password is asked for. "
@@ -170,14 +170,14 @@ def restore(terminal: Terminal) -> None:
 
 def ask(terminal: Terminal, prompt: bytes) -> bytes:
     """Shows a prompt, and returns what is typed there."""
-    show(terminal.fd, prompt)
+    write_to_terminal(terminal.fd, prompt)
     try:
         return read_line(terminal)
     finally:
-        show(terminal.fd, b"\n")  # Return isn't shown
+        write_to_terminal(terminal.fd, b"\n")  # Return isn't shown
 
 
-def show(fd: int, text: bytes) -> None:
+def write_to_terminal(fd: int, text: bytes) -> None:
     """Writes to the terminal, or to standard error if it is open for reading only."""
     try:
         os.write(fd, text)

@@ -13,14 +13,14 @@ from typing import Callable
 
 from pwhash import password_file
 from pwhash.errors import Stop, reason_of
-from pwhash.exchange import Outcome, end_earlier, exchange_files
-from pwhash.lock import Owner, held
+from pwhash.exchange import Outcome, end_earlier_exchange, exchange_files
+from pwhash.lock import Owner, hold_lock
 from pwhash.new_file import NewFile, copy_attributes, opened_new
 from pwhash.password_file import Opened
-from pwhash.place import Place, found_file
+from pwhash.place import Place, find_file
 from pwhash.session import Session
 
-MOST_TRIES = 8
+MAX_TRIES = 8
 
 # Returns the new content of a file with this content. Raises Stop if that can't be changed.
 Change = Callable[[bytes], bytes]
@@ -28,15 +28,15 @@ Change = Callable[[bytes], bytes]
 
 def replace(place: Place, change: Change, session: Session) -> None:
     """Changes a file. If somebody else changes it meanwhile, starts again from their version."""
-    status = found_file(place)
-    with held(place, Owner(status.st_uid, status.st_gid)), errors_named_of(place):
-        for _ in range(MOST_TRIES):
+    status = find_file(place)
+    with hold_lock(place, Owner(status.st_uid, status.st_gid)), errors_named_of(place):
+        for _ in range(MAX_TRIES):
             # A signal that arrives meanwhile ends the run after the block.
             with session.signals.postponed():
                 if replace_once(place, change) is Outcome.DONE:
-                    session.changed = place.shown
+                    session.changed = place.display_name
                     return
-    raise Stop(f"others change {place.shown} all the time. Nothing was changed: try again.")
+    raise Stop(f"others change {place.display_name} all the time. Nothing was changed: try again.")
 
 
 @contextlib.contextmanager
@@ -48,12 +48,12 @@ def errors_named_of(place: Place) -> Iterator[None]:
         reason = reason_of(error)
         if error.errno == errno.EPERM:
             reason += ", as only its owner or the superuser can do this"
-        raise Stop(f"{place.shown}: {reason}. The file stays as it was.") from None
+        raise Stop(f"{place.display_name}: {reason}. The file stays as it was.") from None
 
 
 def replace_once(place: Place, change: Change) -> Outcome:
     """Reads the file, and puts the new version in its place."""
-    end_earlier(place)
+    end_earlier_exchange(place)
     with password_file.opened(place) as old:
         content = change(old.content)
         with opened_new(place) as new:

@@ -33,7 +33,7 @@ class Report(abc.ABC):
 
     def print(self, lines: Sequence[str]) -> None:
         """Prints lines on standard output."""
-        self._console.lines(STDOUT, [line.encode() for line in lines])
+        self._console.write_lines(STDOUT, [line.encode() for line in lines])
 
 
 class JsonReport(Report):
@@ -52,17 +52,17 @@ class TableReport(Report):
     def __init__(self, console: Console) -> None:
         super().__init__(console)
         self._has_colours = os.isatty(STDOUT) and not os.getenv("NO_COLOR")
-        self._columns = columns_of_output()
-        self._begin = [self.heading()]
+        self._columns = output_width()
+        self._pending = [self.heading()]
 
     def add(self, judgements: Sequence[Judgement]) -> None:
-        self.print([*self._begin, *(self.row(judgement) for judgement in judgements)])
-        self._begin = []
+        self.print([*self._pending, *(self.row(judgement) for judgement in judgements)])
+        self._pending = []
 
     def end(self, counts: Counter[Finding], source_name: str) -> None:
         total = sum(counts.values())
         lines = "line" if total == 1 else "lines"
-        self.print([*self._begin, f"\n{total:,} {lines} of {source_name}:"])
+        self.print([*self._pending, f"\n{total:,} {lines} of {source_name}:"])
         self.print(
             [self._counted(finding, counts[finding]) for finding in Finding if counts[finding]]
         )
@@ -71,19 +71,21 @@ class TableReport(Report):
         """Returns the first row."""
         return self._laid_out("NAME", "METHOD", "ROUNDS", "FINDING")
 
-    def row(self, found: Judgement) -> str:
+    def row(self, judgement: Judgement) -> str:
         """Returns the row of a judgement."""
-        finding = f"{found.finding.word} {found.message or ''}".rstrip()
-        text = self._laid_out(found.name, found.method or "", str(found.rounds or ""), finding)
-        return self._coloured(found.finding, text)
+        finding = f"{judgement.finding.word} {judgement.message or ''}".rstrip()
+        text = self._laid_out(
+            judgement.name, judgement.method or "", str(judgement.rounds or ""), finding
+        )
+        return self._coloured(judgement.finding, text)
 
     def _laid_out(self, name: str, method: str, rounds: str, finding: str) -> str:
         """Returns the columns of a row. In a narrow terminal the name is above the others."""
         row = f"{name:20}  {method:12}  {rounds:>11}  {finding}"
         if len(row) <= self._columns:
             return row
-        begin = "\n".join(textwrap.wrap(name, self._columns, drop_whitespace=False) or [""])
-        return f"{begin}\n  {' '.join(filter(None, [method, rounds, finding]))}"
+        wrapped_name = "\n".join(textwrap.wrap(name, self._columns, drop_whitespace=False) or [""])
+        return f"{wrapped_name}\n  {' '.join(filter(None, [method, rounds, finding]))}"
 
     def _counted(self, finding: Finding, count: int) -> str:
         text = f"{count:7,} {finding.word:12} {finding.advice}"
@@ -109,16 +111,16 @@ class WorstFirstReport(TableReport):
     def end(self, counts: Counter[Finding], source_name: str) -> None:
         if not self._rows:
             return
-        self._begin += [row for _, row in sorted(self._rows)]
+        self._pending += [row for _, row in sorted(self._rows)]
         super().end(counts, source_name)
 
 
-def as_json(found: Judgement) -> str:
+def as_json(judgement: Judgement) -> str:
     """Returns a judgement as a JSON object."""
-    return json.dumps({**found._asdict(), "finding": found.finding.word})
+    return json.dumps({**judgement._asdict(), "finding": judgement.finding.word})
 
 
-def columns_of_output() -> int:
+def output_width() -> int:
     """Returns the width of standard output. Only a terminal's is limited."""
     try:
         return os.get_terminal_size(STDOUT).columns or ANY_COLUMNS

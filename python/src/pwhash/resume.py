@@ -11,9 +11,9 @@ from typing import List, Match, NamedTuple, Optional, Tuple
 from pwhash import library
 from pwhash.errors import UsageError, errors_named
 from pwhash.library import Policy
-from pwhash.lines import Arrivals, Line, name_of
+from pwhash.lines import Line, LineGroups, name_of
 from pwhash.part import Part
-from pwhash.workers import in_thread
+from pwhash.workers import run_in_thread
 
 # A whole hash: its method and cost, its salt, and its digest.
 HASH = re.compile(
@@ -32,16 +32,16 @@ class Parts(NamedTuple):
     digest_length: int
 
 
-def skip_made(part: Part, arrivals: Arrivals, policy: Policy, source_name: str) -> Arrivals:
+def skip_hashed(part: Part, groups: LineGroups, policy: Policy, source_name: str) -> LineGroups:
     """Returns the lines without a hash in the part. Cuts an incomplete line off its end."""
-    lines = itertools.chain.from_iterable(arrivals)
+    lines = itertools.chain.from_iterable(groups)
     with errors_named(part.name):
         count, size = whole_lines(part.fd)
         with open(part.fd, "rb", closefd=False) as file:
             answers = (file.readline()[:-1] for _ in range(count))
             Comparison(part.name, source_name, policy).compare(answers, count, lines)
         os.ftruncate(part.fd, os.lseek(part.fd, size, os.SEEK_SET))
-    return together(lines)
+    return in_groups(lines)
 
 
 def whole_lines(fd: int) -> Tuple[int, int]:
@@ -69,21 +69,21 @@ class Comparison(NamedTuple):
     def compare(self, answers: Iterator[bytes], count: int, lines: Iterator[Line]) -> None:
         """Refuses a part unless its lines belong to the first lines of the input, one to each."""
         first: Optional[Parts] = None
-        for place, answer in enumerate(answers):
+        for index, answer in enumerate(answers):
             line = next(lines, None)
             found = hash_in(answer, line)
             if line is None or found is None:
-                raise self._refused(place, line)
+                raise self._refused(index, line)
             parts = parts_of(found, self.policy)
             first = first or parts
-            is_end = place in (0, count - 1)
-            if parts != first or (is_end and not is_made_again(found, line, self.policy)):
-                raise self._refused(place, line)
+            is_end = index in (0, count - 1)
+            if parts != first or (is_end and not is_same_hash(found, line, self.policy)):
+                raise self._refused(index, line)
 
-    def _refused(self, place: int, line: Optional[Line]) -> UsageError:
-        number = line.number if line else place + 1
+    def _refused(self, index: int, line: Optional[Line]) -> UsageError:
+        number = line.number if line else index + 1
         return UsageError(
-            f"{self.part_name}, line {place + 1}: not of line {number} of {self.source_name}: "
+            f"{self.part_name}, line {index + 1}: not of line {number} of {self.source_name}: "
             "name, password, -m, -R or -S differ, or the line is gone or left out. "
             f"Correct that, or remove {self.part_name}."
         )
@@ -103,17 +103,17 @@ def parts_of(found: Match[bytes], policy: Policy) -> Parts:
     return Parts(setting, salt if policy.setting else b"", len(salt), len(digest))
 
 
-def is_made_again(found: Match[bytes], line: Line, policy: Policy) -> bool:
+def is_same_hash(found: Match[bytes], line: Line, policy: Policy) -> bool:
     """Whether hashing the line again, with the salt of the old hash, gives the same hash."""
     try:
         setting = policy.setting or library.setting(policy.method, policy.rounds, found[2])
     except library.RefusedSalt:
         return False
     password = line.data.partition(b":")[2]
-    return in_thread(lambda: library.hash_by(password, setting, policy.budget)) == found[0]
+    return run_in_thread(lambda: library.hash_by(password, setting, policy.budget)) == found[0]
 
 
-def together(lines: Iterable[Line]) -> Iterator[List[Line]]:
+def in_groups(lines: Iterable[Line]) -> Iterator[List[Line]]:
     """Yields lines in groups."""
     lines = iter(lines)
     group = list(itertools.islice(lines, LINES_TOGETHER))

@@ -10,7 +10,7 @@ from collections.abc import Sequence
 from typing import NoReturn, Protocol
 
 from pwhash import process, unforeseen
-from pwhash.cli import Shown, read_options
+from pwhash.cli import PrintAndExit, read_options
 from pwhash.console import STDOUT
 from pwhash.errors import Status, Stop, reason_of
 from pwhash.options import (
@@ -19,18 +19,18 @@ from pwhash.options import (
     CheckOptions,
     FileOptions,
     InstallOptions,
-    OneOptions,
     Options,
     SetOptions,
+    SingleOptions,
     VerifyOptions,
 )
 from pwhash.session import Session
 from pwhash.signals import die_of
-from pwhash.text import named
+from pwhash.text import display_name
 
 
 MODULES = {
-    OneOptions: "pwhash.one",
+    SingleOptions: "pwhash.single",
     FileOptions: "pwhash.file",
     CheckOptions: "pwhash.check",
     AuditOptions: "pwhash.audit",
@@ -53,38 +53,38 @@ def main() -> NoReturn:
     run(sys.argv[0], sys.argv[1:])
 
 
-def run(command: str, words: Sequence[str]) -> NoReturn:
+def run(command: str, arguments: Sequence[str]) -> NoReturn:
     """Runs a command line. `command` is how pwhash was called. The process ends."""
     unforeseen.watch()
     process.prepare()
-    session = Session(command, words)
+    session = Session(command, arguments)
     session.signals.watch()
     # os._exit skips Python's own cleanup, which can fail and then change the status.
-    os._exit(status_of(session, words))
+    os._exit(status_of(session, arguments))
 
 
-def status_of(session: Session, words: Sequence[str]) -> Status:
+def status_of(session: Session, arguments: Sequence[str]) -> Status:
     """Runs a command, and returns its exit status. Dies of SIGPIPE if nobody reads the output."""
     try:
-        return answer(session, words)
+        return answer(session, arguments)
     except Stop as stop:
         return session.fail(stop)
     except BrokenPipeError:  # by `| head`, for example: end quietly, as other programs do
         session.console.clear_progress()
         die_of(signal.SIGPIPE)
     except OSError as error:
-        name = f"{named(error.filename)}: " if isinstance(error.filename, str) else ""
+        name = f"{display_name(error.filename)}: " if isinstance(error.filename, str) else ""
         return session.fail(Stop(f"{name}{reason_of(error)}."))
     except MemoryError:
         return session.fail(Stop("out of memory (ulimit -v)."))
 
 
-def answer(session: Session, words: Sequence[str]) -> Status:
+def answer(session: Session, arguments: Sequence[str]) -> Status:
     """Reads the options, and runs the command."""
     try:
-        session.options = read_options(words)
-    except Shown as shown:
-        session.console.lines(STDOUT, [str(shown).encode()])
+        session.options = read_options(arguments)
+    except PrintAndExit as printed:
+        session.console.write_lines(STDOUT, [str(printed).encode()])
         return Status.OK
     return Status.PROBLEM if has_problem(session.options, session) else Status.OK
 

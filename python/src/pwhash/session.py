@@ -13,20 +13,20 @@ from pwhash.errors import Status, Stop
 from pwhash.options import CheckOptions, FileOptions, Options, part_of
 from pwhash.part import Part
 from pwhash.signals import Signals, die_of
-from pwhash.text import quoted, readable_text
+from pwhash.text import printable_text, shell_quoted
 
 
 class Session:
     """A run. If it ends early, it says why and how to continue."""
 
-    def __init__(self, command: str, words: Sequence[str]) -> None:
+    def __init__(self, command: str, arguments: Sequence[str]) -> None:
         self.console = Console()
         self.signals = Signals(self._end_by_signal)
         self.options: Optional[Options] = None
         self.part: Optional[Part] = None
         self.changed: Optional[str] = None  # the file that this run has replaced
         self._command = command
-        self._words = words
+        self._arguments = arguments
         self._status_if_whole = Status.OK
 
     def finish(self, part: Part, has_problem: bool) -> None:
@@ -36,17 +36,17 @@ class Session:
 
     def fail(self, stop: Stop) -> Status:
         """Says why the run ended, also on the terminal if standard error goes elsewhere."""
-        lines = [f"pwhash: {readable_text(stop.sentence)}"]
+        lines = [f"pwhash: {printable_text(stop.sentence)}"]
         if stop.status is Status.FAILED:
-            lines = self._with_way_on(lines[0], stop.advice)
+            lines = self._with_instructions(lines[0], stop.advice)
         self.console.clear_progress()
         if stop.status is Status.FAILED and not os.isatty(STDERR):
-            self.console.on_terminal("".join(f"{line}\n" for line in lines))
+            self.console.write_to_terminal("".join(f"{line}\n" for line in lines))
         with contextlib.suppress(Stop):  # if standard error is full, the exit status still tells
-            self.console.lines(STDERR, [line.encode() for line in lines])
+            self.console.write_lines(STDERR, [line.encode() for line in lines])
         return stop.status
 
-    def _with_way_on(self, sentence: str, advice: str) -> List[str]:
+    def _with_instructions(self, sentence: str, advice: str) -> List[str]:
         """Returns the sentence, and how to continue with OUT.part of this or an earlier run."""
         options = self.options
         if not has_part(options):
@@ -55,22 +55,22 @@ class Session:
         if advice:
             return [f"{sentence} {advice}"]
         if isinstance(options, FileOptions) and (self.part or options.resume):
-            return [f"{sentence} To go on:", f"  {self._typed_again(options)}"]
+            return [f"{sentence} To go on:", f"  {self._resume_command(options)}"]
         if self.part is None:
             return [sentence]
         return [f"{sentence} To start again, remove {self.part.name}."]
 
-    def _typed_again(self, options: FileOptions) -> str:
+    def _resume_command(self, options: FileOptions) -> str:
         """Returns the command of this run, with --resume."""
-        name, *rest = self._words  # --resume goes first, since there may be a -- in the rest
+        name, *rest = self._arguments  # --resume goes first, since there may be a -- in the rest
         resume = [] if options.resume else ["--resume"]
-        command = " ".join(quoted(word) for word in [self._command, name, *resume, *rest])
+        command = " ".join(shell_quoted(word) for word in [self._command, name, *resume, *rest])
         if options.input.path is None:
-            command += f" < {quoted(os.readlink(f'/proc/self/fd/{STDIN}'))}"
+            command += f" < {shell_quoted(os.readlink(f'/proc/self/fd/{STDIN}'))}"
         return command
 
     def _end_by_signal(self, number: signal.Signals) -> None:
-        self.console.wait_for_nobody()
+        self.console.stop_waiting()
         if self.part is not None and self.part.is_whole:
             with contextlib.suppress(Stop):  # the exit status still tells
                 self.console.say(f"{number.name} came when {self.part.out_name} was whole.")

@@ -8,23 +8,23 @@ from pwhash import field, library, password_file, system_files
 from pwhash.doubts import SERVICE_NAMES
 from pwhash.errors import ProblemsFound, UsageError
 from pwhash.field import Field
-from pwhash.given import given_password
 from pwhash.library import Refusal
 from pwhash.lines import refused_name
-from pwhash.one import about_refusal, generated
+from pwhash.new_password import read_new_password
 from pwhash.options import Action, Service, SetOptions
 from pwhash.password_file import Entry
 from pwhash.place import (
     Place,
-    found_file,
-    opened_place,
+    find_file,
+    open_place,
     refuse_open_folder,
     refuse_unwritable,
 )
 from pwhash.replacing import replace
 from pwhash.session import Session
-from pwhash.text import is_visible, readable
-from pwhash.workers import in_thread
+from pwhash.single import generated, refusal_error
+from pwhash.text import is_visible, printable
+from pwhash.workers import run_in_thread
 
 # The prefix of a new hash if the old one's doesn't fit it.
 NEW_PREFIXES = {
@@ -37,21 +37,21 @@ NEW_PREFIXES = {
 
 def run(options: SetOptions, session: Session) -> bool:
     """Changes one line. Asks for a password only if nothing else prevents the change."""
-    with opened_place(options.path) as place:
+    with open_place(options.path) as place:
         refuse_unfit(place)
         line = Line(place, options, session)
-        line.look()
+        line.check()
         if options.action is Action.PASSWORD:
             line.new_hash = hash_of_password(options, session)
-        if not line.is_so_already:
+        if not line.is_done_already:
             replace(place, line.changed, session)
-        line.tell()
+        line.report()
     return False
 
 
 def refuse_unfit(place: Place) -> None:
     """Refuses a system file, and one that others than its owner can replace."""
-    status = found_file(place)
+    status = find_file(place)
     system_files.refuse_place(place, status)
     refuse_open_folder(place, status.st_uid)
     refuse_unwritable(place)
@@ -63,10 +63,10 @@ def hash_of_password(options: SetOptions, session: Session) -> bytes:
     if options.generate:
         password = generated(policy, session.console)
     else:
-        password = given_password(policy, options.accepts_doubtful, session.console)
-    new_hash = in_thread(lambda: library.new_hash(policy, password))
+        password = read_new_password(policy, options.accepts_doubtful, session.console)
+    new_hash = run_in_thread(lambda: library.new_hash(policy, password))
     if isinstance(new_hash, Refusal):
-        raise about_refusal(new_hash, policy)
+        raise refusal_error(new_hash, policy)
     return new_hash
 
 
@@ -75,35 +75,35 @@ class Line:
 
     def __init__(self, place: Place, options: SetOptions, session: Session) -> None:
         self.new_hash = b""  # until the password is known
-        self.is_so_already = False  # the name is already locked or unlocked, as it should be
+        self.is_done_already = False  # the name is already locked or unlocked, as it should be
         self._options = options
         self._console = session.console
         self._place = place
-        self._file = place.shown
+        self._file = place.display_name
         self._name = options.name
-        self._who = readable(options.name)
+        self._user = printable(options.name)
         self._sentence = ""
 
-    def look(self) -> None:
+    def check(self) -> None:
         """Finds out whether the change is possible, and whether it is needed."""
         with password_file.opened(self._place) as file:
             self.changed(file.content)
             entry = password_file.find(file.content, self._name, self._file)
         if entry is None:
-            self._say(f"{self._file} has no {self._who} yet: a line is added.")
+            self._say(f"{self._file} has no {self._user} yet: a line is added.")
 
     def changed(self, content: bytes) -> bytes:
         """Returns the content of the file with the line changed."""
         system_files.refuse_shape(content, self._file)
         entry = password_file.find(content, self._name, self._file)
         if entry is None:
-            return self._added(content)
+            return self._with_new_line(content)
         if self._options.action is Action.DELETE:
-            self._sentence = f"{self._who} was deleted from {self._file}."
+            self._sentence = f"{self._user} was deleted from {self._file}."
             return password_file.without_line(content, entry)
-        return password_file.with_field(content, entry, self._new_field(entry))
+        return password_file.with_field(content, entry, self._change_field(entry))
 
-    def tell(self) -> None:
+    def report(self) -> None:
         """Prints what was done."""
         self._say(self._sentence)
 
@@ -111,10 +111,10 @@ class Line:
         if not self._options.quiet:
             self._console.say(sentence)
 
-    def _added(self, content: bytes) -> bytes:
+    def _with_new_line(self, content: bytes) -> bytes:
         """Returns the content with a new line."""
         if self._options.action is not Action.PASSWORD:
-            raise ProblemsFound(f"{self._file} has no {self._who}.")
+            raise ProblemsFound(f"{self._file} has no {self._user}.")
         refuse_new_name(self._name, self._options.service)
         number = password_file.first_odd_line(content)
         if number is not None:
@@ -122,66 +122,66 @@ class Line:
                 f"{self._file}, line {number}: no colon, as each line of a password file has one. "
                 "Is it another file? Nothing was added."
             )
-        self._sentence = f"{self._who} was added to {self._file}."
+        self._sentence = f"{self._user} was added to {self._file}."
         prefix = password_file.common_prefix(content)
         if not field.fits(prefix, self._options.policy.method):
             prefix = b""
         return password_file.with_line(content, self._name + b":" + prefix + self.new_hash)
 
-    def _new_field(self, entry: Entry) -> Field:
+    def _change_field(self, entry: Entry) -> Field:
         """Returns the new field of the name."""
         if self._options.action is Action.LOCK:
-            return self._locked(entry.field)
+            return self._lock(entry.field)
         if self._options.action is Action.UNLOCK:
-            return self._unlocked(entry.field)
+            return self._unlock(entry.field)
         return self._with_hash(entry.field)
 
     def _with_hash(self, old: Field) -> Field:
         """Returns the field with the new hash. A locked name stays locked."""
         if not field.fits(old.prefix, self._options.policy.method):
             if self._options.service is None:
-                raise self._unfit_prefix(old.prefix)
+                raise self._prefix_error(old.prefix)
             old = old._replace(prefix=NEW_PREFIXES[self._options.service])
-        self._sentence = f"{self._who} has a new password in {self._file}"
+        self._sentence = f"{self._user} has a new password in {self._file}"
         self._sentence += ", and stays locked. --unlock unlocks." if old.is_locked else "."
         return old._replace(stored=self.new_hash)
 
-    def _unfit_prefix(self, prefix: bytes) -> UsageError:
+    def _prefix_error(self, prefix: bytes) -> UsageError:
         """Returns the error for a prefix that doesn't fit a hash of the method."""
-        shown, fitting = readable(prefix), field.method_of_prefix(prefix)
-        way_out = f"give -m {fitting}, or" if fitting else "give"
+        prefix_text, fitting = printable(prefix), field.method_of_prefix(prefix)
+        remedy = f"give -m {fitting}, or" if fitting else "give"
         return UsageError(
-            f"{self._who} has {shown} in front of the hash in {self._file}, and the new one is of "
-            f"{self._options.policy.method}: {way_out} --for apache or nginx to leave {shown} out, "
-            f"or --for dovecot or ldap to put {{CRYPT}} in its place."
+            f"{self._user} has {prefix_text} in front of the hash in {self._file}, and the new one "
+            f"is of {self._options.policy.method}: {remedy} --for apache or nginx to leave "
+            f"{prefix_text} out, or --for dovecot or ldap to put {{CRYPT}} in its place."
         )
 
-    def _locked(self, old: Field) -> Field:
+    def _lock(self, old: Field) -> Field:
         """Returns the field with a mark that locks it."""
-        self.is_so_already = old.is_locked
+        self.is_done_already = old.is_locked
         if old.is_locked:
-            self._sentence = f"{self._who} is locked in {self._file} already."
+            self._sentence = f"{self._user} is locked in {self._file} already."
             return old
         if not old.can_be_locked():
             raise UsageError(
-                f"{self._who} has no hash in {self._file}, but perhaps a password as it is, and a "
+                f"{self._user} has no hash in {self._file}, but perhaps a password as it is, and a "
                 "! would only be part of that. First set a new password, or --delete the line."
             )
-        self._sentence = f"{self._who} is locked in {self._file}."
+        self._sentence = f"{self._user} is locked in {self._file}."
         return old._replace(mark=field.LOCK)
 
-    def _unlocked(self, old: Field) -> Field:
+    def _unlock(self, old: Field) -> Field:
         """Returns the field without its marks, if it has a hash."""
-        self.is_so_already = not old.is_locked
+        self.is_done_already = not old.is_locked
         if not old.is_locked:
-            self._sentence = f"{self._who} isn't locked in {self._file}."
+            self._sentence = f"{self._user} isn't locked in {self._file}."
             return old
         if not old.has_hash():
             raise UsageError(
-                f"{self._who} has no hash behind the lock in {self._file}, or a damaged one. First "
-                "set a password, which stays locked, and then unlock it."
+                f"{self._user} has no hash behind the lock in {self._file}, or a damaged one. "
+                "First set a password, which stays locked, and then unlock it."
             )
-        self._sentence = f"{self._who} is unlocked in {self._file}."
+        self._sentence = f"{self._user} is unlocked in {self._file}."
         return old.unlocked()
 
 
@@ -189,7 +189,7 @@ def refuse_new_name(name: bytes, service: Optional[Service]) -> None:
     """Refuses a name that a service may take for another one."""
     refusal = refused_name(name)
     if refusal is not None:
-        raise UsageError(f"NAME: {refusal.words}.")
+        raise UsageError(f"NAME: {refusal.message}.")
     text = name.decode(errors="replace")
     if text != text.strip() or not is_visible(text):
         raise UsageError(

@@ -22,7 +22,7 @@ class Signals:
     def __init__(self, end: Callable[[signal.Signals], None]) -> None:
         self._end = end
         self._is_postponed = False
-        self._came: Optional[signal.Signals] = None
+        self._received: Optional[signal.Signals] = None
 
     def watch(self) -> None:
         """Installs the handlers. A signal that the caller ignores, as nohup does, stays ignored."""
@@ -38,13 +38,13 @@ class Signals:
             yield
         finally:
             self._is_postponed = False
-            if self._came is not None:
-                self._end(self._came)
+            if self._received is not None:
+                self._end(self._received)
 
     def _handle(self, number: int, _frame: object) -> None:
-        self._came = self._came or signal.Signals(number)
+        self._received = self._received or signal.Signals(number)
         if not self._is_postponed:
-            self._end(self._came)
+            self._end(self._received)
 
 
 def die_of(number: signal.Signals) -> NoReturn:

@@ -5,10 +5,10 @@ from __future__ import annotations
 import abc
 
 from pwhash.console import Console
-from pwhash.lines import Arrivals, Line, name_of
-from pwhash.text import named, readable
+from pwhash.lines import Line, LineGroups, name_of
+from pwhash.text import display_name, printable
 
-MOST_SHOWN = 20  # lines that are reported
+MAX_SHOWN = 20  # lines that are reported
 
 
 class Skipping(abc.ABC):
@@ -18,7 +18,7 @@ class Skipping(abc.ABC):
         self.path = path
         self.console = console
         self._source_name = source_name
-        self._is_told = False
+        self._is_reported = False
         self._left_out = 0
 
     @property
@@ -38,16 +38,16 @@ class Skipping(abc.ABC):
     @property
     def file(self) -> str:
         """The name of the other file for a message."""
-        return named(self.path)
+        return display_name(self.path)
 
-    def without(self, arrivals: Arrivals) -> Arrivals:
+    def without(self, groups: LineGroups) -> LineGroups:
         """Yields the other lines. Reports those that are left out, the first time only."""
-        for group in arrivals:
+        for group in groups:
             kept = [line for line in group if not self._is_left_out(line)]
             if kept or not group:
                 yield kept
-        if not self._is_told:
-            self._is_told = True
+        if not self._is_reported:
+            self._is_reported = True
             if self._left_out:
                 self.console.say(f"lines left out since {self.reason_of_all}: {self._left_out:,}.")
 
@@ -55,12 +55,12 @@ class Skipping(abc.ABC):
         if b":" not in line.data and line.refused_row is None:
             return False  # the line may be a password
         is_left_out = self.skips(line)
-        if is_left_out and not self._is_told:
+        if is_left_out and not self._is_reported:
             self._show(line)
         return is_left_out
 
     def _show(self, line: Line) -> None:
         self._left_out += 1
-        if self._left_out <= MOST_SHOWN:
-            where = f"{self._source_name}, line {line.number} ({readable(name_of(line))})"
+        if self._left_out <= MAX_SHOWN:
+            where = f"{self._source_name}, line {line.number} ({printable(name_of(line))})"
             self.console.say(f"{where}: {self.reason}")

@@ -12,9 +12,9 @@ from typing import List, NoReturn, Optional
 
 from pwhash.console import STDERR, STDIN, STDOUT, Console
 from pwhash.errors import Stop, UsageError, errors_named
-from pwhash.lines import BYTE_ORDER_MARK, Arrivals, Line
+from pwhash.lines import BYTE_ORDER_MARK, Line, LineGroups
 from pwhash.options import Input
-from pwhash.text import named, quoted
+from pwhash.text import display_name, shell_quoted
 
 PIECE = 1 << 18
 # How many bytes of an unfinished line are kept. A row may have 128 KiB, so one byte more shows that
@@ -31,14 +31,14 @@ class Source:
 
     def __init__(self, wanted: Input, console: Console, is_read_twice: bool = False) -> None:
         self.input = wanted
-        self.name = "standard input" if wanted.path is None else named(wanted.path)
+        self.name = "standard input" if wanted.path is None else display_name(wanted.path)
         self.fd = STDIN if wanted.path is None else open_file(wanted.path, is_read_twice)
-        self.begun = os.fstat(self.fd)
-        self.is_regular = stat.S_ISREG(self.begun.st_mode)
+        self.initial_status = os.fstat(self.fd)
+        self.is_regular = stat.S_ISREG(self.initial_status.st_mode)
         self.has_lines = False
         self.separator = ","  # between the columns of a table; known once it is read
         self._refuse_unfit(is_read_twice)
-        refuse_as_output(self.begun, self.name, console)
+        refuse_as_output(self.initial_status, self.name, console)
         if os.isatty(self.fd):
             console.say("reading lines from the terminal, which shows them; Ctrl-D ends them.")
         # Standard input can be a file of which another program has read the beginning.
@@ -46,7 +46,7 @@ class Source:
         # With a total of 0, no progress is shown.
         self.total = self._count() if self.is_regular and wanted.counts_lines else 0
 
-    def lines(self) -> Arrivals:
+    def lines(self) -> LineGroups:
         """Yields all lines from the beginning."""
         if self.is_regular:
             os.lseek(self.fd, self._start, os.SEEK_SET)
@@ -73,7 +73,7 @@ class Source:
     def path_for_shell(self) -> str:
         """Returns a name of the file for a shell."""
         path = self.input.path
-        return quoted(os.readlink(f"/proc/self/fd/{STDIN}") if path is None else path)
+        return shell_quoted(os.readlink(f"/proc/self/fd/{STDIN}") if path is None else path)
 
     def refuse_nothing(self) -> None:
         """Refuses an empty file, which is a mistake such as `pwhash file list > list`."""
@@ -92,16 +92,16 @@ class Source:
         except OSError:
             return "it is gone"
         # A here-document never has a name.
-        lost_its_name = now.st_nlink == 0 and self.begun.st_nlink != 0
-        if lost_its_name or not os.path.samestat(now, self.begun):
+        lost_its_name = now.st_nlink == 0 and self.initial_status.st_nlink != 0
+        if lost_its_name or not os.path.samestat(now, self.initial_status):
             return "another file took its place"
-        if now.st_size != self.begun.st_size:
+        if now.st_size != self.initial_status.st_size:
             return "its size"
-        return "its time" if now.st_mtime_ns != self.begun.st_mtime_ns else None
+        return "its time" if now.st_mtime_ns != self.initial_status.st_mtime_ns else None
 
     def _refuse_unfit(self, is_read_twice: bool) -> None:
         """Refuses a folder, and a pipe that would have to be read twice."""
-        if stat.S_ISDIR(self.begun.st_mode):
+        if stat.S_ISDIR(self.initial_status.st_mode):
             # process.py opens a folder as standard input if the caller has closed that.
             closed = "closed, or " if self.input.path is None else ""
             raise Stop(f"{self.name} is {closed}a folder.")
@@ -137,7 +137,7 @@ def without_signs_of_windows(line: bytes) -> bytes:
 
 def open_file(path: str, is_read_twice: bool) -> int:
     """Opens a file. A pipe that would have to be read twice is refused before it is opened."""
-    with errors_named(named(path)):
+    with errors_named(display_name(path)):
         is_pipe = stat.S_ISFIFO(os.stat(path).st_mode)
         if is_pipe and is_read_twice:
             raise UsageError(READ_TWICE)
@@ -148,7 +148,7 @@ def open_in_time(path: str) -> int:
     """Opens a file. If it is a pipe, waits only a few seconds for a writer."""
 
     def give_up(*_: object) -> NoReturn:
-        raise UsageError(f"{named(path)} is a pipe that nobody writes.")
+        raise UsageError(f"{display_name(path)} is a pipe that nobody writes.")
 
     before = signal.signal(signal.SIGALRM, give_up)
     signal.alarm(SECONDS_UNTIL_WRITER)
@@ -165,7 +165,7 @@ def refuse_as_output(status: os.stat_result, name: str, console: Console) -> Non
         return
     if is_same_file(STDERR, status):
         sentence = f"{name} is standard error too. Write to another file."
-        console.on_terminal(f"pwhash: {sentence}\n")
+        console.write_to_terminal(f"pwhash: {sentence}\n")
         console.silence_errors()  # so that the sentence isn't added to the file
         raise UsageError(sentence)
     if is_same_file(STDOUT, status):

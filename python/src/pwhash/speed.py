@@ -15,14 +15,14 @@ from pwhash import library
 from pwhash.console import Console
 from pwhash.errors import Stop
 from pwhash.library import Refusal
-from pwhash.workers import in_thread
+from pwhash.workers import run_in_thread
 
 SECONDS = 2.0  # during which hashes are measured again and again
-LEAST_TIMES = 3
+MIN_TIMES = 3
 COST_AT_ONCE = 5_000_000  # or the cost of one hash, if that is more
 
 
-class Dear(NamedTuple):
+class CostlyHash(NamedTuple):
     """A hash that takes long for its cost: its setting, and the length of the password."""
 
     setting: bytes
@@ -31,24 +31,24 @@ class Dear(NamedTuple):
 
 # Found by counting instructions for many lengths of password and salt. Scrypt mixes faster than it
 # digests, so its setting has N = 2, with r = 3300, p = 1 and a salt that needs one more block.
-DEAREST = (
-    Dear(b"$1$", 0),
-    Dear(b"$5$rounds=90000$", 12),
-    Dear(b"$5$rounds=150000$", 0),
-    Dear(b"$6$rounds=45000$", 24),
-    Dear(b"$7$/Yn.../...." + b"x" * 52, 0),
+COSTLIEST = (
+    CostlyHash(b"$1$", 0),
+    CostlyHash(b"$5$rounds=90000$", 12),
+    CostlyHash(b"$5$rounds=150000$", 0),
+    CostlyHash(b"$6$rounds=45000$", 24),
+    CostlyHash(b"$7$/Yn.../...." + b"x" * 52, 0),
 )
 
 
 def seconds_of_cost(console: Console, is_quiet: bool) -> float:
     """Returns the most processor time that a cost of 1 takes, in seconds."""
-    measured: Dict[Dear, List[float]] = {dear: [] for dear in DEAREST}
-    begun = time.monotonic()
+    measured: Dict[CostlyHash, List[float]] = {costly: [] for costly in COSTLIEST}
+    start = time.monotonic()
     elapsed = 0.0
-    while elapsed < SECONDS or len(measured[DEAREST[0]]) < LEAST_TIMES:
-        for dear, times in measured.items():
-            times.append(in_thread(functools.partial(measure, dear)))
-        elapsed = time.monotonic() - begun
+    while elapsed < SECONDS or len(measured[COSTLIEST[0]]) < MIN_TIMES:
+        for costly, times in measured.items():
+            times.append(run_in_thread(functools.partial(measure, costly)))
+        elapsed = time.monotonic() - start
         if not is_quiet:
             text = f"measuring: {min(99, int(100 * elapsed / SECONDS))} %"
             console.show_progress(text, text)
@@ -56,17 +56,17 @@ def seconds_of_cost(console: Console, is_quiet: bool) -> float:
     return max(median(times) for times in measured.values())
 
 
-def measure(dear: Dear) -> float:
+def measure(costly: CostlyHash) -> float:
     """Measures how many seconds a cost of 1 takes in this thread."""
-    cost = library.cost(dear.setting, dear.length)
-    password = b"x" * dear.length
+    cost = library.cost(costly.setting, costly.length)
+    password = b"x" * costly.length
     times = max(1, COST_AT_ONCE // cost)
-    begun = time.thread_time()
+    start = time.thread_time()
     for _ in range(times):
-        hashed = library.hash_by(password, dear.setting, library.GREATEST_BUDGET)
+        hashed = library.hash_by(password, costly.setting, library.MAX_BUDGET)
         if isinstance(hashed, Refusal):
-            raise Stop(f"the library refuses to hash: {hashed.words}.")
-    return (time.thread_time() - begun) / (times * cost)
+            raise Stop(f"the library refuses to hash: {hashed.message}.")
+    return (time.thread_time() - start) / (times * cost)
 
 
 def median(numbers: List[float]) -> float:

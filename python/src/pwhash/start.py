@@ -19,7 +19,7 @@ STDERR = 2
 FAILED = 3
 
 
-def start(library: str, command: str, words: "list[str]") -> NoReturn:
+def start(library: str, command: str, arguments: "list[str]") -> NoReturn:
     """Runs pwhash. The process ends."""
     try:
         # The package mkpasswd loads the library by its name, and gets the one loaded here.
@@ -36,13 +36,13 @@ def start(library: str, command: str, words: "list[str]") -> NoReturn:
             "since memory or open files are limited (ulimit -a). Run make lib, or install it."
         )
     except ImportError as error:
-        fail(about_import(error))
+        fail(describe_import_error(error))
     except MemoryError:
         fail("out of memory (ulimit -v).")
     try:
-        run(command, words)
+        run(command, arguments)
     except ImportError as error:  # of the module of the command, which run loads
-        fail(about_import(error))
+        fail(describe_import_error(error))
     raise AssertionError
 
 
@@ -52,10 +52,10 @@ def watch_unforeseen() -> None:
     try:
         importlib.import_module(name).watch()
     except (AttributeError, SyntaxError, ValueError):  # it is empty, or isn't Python
-        fail(about_import(ImportError(name=name)))
+        fail(describe_import_error(ImportError(name=name)))
 
 
-def about_import(error: ImportError) -> str:
+def describe_import_error(error: ImportError) -> str:
     """Says why a module can't be loaded."""
     if error.name is None:  # the package mkpasswd says what is wrong with the library
         return f"{error}."

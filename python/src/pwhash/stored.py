@@ -9,7 +9,7 @@ from typing import Iterator, NamedTuple
 from pwhash.console import Console
 from pwhash.errors import UsageError, errors_named
 from pwhash.source import open_in_time, refuse_as_output
-from pwhash.text import named
+from pwhash.text import display_name
 
 LONGEST_LINE = 1 << 17
 
@@ -24,7 +24,7 @@ class Stored(NamedTuple):
 
 def stored_in(path: str, console: Console) -> Iterator[Stored]:
     """Yields all lines of a file that have a colon."""
-    name_of_file = named(path)
+    name_of_file = display_name(path)
     has_fields = False
     with errors_named(name_of_file), open(open_fields(path), "rb") as file:
         refuse_as_output(os.fstat(file.fileno()), name_of_file, console)
@@ -51,4 +51,4 @@ def open_fields(path: str) -> int:
     if stat.S_ISREG(kind) or stat.S_ISFIFO(kind):
         return fd
     what = "a folder" if stat.S_ISDIR(kind) else "no file"
-    raise UsageError(f"{named(path)} is {what}. Name a file with lines name:field.")
+    raise UsageError(f"{display_name(path)} is {what}. Name a file with lines name:field.")

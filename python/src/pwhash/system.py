@@ -10,7 +10,7 @@ PR_SET_DUMPABLE = 4
 AT_FDCWD, RENAME_NOREPLACE, RENAME_EXCHANGE = -100, 1, 2
 
 
-def never_dumpable() -> None:
+def forbid_dumps() -> None:
     """Tells the kernel to give this process's memory to no core dump and no other program."""
     control = getattr(ctypes.CDLL(None), "prctl", None)
     if control is not None:
@@ -25,12 +25,12 @@ def rename_to_new(old: str, new: str) -> None:
     rename(AT_FDCWD, old, new, RENAME_NOREPLACE)
 
 
-def exchange(folder: int, one: str, other: str) -> None:
+def exchange(folder: int, first: str, second: str) -> None:
     """Exchanges two files of an open folder in one step.
 
     Raises the OSError ENOSYS or EINVAL if the kernel or the file system can't do that.
     """
-    rename(folder, one, other, RENAME_EXCHANGE)
+    rename(folder, first, second, RENAME_EXCHANGE)
 
 
 def rename(folder: int, old: str, new: str, flags: int) -> None:

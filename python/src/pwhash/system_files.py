@@ -32,33 +32,33 @@ def refuse_place(place: Place, status: os.stat_result) -> None:
     for path in PATHS:
         with contextlib.suppress(OSError):
             if os.path.samestat(os.stat(path), status):
-                raise refusal(place.shown)
+                raise refusal(place.display_name)
     refuse_name(place)
 
 
 def refuse_name(place: Place) -> None:
     """Refuses the name of a system file, also below the root of another system."""
     if NAME.fullmatch(place.name) and any(is_called(place, folder) for folder in FOLDERS):
-        raise refusal(place.shown)
+        raise refusal(place.display_name)
 
 
-def refuse_shape(content: bytes, shown: str) -> None:
+def refuse_shape(content: bytes, file_name: str) -> None:
     """Refuses content that only a shadow file has."""
     if SHADOW_LINE.search(content):
-        raise refusal(shown)
+        raise refusal(file_name)
 
 
 def is_called(place: Place, folder: str) -> bool:
     """Whether the open folder has this name."""
     with contextlib.suppress(OSError):
-        named = os.stat(f"../{folder}", dir_fd=place.folder)
-        return os.path.samestat(named, os.fstat(place.folder))
+        display_name = os.stat(f"../{folder}", dir_fd=place.folder)
+        return os.path.samestat(display_name, os.fstat(place.folder))
     return False
 
 
-def refusal(shown: str) -> UsageError:
+def refusal(file_name: str) -> UsageError:
     """Returns the error for a system file."""
     return UsageError(
-        f"{shown} is a file of the system's own accounts, and pwhash changes none. "
+        f"{file_name} is a file of the system's own accounts, and pwhash changes none. "
         "Use passwd(1), or for hashes chpasswd(8): chpasswd -e."
     )

@@ -11,7 +11,7 @@ from typing import Iterator, List, NamedTuple, Optional, Protocol, Tuple
 
 from pwhash import headings
 from pwhash.errors import Stop, UsageError
-from pwhash.lines import Arrivals, Line
+from pwhash.lines import Line, LineGroups
 from pwhash.source import Source
 
 LONGEST_ROW = 1 << 17  # bytes of a row or a field; csv accepts no longer fields
@@ -49,11 +49,11 @@ class Columns(NamedTuple):
 
     def wanted_in(self, row: Row) -> Row:
         """Returns the fields of a row that are in the first two columns above."""
-        places = [self.name] if self.second is None else [self.name, self.second]
-        return [cell(row, place) for place in places]
+        indexes = [self.name] if self.second is None else [self.name, self.second]
+        return [cell(row, index) for index in indexes]
 
 
-def lines_of(source: Source) -> Arrivals:
+def lines_of(source: Source) -> LineGroups:
     """Yields the lines of a source, or if it is a table, lines made from its rows."""
     groups = source.lines() if source.input.columns is None else Table(source).lines()
     for group in groups:
@@ -73,15 +73,15 @@ class Table:
         self._texts = Texts(source)
         self._row_begin, self._row_size = 1, 0
 
-    def lines(self) -> Arrivals:
+    def lines(self) -> LineGroups:
         """Yields the rows as lines."""
         counts = (1, 2) if self._names_only else (2,)
-        is_any_twice = any(has_twice(columns) for columns in (self._wanted, self._others))
+        is_any_twice = any(has_duplicates(columns) for columns in (self._wanted, self._others))
         if len(self._wanted) not in counts or is_any_twice:
             raise self._no_columns()
-        begin = self._first_row_with_blank_ones()
-        separator = self._source.separator = self._separator(begin)
-        texts = self._limited(itertools.chain(begin, self._texts))
+        head = self._first_row_with_blank_ones()
+        separator = self._source.separator = self._separator(head)
+        texts = self._limited(itertools.chain(head, self._texts))
         reader = csv.reader(texts, delimiter=separator, strict=True)
         first = self._next_row(reader) or []
         columns = self._columns(first)
@@ -101,16 +101,16 @@ class Table:
 
     def _first_row_with_blank_ones(self) -> List[str]:
         """Reads the texts of leading blank rows, and of the first row that isn't blank."""
-        begin = [next(self._texts, "")]
-        while begin[-1] == "\n":
-            begin.append(next(self._texts, ""))
-        self._row_begin = len(begin)
-        is_utf16 = begin[-1].startswith(UTF16_MARKS)
-        if is_utf16 or (self._has_names() and "\0" in begin[-1]):
+        head = [next(self._texts, "")]
+        while head[-1] == "\n":
+            head.append(next(self._texts, ""))
+        self._row_begin = len(head)
+        is_utf16 = head[-1].startswith(UTF16_MARKS)
+        if is_utf16 or (self._has_names() and "\0" in head[-1]):
             raise self._no_columns()
-        if not begin[-1]:
+        if not head[-1]:
             raise UsageError(f"{self._name} has no rows.")
-        return [*begin, *self._rest_of_row(begin[-1])]
+        return [*head, *self._rest_of_row(head[-1])]
 
     def _rest_of_row(self, first: str) -> Iterator[str]:
         """Yields the further texts of a row whose headings contain line feeds, up to the limit."""
@@ -124,12 +124,12 @@ class Table:
             size += len(text)
             is_open = text.count('"') % 2 == 0
 
-    def _separator(self, begin: List[str]) -> str:
+    def _separator(self, head: List[str]) -> str:
         """Finds the separator: the one that yields the wanted names, or the only one there."""
-        bare = IN_QUOTES.sub("", "".join(begin))
+        bare = IN_QUOTES.sub("", "".join(head))
         found = sorted((each for each in SEPARATORS if each in bare), key=bare.index)
         if self._has_names():
-            with_names = [each for each in found if self._finds_names(begin, each)]
+            with_names = [each for each in found if self._finds_names(head, each)]
             return [*with_names, *found, ","][0]
         if len(found) > 1:
             names = " or ".join(SEPARATORS[each] for each in found)
@@ -139,16 +139,18 @@ class Table:
             )
         return found[0] if found else ","
 
-    def _finds_names(self, begin: List[str], separator: str) -> bool:
-        reader: Iterator[Row] = csv.reader(begin, delimiter=separator)
+    def _finds_names(self, head: List[str], separator: str) -> bool:
+        reader: Iterator[Row] = csv.reader(head, delimiter=separator)
         try:
             row: Row = next((each for each in reader if each), [])
         except csv.Error as error:
-            raise Stop(f"{self._name}, line {self._row_begin}: {about(error)}.") from None
-        return {*self._wanted, *self._others} <= set(folded_row(row))
+            raise Stop(
+                f"{self._name}, line {self._row_begin}: {describe_csv_error(error)}."
+            ) from None
+        return {*self._wanted, *self._others} <= set(fold_row(row))
 
     def _columns(self, first: Row) -> Columns:
-        names = folded_row(first)
+        names = fold_row(first)
         known = names if self._has_names() else NUMBERS
         if any(known.count(each) != 1 for each in [*self._wanted, *self._others]):
             raise self._no_columns()
@@ -205,7 +207,9 @@ class Table:
                 self._row_begin, self._row_size = reader.line_num + 1, 0
                 row = next(reader, None)
         except csv.Error as error:
-            raise Stop(f"{self._name}, line {self._row_begin}: {about(error)}.") from None
+            raise Stop(
+                f"{self._name}, line {self._row_begin}: {describe_csv_error(error)}."
+            ) from None
         return row
 
     def _line(self, number: int, row: Row, columns: Columns) -> Line:
@@ -220,7 +224,7 @@ class Table:
                 number,
                 name.encode(BYTES),
                 group=second.encode(BYTES).strip(),
-                others=tuple(cell(row, place).encode(BYTES).strip() for place in columns.others),
+                others=tuple(cell(row, index).encode(BYTES).strip() for index in columns.others),
             )
         return Line(number, f"{name}:{second}".encode(BYTES))
 
@@ -259,7 +263,7 @@ class Table:
 
         Ends the run if that table has its columns in another order.
         """
-        fields = folded_row(row)
+        fields = fold_row(row)
         if columns.headings and columns.wanted_in(fields) == columns.wanted_in(columns.headings):
             return True
         if is_heading_of_others(fields, columns):
@@ -294,7 +298,7 @@ class Texts(Iterator[str]):
 
     def __next__(self) -> str:
         while self._next is None:
-            self._take()
+            self._take_next()
             if self._is_end:
                 raise StopIteration
         line, self._next = self._next, None
@@ -308,10 +312,10 @@ class Texts(Iterator[str]):
     def is_ready(self) -> bool:
         """Waits a moment for the next text or the end, and returns whether it is there."""
         if self._next is None and not self._is_end:
-            self._take()
+            self._take_next()
         return self._next is not None or self._is_end
 
-    def _take(self) -> None:
+    def _take_next(self) -> None:
         """Takes the next line, if it is there already."""
         self._next = next(self._waiting, None)
         if self._next is not None:
@@ -322,7 +326,7 @@ class Texts(Iterator[str]):
         self._next = next(self._waiting, None)
 
 
-def about(error: csv.Error) -> str:
+def describe_csv_error(error: csv.Error) -> str:
     """Says what is wrong with a row."""
     if "field limit" in str(error):
         return "a field is longer than 128 KiB, or the quote that begins it has no end"
@@ -333,24 +337,24 @@ def about(error: csv.Error) -> str:
 
 def wanted_columns(names: Optional[str]) -> Row:
     """Returns the names of columns in the value of an option, ready to be compared."""
-    return [] if names is None else folded_all(os.fsencode(names).split(b","))
+    return [] if names is None else fold_all(os.fsencode(names).split(b","))
 
 
-def has_twice(columns: Row) -> bool:
+def has_duplicates(columns: Row) -> bool:
     """Whether a column is named twice."""
     return len(set(columns)) != len(columns)
 
 
-def folded_all(fields: Sequence[bytes]) -> Row:
+def fold_all(fields: Sequence[bytes]) -> Row:
     """Returns names of columns, ready to be compared."""
-    return [headings.folded(field) for field in fields]
+    return [headings.fold(field) for field in fields]
 
 
-def folded_row(row: Row) -> Row:
+def fold_row(row: Row) -> Row:
     """Returns the fields of a row, ready to be compared with names of columns."""
-    return folded_all([field.encode(BYTES) for field in row])
+    return fold_all([field.encode(BYTES) for field in row])
 
 
-def cell(row: Row, place: int) -> str:
+def cell(row: Row, index: int) -> str:
     """Returns a field of a row. It is empty if the row is too short."""
-    return row[place] if place < len(row) else ""
+    return row[index] if index < len(row) else ""

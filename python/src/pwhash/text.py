@@ -12,7 +12,7 @@ SHOWS_NOTHING = re.compile(
     "[\u034f\u115f\u1160\u17b4\u17b5\u180b-\u180f\u2800\u3164\ufe00-\ufe0f\uffa0"
     "\U000e0100-\U000e01ef]"
 )
-APART = "letters and accents apart (not Unicode NFC), as few keyboards send them"
+DECOMPOSED = "letters and accents apart (not Unicode NFC), as few keyboards send them"
 NEEDS_NUMBER = re.compile(rb"[^\x20-\x7e]|['\\]")
 
 
@@ -30,7 +30,7 @@ def is_visible(text: str) -> bool:
     return text.isprintable() and not SHOWS_NOTHING.search(text)
 
 
-def readable(data: bytes) -> str:
+def printable(data: bytes) -> str:
     """Returns bytes as text without control characters, which can't control a terminal."""
     text = data.decode("utf-8", "backslashreplace")
     if text.isprintable():
@@ -38,22 +38,22 @@ def readable(data: bytes) -> str:
     return "".join(each if each.isprintable() else ascii(each)[1:-1] for each in text)
 
 
-def readable_text(text: str) -> str:
+def printable_text(text: str) -> str:
     """Does the same for text that may contain the bytes of a file's name."""
-    return readable(text.encode("utf-8", "surrogateescape"))
+    return printable(text.encode("utf-8", "surrogateescape"))
 
 
-def named(path: str) -> str:
+def display_name(path: str) -> str:
     """Returns the name of a file for a message."""
-    return readable(os.fsencode(path))
+    return printable(os.fsencode(path))
 
 
-def quoted(word: str) -> str:
+def shell_quoted(word: str) -> str:
     """Quotes a word for a shell, without characters that control a terminal.
 
     Such bytes are written as numbers in $'..', which bash, zsh and ksh read.
     """
-    if named(word) == word:
+    if display_name(word) == word:
         return shlex.quote(word)
     numbered = NEEDS_NUMBER.sub(lambda found: b"\\%03o" % found[0][0], os.fsencode(word))
     return f"$'{numbered.decode('ascii')}'"

@@ -24,10 +24,10 @@ def watch() -> None:
 
 
 def end(
-    kind: Type[BaseException], _: Optional[BaseException], place: Optional[TracebackType]
+    kind: Type[BaseException], _: Optional[BaseException], trace: Optional[TracebackType]
 ) -> None:
     """Ends the process, and reports the exception."""
-    say(f"{about(kind, place)}: pwhash is damaged, or has a fault.")
+    say(f"{describe(kind, trace)}: pwhash is damaged, or has a fault.")
     os._exit(FAILED)
 
 
@@ -38,17 +38,17 @@ def end_in_thread(arguments: threading.ExceptHookArgs) -> None:
 
 def ignore(arguments: "sys.UnraisableHookArgs") -> None:
     """Reports an exception that Python can't raise, such as one in a __del__."""
-    say(f"{about(arguments.exc_type, arguments.exc_traceback)}, which ends nothing.")
+    say(f"{describe(arguments.exc_type, arguments.exc_traceback)}, which ends nothing.")
 
 
-def about(kind: Type[BaseException], place: Optional[TracebackType]) -> str:
+def describe(kind: Type[BaseException], trace: Optional[TracebackType]) -> str:
     """Returns the type of an exception, and where it was raised."""
-    if place is None:
+    if trace is None:
         return kind.__name__
-    while place.tb_next:
-        place = place.tb_next
-    module = os.path.basename(place.tb_frame.f_code.co_filename)
-    return f"{kind.__name__} at {module}:{place.tb_lineno}"
+    while trace.tb_next:
+        trace = trace.tb_next
+    module = os.path.basename(trace.tb_frame.f_code.co_filename)
+    return f"{kind.__name__} at {module}:{trace.tb_lineno}"
 
 
 def say(sentence: str) -> None:

@@ -21,15 +21,15 @@ from pwhash.lines import BYTE_ORDER_MARK
 from pwhash.options import VerifyOptions
 from pwhash.pasted import PASSWORD_PROMPT, ask_for_both, field_of_pasted, piped_both
 from pwhash.piped import PipedLines
-from pwhash.prompt import ask_each, hidden
+from pwhash.prompt import ask_each, with_hidden_input
 from pwhash.session import Session
 from pwhash.stored import Stored, stored_in
-from pwhash.text import APART, is_utf8, is_visible, named, readable
-from pwhash.workers import in_thread
+from pwhash.text import DECOMPOSED, display_name, is_utf8, is_visible, printable
+from pwhash.workers import run_in_thread
 
 MATCHES = b"yes, the password matches"
 DIFFERS = b"no, the password doesn't match"
-ABOUT_STATES = {
+STATE_PROBLEMS = {
     State.DEAD: "cut or changed, so no password matches",
     State.LOCKED: "locked, so no password logs in",
     State.NONE: "empty: there is no hash to compare a password with",
@@ -37,7 +37,7 @@ ABOUT_STATES = {
 }
 
 
-class Given(NamedTuple):
+class Attempt(NamedTuple):
     """A password, and the stored hash to compare it with."""
 
     password: bytes
@@ -48,57 +48,61 @@ class Given(NamedTuple):
 def run(options: VerifyOptions, session: Session) -> bool:
     """Compares a password with a hash. Returns whether it doesn't match."""
     console = session.console
-    given = given_by_file(options, console) if options.path else given_by_user(console)
-    verdict = in_thread(lambda: library.verify(given.password, given.stored, options.budget))
+    attempt = (
+        ask_for_password(options, console) if options.path else ask_for_password_and_hash(console)
+    )
+    verdict = run_in_thread(
+        lambda: library.verify(attempt.password, attempt.stored, options.budget)
+    )
     if isinstance(verdict, Refusal):
-        raise about_refusal(verdict, given.whose)
+        raise refusal_error(verdict, attempt.whose)
     if verdict is Verdict.MATCH:
-        console.lines(STDOUT, [MATCHES])
+        console.write_lines(STDOUT, [MATCHES])
         return False
     if verdict is not Verdict.WRONG:
-        raise UsageError(f"{given.whose}: {verdict.name.lower()}, so nothing is compared.")
-    console.lines(STDOUT, [DIFFERS])
-    tell_of_bytes(given.password, console)
+        raise UsageError(f"{attempt.whose}: {verdict.name.lower()}, so nothing is compared.")
+    console.write_lines(STDOUT, [DIFFERS])
+    warn_about_bytes(attempt.password, console)
     return True
 
 
-def given_by_file(options: VerifyOptions, console: Console) -> Given:
+def ask_for_password(options: VerifyOptions, console: Console) -> Attempt:
     """Finds the hash of a name in a file, and asks for the password if that can match."""
-    line = only_line_of(options, console)
-    whose = f"{named(options.path)}, line {line.number} ({readable(line.name)})"
+    line = find_only_line(options, console)
+    whose = f"{display_name(options.path)}, line {line.number} ({printable(line.name)})"
     stored = whole_hash(line.field, whose)
     if os.isatty(STDIN):
         [password] = ask_each(PASSWORD_PROMPT)
     else:
         lines = PipedLines(console)
         password = lines.password()
-        lines.tell_of_further("the password")
-    return Given(password, stored, whose)
+        lines.warn_about_extra_lines("the password")
+    return Attempt(password, stored, whose)
 
 
-def given_by_user(console: Console) -> Given:
+def ask_for_password_and_hash(console: Console) -> Attempt:
     """Asks for a password and a hash."""
-    both = hidden(ask_for_both) if os.isatty(STDIN) else piped_both(console)
-    has_hash = begins_as_hash(without_prefix(both.field))
-    if begins_as_hash(field_of_pasted(both.password)) and not has_hash:
+    both = with_hidden_input(ask_for_both) if os.isatty(STDIN) else piped_both(console)
+    has_hash = begins_like_hash(without_prefix(both.field))
+    if begins_like_hash(field_of_pasted(both.password)) and not has_hash:
         raise UsageError(
             "there is a hash in the place of the password, and none in its own. Give the password "
             "first, then the hash."
         )
     whose = "the hash"
-    return Given(both.password, whole_hash(both.field, whose), whose)
+    return Attempt(both.password, whole_hash(both.field, whose), whose)
 
 
-def begins_as_hash(field: bytes) -> bool:
+def begins_like_hash(field: bytes) -> bool:
     """Whether a field begins like a hash of a known scheme, such as $6$."""
     return field.startswith(b"$") and library.describe(field).scheme is not None
 
 
-def only_line_of(options: VerifyOptions, console: Console) -> Stored:
+def find_only_line(options: VerifyOptions, console: Console) -> Stored:
     """Returns the line of a name. Refuses a name with several lines, or with none."""
     name = os.fsencode(options.name)
     found = [each for each in stored_in(options.path, console) if each.name == name]
-    file = named(options.path)
+    file = display_name(options.path)
     if not found:
         raise UsageError(f"{file} has no line of this name.")
     if len(found) > 1:
@@ -113,13 +117,13 @@ def only_line_of(options: VerifyOptions, console: Console) -> Stored:
 def whole_hash(field: bytes, whose: str) -> bytes:
     """Returns the hash in a field, without a prefix. Refuses what no password can match."""
     stored = without_prefix(field)
-    about = about_field(stored)
+    about = describe_problem(stored)
     if about is not None:
         raise UsageError(f"{whose}: {about}.")
     return stored
 
 
-def about_field(stored: bytes) -> Optional[str]:
+def describe_problem(stored: bytes) -> Optional[str]:
     """Says why no password can match a stored field, or returns None."""
     found = library.describe(stored)
     if found.state is State.UNKNOWN or stored.startswith(b"{"):
@@ -127,20 +131,20 @@ def about_field(stored: bytes) -> Optional[str]:
     if found.state is State.MALFORMED:
         reason = found.reason.message if found.reason else "unknown"
         return f"malformed ({reason}), so no password matches"
-    return ABOUT_STATES.get(found.state)
+    return STATE_PROBLEMS.get(found.state)
 
 
-def about_refusal(refusal: Refusal, whose: str) -> UsageError:
+def refusal_error(refusal: Refusal, whose: str) -> UsageError:
     """Returns the error for a password that wasn't compared."""
     if refusal == OVER_BUDGET:
         return UsageError(
-            f"{whose}: {refusal.words}, since it costs more than a login may. If you trust it, "
+            f"{whose}: {refusal.message}, since it costs more than a login may. If you trust it, "
             "give the -m and -R that it was made with, or a greater --budget."
         )
-    return UsageError(f"{refusal.words}: no hash can have this password.")
+    return UsageError(f"{refusal.message}: no hash can have this password.")
 
 
-def tell_of_bytes(password: bytes, console: Console) -> None:
+def warn_about_bytes(password: bytes, console: Console) -> None:
     """Says why a password that seems right may differ in its bytes."""
     text = password.decode(errors="replace")
     if b"\r" in password or BYTE_ORDER_MARK in password:
@@ -154,4 +158,4 @@ def tell_of_bytes(password: bytes, console: Console) -> None:
     elif not is_utf8(password):
         console.say("the password isn't UTF-8.")
     elif not unicodedata.is_normalized("NFC", text):
-        console.say(f"the password has {APART}.")
+        console.say(f"the password has {DECOMPOSED}.")

@@ -18,12 +18,12 @@ from typing import Callable, Deque, Generic, List, Optional, TypeVar
 from pwhash import machine
 from pwhash.answers import Answer
 from pwhash.errors import Stop
-from pwhash.lines import Arrivals, Line
+from pwhash.lines import Line, LineGroups
 
 # The stack of a thread: the library asks for 64 KiB, and Python needs some for itself.
 STACK_BYTES = 512 << 10
 PIECE_SECONDS = 0.05  # that a job should take, if a single line doesn't take longer
-MOST_LINES = 1 << 11  # of a job
+MAX_LINES = 1 << 11  # of a job
 
 Result = TypeVar("Result")
 
@@ -40,14 +40,14 @@ class Job(Generic[Result]):
 
     def run(self) -> None:
         """Makes the call. An exception is kept for the thread that asks for the result."""
-        begun = time.perf_counter()
+        start = time.perf_counter()
         try:
             self._results.append(self._call())
         except Stop as stop:
             self._failure = stop
         except MemoryError:
             self._failure = Stop("out of memory.")
-        self.seconds = time.perf_counter() - begun
+        self.seconds = time.perf_counter() - start
         self._done.set()
 
     def is_done(self) -> bool:
@@ -66,12 +66,12 @@ class Memory:
     """Limits the memory that hashes of scrypt use at once to half of what is free."""
 
     def __init__(self) -> None:
-        self._room = machine.free_memory() // 2
-        self._taken = 0
+        self._limit = machine.free_memory() // 2
+        self._reserved = 0
         self._changed = threading.Condition()
 
     @contextlib.contextmanager
-    def taken(self, size: int) -> Iterator[None]:
+    def reserved(self, size: int) -> Iterator[None]:
         """Waits until this much memory is left, and reserves it during the block.
 
         If no other hash has any, it doesn't wait, whatever the size.
@@ -80,13 +80,15 @@ class Memory:
             yield
             return
         with self._changed:
-            self._changed.wait_for(lambda: not self._taken or self._taken + size <= self._room)
-            self._taken += size
+            self._changed.wait_for(
+                lambda: not self._reserved or self._reserved + size <= self._limit
+            )
+            self._reserved += size
         try:
             yield
         finally:
             with self._changed:
-                self._taken -= size
+                self._reserved -= size
                 self._changed.notify_all()
 
 
@@ -95,22 +97,22 @@ class Workers:
 
     def __init__(self, work: Callable[[Line], Answer]) -> None:
         self._work = work
-        self._most = machine.processors()
+        self._max_threads = machine.processors()
         self._threads = 0
         self._queue: queue.SimpleQueue[Job[List[Answer]]] = queue.SimpleQueue()
         self._order: Deque[Job[List[Answer]]] = collections.deque()
         self._size = 1  # lines in a job
 
-    def answers(self, arrivals: Arrivals) -> Iterator[List[Answer]]:
+    def answers(self, groups: LineGroups) -> Iterator[List[Answer]]:
         """Yields the answers to all lines, in their order, as soon as they are there."""
         waiting: List[Line] = []
-        for group in arrivals:
+        for group in groups:
             waiting += group
             while waiting and (len(waiting) >= self._size or not group):
                 lines, waiting = waiting[: self._size], waiting[self._size :]
                 self._submit(lines)
-                yield from self._done(2 * self._most)
-            yield from self._done(2 * self._most)
+                yield from self._done(2 * self._max_threads)
+            yield from self._done(2 * self._max_threads)
         if waiting:
             self._submit(waiting)
         yield from self._done(0)
@@ -119,41 +121,41 @@ class Workers:
         job = Job(lambda: [self._work(line) for line in lines])
         self._order.append(job)
         self._queue.put(job)
-        if self._threads < min(len(self._order), self._most):
-            self._begin_thread()
+        if self._threads < min(len(self._order), self._max_threads):
+            self._start_thread()
 
-    def _done(self, most: int) -> Iterator[List[Answer]]:
+    def _done(self, max_waiting: int) -> Iterator[List[Answer]]:
         """Yields the answers that are ready, and waits while more than `most` jobs are queued."""
-        while self._order and (len(self._order) > most or self._order[0].is_done()):
+        while self._order and (len(self._order) > max_waiting or self._order[0].is_done()):
             job = self._order.popleft()
             answers = job.result()
             yield answers
             seconds_of_line = max(job.seconds / len(answers), 1e-9)  # a clock may show no time
             lines_in_time = int(PIECE_SECONDS / seconds_of_line)
-            self._size = max(1, min(MOST_LINES, lines_in_time))
+            self._size = max(1, min(MAX_LINES, lines_in_time))
 
-    def _begin_thread(self) -> None:
+    def _start_thread(self) -> None:
         try:
-            begin_thread(self._run)
+            start_thread(self._run)
             self._threads += 1
         except Stop:
             if not self._threads:
                 raise
-            self._most = self._threads
+            self._max_threads = self._threads
 
     def _run(self) -> None:
         while True:
             self._queue.get().run()
 
 
-def in_thread(call: Callable[[], Result]) -> Result:
+def run_in_thread(call: Callable[[], Result]) -> Result:
     """Makes a call in another thread, so that signals reach this one, and returns its result."""
     job = Job(call)
-    begin_thread(job.run)
+    start_thread(job.run)
     return job.result()
 
 
-def begin_thread(call: Callable[[], None]) -> None:
+def start_thread(call: Callable[[], None]) -> None:
     """Starts a thread that blocks signals, so that they interrupt the first thread's waiting."""
     threading.stack_size(STACK_BYTES)
     before = signal.pthread_sigmask(signal.SIG_BLOCK, signal.valid_signals())

@@ -14,10 +14,10 @@ from pwhash import own_file
 from pwhash.errors import Stop, UsageError, reason_of
 from pwhash.options import Doubtful, FileOptions
 from pwhash.source import Source
-from pwhash.text import named
+from pwhash.text import display_name
 
 SUFFIX = ".options"
-MOST_BYTES = 1 << 18
+MAX_BYTES = 1 << 18
 BEGIN = b"pwhash file --resume needs this.\n"
 FORM = re.compile(
     re.escape(BEGIN)
@@ -28,7 +28,7 @@ FORM = re.compile(
 FLAGS = {Doubtful.SKIP: ["--skip-doubtful"], Doubtful.ACCEPT: ["--accept-doubtful"]}
 
 
-class Kept(NamedTuple):
+class ResumeState(NamedTuple):
     """What OUT.part.options says."""
 
     file: bytes  # FILE's size, time and inode
@@ -36,7 +36,8 @@ class Kept(NamedTuple):
     options: bytes  # the options that change a line before it is hashed
 
 
-CUT = Kept(b"", b"", b"")  # stands for an incomplete file: its run ended while it wrote that
+# Stands for an incomplete file, since its run ended while it wrote that.
+INCOMPLETE = ResumeState(b"", b"", b"")
 
 
 def path_of(part: str) -> str:
@@ -44,14 +45,14 @@ def path_of(part: str) -> str:
     return part + SUFFIX
 
 
-def kept_of(options: FileOptions, source: Source) -> Kept:
+def current_state(options: FileOptions, source: Source) -> ResumeState:
     """Returns what this run saves. Not the ctime, since reading and chmod change that."""
-    begun = source.begun
-    file = f"{begun.st_size} bytes, time {begun.st_mtime_ns}, inode {begun.st_ino}"
-    return Kept(file.encode(), options_of_choice(options), options_of_lines(options))
+    status = source.initial_status
+    file = f"{status.st_size} bytes, time {status.st_mtime_ns}, inode {status.st_ino}"
+    return ResumeState(file.encode(), choice_options(options), line_options(options))
 
 
-def options_of_lines(options: FileOptions) -> bytes:
+def line_options(options: FileOptions) -> bytes:
     """Returns the options that change a line before it is hashed. --by is among the columns."""
     begin = b"--generate " if options.generate else b""
     if options.input.columns is not None:
@@ -61,7 +62,7 @@ def options_of_lines(options: FileOptions) -> bytes:
     return begin + (b"--windows" if options.input.windows else b"")
 
 
-def options_of_choice(options: FileOptions) -> bytes:
+def choice_options(options: FileOptions) -> bytes:
     """Returns the options that decide which lines are left out."""
     words = [f"--budget={options.policy.budget}"]
     if options.skip_refused:
@@ -76,46 +77,46 @@ def options_of_choice(options: FileOptions) -> bytes:
     return " ".join(words).encode()
 
 
-def read(part: str) -> Optional[Kept]:
+def read(part: str) -> Optional[ResumeState]:
     """Returns what a run of this user has saved, or None. Refuses any other file of that name."""
     path = path_of(part)
     try:
-        fault = own_file.unfit(os.lstat(path))
+        problem = own_file.find_problem(os.lstat(path))
     except (FileNotFoundError, NotADirectoryError):
         return None
     except OSError as error:  # the name is too long, for example, so nothing could be saved
-        raise Stop(f"{named(path)}: {reason_of(error)}.") from None
+        raise Stop(f"{display_name(path)}: {reason_of(error)}.") from None
     data = b""
-    if not fault:
+    if not problem:
         with open(os.open(path, own_file.FLAGS), "rb") as file:
-            data = file.read(MOST_BYTES)
-            fault = own_file.unfit(os.fstat(file.fileno()))
+            data = file.read(MAX_BYTES)
+            problem = own_file.find_problem(os.fstat(file.fileno()))
     found = FORM.fullmatch(data)
-    if found and not fault:
-        return Kept(*found.groups())
-    if not fault and (not data or data.startswith(BEGIN)):
-        return CUT
+    if found and not problem:
+        return ResumeState(*found.groups())
+    if not problem and (not data or data.startswith(BEGIN)):
+        return INCOMPLETE
     raise UsageError(
-        f"{named(path)} is in the way: {fault or 'it is of no run'}. "
+        f"{display_name(path)} is in the way: {problem or 'it is of no run'}. "
         "Remove it, or name another file after -o."
     )
 
 
-def write(part: str, kept: Kept) -> None:
+def write(part: str, state: ResumeState) -> None:
     """Writes the file. After an error, nothing of it remains."""
     path = path_of(part)
     try:
         fd = own_file.create(path)
     except OSError as error:
-        raise Stop(f"{named(path)}: {reason_of(error)}.") from None
+        raise Stop(f"{display_name(path)}: {reason_of(error)}.") from None
     try:
         with open(fd, "wb") as file:
-            file.write(BEGIN + b"FILE has %b\nlines by %b\noptions %b\n" % kept)
+            file.write(BEGIN + b"FILE has %b\nlines by %b\noptions %b\n" % state)
             file.flush()
             os.fsync(fd)
     except OSError as error:
         os.unlink(path)
-        raise Stop(f"{named(path)}: {reason_of(error)}.") from None
+        raise Stop(f"{display_name(path)}: {reason_of(error)}.") from None
 
 
 def remove(part: str) -> None:

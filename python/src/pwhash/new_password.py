@@ -18,12 +18,12 @@ from pwhash.library import Policy
 from pwhash.lines import BYTE_ORDER_MARK
 from pwhash.piped import PipedLines
 from pwhash.prompt import ask_password
-from pwhash.text import APART, is_utf8, is_visible
+from pwhash.text import DECOMPOSED, is_utf8, is_visible
 
 AS_IT_IS = "To hash it as it is, add --accept-doubtful."
 
 
-def given_password(policy: Policy, accepts_doubtful: bool, console: Console) -> bytes:
+def read_new_password(policy: Policy, accepts_doubtful: bool, console: Console) -> bytes:
     """Reads the password to hash. Refuses one that is probably a mistake."""
     is_typed = os.isatty(STDIN)
     password = ask_password() if is_typed else first_line(console)
@@ -32,7 +32,7 @@ def given_password(policy: Policy, accepts_doubtful: bool, console: Console) -> 
     if not accepts_doubtful:
         refuse_doubtful(policy, password, is_typed)
     if is_typed:
-        tell_of_bytes(password, console)
+        warn_about_bytes(password, console)
     return password
 
 
@@ -47,16 +47,16 @@ def first_line(console: Console) -> bytes:
 
 def refuse_doubtful(policy: Policy, password: bytes, is_typed: bool) -> None:
     """Refuses a password that is probably a mistake."""
-    doubt = about_marks(password) or about_stored(password) or about_characters(password)
+    doubt = find_marks(password) or find_stored(password) or find_odd_characters(password)
     if doubt is None and not is_typed:
-        doubt = about_bytes(password)
+        doubt = find_odd_bytes(password)
     if doubt is None and not library.is_over_budget(policy, len(password)):
-        doubt = about_length(password)
+        doubt = find_excess_length(password)
     if doubt is not None:
         raise UsageError(f"{doubt} {AS_IT_IS}")
 
 
-def about_marks(password: bytes) -> Optional[str]:
+def find_marks(password: bytes) -> Optional[str]:
     """Finds carriage returns and byte order marks, as files from Windows have."""
     if b"\r" in password:
         return (
@@ -71,7 +71,7 @@ def about_marks(password: bytes) -> Optional[str]:
     return None
 
 
-def about_stored(password: bytes) -> Optional[str]:
+def find_stored(password: bytes) -> Optional[str]:
     """Recognizes a stored hash, or a line with one, in place of a password."""
     behind_name = password.partition(b":")[2]
     is_line = behind_name.startswith(b"$") and exports.is_stored(behind_name)
@@ -83,7 +83,7 @@ def about_stored(password: bytes) -> Optional[str]:
     )
 
 
-def about_characters(password: bytes) -> Optional[str]:
+def find_odd_characters(password: bytes) -> Optional[str]:
     """Finds characters that nobody sees."""
     text = password.decode(errors="replace")
     if not is_visible(text.replace("\0", "")):  # a zero byte is refused later
@@ -96,11 +96,11 @@ def about_characters(password: bytes) -> Optional[str]:
     return None
 
 
-def about_bytes(password: bytes) -> Optional[str]:
+def find_odd_bytes(password: bytes) -> Optional[str]:
     """Finds characters that logins send as other bytes."""
     text = password.decode(errors="replace")
     if not unicodedata.is_normalized("NFC", text):
-        return f"the password has {APART}. Give it in NFC."
+        return f"the password has {DECOMPOSED}. Give it in NFC."
     if not is_utf8(password):
         return (
             "the password isn't UTF-8, as logins send it. If it is Windows-1252: "
@@ -109,17 +109,17 @@ def about_bytes(password: bytes) -> Optional[str]:
     return None
 
 
-def about_length(password: bytes) -> Optional[str]:
+def find_excess_length(password: bytes) -> Optional[str]:
     """Finds a password that is too long for most logins."""
     if len(password) <= LONGEST_OF_CRYPT:
         return None
     return f"the password has {TOO_LONG_FOR_CRYPT}. Give a shorter one."
 
 
-def tell_of_bytes(password: bytes, console: Console) -> None:
+def warn_about_bytes(password: bytes, console: Console) -> None:
     """Warns about unusual bytes. They are hashed, since a login on this terminal sends them too."""
     if not unicodedata.is_normalized("NFC", password.decode(errors="replace")):
-        console.say(f"the password has {APART}. Its bytes are hashed.")
+        console.say(f"the password has {DECOMPOSED}. Its bytes are hashed.")
     if not is_utf8(password):
         console.say(
             "the password isn't UTF-8: the terminal has another encoding, or half a character "
