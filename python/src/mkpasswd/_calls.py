@@ -52,13 +52,13 @@ class Refused(ValueError):
 
     __module__ = "mkpasswd"
 
-    def __init__(self, reason: Optional[Reason], words: str) -> None:
-        super().__init__(reason, words)
+    def __init__(self, reason: Optional[Reason], text: str) -> None:
+        super().__init__(reason, text)
         self.reason = reason
-        self._words = words
+        self._text = text
 
     def __str__(self) -> str:
-        return self._words
+        return self._text
 
 
 class TooCostly(Refused):
@@ -71,8 +71,8 @@ class TooCostly(Refused):
     __module__ = "mkpasswd"
 
     def __init__(self, cost: int, budget: int) -> None:
-        words = f"{Reason.OVER_BUDGET.message}: the hash can cost more than {budget}"
-        super().__init__(Reason.OVER_BUDGET, words)
+        text = f"{Reason.OVER_BUDGET.message}: the hash can cost more than {budget}"
+        super().__init__(Reason.OVER_BUDGET, text)
         self.args = (cost, budget)
         self.cost = cost
         self.budget = budget
@@ -82,7 +82,7 @@ class TooCostly(Refused):
 # read the value by a method of the base class.
 
 
-def text_bytes(value: Text, name: str) -> bytes:
+def encode(value: Text, name: str) -> bytes:
     """Returns the bytes of an argument. Raises TypeError for what is neither str nor bytes."""
     if isinstance(value, bytes):
         return bytes.__getitem__(value, slice(None))
@@ -92,9 +92,9 @@ def text_bytes(value: Text, name: str) -> bytes:
     raise TypeError(f"{name} must be str or bytes, not {type(value).__name__}")
 
 
-def password_bytes(value: Text) -> bytes:
+def encode_password(value: Text) -> bytes:
     """Returns the bytes of a password. Raises ValueError if it can't be hashed."""
-    password = text_bytes(value, "password")
+    password = encode(value, "password")
     if len(password) > PASSWORD_LIMIT:
         raise ValueError(Reason.PASSWORD_TOO_LONG.message)
     if 0 in password:
@@ -104,7 +104,7 @@ def password_bytes(value: Text) -> bytes:
     return password
 
 
-def integer(value: Any, name: str, kind: str = "an int") -> int:
+def require_integer(value: Any, name: str, kind: str = "an int") -> int:
     """Returns the number in an argument. Raises TypeError, also for a bool or a float."""
     if isinstance(value, (bool, float)):
         raise TypeError(f"{name} must be {kind}, not {value!r}")
@@ -114,9 +114,9 @@ def integer(value: Any, name: str, kind: str = "an int") -> int:
         raise TypeError(f"{name} must be {kind}, not {type(value).__name__}") from None
 
 
-def length(value: int) -> int:
+def require_length(value: int) -> int:
     """Returns the length of a password in bytes, which ctypes would reduce modulo 2^64."""
-    number = integer(value, "password_len")
+    number = require_integer(value, "password_len")
     if number < 0:
         raise ValueError("password_len is negative")
     return min(number, PASSWORD_LIMIT + 1)
@@ -127,7 +127,7 @@ def policy_numbers(method: str, rounds: Optional[int], budget: Optional[int]) ->
     if not isinstance(method, str):
         raise TypeError(f"method must be str, not {type(method).__name__}")
     method = str.__str__(method)
-    rounds = 0 if rounds is None else integer(rounds, "rounds")
+    rounds = 0 if rounds is None else require_integer(rounds, "rounds")
     if method not in METHODS:
         *names, last = METHODS
         raise Refused(Reason.UNKNOWN_METHOD, f"method must be {', '.join(names)} or {last}")
@@ -141,27 +141,27 @@ def budget_number(budget: Optional[int]) -> int:
     """Returns the library's number for a budget. 0 stands for the policy's own limit."""
     if budget is None:
         return 0
-    number = integer(budget, "budget", "an int (2**42 for no limit)")
+    number = require_integer(budget, "budget", "an int (2**42 for no limit)")
     if number < 1:
         raise ValueError("budget must be above 0, or None for twice what a new hash costs")
     return min(number, NO_LIMIT)
 
 
-def admitted(numbers: Numbers, method: str) -> Answer:
+def policy_limit(numbers: Numbers, method: str) -> Answer:
     """Returns what a policy allows. Raises Refused for rounds out of the method's range."""
     answer = _library.limit(numbers)
     if answer.is_yes or answer.reason is Reason.OVER_BUDGET:
         return answer
     if answer.reason is Reason.ROUNDS:
         raise refused_rounds(method)
-    raise failure(answer)
+    raise error_from(answer)
 
 
 def refused_rounds(method: str) -> Refused:
     """Returns the error that says which rounds a method takes."""
     if method == "md5crypt":
         return Refused(Reason.ROUNDS, f"rounds must be {_ROUNDS[method]}")
-    recommended = admitted(Numbers(METHODS[method], 0, 0), method).report.rounds
+    recommended = policy_limit(Numbers(METHODS[method], 0, 0), method).report.rounds
     return Refused(Reason.ROUNDS, f"rounds must be {_ROUNDS[method]}, or 0 for {recommended}")
 
 
@@ -170,16 +170,16 @@ def new_salt(method: str) -> str:
     return "".join(_SALT_CHARACTERS[byte & 63] for byte in os.urandom(_SALT_LENGTHS[method]))
 
 
-def failure(answer: Answer, limit: int = NO_LIMIT) -> Exception:
+def error_from(answer: Answer, limit: int = NO_LIMIT) -> Exception:
     """Returns the exception for a call of the library that failed, and had this budget."""
     reason = answer.reason
-    words = message(answer.report.error)
+    text = message(answer.report.error)
     if reason is Reason.OVER_BUDGET:
         return TooCostly(answer.report.cost, limit)
     if reason in (Reason.PASSWORD_TOO_LONG, Reason.PASSWORD_ZERO_BYTE):
-        return ValueError(words)
+        return ValueError(text)
     if reason is Reason.OUT_OF_MEMORY:
-        return MemoryError(words)
+        return MemoryError(text)
     if reason is Reason.NO_RANDOM_NUMBERS:
-        return OSError(words)
-    return Refused(reason, words)
+        return OSError(text)
+    return Refused(reason, text)

@@ -9,7 +9,7 @@ from __future__ import annotations
 import ctypes
 from typing import Any, NamedTuple, Optional, Union
 
-from ._loaded import STRING, TEXT_SIZE, declared, text_of
+from ._loaded import STRING, TEXT_SIZE, declare, read_text
 
 from ._reasons import Reason
 
@@ -89,27 +89,27 @@ _BUDGET = [ctypes.c_uint64]
 _REPORT = [ctypes.POINTER(Report)]
 _POLICY = [*_PAIR, *_BUDGET, *_REPORT]
 
-_LOGIN = declared("mkpasswd_login_bytes", [*STRING, *STRING, *_POLICY])
-_VERIFY = declared("mkpasswd_verify_bytes", [*STRING, *STRING, *_BUDGET, *_REPORT])
-_NEW = declared("mkpasswd_new_bytes", [*STRING, *_PAIR, *_BUDGET, *STRING, *_REPORT])
-_HASH = declared("mkpasswd_hash_bytes", [*STRING, *STRING, *_BUDGET, *STRING, *_REPORT])
-_NEEDS_REHASH = declared("mkpasswd_needs_rehash_bytes", [*STRING, *_PAIR, *_REPORT])
-_AUDIT = declared("mkpasswd_audit_bytes", [*STRING, *_POLICY])
-_LIMIT = declared("mkpasswd_limit_bytes", _POLICY)
-_ROUNDS = declared("mkpasswd_rounds_bytes", [ctypes.c_size_t, *_POLICY])
-_BOUND = declared("mkpasswd_bound_bytes", [*STRING, ctypes.c_size_t, *_REPORT])
-_SETTING = declared("mkpasswd_setting_bytes", [*_PAIR, *STRING, *STRING, *_REPORT])
-_SCHEME_NAME = declared("mkpasswd_scheme_name_bytes", [ctypes.c_uint32, *STRING])
-_VERSION = declared("mkpasswd_version", [], ctypes.c_uint32)
+_LOGIN = declare("mkpasswd_login_bytes", [*STRING, *STRING, *_POLICY])
+_VERIFY = declare("mkpasswd_verify_bytes", [*STRING, *STRING, *_BUDGET, *_REPORT])
+_NEW = declare("mkpasswd_new_bytes", [*STRING, *_PAIR, *_BUDGET, *STRING, *_REPORT])
+_HASH = declare("mkpasswd_hash_bytes", [*STRING, *STRING, *_BUDGET, *STRING, *_REPORT])
+_NEEDS_REHASH = declare("mkpasswd_needs_rehash_bytes", [*STRING, *_PAIR, *_REPORT])
+_AUDIT = declare("mkpasswd_audit_bytes", [*STRING, *_POLICY])
+_LIMIT = declare("mkpasswd_limit_bytes", _POLICY)
+_ROUNDS = declare("mkpasswd_rounds_bytes", [ctypes.c_size_t, *_POLICY])
+_BOUND = declare("mkpasswd_bound_bytes", [*STRING, ctypes.c_size_t, *_REPORT])
+_SETTING = declare("mkpasswd_setting_bytes", [*_PAIR, *STRING, *STRING, *_REPORT])
+_SCHEME_NAME = declare("mkpasswd_scheme_name_bytes", [ctypes.c_uint32, *STRING])
+_VERSION = declare("mkpasswd_version", [], ctypes.c_uint32)
 
 
-def _ask(call: Any, *arguments: Union[bytes, int]) -> Answer:
+def _call(call: Any, *arguments: Union[bytes, int]) -> Answer:
     """Makes a call that only writes a report."""
     report = Report()
     return Answer(call(*arguments, report) == 1, report)
 
 
-def _ask_for_text(call: Any, *arguments: Union[bytes, int]) -> Answer:
+def _call_for_text(call: Any, *arguments: Union[bytes, int]) -> Answer:
     """Makes a call that writes a report and a string."""
     report = Report()
     out = ctypes.create_string_buffer(TEXT_SIZE)
@@ -119,59 +119,59 @@ def _ask_for_text(call: Any, *arguments: Union[bytes, int]) -> Answer:
 
 def login(password: bytes, field: bytes, numbers: Numbers) -> Answer:
     """Checks a password. If the field can't be checked, this costs as much as a new hash."""
-    return _ask(_LOGIN, password, len(password), field, len(field), *numbers)
+    return _call(_LOGIN, password, len(password), field, len(field), *numbers)
 
 
 def verify(password: bytes, stored: bytes, budget: int) -> Answer:
     """Checks a password against a hash that costs at most the budget. 0 allows no hash."""
-    return _ask(_VERIFY, password, len(password), stored, len(stored), budget)
+    return _call(_VERIFY, password, len(password), stored, len(stored), budget)
 
 
 def new(password: bytes, numbers: Numbers) -> Answer:
     """Makes a new hash, with a salt from the system."""
-    return _ask_for_text(_NEW, password, len(password), *numbers)
+    return _call_for_text(_NEW, password, len(password), *numbers)
 
 
 def hash_by(password: bytes, setting_or_hash: bytes, budget: int) -> Answer:
     """Hashes with a setting, within a budget; 0 allows no hash. A failure leaves "*0" or "*1"."""
-    return _ask_for_text(
+    return _call_for_text(
         _HASH, password, len(password), setting_or_hash, len(setting_or_hash), budget
     )
 
 
 def needs_rehash(stored: bytes, numbers: Numbers) -> Answer:
     """Reports whether the stored hash is outdated."""
-    return _ask(_NEEDS_REHASH, stored, len(stored), numbers.method, numbers.rounds)
+    return _call(_NEEDS_REHASH, stored, len(stored), numbers.method, numbers.rounds)
 
 
 def audit(field: bytes, numbers: Numbers) -> Answer:
     """Reports what is wrong with a stored hash, and whether it is outdated."""
-    return _ask(_AUDIT, field, len(field), *numbers)
+    return _call(_AUDIT, field, len(field), *numbers)
 
 
 def limit(numbers: Numbers) -> Answer:
     """Reports what a hash may cost, the longest password, and the rounds of new hashes."""
-    return _ask(_LIMIT, *numbers)
+    return _call(_LIMIT, *numbers)
 
 
 def rounds(password_len: int, numbers: Numbers) -> Answer:
     """Reports rounds with which each password of this length is within that limit."""
-    return _ask(_ROUNDS, password_len, *numbers)
+    return _call(_ROUNDS, password_len, *numbers)
 
 
 def bound(stored: bytes, password_len: int) -> Answer:
     """Reports the most that a hash with this setting can cost."""
-    return _ask(_BOUND, stored, len(stored), password_len)
+    return _call(_BOUND, stored, len(stored), password_len)
 
 
 def setting(numbers: Numbers, salt: bytes) -> Answer:
     """Makes a setting with a given salt."""
-    return _ask_for_text(_SETTING, numbers.method, numbers.rounds, salt, len(salt))
+    return _call_for_text(_SETTING, numbers.method, numbers.rounds, salt, len(salt))
 
 
 def scheme_name(number: int) -> str:
     """Returns crypt(5)'s name of a scheme that an audit reports."""
-    return text_of(_SCHEME_NAME, number)
+    return read_text(_SCHEME_NAME, number)
 
 
 def version() -> str:

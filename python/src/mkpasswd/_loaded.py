@@ -33,7 +33,7 @@ def _import_error(error: Exception) -> ImportError:
 LIBRARY = _load()
 
 
-def declared(name: str, arguments: Sequence[Any], result: Any = ctypes.c_int32) -> Any:
+def declare(name: str, arguments: Sequence[Any], result: Any = ctypes.c_int32) -> Any:
     """Returns a call of the library, with the types of its arguments and of its result."""
     try:
         call = getattr(LIBRARY, name)
@@ -43,7 +43,7 @@ def declared(name: str, arguments: Sequence[Any], result: Any = ctypes.c_int32) 
     return call
 
 
-def text_of(call: Any, number: int) -> str:
+def read_text(call: Any, number: int) -> str:
     """Returns the string that a call writes for a number."""
     out = ctypes.create_string_buffer(TEXT_SIZE)
     call(number, out, TEXT_SIZE)

@@ -3,14 +3,14 @@ from __future__ import annotations
 
 import ctypes
 
-from ._loaded import STRING, declared, text_of
+from ._loaded import STRING, declare, read_text
 
-_CALL = declared("mkpasswd_message_bytes", [ctypes.c_uint32, *STRING])
+_CALL = declare("mkpasswd_message_bytes", [ctypes.c_uint32, *STRING])
 
 
 def message(error: int) -> str:
     """Returns the message for the number of an error. The library has one for every number."""
-    return text_of(_CALL, error)
+    return read_text(_CALL, error)
 
 
 class HasMessage:

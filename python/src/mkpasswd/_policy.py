@@ -132,8 +132,8 @@ class Policy:
         self._method = str.__str__(method)
         self._rounds = None if rounds is None else self._numbers.rounds
         self._budget = None if budget is None else self._numbers.budget
-        admitted = _calls.admitted(self._numbers, self._method).report
-        self._limit = Limit(admitted.cost, admitted.length, admitted.rounds)
+        policy_limit = _calls.policy_limit(self._numbers, self._method).report
+        self._limit = Limit(policy_limit.cost, policy_limit.length, policy_limit.rounds)
 
     # Properties without a setter, so that a policy can't change.
     @property
@@ -196,9 +196,9 @@ class Policy:
 
         Raises TypeError for what is neither str nor bytes, and nothing else.
         """
-        stored = b"" if field is None else _calls.text_bytes(field, "field")
+        stored = b"" if field is None else _calls.encode(field, "field")
         try:
-            secret = _calls.password_bytes(password)
+            secret = _calls.encode_password(password)
         except ValueError as error:
             _logger().debug("login refused: %s", error)
             return False
@@ -221,14 +221,14 @@ class Policy:
 
         Raises Refused if the stored hash is not one of these methods or has no valid setting.
         """
-        field = _calls.text_bytes(stored, "stored")
+        field = _calls.encode(stored, "stored")
         answer = _library.needs_rehash(field, self._numbers)
         if answer.report.error == 0:
             return answer.report.outdated == 1
         # To the library's needs_rehash a locked field is invalid; only an audit recognizes it.
         if self.describe(field).state in (State.LOCKED, State.NONE):
             return False
-        raise _calls.failure(answer)
+        raise _calls.error_from(answer)
 
     def hash(self, password: Text) -> str:
         """Return the hash of a new password, with a salt from the system.
@@ -244,9 +244,9 @@ class Policy:
         Raises MemoryError if there is too little memory for scrypt, and OSError if the system has
         no random bytes.
         """
-        answer = _library.new(_calls.password_bytes(password), self._numbers)
+        answer = _library.new(_calls.encode_password(password), self._numbers)
         if not answer.is_yes:
-            raise _calls.failure(answer, self._limit.cost)
+            raise _calls.error_from(answer, self._limit.cost)
         return answer.text
 
     def describe(self, field: Optional[Text]) -> Description:
@@ -273,7 +273,7 @@ class Policy:
 
         Raises TypeError for what is neither str nor bytes, and nothing else.
         """
-        text = b"" if field is None else _calls.text_bytes(field, "field")
+        text = b"" if field is None else _calls.encode(field, "field")
         answer = _library.audit(text, self._numbers)
         state = _state_of(answer)
         if state in (State.LOCKED, State.NONE, State.NO_SCHEME):
@@ -314,10 +314,10 @@ class Policy:
         Raises Refused if the stored hash is not one of these methods or has no valid setting, and
         for an empty or locked field.
         """
-        field = _calls.text_bytes(stored, "stored")
-        answer = _library.bound(field, _calls.length(password_len))
+        field = _calls.encode(stored, "stored")
+        answer = _library.bound(field, _calls.require_length(password_len))
         if not answer.is_yes:
-            raise _calls.failure(answer)
+            raise _calls.error_from(answer)
         return answer.report.cost
 
     def setting(self, salt: Optional[Text] = None) -> str:
@@ -333,9 +333,9 @@ class Policy:
         ./0-9A-Za-z.
         """
         given = _calls.new_salt(self._method) if salt is None else salt
-        answer = _library.setting(self._numbers, _calls.text_bytes(given, "salt"))
+        answer = _library.setting(self._numbers, _calls.encode(given, "salt"))
         if not answer.is_yes:
-            raise _calls.failure(answer)
+            raise _calls.error_from(answer)
         return answer.text
 
     def for_length(self, password_len: int) -> Policy:
@@ -353,9 +353,9 @@ class Policy:
         Raises TooCostly if even the fewest rounds cost more than the policy's budget, and
         ValueError above 1,024 bytes.
         """
-        answer = _library.rounds(_calls.length(password_len), self._numbers)
+        answer = _library.rounds(_calls.require_length(password_len), self._numbers)
         if not answer.is_yes:
-            raise _calls.failure(answer, self._limit.cost)
+            raise _calls.error_from(answer, self._limit.cost)
         if answer.report.rounds == self._limit.rounds:
             return self
         return Policy(self._method, answer.report.rounds, self._limit.cost)
@@ -368,7 +368,7 @@ def _state_of(answer: Answer) -> State:
         return State.OUTDATED if answer.report.outdated == 1 else State.CURRENT
     state = _STATES.get(answer.reason)
     if state is None:
-        raise _calls.failure(answer)
+        raise _calls.error_from(answer)
     return state
 
 

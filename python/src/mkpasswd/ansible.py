@@ -28,8 +28,8 @@ def mkpasswd_hash(
     So a task reports no change if nothing has to change. Raises AnsibleFilterError.
     """
     try:
-        secret, policy = _decrypted(password), Policy(method, rounds, budget)
-        stored: Optional[str] = _decrypted(current)
+        secret, policy = _decrypt(password), Policy(method, rounds, budget)
+        stored: Optional[str] = _decrypt(current)
         if stored is not None and _is_current(policy, secret, stored):
             return stored
         return policy.hash(secret)
@@ -40,10 +40,10 @@ def mkpasswd_hash(
 def mkpasswd_verify(password: Any, stored: Any, budget: Optional[int] = None) -> bool:
     """Return whether the password matches the stored hash. Raises AnsibleFilterError."""
     try:
-        policy, secret, field = Policy(budget=budget), _decrypted(password), _decrypted(stored)
-        found = policy.describe(field)
-        if found.state in _UNCHECKED:
-            raise ValueError(f"the stored hash is {found}")
+        policy, secret, field = Policy(budget=budget), _decrypt(password), _decrypt(stored)
+        description = policy.describe(field)
+        if description.state in _UNCHECKED:
+            raise ValueError(f"the stored hash is {description}")
         return policy.login(secret, field=field)
     except (TypeError, ValueError) as error:
         raise AnsibleFilterError(f"mkpasswd_verify: {error}") from None
@@ -55,7 +55,7 @@ def _is_current(policy: Policy, password: Any, stored: Any) -> bool:
     return policy.login(password, field=stored)
 
 
-def _decrypted(value: Any) -> Any:
+def _decrypt(value: Any) -> Any:
     # A value from a vault isn't a str until it is decrypted.
     return str(value) if type(value).__name__ == "AnsibleVaultEncryptedUnicode" else value
 

@@ -101,10 +101,10 @@ def crypt(
     scrypt.
     """
     setting = mksalt(salt) if salt is None or isinstance(salt, _Method) else salt
-    secret = _calls.password_bytes(word)
+    secret = _calls.encode_password(word)
     limit = Policy(budget=budget).limit().cost
-    answer = _library.hash_by(secret, _calls.text_bytes(setting, "salt"), limit)
+    answer = _library.hash_by(secret, _calls.encode(setting, "salt"), limit)
     # If there is no valid setting, the text is "*0" or "*1".
     if not answer.is_yes and answer.reason not in _calls.NO_SETTING:
-        raise _calls.failure(answer, limit)
+        raise _calls.error_from(answer, limit)
     return answer.text

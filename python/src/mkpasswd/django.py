@@ -114,17 +114,17 @@ class MkpasswdPasswordHasher(BasePasswordHasher):
         # A password that can't be hashed costs nothing for an unknown name either.
         with suppress(MemoryError, ValueError):
             policy = self._policy_for(password)
-            missing = self._missing(policy, len(_calls.password_bytes(password)), field)
-            if missing is not None:
-                missing.hash(password)
+            remaining = self._remaining_policy(policy, len(_calls.encode_password(password)), field)
+            if remaining is not None:
+                remaining.hash(password)
 
     def decode(self, encoded: str) -> Dict[str, Any]:
         """Return the parts of a whole hash."""
         field = self._field(encoded)
         for form in _FORMS:
-            found = form.match(field)
-            if found:
-                number, rounds, salt, digest = found.groups()
+            match = form.match(field)
+            if match:
+                number, rounds, salt, digest = match.groups()
                 return {
                     "algorithm": self.algorithm,
                     "method": _METHODS[number],
@@ -158,20 +158,20 @@ class MkpasswdPasswordHasher(BasePasswordHasher):
 
     def _policy_for(self, password: str) -> Policy:
         """Returns the policy by which a hash of this password is within the limit."""
-        return self.policy.for_length(len(_calls.password_bytes(password)))
+        return self.policy.for_length(len(_calls.encode_password(password)))
 
     @staticmethod
-    def _missing(policy: Policy, password_len: int, field: str) -> Optional[Policy]:
+    def _remaining_policy(policy: Policy, password_len: int, field: str) -> Optional[Policy]:
         """Returns the policy of a hash that makes up for what verify() did less, or None."""
         if policy.cost(field, password_len) > policy.limit().cost:
             return None  # verify() has made a new hash
         stored = policy.describe(field)
         if stored.scheme != policy.method or stored.rounds is None or not policy.limit().rounds:
             return policy
-        missing = policy.limit().rounds - stored.rounds
-        if missing <= 0:
+        remaining = policy.limit().rounds - stored.rounds
+        if remaining <= 0:
             return None
-        return Policy(policy.method, max(missing, _LEAST_ROUNDS), policy.limit().cost)
+        return Policy(policy.method, max(remaining, _LEAST_ROUNDS), policy.limit().cost)
 
 
 class PasswordValidator:
@@ -184,18 +184,18 @@ class PasswordValidator:
         """Raise ValidationError for such a password. The user makes no difference."""
         del user
         try:
-            length = len(_calls.password_bytes(password))
+            length = len(_calls.encode_password(password))
         except ValueError:
             length = PASSWORD_LIMIT + 1
-        if length > self._longest():
+        if length > self._longest_password():
             raise ValidationError(self.get_help_text(), code="password_too_long")
 
     def get_help_text(self) -> str:
         """Return the sentence that the form shows."""
-        return f"Your password can have at most {self._longest()} bytes."
+        return f"Your password can have at most {self._longest_password()} bytes."
 
     @staticmethod
-    def _longest() -> int:
+    def _longest_password() -> int:
         # Tests often use another hasher, which has no policy.
         policy: Policy = getattr(hashers.get_hasher(), "policy", Policy())
         return policy.limit().longest_password

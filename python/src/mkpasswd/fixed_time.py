@@ -53,16 +53,16 @@ class FixedTime:
         if not 0 <= seconds < math.inf:
             raise ValueError("seconds must be a finite number from 0 on")
         self._seconds = float(seconds)
-        self._most_running = threads + queued
-        self._most_failed = failed
+        self._max_running = threads + queued
+        self._max_failed = failed
         self._lock = threading.Lock()  # of the members below
         self._running = 0
         self._failed = 0
         self._pool = ThreadPoolExecutor(threads, thread_name_prefix="login")
-        self._clock: Optional[asyncio.AbstractEventLoop] = None
+        self._loop: Optional[asyncio.AbstractEventLoop] = None
         self._process: Optional[int] = None  # the process that has the threads
 
-    def submit(self, login: Callable[..., bool], *arguments: Any, **named: Any) -> Future[bool]:
+    def submit(self, login: Callable[..., bool], *arguments: Any, **keywords: Any) -> Future[bool]:
         """Run login(*arguments, **named) in a thread, and return its answer as a future.
 
         If the login raises an exception, so does the future, after the fixed time.
@@ -70,46 +70,48 @@ class FixedTime:
         Raises Busy if there are too many logins; OSError or RuntimeError if the system has no more
         files or threads; and RuntimeError in a process that fork() made after the first login.
         """
-        began = time.monotonic()
+        start = time.monotonic()
         if self._process not in (None, os.getpid()):
             raise RuntimeError("fork() copied no threads of FixedTime: make one in each process")
         with self._lock:
-            if self._running >= self._most_running:
+            if self._running >= self._max_running:
                 raise Busy("too many logins wait for a thread")
-            if self._failed >= self._most_failed:
+            if self._failed >= self._max_failed:
                 raise Busy("too many failed logins wait for their time")
-            clock = self._running_clock()
+            loop = self._start_loop()
             self._running += 1
         answer: Future[bool] = Future()
         answer.set_running_or_notify_cancel()  # so that nobody can cancel it
         try:
-            done = self._pool.submit(login, *arguments, **named)
+            login_future = self._pool.submit(login, *arguments, **keywords)
         except RuntimeError:
             with self._lock:
                 self._running -= 1
             raise
-        done.add_done_callback(lambda _: self._end(done, answer, clock, began))
+        login_future.add_done_callback(
+            lambda _: self._handle_end(login_future, answer, loop, start)
+        )
         return answer
 
-    def _running_clock(self) -> asyncio.AbstractEventLoop:
+    def _start_loop(self) -> asyncio.AbstractEventLoop:
         """Returns the event loop in which failures wait, all in one thread, and starts it."""
-        if self._clock is None:
-            clock = asyncio.new_event_loop()
+        if self._loop is None:
+            loop = asyncio.new_event_loop()
             name = "failed logins"
-            threading.Thread(target=clock.run_forever, name=name, daemon=True).start()
-            self._clock = clock
+            threading.Thread(target=loop.run_forever, name=name, daemon=True).start()
+            self._loop = loop
             self._process = os.getpid()
-        return self._clock
+        return self._loop
 
-    def _end(
+    def _handle_end(
         self,
-        done: Future[bool],
+        login_future: Future[bool],
         answer: Future[bool],
-        clock: asyncio.AbstractEventLoop,
-        began: float,
+        loop: asyncio.AbstractEventLoop,
+        start: float,
     ) -> None:
         """Answers a login that has run: at once if it succeeded, else after the fixed time."""
-        succeeded = done.exception() is None and done.result() is True
+        succeeded = login_future.exception() is None and login_future.result() is True
         with self._lock:
             self._running -= 1
             if not succeeded:
@@ -117,26 +119,28 @@ class FixedTime:
         if succeeded:
             answer.set_result(True)
         else:
-            moment = self._moment_of_failure(began)
-            clock.call_soon_threadsafe(clock.call_at, moment, self._fail, done, answer)
+            end_time = self._time_of_failure(start)
+            loop.call_soon_threadsafe(
+                loop.call_at, end_time, self._answer_failure, login_future, answer
+            )
 
-    def _moment_of_failure(self, began: float) -> float:
-        """Returns when to answer a login that has failed, and began at `began`.
+    def _time_of_failure(self, start: float) -> float:
+        """Returns when to answer a login that has failed, and began at `start`.
 
         If it took longer than the fixed time, that is at the next multiple of it. If it were
         answered at once, the time would show which kind of hash was checked.
         """
         if self._seconds == 0:
-            return began
-        elapsed = time.monotonic() - began
+            return start
+        elapsed = time.monotonic() - start
         times = max(1, math.ceil(elapsed / self._seconds))
-        return began + times * self._seconds
+        return start + times * self._seconds
 
-    def _fail(self, done: Future[bool], answer: Future[bool]) -> None:
+    def _answer_failure(self, login_future: Future[bool], answer: Future[bool]) -> None:
         """Answers a login that failed."""
         with self._lock:
             self._failed -= 1
-        error = done.exception()
+        error = login_future.exception()
         if error is None:
             answer.set_result(False)
         else:

@@ -29,7 +29,7 @@ from passlib.registry import register_crypt_handler
 from passlib.utils.handlers import GenericHandler
 
 from . import Policy, TooCostly, limit
-from ._calls import password_bytes
+from ._calls import encode_password
 from ._library import PASSWORD_LIMIT
 from .crypt import crypt
 
@@ -58,7 +58,7 @@ class _Crypt(GenericHandler, metaclass=ABCMeta):
         """
         changed: Any = super().using(relaxed=relaxed, **options)
         if budget is not None:
-            changed.budget = _number(budget) if isinstance(budget, str) else budget
+            changed.budget = _parse_budget(budget) if isinstance(budget, str) else budget
         try:
             changed.policy().for_length(PASSWORD_LIMIT)
         except TooCostly:
@@ -75,18 +75,18 @@ class _Crypt(GenericHandler, metaclass=ABCMeta):
     def verify(cls, secret: Any, hash: Any, **context: Any) -> bool:
         """Like passlib's, but False for a password that can't be hashed: anybody can type one."""
         try:
-            password_bytes(secret)
+            encode_password(secret)
         except ValueError as error:
-            return cls._refused(error)
+            return cls._refuse(error)
         # passlib raises ValueError for a field that isn't a hash of this handler.
         try:
             is_match: bool = super().verify(secret, hash, **context)
         except TooCostly as error:
-            return cls._refused(error)
+            return cls._refuse(error)
         return is_match
 
     @classmethod
-    def _refused(cls, error: ValueError) -> bool:
+    def _refuse(cls, error: ValueError) -> bool:
         _LOG.debug("login refused: %s", error)
         cls.hash("")  # takes as long as dummy_verify() does for an unknown name
         return False
@@ -96,7 +96,7 @@ class _Crypt(GenericHandler, metaclass=ABCMeta):
         return crypt(secret, self.to_string(), budget=budget).rpartition("$")[2]
 
 
-def _number(budget: str) -> int:
+def _parse_budget(budget: str) -> int:
     """Returns the budget in a file of options."""
     try:
         return int(budget)
@@ -114,19 +114,19 @@ class _Rounds(_Crypt, metaclass=ABCMeta):
 
     def _calc_checksum(self, secret: Any) -> str:
         if self.use_defaults:  # for a new hash, not for a check
-            self.rounds = self._fitting(secret, self.rounds)
+            self.rounds = self._rounds_within_limit(secret, self.rounds)
         return super()._calc_checksum(secret)
 
     @classmethod
-    def _fitting(cls, secret: Any, rounds: int) -> int:
+    def _rounds_within_limit(cls, secret: Any, rounds: int) -> int:
         """Returns `rounds`, or fewer if the hash of a long password would exceed the limit."""
         policy = Policy(cls.policy().method, rounds, cls.policy().limit().cost)
-        return policy.for_length(len(password_bytes(secret))).limit().rounds
+        return policy.for_length(len(encode_password(secret))).limit().rounds
 
     def _calc_needs_update(self, secret: Any = None, **options: Any) -> bool:
         # passlib accepts any rounds, unless an option says how many a hash needs.
-        is_given = self.min_desired_rounds is not None or self.vary_rounds is not None
-        if not is_given and self.rounds < self._least_rounds(secret):
+        has_own_rounds = self.min_desired_rounds is not None or self.vary_rounds is not None
+        if not has_own_rounds and self.rounds < self._least_rounds(secret):
             return True
         needs_update: bool = super()._calc_needs_update(secret=secret, **options)
         return needs_update
@@ -136,7 +136,7 @@ class _Rounds(_Crypt, metaclass=ABCMeta):
         """Returns the rounds of a new hash: for this password, if it is known."""
         if secret is not None:
             with suppress(ValueError):
-                return cls._fitting(secret, cls.default_rounds)
+                return cls._rounds_within_limit(secret, cls.default_rounds)
         return cls.default_rounds
 
 
