@@ -454,7 +454,9 @@ MKPASSWD_EXPORT MKPASSWD_NONNULL(2) MKPASSWD_WRITES(2, 3) int32_t
 MKPASSWD_EXPORT MKPASSWD_NONNULL(2) MKPASSWD_WRITES(2, 3) int32_t
     mkpasswd_scheme_name_bytes(uint32_t scheme, uint8_t *out, size_t out_size);
 
-/* ---- The calls in terms of these ---- */
+/* ---- The calls in terms of these ----
+ *
+ * For a null `out` or report they pass `none` or `unread`, whose content is dropped. */
 
 #ifdef __cplusplus
 #define MKPASSWD_CAST(type, value) static_cast<type>(value)

@@ -116,7 +116,7 @@ function compileModule(base64) {
 const REPORT_SIZE = 80;
 const OUT_SIZE = 145;
 const NEED_SIZE = 16;
-const MOST_BYTES = 4096; // that are passed of a password or a field; the module accepts fewer
+const MAX_BYTES = 4096; // that are passed of a password or a field; the module accepts fewer
 const ALIGNMENT = 16; // of the report and of the bytes that are passed
 const WORD_SIZE = 4;
 const PAGE_SIZE = 65536; // the memory of an instance grows by pages
@@ -225,7 +225,7 @@ class Instance {
         const words = [];
         for (const value of args) {
             if (value instanceof Uint8Array) {
-                const bytes = value.subarray(0, MOST_BYTES);
+                const bytes = value.subarray(0, MAX_BYTES);
                 this.#memory.set(bytes, end);
                 words.push(BigInt(end), BigInt(bytes.length));
                 end += bytes.length;

@@ -15,7 +15,7 @@ class Pool {
     #start;
     #memory;
     #compiled;
-    #mostWorkers;
+    #maxWorkers;
     #countOfWorkers = 0;
     #usedMemory = 0; // bytes that running calls need
     #idle = [];
@@ -27,7 +27,7 @@ class Pool {
         this.#start = start;
         this.#memory = memory;
         this.#compiled = compiled;
-        this.#mostWorkers = Math.max(1, cores - 1);
+        this.#maxWorkers = Math.max(1, cores - 1);
     }
 
     // Runs a call that needs this many bytes of memory. Resolves to the worker's answer.
@@ -52,7 +52,7 @@ class Pool {
     }
 
     #hasWorker() {
-        return this.#idle.length > 0 || this.#countOfWorkers < this.#mostWorkers;
+        return this.#idle.length > 0 || this.#countOfWorkers < this.#maxWorkers;
     }
 
     // Takes the next call that can start out of the queue, if there is one.
@@ -165,7 +165,7 @@ async function nodeWorkers() {
     }
     function memory() {
         const free = process.availableMemory?.() ?? freemem();
-        const limit = process.constrainedMemory?.() || Infinity; // 0 where there is none
+        const limit = process.constrainedMemory?.() || Infinity; // 0 stands for no limit
         return Math.min(free, limit) / 2;
     }
     return { cores: availableParallelism(), start, memory };

@@ -6,12 +6,12 @@ export class Busy extends Error {
     }
 }
 
-const GREATEST = 2 ** 31 - 1; // milliseconds that setTimeout takes
+const MAX_MILLISECONDS = 2 ** 31 - 1; // that setTimeout takes
 
-// Returns an option of a queue if it is an integer from `least` to GREATEST, and throws otherwise.
+// Returns an option of a queue, or throws unless it is an integer from `least` to MAX_MILLISECONDS.
 function readInteger(least, value, name) {
-    if (requireInteger(value, name) >= least && value <= GREATEST) return value;
-    throw new RangeError(`${name} must be ${least} to ${GREATEST}, not ${value}`);
+    if (requireInteger(value, name) >= least && value <= MAX_MILLISECONDS) return value;
+    throw new RangeError(`${name} must be ${least} to ${MAX_MILLISECONDS}, not ${value}`);
 }
 
 // Waits until performance.now() reaches a moment. A timer may fire a little early.

@@ -46,7 +46,7 @@ const jobs = {
     // Measures the cost and the time of a hash with a method.
     measure({ method }) {
         const setting = measuredSetting(method);
-        measureHash(setting, 250); // slower than later ones: the browser still compiles
+        measureHash(setting, 250); // the first hashes are slower, while the browser compiles
         return { cost: calls.cost(setting, 8), time: measureHash(setting, 100) };
     },
 

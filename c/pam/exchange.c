@@ -9,7 +9,7 @@
 #include <unistd.h>
 
 /* Each exchange after the first is needed only if somebody changed the file between two calls. */
-#define MOST_EXCHANGES 8
+#define MAX_EXCHANGES 8
 
 /* The inodes of the two files that are exchanged. */
 struct pair {
@@ -133,7 +133,7 @@ static bool is_untouched(const struct stat *now, const struct stat *before)
 /* The files that have come out so far, held open. Until one is closed, no new file can get its
  * inode, by which this process knows it. */
 struct held {
-    int fds[MOST_EXCHANGES];
+    int fds[MAX_EXCHANGES];
     int count;
 };
 
@@ -162,7 +162,7 @@ static enum outcome exchange_until_expected(
 {
     struct stat expected = *old, in_place = *new, out;
 
-    for (int count = 0; count < MOST_EXCHANGES; count++) {
+    for (int count = 0; count < MAX_EXCHANGES; count++) {
         if (!swap(place) || !read_status(place, place->new_name, &out))
             return FAILED;
         hold(place, held);

@@ -78,8 +78,7 @@ static bool is_over_limit(const struct mkpasswd_policy *policy, struct mkpasswd_
         && least.cost > limit.cost;
 }
 
-/* Returns the error because of which no password matches a field, or NO_ERROR if some password may
- * match. */
+/* Returns the error that says why no password matches a field, or NO_ERROR if some password may. */
 static uint32_t error_of_field(const struct mkpasswd_policy *policy, struct mkpasswd_field field)
 {
     const struct mkpasswd_policy unlimited = {policy->method, policy->rounds, UINT64_MAX};

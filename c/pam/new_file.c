@@ -213,6 +213,7 @@ bool name_new_file(const struct place *place, struct new_file *new)
 
     if (new->has_name)
         return true;
+    /* linkat(2) gives a name to the open file to which this link leads. */
     (void)snprintf(link, sizeof link, "/proc/self/fd/%d", new->fd);
     new->has_name = linkat(AT_FDCWD, link, place->folder, place->new_name, AT_SYMLINK_FOLLOW) == 0;
     return new->has_name;

@@ -8,7 +8,7 @@
 #include <sys/stat.h>
 #include <syslog.h>
 
-/* The name of an argument, and the function that reads the value behind it and returns whether the
+/* The name of an argument, and the function that reads the value after it and returns whether the
  * value is valid. */
 struct option {
     const char *name;

@@ -22,13 +22,15 @@ if TYPE_CHECKING:
 class State(enum.Enum):
     """What a stored field is, according to describe(). The value is the word that an audit prints.
 
-    CURRENT a whole hash that no new one should replace: needs_rehash() is False OUTDATED a whole
-    hash that a new one should replace: needs_rehash() is True DEAD a valid setting, but no password
-    matches, since the hash was cut or changed OVER_BUDGET a hash that costs too much, at least with
-    a long password LOCKED begins with "!" or "*" NONE is empty, or None NO_SCHEME no hash: a
-    password that was stored as it is, or a damaged hash UNKNOWN a hash of another scheme, such as
-    yescrypt, of which nothing more is known MALFORMED an invalid setting; the description's
-    `reason` says why
+    CURRENT      a whole hash that no new one should replace: needs_rehash() is False
+    OUTDATED     a whole hash that a new one should replace: needs_rehash() is True
+    DEAD         a valid setting, but no password matches, since the hash was cut or changed
+    OVER_BUDGET  a hash that costs too much, at least with a long password
+    LOCKED       begins with "!" or "*"
+    NONE         is empty, or None
+    NO_SCHEME    no hash: a password that was stored as it is, or a damaged hash
+    UNKNOWN      a hash of another scheme, such as yescrypt, about which nothing more is known
+    MALFORMED    an invalid setting; the description's `reason` says why
     """
 
     CURRENT = "current"
@@ -58,10 +60,12 @@ class Description(NamedTuple):
 
     An attribute is None if the field has no such thing.
 
-    state a State scheme the name in crypt(5) of the method, or of another scheme if that is known
-    cost the most that a hash with this setting can cost, for a password of 1,024 bytes rounds those
-    of SHA-crypt and md5crypt n, r, p scrypt's numbers reason the first rule that a malformed
-    setting breaks, a Reason
+    state    a State
+    scheme   the name in crypt(5) of the method, or of another scheme if that is known
+    cost     the most that a hash with this setting can cost, for a password of 1,024 bytes
+    rounds   those of SHA-crypt and md5crypt
+    n, r, p  scrypt's numbers
+    reason   the first rule that a malformed setting breaks, a Reason
     """
 
     state: State
@@ -87,9 +91,9 @@ class Description(NamedTuple):
 class Limit(NamedTuple):
     """What limit() returns.
 
-    cost the most that a hash may cost, as cost() counts it longest_password the length in bytes of
-    the longest password that hash() accepts, or 0 rounds those of new hashes; 0 for md5crypt, and
-    if hash() accepts no password
+    cost              the most that a hash may cost, as cost() counts it
+    longest_password  the length in bytes of the longest password that hash() accepts, or 0
+    rounds            those of new hashes; 0 for md5crypt, and if hash() accepts no password
     """
 
     cost: int

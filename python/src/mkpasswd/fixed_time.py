@@ -4,8 +4,8 @@
     future = logins.submit(login, database, name, password)
 
 `login` is a function of yours that returns True or False. submit() returns a future of
-concurrent.futures: in a thread, future.result() waits for the answer; in asyncio, use `await
-asyncio.wrap_future(future)`.
+concurrent.futures. In a thread, future.result() waits for the answer; in asyncio, write
+`await asyncio.wrap_future(future)`.
 
 1. The login waits for one of the threads, and runs there.
 2. If it returns True, that is the answer, at once.

@@ -54,15 +54,15 @@ SET_TEXT = (
     "the line if there is none."
 )
 INSTALL_TEXT = (
-    "Looks at each line name:hash of HASHES, and puts it in the place of TARGET, the password file "
-    "of a service, which keeps its owner and mode."
+    "Checks each line name:hash of HASHES, and replaces TARGET, the password file of a service, "
+    "with that file. TARGET keeps its owner and mode."
 )
 AUDIT_TEXT = "Shows what is wrong with stored hashes; with --only-problems the worst first."
 VERIFY_TEXT = (
-    "Asks for a password, and says whether it matches NAME's hash in FILE, or without them a hash "
-    "that is asked for too, and can be pasted with its whole line. Standard input that isn't a "
-    "terminal has the password in its first line, and the hash behind it. Ends with status 0 for "
-    "yes, 1 for no, and more if it can't tell."
+    "Asks for a password, and says whether it matches NAME's hash in FILE. Without FILE and NAME "
+    "it asks for the hash too, which can be pasted with its whole line. If standard input isn't a "
+    "terminal, its first line is the password, and the hash follows. Ends with status 0 for yes, 1 "
+    "for no, and more if it can't tell."
 )
 CALIBRATE_TEXT = (
     "Measures how long hashes take on this machine, and prints for each method the rounds and the "
@@ -232,7 +232,7 @@ def single_parser() -> Parser:
     parser.value("--for", dest="form", choices=forms, default="bare", help="print its line")
     parser.value("--name", help="the user, for --for")
     parser.flag("--generate", "make a password, and show it once on the terminal")
-    parser.flag("--accept-doubtful", "take a doubtful password as it is")
+    parser.flag("--accept-doubtful", "accept a doubtful password")
     add_salt(parser)
     add_common(parser)
     return parser
@@ -256,7 +256,7 @@ def file_parser() -> Parser:
     parser = Parser("file", FILE_TEXT)
     add_input(parser, "by default -", STDIN)
     add_out(parser)
-    parser.flag("--resume", "go on with the OUT.part of an earlier run")
+    parser.flag("--resume", "continue the OUT.part of an earlier run")
     parser.flag("--look", "only look for problems")
     parser.flag("--skip-refused", "leave out lines that mkpasswd refuses")
     parser.flag("--skip-doubtful", "leave out doubtful lines")
@@ -264,9 +264,9 @@ def file_parser() -> Parser:
     parser.value("--skip-locked", metavar="SHADOW", help=locked_text)
     unknown_text = "leave out names that have no line there, as in /etc/passwd"
     parser.value("--skip-unknown", metavar="PASSWD", help=unknown_text)
-    parser.flag("--accept-doubtful", "take doubtful lines as they are")
+    parser.flag("--accept-doubtful", "accept doubtful lines")
     add_table(parser)
-    add_service(parser, "doubt names that it takes for others")
+    add_service(parser, "doubt names that it confuses with others")
     add_generate(parser)
     add_salt(parser)
     add_common(parser)
@@ -335,8 +335,8 @@ def audit_parser() -> Parser:
     """Returns the parser of `pwhash audit`."""
     parser = Parser("audit", AUDIT_TEXT)
     add_input(parser, "a file such as /etc/shadow, or - for standard input", None)
-    parser.flag("--only-problems", "show what needs care, and nothing if all is well")
-    parser.flag("--json", "an object a line")
+    parser.flag("--only-problems", "show only what needs care")
+    parser.flag("--json", "print a JSON object for each line")
     parser.flag("--locked", "judge the hashes of locked accounts too")
     add_common(parser)
     return parser
@@ -363,7 +363,7 @@ def set_parser() -> Parser:
     parser.add_argument("file", nargs="?", metavar="FILE", help="the password file of a service")
     parser.add_argument("name", nargs="?", metavar="NAME", help="whose line is changed")
     parser.flag("--generate", "make a password, and show it once on the terminal")
-    parser.flag("--accept-doubtful", "take a doubtful password as it is")
+    parser.flag("--accept-doubtful", "accept a doubtful password")
     parser.flag("--delete", "remove the line")
     parser.flag("--lock", "let no password in; the hash stays behind a !")
     parser.flag("--unlock", "let the password in again")
@@ -415,13 +415,13 @@ def install_parser() -> Parser:
     parser = Parser("install", INSTALL_TEXT)
     parser.add_argument("hashes", nargs="?", metavar="HASHES", help="lines name:hash")
     parser.add_argument("target", nargs="?", metavar="TARGET", help="the password file")
-    add_service(parser, "refuse names that it takes for others")
-    parser.value("--owner", metavar="USER", help="of a new TARGET, by default who runs this")
+    add_service(parser, "refuse names that it confuses with others")
     parser.value(
-        "--group", metavar="GROUP", help="of a new TARGET, by default that of who runs this"
+        "--owner", metavar="USER", help="of a new TARGET, by default the user who runs this"
     )
+    parser.value("--group", metavar="GROUP", help="of a new TARGET, by default that user's")
     parser.value("--mode", metavar="MODE", help="of a new TARGET, by default 600")
-    parser.flag("--accept-other-schemes", "take hashes of bcrypt and others as they are")
+    parser.flag("--accept-other-schemes", "accept hashes of bcrypt and other schemes")
     add_common(parser)
     return parser
 
@@ -562,20 +562,20 @@ def add_service(parser: Parser, text: str) -> None:
 
 def add_generate(parser: Parser) -> None:
     """Adds the options for generated passwords."""
-    parser.flag("--generate", "FILE has names alone: make a password for each")
+    parser.flag("--generate", "FILE has only names: make a password for each")
     passwords_text = "write names and passwords to the new file LIST, as CSV"
     parser.value("--passwords", metavar="LIST", help=passwords_text)
     length_text = "letters and digits of a password, by default 20"
     parser.value("--length", type=parse_number, metavar="NUMBER", help=length_text)
     by_text = "LIST is a new folder, with a file for each value of this column"
     parser.value("--by", metavar="COLUMN", help=by_text)
-    others_text = "columns of FILE that LIST has too, as those of people's names"
+    others_text = "columns of FILE to copy to LIST, such as people's names"
     parser.value("--list-columns", metavar="A,B", help=others_text)
 
 
 def add_salt(parser: Parser) -> None:
     """Adds -S."""
-    text = "up to 16 (md5crypt 8, scrypt 86) of a-zA-Z0-9./, in place of new ones"
+    text = "up to 16 (md5crypt 8, scrypt 86) of a-zA-Z0-9./, instead of new ones"
     parser.value("-S", "--salt", help=text)
 
 

@@ -105,13 +105,13 @@ def find_odd_text(data: bytes) -> Iterator[str]:
 def find_odd_fields(name: bytes, password: bytes, is_table: bool) -> Iterator[str]:
     """Yields doubts about a heading, or a value that a program has put in place of another."""
     if headings.is_heading_of_names(name):
-        yield "a heading, and no user"
+        yield "a heading, not a user"
     if headings.is_heading_of_passwords(name, password):
-        yield "a heading, and no password"
+        yield "a heading, not a password"
     if exports.is_damaged(name, is_table) or exports.is_damaged(password, is_table):
         yield "an error or a changed value of a spreadsheet or another export"
     if exports.is_stored(password):
-        yield "a stored hash or field, and no password"
+        yield "a stored hash or field, not a password"
     if len(password) > LONGEST_OF_CRYPT:
         yield TOO_LONG_FOR_CRYPT
 

@@ -148,8 +148,8 @@ def read_note(place: Place, note: str) -> Pair:
     found = NOTE.fullmatch(note)
     if found is None:
         raise Stop(
-            f"{place.display_name}.mkpasswd.exchange is no link that pwhash or pam_mkpasswd made. "
-            "Look at it, and remove it."
+            f"{place.display_name}.mkpasswd.exchange isn't a link that pwhash or pam_mkpasswd "
+            "made. Look at it, and remove it."
         )
     return Pair(int(found[1]), int(found[2]))
 
@@ -170,7 +170,7 @@ def remove_own_file(place: Place, pair: Pair) -> None:
         return
     if left.st_ino not in pair:
         raise Stop(
-            f"{place.display_name}.mkpasswd.new is somebody's version of the file, which two "
-            "others met. Look at it, and put it in its place (mv) or remove it."
+            f"{place.display_name}.mkpasswd.new is somebody's version of the file, left "
+            "over where three changes collided. Look at it, and put it in place (mv) or remove it."
         )
     os.unlink(place.new, dir_fd=place.folder)

@@ -57,8 +57,8 @@ class HashesFile:
         self._has_others = False
         self._policy = library.auditing_policy(options.policy)
         self._console = console
-        self._first: Dict[bytes, int] = {}
-        self._kinds: Counter[str] = Counter()
+        self._first_lines: Dict[bytes, int] = {}
+        self._kind_counts: Counter[str] = Counter()
         system_files.refuse_shape(content, self._file_name)
         self._judge_all(content)
 
@@ -103,7 +103,7 @@ class HashesFile:
             return "a name that begins with #, has an invisible character or a blank at an end"
         if self._service and not SERVICE_NAMES[self._service].fullmatch(name):
             return "the service takes the name for another, or skips it"
-        first = self._first.setdefault(name, number)
+        first = self._first_lines.setdefault(name, number)
         return f"the name again, after line {first}" if first != number else None
 
     def _check_field(self, line: bytes, field: Field) -> Optional[str]:
@@ -151,8 +151,8 @@ class HashesFile:
 
     def _show(self, number: int, line: bytes, reason: str) -> None:
         kind = re.sub("[0-9]+", "", reason)
-        self._kinds[kind] += 1
-        if self._kinds[kind] <= MAX_SHOWN:
+        self._kind_counts[kind] += 1
+        if self._kind_counts[kind] <= MAX_SHOWN:
             name, colon, _ = line[:64].partition(b":")
             whose = f" ({printable(name)})" if colon and name else ""  # it may be a password
             self._console.say(f"{self._file_name}, line {number}{whose}: {reason}")

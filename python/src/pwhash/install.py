@@ -77,7 +77,7 @@ class Requested:
 
 
 def find_user(name: str) -> int:
-    """Returns the number of a user."""
+    """Returns the number of a user, given by name or number."""
     with contextlib.suppress(KeyError):
         return pwd.getpwnam(name).pw_uid
     if name.isascii() and name.isdecimal() and int(name) < 1 << 32:
@@ -86,7 +86,7 @@ def find_user(name: str) -> int:
 
 
 def find_group(name: str) -> int:
-    """Returns the number of a group."""
+    """Returns the number of a group, given by name or number."""
     with contextlib.suppress(KeyError):
         return grp.getgrnam(name).gr_gid
     if name.isascii() and name.isdecimal() and int(name) < 1 << 32:
@@ -194,7 +194,7 @@ def give_name(place: Place, new: NewFile) -> None:
     except FileExistsError:
         new.remove()
         raise Stop(
-            f"{place.display_name} was made by another just now, and stays. Try again."
+            f"{place.display_name} was just made by another process, and stays. Try again."
         ) from None
     except BaseException:
         new.remove()

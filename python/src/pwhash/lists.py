@@ -103,7 +103,7 @@ def files_in(folder: str) -> List[str]:
     status = os.lstat(folder)
     is_own = stat.S_ISDIR(status.st_mode) and status.st_uid == os.geteuid()
     if not is_own or stat.S_IMODE(status.st_mode) != FOLDER_MODE:
-        raise UsageError(f"{display_name(folder)} is no folder that a run of yours has made.")
+        raise UsageError(f"{display_name(folder)} isn't a folder that a run of yours has made.")
     return [os.path.join(folder, name) for name in os.listdir(folder) if name.endswith(SUFFIX)]
 
 
@@ -137,7 +137,7 @@ def rows_of(content: bytes, separator: str) -> List[Row]:
 def changed_list_error(path: str, problem: str) -> UsageError:
     """Returns the error for a list that has changed since a run wrote it."""
     return UsageError(
-        f"{display_name(path)} isn't as the run that began left it ({problem}), so --resume "
+        f"{display_name(path)} isn't as the earlier run left it ({problem}), so --resume "
         "doesn't know the passwords. Remove the lists and OUT.part, and start again."
     )
 

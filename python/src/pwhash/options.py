@@ -58,7 +58,7 @@ class Doubtful(enum.Enum):
 class Input(NamedTuple):
     """A file of lines, and how to read it."""
 
-    path: Optional[str]  # None is standard input
+    path: Optional[str]  # None stands for standard input
     windows: bool = False  # lines end with a carriage return, and begin with a byte order mark
     columns: Optional[str] = None  # those of a table that have the name and the password
     unlock: bool = False  # leave out the marks in front of a locked hash

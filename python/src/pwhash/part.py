@@ -116,15 +116,15 @@ class Part:
 
     def _out_exists_error(self) -> Stop:
         return Stop(
-            f"{self.out_name} was made by another during the run, and stays as it is. All lines "
+            f"another process made {self.out_name} during the run, so it isn't replaced. All lines "
             f"are done, in {self.name}. First rename or remove {self.out_name}.",
             advice="" if self.is_resumable else f"Rename {self.name}.",
         )
 
     def _cannot_rename_error(self) -> Stop:
         return Stop(
-            f"all lines are done, but here nothing can give {self.name} another name "
-            "without perhaps replacing a file.",
+            f"all lines are done, but this file system can't rename {self.name} without the risk "
+            "of replacing another file.",
             advice=f"Type mv -n {shell_quoted(self.path)} {shell_quoted(self._out)}",
         )
 
@@ -211,7 +211,7 @@ def open_existing(
     is_other = own_file.find_problem(now) or not os.path.samestat(now, found)
     # A run that held the lock until now may have made the part its OUT, and removed the name.
     if is_other or not own_file.has_name(fd, path):
-        raise UsageError(f"{display_name(path)} was replaced just now. Start again.")
+        raise UsageError(f"{display_name(path)} was just replaced. Start again.")
     refuse_to_go_on(path, now, source, options)
     return fd
 
@@ -222,7 +222,7 @@ def create_part(path: str) -> int:
         fd = own_file.create(path)
     except FileExistsError:
         raise UsageError(
-            f"{display_name(path)} was made by another just now. Start again."
+            f"{display_name(path)} was just made by another process. Start again."
         ) from None
     lock(fd, path)
     return fd
@@ -261,11 +261,12 @@ def refuse_another_file(
         before = ResumeState(now.file, now.choice, b"")
     if before == resume_state.INCOMPLETE:
         raise UsageError(
-            f"{display_name(resume_state.path_of(path))} was cut. Remove {both}, and start again."
+            f"{display_name(resume_state.path_of(path))} is incomplete. "
+            f"Remove {both}, and start again."
         )
     if before.file != now.file:
         raise UsageError(
-            f"{name} isn't of {source.name} as it is now: that is another file, or was "
+            f"{name} isn't from {source.name} as it is now: that is another file, or was "
             f"changed or touched since. Remove {both}, and start again."
         )
     if options.resume:
@@ -276,12 +277,12 @@ def refuse_other_options(before: ResumeState, now: ResumeState, name: str, both:
     """Refuses options with which other lines, or other passwords, would be hashed."""
     if before.options != now.options:
         raise UsageError(
-            f"{name} was begun with other --windows, --csv, --columns, --generate, --by or "
+            f"{name} was started with other --windows, --csv, --columns, --generate, --by or "
             f"--list-columns. Give those, or remove {both}, and start again."
         )
     if before.choice != now.choice:
         raise UsageError(
-            f"{name} was begun with {before.choice.decode()}, so other lines were left out. "
+            f"{name} was started with {before.choice.decode()}, so other lines were left out. "
             "Give the same -m and -R, and just those options of their kind, or remove "
             f"{both}, and start again."
         )

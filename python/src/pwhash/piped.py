@@ -43,4 +43,4 @@ class PipedLines:
     def warn_about_extra_lines(self, last: str) -> None:
         """Warns about further lines, which are ignored, if they are there already."""
         if self.next_at_once():
-            self._console.say(f"lines of standard input behind {last} don't count.")
+            self._console.say(f"lines of standard input after {last} are ignored.")

@@ -18,7 +18,7 @@ from pwhash.text import display_name, shell_quoted
 # In a folder that others can write, they can replace a file at any moment.
 WRITABLE_BY_OTHERS = stat.S_IWGRP | stat.S_IWOTH
 SUPERUSER = 0
-AS_SUPERUSER = "Run pwhash as its owner or as the superuser, by sudo say."
+AS_SUPERUSER = "Run pwhash as its owner or as the superuser, with sudo for example."
 
 
 class Place(NamedTuple):
@@ -82,7 +82,7 @@ def refuse_set_id() -> None:
     if len(set(os.getresuid())) != 1 or len(set(os.getresgid())) != 1:
         raise UsageError(
             "a set-user-ID or set-group-ID program runs pwhash, which then changes no file. "
-            "Let the superuser run it, by sudo say."
+            "Let the superuser run it, with sudo for example."
         )
 
 

@@ -95,26 +95,27 @@ def ask_on_terminal(fd: int, conversation: Callable[[Ask], Answers]) -> Answers:
     finally:
         signal.signal(signal.SIGCONT, signal.SIG_DFL)
         restore(terminal)
-        signal.pthread_sigmask(signal.SIG_UNBLOCK, waiting)  # one that came ends the run here
+        signal.pthread_sigmask(signal.SIG_UNBLOCK, waiting)  # a pending one ends the run here
 
 
 def is_in_background(fd: int) -> bool:
     """Whether the terminal belongs to another process group."""
     try:
         return os.tcgetpgrp(fd) != os.getpgrp()
-    except OSError:  # it isn't the terminal of this session, and stops nobody
+    except OSError:  # it isn't this session's terminal, so it stops no process
         return False
 
 
 def wait_for_foreground(fd: int) -> None:
-    """In the background the system stops the process here, where a signal can still end it.
+    """Waits until the process is in the foreground: until then the system stops it here.
 
-    Wherever it changes the terminal, it would be stopped too, but there signals wait.
+    Otherwise it would be stopped later, when it changes the terminal and has blocked the signals
+    that end it.
     """
     while is_in_background(fd):
         try:
-            termios.tcdrain(fd)  # of all that stops the process, the call that changes nothing
-            return  # something ignores SIGTTOU
+            termios.tcdrain(fd)  # stops a process in the background, and changes nothing
+            return  # in the background only if SIGTTOU is ignored
         except termios.error as error:
             if error.args[0] != errno.EINTR:
                 raise cant_hide_error() from None

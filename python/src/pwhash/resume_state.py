@@ -1,4 +1,4 @@
-"""OUT.part.options, which tells --resume from which file and with which options OUT.part is.
+"""OUT.part.options, from which --resume learns which file and options OUT.part belongs to.
 
 It never contains a digest of the file, since that would be a digest of passwords.
 """
@@ -97,7 +97,7 @@ def read(part: str) -> Optional[ResumeState]:
     if not problem and (not data or data.startswith(BEGIN)):
         return INCOMPLETE
     raise UsageError(
-        f"{display_name(path)} is in the way: {problem or 'it is of no run'}. "
+        f"{display_name(path)} is in the way: {problem or 'it is not from a run'}. "
         "Remove it, or name another file after -o."
     )
 

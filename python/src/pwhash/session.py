@@ -73,11 +73,11 @@ class Session:
         self.console.stop_waiting()
         if self.part is not None and self.part.is_whole:
             with contextlib.suppress(Stop):  # the exit status still tells
-                self.console.say(f"{number.name} came when {self.part.out_name} was whole.")
+                self.console.say(f"{number.name} came after {self.part.out_name} was complete.")
             os._exit(self._status_if_whole)
         if self.changed is not None:
             with contextlib.suppress(Stop):
-                self.console.say(f"{number.name} came when {self.changed} was changed.")
+                self.console.say(f"{number.name} came after {self.changed} was changed.")
             os._exit(Status.OK)
         if self.part is not None:
             self.part.leave(is_wrong_use=False)

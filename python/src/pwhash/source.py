@@ -148,7 +148,7 @@ def open_in_time(path: str) -> int:
     """Opens a file. If it is a pipe, waits only a few seconds for a writer."""
 
     def give_up(*_: object) -> NoReturn:
-        raise UsageError(f"{display_name(path)} is a pipe that nobody writes.")
+        raise UsageError(f"{display_name(path)} is a pipe without a writer.")
 
     before = signal.signal(signal.SIGALRM, give_up)
     signal.alarm(SECONDS_UNTIL_WRITER)

@@ -19,7 +19,7 @@ from pwhash.workers import run_in_thread
 
 SECONDS = 2.0  # during which hashes are measured again and again
 MIN_TIMES = 3
-COST_AT_ONCE = 5_000_000  # or the cost of one hash, if that is more
+COST_AT_ONCE = 5_000_000  # of the hashes in one measurement, unless a single one costs more
 
 
 class CostlyHash(NamedTuple):

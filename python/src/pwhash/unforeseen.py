@@ -27,7 +27,7 @@ def end(
     kind: Type[BaseException], _: Optional[BaseException], trace: Optional[TracebackType]
 ) -> None:
     """Ends the process, and reports the exception."""
-    say(f"{describe(kind, trace)}: pwhash is damaged, or has a fault.")
+    say(f"{describe(kind, trace)}: pwhash is damaged, or has a bug.")
     os._exit(FAILED)
 
 
@@ -38,7 +38,7 @@ def end_in_thread(arguments: threading.ExceptHookArgs) -> None:
 
 def ignore(arguments: "sys.UnraisableHookArgs") -> None:
     """Reports an exception that Python can't raise, such as one in a __del__."""
-    say(f"{describe(arguments.exc_type, arguments.exc_traceback)}, which ends nothing.")
+    say(f"{describe(arguments.exc_type, arguments.exc_traceback)}. The run continues.")
 
 
 def describe(kind: Type[BaseException], trace: Optional[TracebackType]) -> str:

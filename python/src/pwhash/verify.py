@@ -149,7 +149,7 @@ def warn_about_bytes(password: bytes, console: Console) -> None:
     text = password.decode(errors="replace")
     if b"\r" in password or BYTE_ORDER_MARK in password:
         console.say(
-            "the password has a carriage return or a byte order mark in it, as files of Windows."
+            "the password has a carriage return or a byte order mark in it, as files of Windows do."
         )
     elif text != text.strip():
         console.say("the password begins or ends with a blank.")
