@@ -7,7 +7,7 @@ import functools
 import os
 import re
 from collections.abc import Sequence
-from typing import Any, Callable, Dict, NamedTuple, NoReturn, Optional
+from typing import Any, Callable, Dict, List, NamedTuple, NoReturn, Optional
 
 from pwhash import library
 from pwhash.console import terminal_columns
@@ -81,6 +81,8 @@ MAX_MODE = 0o644
 CONTROL_CHARACTER = re.compile("[\0-\x1f\x7f-\x9f]")
 NAME_OF_LINE = re.compile("[^:#\\0-\\x1f\\x7f][^:\\0-\\x1f\\x7f]*")
 OPTION_NAME = re.compile("--[a-z-]+")
+END_OF_OPTIONS = "--"
+OPERAND_MARK = "\0"  # which no argument of a process contains
 FORMS = {form.word: form for form in Form}
 # The rounds that a method accepts, in words. md5crypt's can't be chosen.
 ROUNDS = {
@@ -103,10 +105,31 @@ def read_options(arguments: Sequence[str]) -> Options:
     name = arguments[0] if arguments and arguments[0] in COMMANDS else ""
     command = COMMANDS[name]
     parser = command.parser()
-    parsed, unknown = parser.parse_known_args(arguments[1:] if name else arguments)
+    marked = mark_operands(arguments[1:] if name else arguments)
+    parsed, unknown = parser.parse_known_intermixed_args(marked)
     if unknown:
         raise parser.usage_error(describe_unknown(unknown))
-    return command.options(parser, parsed)
+    return command.options(parser, unmark_operands(parsed))
+
+
+def mark_operands(arguments: Sequence[str]) -> List[str]:
+    """Returns the arguments, with a mark in front of each one behind --.
+
+    If options may stand between operands, argparse before Python 3.12.5 parses the operands twice.
+    By the second time it has forgotten the --, and would take them for options.
+    """
+    if END_OF_OPTIONS not in arguments:
+        return list(arguments)
+    end = arguments.index(END_OF_OPTIONS) + 1
+    return [*arguments[:end], *(OPERAND_MARK + word for word in arguments[end:])]
+
+
+def unmark_operands(parsed: argparse.Namespace) -> argparse.Namespace:
+    """Returns the parsed arguments without the marks."""
+    for key, value in vars(parsed).items():
+        if isinstance(value, str) and value.startswith(OPERAND_MARK):
+            setattr(parsed, key, value[len(OPERAND_MARK) :])
+    return parsed
 
 
 def describe_unknown(arguments: Sequence[str]) -> str:

@@ -58,6 +58,8 @@ class Doubts:
         found += find_odd_fields(name, password, self._is_table)
         if not self._is_table:
             found += find_signs_of_table(line.data, name, password)
+        elif self._service_name is None and b" " in name.strip():
+            found.append("a blank in the name: is it the column of user names? See --columns")
         if self._service_name and not self._service_name.fullmatch(name):
             found.append("the service takes the name for another, or skips it")
         again = self._names.check(name, line.number, bool(found))

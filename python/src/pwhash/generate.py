@@ -11,6 +11,7 @@ import re
 from typing import Dict, List, NamedTuple, Optional, Tuple
 
 from pwhash import lists, resume_state
+from pwhash.console import Console
 from pwhash.doubts import NOT_UTF8
 from pwhash.errors import UsageError
 from pwhash.lines import Line, LineGroups, name_of
@@ -20,7 +21,7 @@ from pwhash.part import Part, refuse_changed
 from pwhash.session import Session
 from pwhash.single import random_letter_or_digit
 from pwhash.source import Source
-from pwhash.text import display_name, is_utf8, is_visible
+from pwhash.text import display_name, is_utf8, is_visible, printable
 
 PLACEHOLDER = b"x"
 # What begins a formula in a spreadsheet. Some also accept the fullwidth forms of East Asia.
@@ -28,6 +29,7 @@ FORMULA = re.compile("[\\s\ufeff\u200b]*[-=+@\uff1d\uff0b\uff0d\uff20]")
 BEFORE_FORMULA = re.compile('[,;|"]')
 IN_NO_LIST = re.compile(rb"[,;|\"\0-\x1f\x7f]")
 LONGEST_FILE_NAME = 255
+MAX_SHOWN = 20  # names in a message
 MOST_SHOWN = 20  # names in a message
 
 
@@ -121,7 +123,9 @@ def store_passwords(
     has_hashes = os.fstat(part.fd).st_size > 0
     has_lists = resume_state.read(part.path) is not None and os.path.lexists(generate.passwords)
     if options.resume and has_lists:
-        return lists.read(generate.passwords, generate.has_groups)
+        passwords = lists.read(generate.passwords, generate.has_groups)
+        report_useless_passwords(passwords, groups, generate, session.console)
+        return passwords
     if has_hashes:
         raise UsageError(
             f"{part.name} has hashes of passwords that were in {display_name(generate.passwords)}, "
@@ -134,6 +138,21 @@ def store_passwords(
     with session.signals.postponed():
         write_lists(names, generate, source.separator, part, options)
     return names.passwords
+
+
+def report_useless_passwords(
+    passwords: Dict[bytes, bytes], groups: LineGroups, generate: Generate, console: Console
+) -> None:
+    """Names the passwords of a list that get no hash, such as those of accounts locked since."""
+    hashed_names = {name_of(line) for group in groups for line in group}
+    useless = [printable(name) for name in passwords if name not in hashed_names]
+    if useless:
+        shown = ", ".join(useless[:MAX_SHOWN])
+        others = f" and {len(useless) - MAX_SHOWN:,} more" if len(useless) > MAX_SHOWN else ""
+        console.say(
+            f"{display_name(generate.passwords)} has passwords that get no hash, since their lines "
+            f"are left out now: {shown}{others}."
+        )
 
 
 def leftover_list_error(path: str, part: Part) -> UsageError:
