@@ -33,6 +33,7 @@ SETTINGS = [
     pytest.param("$7$BU..../....saltsalt", id="scrypt"),
 ]
 SECRET = b"TopSecret"
+HASH = hashed(SECRET)
 COSTLY = b"$6$rounds=999999999$saltsalt$" + b"x" * 85 + b"."
 FIELDS = [
     pytest.param(MD5[:-1].encode(), b"cut or changed", id="a hash that was cut"),
@@ -240,6 +241,16 @@ def test_input_without_a_hash_is_refused(data: bytes, reason: bytes) -> None:
 def test_a_hash_before_the_password_is_named(first: bytes, second: bytes) -> None:
     done = pwhash("verify", stdin=first + b"\n" + second + b"\n")
     assert_refused(done.status, done.out, done.err, b"the password first, then the hash")
+
+
+def test_behind_a_hash_that_was_cut_the_line_of_another_is_not_compared() -> None:
+    done = pwhash("verify", stdin=SECRET + b"\n" + MD5[:-1].encode() + b"\nbob:" + HASH + b"\n")
+    assert (done.status, done.out) == (2, b"") and b"cut or changed" in done.err, done
+
+
+def test_fields_behind_a_hash_without_a_name_are_left_out() -> None:
+    done = pwhash("verify", stdin=SECRET + b"\n" + HASH + b":19000:0:99999:7:::\n")
+    assert (done.status, done.out) == (0, YES), done
 
 
 def test_a_password_that_begins_with_a_dollar_is_no_hash() -> None:

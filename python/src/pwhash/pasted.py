@@ -75,7 +75,15 @@ def field_of_pasted(pasted: bytes) -> bytes:
     """Returns the field with the hash from a pasted hash or line, perhaps in quotes."""
     line = without_blanks(pasted).strip(QUOTES)
     name, colon, rest = line.partition(b":")
-    return rest.partition(b":")[0].strip(QUOTES) if colon else name
+    # Behind a hash without a name may be further fields, or the next line, which is of another.
+    if not colon or begins_like_hash(without_prefix(name)):
+        return name
+    return rest.partition(b":")[0].strip(QUOTES)
+
+
+def begins_like_hash(field: bytes) -> bool:
+    """Whether a field begins like a hash of a known scheme, such as $6$."""
+    return field.startswith(b"$") and library.describe(field).scheme is not None
 
 
 def is_cut(pasted: bytes) -> bool:

@@ -19,7 +19,13 @@ from pwhash.field import without_prefix
 from pwhash.library import OVER_BUDGET, Refusal, Verdict
 from pwhash.lines import BYTE_ORDER_MARK
 from pwhash.options import VerifyOptions
-from pwhash.pasted import PASSWORD_PROMPT, ask_for_both, field_of_pasted, piped_both
+from pwhash.pasted import (
+    PASSWORD_PROMPT,
+    ask_for_both,
+    begins_like_hash,
+    field_of_pasted,
+    piped_both,
+)
 from pwhash.piped import PipedLines
 from pwhash.prompt import ask_each, with_hidden_input
 from pwhash.session import Session
@@ -91,11 +97,6 @@ def ask_for_password_and_hash(console: Console) -> Attempt:
         )
     whose = "the hash"
     return Attempt(both.password, whole_hash(both.field, whose), whose)
-
-
-def begins_like_hash(field: bytes) -> bool:
-    """Whether a field begins like a hash of a known scheme, such as $6$."""
-    return field.startswith(b"$") and library.describe(field).scheme is not None
 
 
 def find_only_line(options: VerifyOptions, console: Console) -> Stored:
