@@ -99,6 +99,32 @@ def test_for_a_service_a_prefix_that_fits_stays(prefix: bytes) -> None:
     assert (done.status, read("passwords")) == (0, in_file(b"ann:" + prefix + MD5.encode())), done
 
 
+@pytest.mark.parametrize(
+    ("service", "prefix", "new_prefix"),
+    [
+        ("apache", b"{CRYPT}", b""),
+        ("nginx", b"{crypt}", b""),
+        ("nginx", b"{MD5-CRYPT}", b""),
+        ("ldap", b"{MD5-CRYPT}", b"{CRYPT}"),
+        ("ldap", b"{crypt}", b"{crypt}"),
+    ],
+)
+def test_a_prefix_that_only_other_services_know_is_replaced(
+    service: str, prefix: bytes, new_prefix: bytes
+) -> None:
+    save("passwords", in_file(b"ann:!" + prefix + OLD))
+    words = ("--for", service, "passwords", "ann")
+    done = pwhash("set", *MD5CRYPT, *words, stdin=b"password\n")
+    expected = in_file(b"ann:!" + new_prefix + MD5.encode())
+    assert (done.status, read("passwords")) == (0, expected), done
+
+
+def test_for_nginx_a_new_name_gets_no_prefix() -> None:
+    save("passwords", b"bob:{CRYPT}x\n")
+    done = pwhash("set", *MD5CRYPT, "--for", "nginx", "passwords", "ann", stdin=b"password\n")
+    assert (done.status, read("passwords")) == (0, b"bob:{CRYPT}x\nann:" + MD5.encode() + b"\n")
+
+
 def test_for_a_service_a_locked_name_stays_locked() -> None:
     save("passwords", in_file(b"ann:!{SHA}x"))
     done = pwhash("set", *MD5CRYPT, "--for", "nginx", "passwords", "ann", stdin=b"password\n")

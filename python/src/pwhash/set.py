@@ -124,7 +124,7 @@ class Line:
             )
         self._sentence = f"{self._user} was added to {self._file}."
         prefix = password_file.common_prefix(content)
-        if not field.fits(prefix, self._options.policy.method):
+        if not self._fits(prefix):
             prefix = b""
         return password_file.with_line(content, self._name + b":" + prefix + self.new_hash)
 
@@ -138,13 +138,23 @@ class Line:
 
     def _with_hash(self, old: Field) -> Field:
         """Returns the field with the new hash. A locked name stays locked."""
-        if not field.fits(old.prefix, self._options.policy.method):
+        if not self._fits(old.prefix):
             if self._options.service is None:
                 raise self._prefix_error(old.prefix)
             old = old._replace(prefix=NEW_PREFIXES[self._options.service])
         self._sentence = f"{self._user} has a new password in {self._file}"
         self._sentence += ", and stays locked. --unlock unlocks." if old.is_locked else "."
         return old._replace(stored=self.new_hash)
+
+    def _fits(self, prefix: bytes) -> bool:
+        """Whether the new hash may stand behind a prefix, so that the service finds it there.
+
+        Of the prefixes for crypt(3), Apache and nginx know none, and LDAP's servers only {CRYPT}.
+        """
+        service = self._options.service
+        if service is None or service is Service.DOVECOT:
+            return field.fits(prefix, self._options.policy.method)
+        return prefix.upper() in (b"", NEW_PREFIXES[service])
 
     def _prefix_error(self, prefix: bytes) -> UsageError:
         """Returns the error for a prefix that doesn't fit a hash of the method."""
