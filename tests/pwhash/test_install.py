@@ -304,6 +304,30 @@ def test_a_folder_that_others_can_write_is_refused(has_target: bool) -> None:
     assert os.listdir("folder") == ["target"] * has_target
 
 
+@pytest.mark.parametrize(
+    "content",
+    [
+        pytest.param(b"auth_basic Members;\n", id="a configuration"),
+        pytest.param(b"# list: of\n\nann:x\nbob\n", id="a line without a colon"),
+        pytest.param(b"\x7fELF\0\0\n\xff", id="a program"),
+    ],
+)
+def test_what_is_no_password_file_is_not_replaced(content: bytes) -> None:
+    save("hashes", HASHES)
+    save("target", content)
+    done = pwhash(*INSTALL)
+    assert (done.status, done.out) == (2, b"") and b"no colon" in done.err, done
+    assert read("target") == content, done
+
+
+@pytest.mark.parametrize("content", [b"", b"\n", b"# none yet\n", b"ann:x\n \n"])
+def test_a_password_file_of_few_lines_is_replaced(content: bytes) -> None:
+    save("hashes", HASHES)
+    save("target", content)
+    done = pwhash(*INSTALL)
+    assert (done.status, read("target")) == (0, HASHES), done
+
+
 def test_a_copy_of_shadow_is_refused_by_its_nine_fields() -> None:
     shadow = b"ann:!:19000:0:99999:7:::\n"
     save("hashes", HASHES)

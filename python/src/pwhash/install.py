@@ -9,7 +9,7 @@ import pwd
 import stat
 from typing import Dict, List, Optional
 
-from pwhash import field, replacing, system, system_files
+from pwhash import field, password_file, replacing, system, system_files
 from pwhash.errors import Stop, UsageError, errors_named
 from pwhash.exchange import end_earlier_exchange
 from pwhash.field import Field
@@ -118,6 +118,7 @@ class Content:
     def changed(self, content: bytes) -> bytes:
         """The new content in place of the present one."""
         system_files.refuse_shape(content, self._file_name)
+        refuse_other_file(content, self._file_name)
         before = read_fields(content)
         lines: List[bytes] = []
         locked: List[bytes] = []
@@ -137,6 +138,16 @@ class Content:
             some = ", ".join(printable(name) for name in names[:MAX_NAMED])
             more = f" and {len(names) - MAX_NAMED:,} others" if len(names) > MAX_NAMED else ""
             self.sentences.append(f"these {what}: {some}{more}.")
+
+
+def refuse_other_file(content: bytes, file_name: str) -> None:
+    """Refuses to replace a file that isn't a password file, such as a service's configuration."""
+    number = password_file.first_odd_line(content)
+    if number is not None:
+        raise UsageError(
+            f"{file_name}, line {number}: no colon, as each line of a password file has one. Is it "
+            "another file? Nothing was installed. If it isn't needed, remove it first."
+        )
 
 
 def read_fields(content: bytes) -> Dict[bytes, Field]:
