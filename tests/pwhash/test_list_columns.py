@@ -96,6 +96,7 @@ def test_a_value_is_in_the_list_as_it_is(field: bytes, value: str) -> None:
     ("field", "reason"),
     [
         pytest.param(b"=1+1", b"formula", id="a formula"),
+        pytest.param(b"#WERT!", b"an error of a spreadsheet", id="an error of a spreadsheet"),
         pytest.param(b"+49 123", b"formula", id="a number that begins with plus"),
         pytest.param(b"a,=1", b"formula", id="one behind a comma"),
         pytest.param(b'"a;=1"', b"formula", id="one behind a semicolon"),

@@ -94,9 +94,12 @@ def test_a_name_gets_no_password_in_a_list() -> None:
     assert (done.status, names) == (0, [b"name", b"ann"]), done
 
 
-def test_a_look_shows_who_has_no_account() -> None:
+def test_a_look_shows_everybody_without_an_account() -> None:
+    save("list", LIST + b"".join(b"new%d:pw\n" % number for number in range(60)))
     done = pwhash("file", "--look", "--skip-unknown", "passwd", "list")
     assert done.status == 0 and b"(eve): not in passwd" in done.err, done
+    assert all(b"(new%d): not in passwd" % number in done.err for number in range(60)), done
+    assert b"lines left out since their names aren't in passwd: 61." in done.err, done
 
 
 def test_locked_names_are_left_out_too() -> None:

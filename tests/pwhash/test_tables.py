@@ -134,6 +134,13 @@ def test_rows_that_a_stray_quote_joins_to_the_heading_are_not_lost_silently() ->
     assert b"lines 1 to here" in done.err and lines_named_in(done.err) == [3], done
 
 
+def test_a_quote_without_an_end_is_named_as_such() -> None:
+    table = save("table", b'name,password\nann,pw1\nbob,"pw2\ncy,pw3\n')
+    done = pwhash("file", "--csv", *MD5CRYPT, table, "--skip-refused", "-o", "hashes")
+    assert done.status == 3 and not os.path.exists("hashes"), done
+    assert b"table, line 3: a quote that begins a field here has no end" in done.err, done
+
+
 def test_lines_that_end_in_carriage_returns_alone_are_no_table() -> None:
     done = pwhash("file", "--csv", *MD5CRYPT, stdin=b"name,password\rann,x\r")
     assert done.status == 3 and b"not CSV" in done.err and b"Error at" not in done.err, done

@@ -67,10 +67,11 @@ class Selection:
         self._source = source
         self._generate = options.generate
         self._skipping: List[Skipping] = []
+        shows_all = options.only_look
         if options.skip_unknown is not None:
-            self._skipping.append(Unknown(options.skip_unknown, source.name, console))
+            self._skipping.append(Unknown(options.skip_unknown, source, console, shows_all))
         if options.skip_locked is not None:
-            self.locked = Locked(options.skip_locked, source.name, console)
+            self.locked = Locked(options.skip_locked, source, console, shows_all)
             self._skipping.append(self.locked)
 
     def lines(self) -> LineGroups:

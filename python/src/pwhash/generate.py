@@ -14,6 +14,7 @@ from pwhash import lists, resume_state
 from pwhash.console import Console
 from pwhash.doubts import NOT_UTF8
 from pwhash.errors import UsageError
+from pwhash.exports import is_damaged
 from pwhash.lines import Line, LineGroups, name_of
 from pwhash.lists import ListWriter, Row
 from pwhash.options import FileOptions, Generate
@@ -75,6 +76,8 @@ def check_group(group: bytes) -> Optional[str]:
     """Says why a value in the column of --by can't name a file, or returns None."""
     if not group:
         return "nothing in the column of --by, which names the list"
+    if is_damaged(group, is_of_table=True):
+        return "an error of a spreadsheet in the column of --by, which names the list"
     if b"/" in group or group.startswith(b"."):
         return "a slash or a first dot in the column of --by, which names the list"
     if not is_utf8(group):
@@ -92,6 +95,8 @@ def check_others(fields: Tuple[bytes, ...]) -> Optional[str]:
         text = field.decode(errors="replace")
         if not is_visible(text):
             return "an invisible character in a column of --list-columns"
+        if is_damaged(field, is_of_table=True):
+            return "an error of a spreadsheet in a column of --list-columns"
         if any(FORMULA.match(piece) for piece in BEFORE_FORMULA.split(text)):
             return "a field of --list-columns that a spreadsheet would take for a formula"
     return None

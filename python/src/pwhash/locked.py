@@ -15,6 +15,7 @@ from pwhash.errors import UsageError
 from pwhash.field import without_prefix
 from pwhash.lines import Line, name_of
 from pwhash.skipping import Skipping
+from pwhash.source import Source
 from pwhash.stored import stored_in
 
 NO_PASSWORD_YET = (b"!", b"!!")  # the latter on Red Hat's systems
@@ -24,8 +25,8 @@ IN_SHADOW = b"x"  # the field of every name in /etc/passwd
 class Locked(Skipping):
     """Leaves out lines whose names are locked in a file."""
 
-    def __init__(self, path: str, source_name: str, console: Console) -> None:
-        super().__init__(path, source_name, console)
+    def __init__(self, path: str, source: Source, console: Console, shows_all: bool) -> None:
+        super().__init__(path, source, console, shows_all)
         self._can_be_read_again = os.path.isfile(path)
         self._names = self._read()
 

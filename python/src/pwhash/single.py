@@ -15,7 +15,8 @@ from pwhash.options import GENERATED_LENGTH, SingleOptions
 from pwhash.session import Session
 from pwhash.workers import run_in_thread
 
-LETTERS = string.ascii_letters + string.digits
+LOOK_ALIKES = "0O1lI"  # on paper
+LETTERS = [each for each in string.ascii_letters + string.digits if each not in LOOK_ALIKES]
 SECONDS_OF_DAY = 86400
 
 

@@ -6,18 +6,20 @@ import abc
 
 from pwhash.console import Console
 from pwhash.lines import Line, LineGroups, name_of
+from pwhash.source import Source
 from pwhash.text import display_name, printable
 
-MAX_SHOWN = 20  # lines that are reported
+MAX_SHOWN = 20  # lines that are reported, unless a run only looks for problems
 
 
 class Skipping(abc.ABC):
     """Leaves out lines. It reports them when they are read for the first time."""
 
-    def __init__(self, path: str, source_name: str, console: Console) -> None:
+    def __init__(self, path: str, source: Source, console: Console, shows_all: bool) -> None:
         self.path = path
         self.console = console
-        self._source_name = source_name
+        self._source_name = source.name
+        self._shows_all = shows_all
         self._is_reported = False
         self._left_out = 0
 
@@ -61,6 +63,6 @@ class Skipping(abc.ABC):
 
     def _show(self, line: Line) -> None:
         self._left_out += 1
-        if self._left_out <= MAX_SHOWN:
+        if self._shows_all or self._left_out <= MAX_SHOWN:
             where = f"{self._source_name}, line {line.number} ({printable(name_of(line))})"
             self.console.say(f"{where}: {self.reason}")

@@ -332,6 +332,8 @@ def describe_csv_error(error: csv.Error) -> str:
         return "a field is longer than 128 KiB, or the quote that begins it has no end"
     if "new-line" in str(error):
         return "this is not CSV: a carriage return ends no row. Save the file with line feeds"
+    if "unexpected end" in str(error):
+        return "a quote that begins a field here has no end, so the rows behind it can't be read"
     return f"this is not CSV: {error}"
 
 

@@ -8,14 +8,15 @@ from __future__ import annotations
 from pwhash.console import Console
 from pwhash.lines import Line, name_of
 from pwhash.skipping import Skipping
+from pwhash.source import Source
 from pwhash.stored import stored_in
 
 
 class Unknown(Skipping):
     """Leaves out lines whose names a file doesn't have."""
 
-    def __init__(self, path: str, source_name: str, console: Console) -> None:
-        super().__init__(path, source_name, console)
+    def __init__(self, path: str, source: Source, console: Console, shows_all: bool) -> None:
+        super().__init__(path, source, console, shows_all)
         self._names = {stored.name for stored in stored_in(path, console)}
 
     @property
