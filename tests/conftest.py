@@ -1,4 +1,4 @@
-"""How pytest runs the tests: what they need, which begin first, and the last lines."""
+"""Sets up pytest: shared fixtures, skips for what is missing, slow tests first, a summary."""
 from __future__ import annotations
 
 import ctypes
@@ -13,15 +13,15 @@ from support import ROOT
 from support.needs import need
 from support.process import Changes
 
-NOTHING_CHOSEN = 5  # pytest's status where -k chose none of the tests
-ENDED = pytest.StashKey[int]()
+NO_TESTS_SELECTED = 5  # pytest's exit status if -k selects no test
+EXIT_STATUS = pytest.StashKey[int]()
 PR_SET_PDEATHSIG = 1  # of prctl(2)
-COMMANDS_OF_ROOT = "/usr/sbin:/sbin"  # among them services
+SBIN = "/usr/sbin:/sbin"  # where services are, and which root's PATH may lack
 
 
 @pytest.fixture(scope="session", name="program")
 def fixture_program() -> Path:
-    """The built program, or another one like it: PROGRAM."""
+    """The built program, or the one that the variable PROGRAM names."""
     path = Path(os.environ.get("PROGRAM", ROOT / "mkpasswd"))
     if not os.access(path, os.X_OK):
         pytest.fail(f"{path} is not built: run make", pytrace=False)
@@ -30,7 +30,7 @@ def fixture_program() -> Path:
 
 @pytest.fixture(scope="session", name="commands")
 def fixture_commands(program: Path, tmp_path_factory: pytest.TempPathFactory) -> Path:
-    """A folder with the tree's commands by the names that documents call them by."""
+    """A folder with the tree's commands under the names that the documents use."""
     folder = tmp_path_factory.mktemp("commands")
     for name in ("mkpasswd", "mkpasswd.proved"):  # the latter is Debian's
         (folder / name).symlink_to(program)
@@ -40,13 +40,16 @@ def fixture_commands(program: Path, tmp_path_factory: pytest.TempPathFactory) ->
 
 @pytest.fixture(scope="session", name="environment")
 def fixture_environment(commands: Path) -> Changes:
-    """Where a shell finds the tree's commands first."""
+    """The environment in which a shell finds the tree's commands first."""
     return {"PATH": f"{commands}:{os.environ['PATH']}", "BASH_ENV": None}
 
 
 @pytest.fixture(autouse=True, name="heeded_signals")
 def fixture_heeded_signals() -> Iterator[None]:
-    """What a test starts heeds keys, also where a shell runs the tests in its background."""
+    """Lets ^C and ^\\ reach what a test starts, even if a shell runs the tests in the background.
+
+    A shell without job control starts background commands with these signals ignored.
+    """
     at_interrupt = signal.signal(signal.SIGINT, signal.default_int_handler)
     at_quit = signal.signal(signal.SIGQUIT, signal.SIG_DFL)
     mask = signal.pthread_sigmask(signal.SIG_SETMASK, [])
@@ -57,16 +60,17 @@ def fixture_heeded_signals() -> Iterator[None]:
 
 
 def is_worker(config: pytest.Config) -> bool:
-    """Whether this process runs tests for another one, as xdist's do."""
+    """Returns whether this process is a worker of pytest-xdist."""
     return hasattr(config, "workerinput")
 
 
 def pytest_configure(config: pytest.Config) -> None:
-    """Ends what a test started with the process that runs tests, and that with the first one.
+    """Adds SBIN to PATH, and makes sure that SIGTERM ends workers and the commands of their tests.
 
-    The commands of root are found, whatever PATH root has.
+    A worker gets SIGTERM when the main process dies. SIGTERM then acts like ^C, so that a test
+    still ends what it has started.
     """
-    os.environ["PATH"] = f"{os.environ['PATH']}:{COMMANDS_OF_ROOT}"
+    os.environ["PATH"] = f"{os.environ['PATH']}:{SBIN}"
     if is_worker(config):
         ctypes.CDLL(None).prctl(PR_SET_PDEATHSIG, signal.SIGTERM)
     if is_worker(config) or not config.getoption("numprocesses", None):
@@ -74,30 +78,30 @@ def pytest_configure(config: pytest.Config) -> None:
 
 
 def pytest_runtest_setup(item: pytest.Item) -> None:
-    """Looks for what a test needs before its fixtures are made."""
+    """Skips a test before its fixtures are set up if something that it needs is missing."""
     for marker in item.iter_markers("needs"):
         need(*marker.args)
 
 
 def pytest_collection_modifyitems(items: list[pytest.Item]) -> None:
-    """Puts the slow tests first: workers take tests in this order, and wait for the last."""
+    """Puts slow tests first, so that no worker begins one when the others are done."""
     items.sort(key=lambda item: item.get_closest_marker("slow") is None)
 
 
 def pytest_sessionfinish(session: pytest.Session, exitstatus: int) -> None:
-    """Keeps the status for the last line."""
-    session.config.stash[ENDED] = int(exitstatus)
+    """Keeps pytest's exit status for the summary."""
+    session.config.stash[EXIT_STATUS] = int(exitstatus)
 
 
 def reason_of(report: pytest.TestReport) -> str:
-    """Why a test was skipped."""
+    """Returns why a test was skipped."""
     if isinstance(report.longrepr, tuple):
         return report.longrepr[2].removeprefix("Skipped: ")
     return str(report.longrepr)
 
 
 def print_skipped(reports: list[pytest.TestReport]) -> None:
-    """Prints what was skipped, by the reason."""
+    """Prints the skipped tests below the reason of each."""
     tests_by_reason = defaultdict(list)
     for report in reports:
         tests_by_reason[reason_of(report)].append(report.nodeid)
@@ -106,13 +110,13 @@ def print_skipped(reports: list[pytest.TestReport]) -> None:
 
 
 def pytest_unconfigure(config: pytest.Config) -> None:
-    """Prints the last lines, after all that pytest prints."""
+    """Prints the summary, after everything that pytest prints."""
     reporter = config.pluginmanager.get_plugin("terminalreporter")
     if reporter is None or is_worker(config) or config.option.collectonly:
         return
     reports = defaultdict(list, reporter.stats)
     failed = len(reports["failed"]) + len(reports["error"])
-    if failed == 0 and config.stash.get(ENDED, 1) not in (0, NOTHING_CHOSEN):
+    if failed == 0 and config.stash.get(EXIT_STATUS, 1) not in (0, NO_TESTS_SELECTED):
         failed = 1  # an error within pytest, or an interruption
     print_skipped(reports["skipped"])
     passed, skipped = len(reports["passed"]), len(reports["skipped"])

@@ -31,7 +31,7 @@ from support.libxcrypt import crypt
 from support.model.methods import BY_NAME
 from support.model.settings import setting_of_options
 from support.needs import need, package_of
-from support.process import Changes, Result, assert_result, run, shown
+from support.process import Changes, Result, assert_result, run, printable
 
 Play = Callable[[Place], Played]
 
@@ -202,4 +202,4 @@ def test_a_budget_of_the_cost_admits_a_check(program: Path, row: CostRow) -> Non
     line = b"x:%b:%b\n" % (row.libxcrypt_hash, PASSWORD)
     result = run(program, "--check", f"--budget=+00{row.cost}", stdin=line)
     is_right = (result.status, result.stdout, result.stderr) == (0, b"x:ok\n", b"")
-    assert is_right, expected_at(row, f"x:ok for the line {shown(line)}", result)
+    assert is_right, expected_at(row, f"x:ok for the line {printable(line)}", result)

@@ -1,4 +1,4 @@
-"""The library as it is installed, and programs in C: each worker has its own, made once."""
+"""The installed library, and C programs that use it. Each worker builds its own once."""
 from __future__ import annotations
 
 import pytest
@@ -18,5 +18,5 @@ def fixture_builder(installed: Installed, tmp_path_factory: pytest.TempPathFacto
 
 @pytest.fixture(scope="session", name="driver")
 def fixture_driver(builder: Builder) -> Driver:
-    """The program that makes calls."""
+    """The program that makes the library's calls."""
     return Driver((builder.build(SOURCE, *COUNTS_STATIC),))

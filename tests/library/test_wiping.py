@@ -13,7 +13,7 @@ from pathlib import Path
 
 import pytest
 from support.library import SOURCES, Builder
-from support.process import Changes, shown_command, started
+from support.process import Changes, printable_command, started
 from support.stored_fields import MD5CRYPT, SCRYPT_OF_PASSWORD
 
 LEAST_FOUND = 8  # bytes in a row
@@ -102,11 +102,11 @@ def assert_nothing_left(residue: Path, words: list[str | bytes], env: Changes | 
         assert process.stdin is not None and process.stdout is not None
         for number in range(CALLS):
             stop = process.stdout.read(1)
-            assert stop == b".", f"call {number + 1} failed: {shown_command(command)}"
+            assert stop == b".", f"call {number + 1} failed: {printable_command(command)}"
             memories.append(memory_of(process) if number > 0 else {})
             process.stdin.write(b"\n")
             process.stdin.flush()
-        assert process.wait(timeout=60) == 0, shown_command(command)
+        assert process.wait(timeout=60) == 0, printable_command(command)
     second, third = memories[1], memories[2]
     assert third, "no memory was found"
     left = [
@@ -114,7 +114,7 @@ def assert_nothing_left(residue: Path, words: list[str | bytes], env: Changes | 
         for start, part in third.items()
         for run in changed(second.get(start, b""), part)
     ]
-    assert left == [], f"{shown_command(command)} leaves bytes behind"
+    assert left == [], f"{printable_command(command)} leaves bytes behind"
 
 
 @pytest.mark.parametrize("length", [8, 24, 1000], ids=lambda length: f"{length} bytes")

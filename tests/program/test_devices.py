@@ -17,7 +17,7 @@ import pytest
 from support.libxcrypt import crypt
 from support.needs import built
 from support.preload import preload_library
-from support.process import Result, Word, assert_result, run, shown
+from support.process import Result, Word, assert_result, run, printable
 
 MESSAGES = {
     "memory": b"mkpasswd: out of memory\n",
@@ -245,11 +245,12 @@ def assert_named(mode: Mode, kind: str, traced: Traced, whole: bytes) -> None:
     status, message = (2, b"") if is_untold else (3, MESSAGES[kind])
     assert traced.has_failed_call, f"no call failed\n{result}"
     assert result.status == status, f"expected status: {status}\n{result}"
-    assert result.stderr.endswith(message), f"expected stderr: ..{shown(message)}\n{result}"
+    assert result.stderr.endswith(message), f"expected stderr: ..{printable(message)}\n{result}"
     before = result.stderr.removesuffix(message)
-    assert mode.stderr.startswith(before), f"expected stderr: {shown(mode.stderr)} cut\n{result}"
+    expected = printable(mode.stderr)
+    assert mode.stderr.startswith(before), f"expected stderr: {expected} cut\n{result}"
     is_begun = mode.can_begin_with(result.stdout, whole)
-    assert is_begun, f"expected stdout: {shown(whole)} cut\n{result}"
+    assert is_begun, f"expected stdout: {printable(whole)} cut\n{result}"
     if kind != "write":
         assert result.stdout[-1:] in (b"", b"\n"), f"expected stdout: whole lines\n{result}"
 
@@ -288,7 +289,7 @@ def test_a_failed_allocation_is_named(tracer: Tracer, mode: Mode) -> None:
         if (result.status, result.stderr) == (mode.status, mode.stderr):
             ignored.append(f"memory {number}")
             is_whole = len(result.stdout) == len(whole.result.stdout)
-            assert is_whole, f"expected stdout: {shown(whole.result.stdout)}\n{result}"
+            assert is_whole, f"expected stdout: {printable(whole.result.stdout)}\n{result}"
             continue
         assert_named(mode, "memory", traced, whole.result.stdout)
         if result.stdout != b"":

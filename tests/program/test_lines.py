@@ -16,7 +16,7 @@ from typing import IO, Iterator
 import pytest
 from support.libxcrypt import crypt
 from support.model.answers import differences
-from support.process import run, shown_command, started, status_of
+from support.process import run, printable_command, started, status_of
 from support.random_lines.chunks import Chunk, chunks, tasks
 
 SEED = int(os.environ.get("SEED", "1"))
@@ -30,7 +30,7 @@ def test_random_lines_are_answered_by_the_rules(program: Path, chunk: Chunk) -> 
     for task in tasks(SEED, chunk):
         result = run(program, *task.job.words, stdin=task.given)
         found = differences(task.job, task.given, result)
-        command = shown_command(result.command)
+        command = printable_command(result.command)
         assert not found, "\n".join([f"SEED={SEED}: {chunk}: {command}", *found])
 
 

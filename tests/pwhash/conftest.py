@@ -1,4 +1,7 @@
-"""Where pwhash runs in a test: in a folder of its own."""
+"""Runs each test of pwhash in a scratch folder.
+
+The tests see only what a user sees: the command, its outputs, files and status.
+"""
 from __future__ import annotations
 
 from collections.abc import Iterator
@@ -10,7 +13,7 @@ from support.pwhash_copies import Copy, copied
 
 @pytest.fixture(autouse=True, name="folder")
 def fixture_folder(tmp_path: Path, monkeypatch: pytest.MonkeyPatch) -> Path:
-    """A scratch folder, which is the current one."""
+    """A scratch folder, which becomes the current one."""
     monkeypatch.chdir(tmp_path)
     monkeypatch.setenv("LC_ALL", "C.UTF-8")
     return tmp_path
@@ -18,6 +21,6 @@ def fixture_folder(tmp_path: Path, monkeypatch: pytest.MonkeyPatch) -> Path:
 
 @pytest.fixture(name="copy")
 def fixture_copy(program: Path) -> Iterator[Copy]:
-    """A pwhash that a test may change, beside an engine of its own."""
+    """A copy of pwhash with its modules and its library, which a test may change."""
     with copied(program) as copy:
         yield copy

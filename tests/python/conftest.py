@@ -1,4 +1,4 @@
-"""What tests of the Python package share; each module imports it by support/package.py."""
+"""Fixtures for the tests of the Python package, which they import by support/package.py."""
 from __future__ import annotations
 
 from typing import Any
@@ -9,13 +9,13 @@ from support.package import Cook
 
 @pytest.fixture(scope="session", name="cook")
 def fixture_cook(tmp_path_factory: pytest.TempPathFactory) -> Cook:
-    """Who follows recipes of the document."""
+    """Runs the recipes of docs/PYTHON.md."""
     return Cook(tmp_path_factory.mktemp("recipes"))
 
 
 @pytest.fixture(name="digests")
 def fixture_digests(monkeypatch: pytest.MonkeyPatch) -> list[int]:
-    """The number of digests of each call that hashes, from now on."""
+    """A list that gets the number of digests of each call that hashes."""
     from mkpasswd import _library
 
     numbers: list[int] = []

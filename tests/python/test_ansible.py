@@ -6,11 +6,11 @@ import re
 import secrets
 
 import pytest
-from support.package import environment_of, recipe, tried_package
+from support.package import environment_of, recipe, tested_package
 from support.process import run
 from support.stored_strings import MD5
 
-with tried_package():
+with tested_package():
     import mkpasswd
 
 pytestmark = [

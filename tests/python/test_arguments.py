@@ -8,10 +8,10 @@ from dataclasses import dataclass
 from typing import Any
 
 import pytest
-from support.package import crypt, error_of, kind_raised, tried_package
+from support.package import crypt, error_of, class_raised, tested_package
 from support.stored_strings import COSTLY, MD5, SHA512
 
-with tried_package():
+with tested_package():
     import mkpasswd
     from mkpasswd import Policy, Reason, Refused, cost, describe, needs_rehash
     from mkpasswd.crypt import crypt as crypt_call
@@ -99,22 +99,22 @@ NO_NUMBERS = [
     ids=str,
 )
 def test_what_is_no_int_is_refused(call: Call, number: object) -> None:
-    assert kind_raised(call.function, number) is TypeError
+    assert class_raised(call.function, number) is TypeError
 
 
 @pytest.mark.parametrize(
     "method", [None, 6, b"md5crypt", crypt_call], ids=["None", "6", "bytes", "a call"]
 )
 def test_what_is_no_name_of_a_method_is_refused(method: object) -> None:
-    assert kind_raised(Policy, method=method) is TypeError
+    assert class_raised(Policy, method=method) is TypeError
 
 
 def test_a_cost_needs_a_length() -> None:
-    assert kind_raised(cost, MD5, None) is TypeError
+    assert class_raised(cost, MD5, None) is TypeError
 
 
 def test_a_salt_needs_a_method() -> None:
-    assert kind_raised(mksalt, "6") is TypeError
+    assert class_raised(mksalt, "6") is TypeError
 
 
 # ---- Ranges
@@ -132,7 +132,7 @@ def test_rounds_that_no_hash_has_are_refused(method: str, rounds: int) -> None:
 
 @pytest.mark.parametrize("rounds", [-1, 2**32, 2**64 + 5000])
 def test_rounds_that_the_library_can_not_take_are_refused_though_ignored(rounds: int) -> None:
-    assert kind_raised(Policy, "md5crypt", rounds) is mkpasswd.Refused
+    assert class_raised(Policy, "md5crypt", rounds) is mkpasswd.Refused
 
 
 def test_the_most_rounds_are_more_than_any() -> None:
@@ -141,13 +141,13 @@ def test_the_most_rounds_are_more_than_any() -> None:
 
 @pytest.mark.parametrize("length", [-1, 1025, 2**64 + 8])
 def test_a_length_that_no_password_has_is_refused(length: int) -> None:
-    assert kind_raised(cost, MD5, length) is ValueError
+    assert class_raised(cost, MD5, length) is ValueError
 
 
 @pytest.mark.parametrize("budget", [0, -1])
 def test_a_budget_below_1_is_refused(budget: int) -> None:
-    assert kind_raised(Policy, budget=budget) is ValueError
-    assert kind_raised(crypt_call, "x", MD5, budget=budget) is ValueError
+    assert class_raised(Policy, budget=budget) is ValueError
+    assert class_raised(crypt_call, "x", MD5, budget=budget) is ValueError
 
 
 @pytest.mark.parametrize("method", ["bcrypt", "", "md5", "$6$"])
@@ -237,4 +237,4 @@ def test_a_login_takes_its_field_by_name(given: tuple[str, ...]) -> None:
 
 @pytest.mark.parametrize("name", ["Verdict", "verify", "verify_and_update", "work", "mksalt"])
 def test_a_name_of_an_earlier_version_is_unknown(name: str) -> None:
-    assert kind_raised(getattr, mkpasswd, name) is AttributeError
+    assert class_raised(getattr, mkpasswd, name) is AttributeError

@@ -8,10 +8,10 @@ from typing import Any
 import pytest
 from support import libxcrypt
 from support.needs import not_applicable
-from support.package import error_of, kind_raised, tried_package
+from support.package import error_of, class_raised, tested_package
 from support.stored_strings import MD5, SHA256
 
-with tried_package():
+with tested_package():
     import mkpasswd
     from mkpasswd import crypt
 
@@ -177,7 +177,7 @@ def test_168_bytes_are_hashed_with_the_recommended_rounds() -> None:
 
 
 def test_169_bytes_are_not() -> None:
-    assert kind_raised(crypt.crypt, "x" * 169, COSTLY_SETTING) is mkpasswd.TooCostly
+    assert class_raised(crypt.crypt, "x" * 169, COSTLY_SETTING) is mkpasswd.TooCostly
 
 
 def test_rounds_below_the_least_are_clamped(theirs: Any) -> None:

@@ -5,7 +5,7 @@ from pathlib import Path
 from typing import Any
 
 import pytest
-from support.package import crypt, error_of, kind_raised, tried_package
+from support.package import crypt, error_of, class_raised, tested_package
 from support.process import Word, run
 from support.stored_strings import (
     COSTLY,
@@ -19,7 +19,7 @@ from support.stored_strings import (
     title,
 )
 
-with tried_package():
+with tested_package():
     from mkpasswd import Description, Policy, Reason, Refused, State, cost, describe, needs_rehash
 
 NO_BUDGET = 2**42  # more than any hash costs
@@ -58,7 +58,7 @@ def test_a_name_without_a_field_is_described_as_one_without_a_hash() -> None:
 @FORMS
 @EACH_LOCKED
 def test_an_empty_or_locked_field_has_no_cost(field: str, form: Any) -> None:
-    assert kind_raised(cost, form(field), 8) is Refused
+    assert class_raised(cost, form(field), 8) is Refused
 
 
 # ---- Fields that are refused

@@ -13,10 +13,10 @@ from concurrent.futures import Future
 from typing import Any, NoReturn
 
 import pytest
-from support.package import crypt, error_of, run_python, tried_package
+from support.package import crypt, error_of, run_python, tested_package
 from support.stored_strings import COSTLY, MD5, SHA512
 
-with tried_package():
+with tested_package():
     from mkpasswd import Policy
     from mkpasswd.fixed_time import Busy, FixedTime
 
@@ -311,8 +311,8 @@ def test_a_system_without_more_threads_takes_no_place_in_the_queue(
         raise RuntimeError("can't start new thread")
 
     def refuse_two() -> None:
-        with monkeypatch.context() as changed:
-            changed.setattr(threading.Thread, "start", start_none)
+        with monkeypatch.context() as replace_lines:
+            replace_lines.setattr(threading.Thread, "start", start_none)
             for _ in range(2):
                 error = error_of(logins.submit, QUICK.login, "password", field=MD5)
                 assert str(error) == "can't start new thread"

@@ -19,14 +19,14 @@ from typing import Any
 
 import pytest
 from support.package import (
-    changed,
+    replace_lines,
     crypt,
     recipe,
-    tried_package,
+    tested_package,
     whole_login_of_a_moving_service,
 )
 
-with tried_package():
+with tested_package():
     from mkpasswd.fixed_time import FixedTime
 
 pytestmark = [
@@ -78,7 +78,7 @@ def code_of_service() -> str:
     fixed_time = recipe("failures after a fixed time")
     sections = [
         whole_login_of_a_moving_service(),
-        changed(fixed_time, {"seconds=6": f"seconds={SECONDS}"}),
+        replace_lines(fixed_time, {"seconds=6": f"seconds={SECONDS}"}),
         recipe("Flask"),
     ]
     return "\n\n".join(sections)

@@ -2,7 +2,7 @@
 from __future__ import annotations
 
 import pytest
-from support.package import kind_raised, tried_package
+from support.package import class_raised, tested_package
 from support.policy_limits import (
     LONGEST_PASSWORD,
     MD5CRYPT,
@@ -15,7 +15,7 @@ from support.policy_limits import (
     random_policies,
 )
 
-with tried_package():
+with tested_package():
     import mkpasswd
     from mkpasswd import _library
 
@@ -58,6 +58,6 @@ def test_a_policy_refuses_exactly_the_rounds_that_no_new_hash_has(seed: int) -> 
             continue
         made = (NAMES[policy.method], policy.rounds)
         if policy.error:
-            assert kind_raised(mkpasswd.Policy, *made) is mkpasswd.Refused, policy
+            assert class_raised(mkpasswd.Policy, *made) is mkpasswd.Refused, policy
         else:
             assert mkpasswd.Policy(*made).rounds == policy.rounds

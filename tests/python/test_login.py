@@ -4,10 +4,10 @@ from __future__ import annotations
 from typing import Any
 
 import pytest
-from support.package import crypt, kind_raised, tried_package
+from support.package import crypt, class_raised, tested_package
 from support.stored_strings import COSTLY, MD5, NEVER_OPEN, SHA512, title
 
-with tried_package():
+with tested_package():
     import mkpasswd
     from mkpasswd import Policy, _library
 
@@ -109,7 +109,7 @@ def test_a_hash_above_the_budget_lets_nobody_in() -> None:
     ],
 )
 def test_a_login_tells_its_programmer(password: object, field: object) -> None:
-    assert kind_raised(mkpasswd.login, password, field=field) is TypeError
+    assert class_raised(mkpasswd.login, password, field=field) is TypeError
 
 
 # ---- Hashes that cost more
@@ -127,7 +127,7 @@ def test_a_hash_that_costs_up_to_the_budget_lets_in_by_a_policy_that_costs_as_mu
 def test_a_login_goes_on_where_a_new_hash_would_cost_too_much() -> None:
     policy, password = Policy(budget=150_000_000), "x" * 83
     assert policy.login(password, field=crypt(password, "$1$salt")) is True
-    assert kind_raised(policy.hash, password) is mkpasswd.TooCostly
+    assert class_raised(policy.hash, password) is mkpasswd.TooCostly
 
 
 # ---- What it costs

@@ -14,11 +14,11 @@ from pathlib import Path
 from typing import Any
 
 import pytest
-from support.package import PACKAGE, tried_package
+from support.package import PACKAGE, tested_package
 from support.process import run
 from support.stored_strings import DEAD, LOCKED, MD5, title
 
-with tried_package():
+with tested_package():
     from mkpasswd import Policy
 
 QUICK = Policy(rounds=1000)

@@ -9,10 +9,10 @@ from types import ModuleType
 
 import pytest
 from support import ROOT
-from support.package import PACKAGE, run_python, tried_package
+from support.package import PACKAGE, run_python, tested_package
 from support.process import Result, assert_result, run
 
-with tried_package():
+with tested_package():
     import mkpasswd
     from mkpasswd import _calls, _library, _loaded, _policy, crypt
 

@@ -6,10 +6,10 @@ import warnings
 from typing import Any
 
 import pytest
-from support.package import Cook, crypt, kind_raised, tried_package
+from support.package import Cook, crypt, class_raised, tested_package
 from support.stored_strings import MD5, SHA256, SHA512
 
-with tried_package():
+with tested_package():
     import mkpasswd
 
 pytestmark = [
@@ -187,7 +187,7 @@ def test_a_password_that_no_hash_can_have_is_not_renewed(like_recommended: Any) 
     context = context_of(like_recommended, other, deprecated="auto")
     stored = other.hash("x" * 1025)
     assert context.verify("x" * 1025, stored)
-    assert kind_raised(context.verify_and_update, "x" * 1025, stored) is ValueError
+    assert class_raised(context.verify_and_update, "x" * 1025, stored) is ValueError
 
 
 # ---- The same work for every name
@@ -302,9 +302,9 @@ def test_a_hash_within_the_budget_matches(
 ) -> None:
     budget = form(LEAST_BUDGETS[name])
     handler = getattr(ours, name)
-    changed = handler.using(budget=budget)
-    assert changed.verify(password, stored)
-    assert changed.using().budget == changed.budget == int(budget)
+    replace_lines = handler.using(budget=budget)
+    assert replace_lines.verify(password, stored)
+    assert replace_lines.using().budget == replace_lines.budget == int(budget)
     context = context_of(handler, **{f"{name}__budget": budget})
     assert context.verify(password, stored) and context.to_dict()[f"{name}__budget"] == budget
 

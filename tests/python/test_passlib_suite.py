@@ -12,9 +12,9 @@ from typing import Any
 
 import pytest
 from support.needs import needed
-from support.package import tried_package
+from support.package import tested_package
 
-with tried_package():
+with tested_package():
     import mkpasswd
 
 with needed("python3-passlib"), warnings.catch_warnings():

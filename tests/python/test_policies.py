@@ -6,10 +6,10 @@ import pickle
 from typing import Any
 
 import pytest
-from support.package import crypt, error_of, kind_raised, tried_package
+from support.package import crypt, error_of, class_raised, tested_package
 from support.stored_strings import COSTLY, DEAD, LOCKED, MD5, REFUSED, SHA512, title
 
-with tried_package():
+with tested_package():
     import mkpasswd
     from mkpasswd import Limit, Policy, Reason, State, TooCostly, cost
     from mkpasswd.crypt import crypt as crypt_call
@@ -54,7 +54,7 @@ def test_a_policy_shows_what_it_was_given() -> None:
 
 @pytest.mark.parametrize("name", ["method", "rounds", "budget", "other"])
 def test_a_policy_does_not_change(name: str) -> None:
-    assert kind_raised(setattr, Policy(), name, 5000) is AttributeError
+    assert class_raised(setattr, Policy(), name, 5000) is AttributeError
 
 
 # ---- New hashes
@@ -140,7 +140,7 @@ def test_a_hash_above_the_budget_is_an_error_with_both_numbers(again: Any, budge
 
 def test_a_new_hash_above_the_budget_is_an_error() -> None:
     policy = Policy(rounds=1_000_000, budget=200_000_000)
-    assert kind_raised(policy.hash, "x" * 1000) is TooCostly
+    assert class_raised(policy.hash, "x" * 1000) is TooCostly
 
 
 @pytest.mark.parametrize(
@@ -254,7 +254,7 @@ def test_a_method_whose_cost_hardly_depends_on_the_length_keeps_its_policy(metho
 def test_a_length_without_rounds_is_refused(
     policy: Policy, length: Any, error: type[Exception]
 ) -> None:
-    assert kind_raised(policy.for_length, length) is error
+    assert class_raised(policy.for_length, length) is error
 
 
 # ---- Settings

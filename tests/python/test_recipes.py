@@ -17,18 +17,18 @@ from support import ROOT
 from support.documents import Block, blocks_of
 from support.package import (
     Cook,
-    changed,
+    replace_lines,
     crypt,
-    kind_raised,
+    class_raised,
     recipe,
     run_python,
-    tried_package,
+    tested_package,
     whole_login,
     whole_login_of_a_moving_service,
 )
 from support.stored_strings import COSTLY, MD5, SHA512, title
 
-with tried_package():
+with tested_package():
     import mkpasswd
     from mkpasswd import _library
 
@@ -139,7 +139,7 @@ def test_nobody_is_registered_with_a_password_that_can_not_be_used(
 def test_a_known_name_is_not_registered_again(
     database: sqlite3.Connection, names: dict[str, Any]
 ) -> None:
-    assert kind_raised(names["register"], database, "ann", "x") is sqlite3.IntegrityError
+    assert class_raised(names["register"], database, "ann", "x") is sqlite3.IntegrityError
     assert fields_of(database) == USERS
 
 
@@ -506,7 +506,7 @@ def test_the_costliest_login_is_measured(cook: Cook, capsys: pytest.CaptureFixtu
     """With a policy that costs less."""
     imported = "import mkpasswd\n"
     cheaper = f"{imported}\nmkpasswd = mkpasswd.Policy(rounds=1000)\n"
-    cook.run(changed(recipe("measure the costliest login"), {imported: cheaper}))
+    cook.run(replace_lines(recipe("measure the costliest login"), {imported: cheaper}))
     alone, with_others = capsys.readouterr().out.splitlines()
     assert float(alone.removeprefix("alone: ")) > 0
     assert float(with_others.removeprefix("with all threads busy: ")) > 0
@@ -590,7 +590,7 @@ def fixture_app(
 ) -> Any:
     """Flask's application, which answers failures at once."""
     folder_with(database, tmp_path, monkeypatch)
-    fixed_time = changed(recipe("failures after a fixed time"), {"seconds=6": "seconds=0"})
+    fixed_time = replace_lines(recipe("failures after a fixed time"), {"seconds=6": "seconds=0"})
     return cook.run("\n\n".join([whole_login(), fixed_time, recipe("Flask")]))["app"]
 
 

@@ -6,10 +6,10 @@ from collections.abc import Callable
 from typing import Any
 
 import pytest
-from support.package import error_of, tried_package
+from support.package import error_of, tested_package
 from support.stored_strings import COSTLY, MD5
 
-with tried_package():
+with tested_package():
     import mkpasswd
     from mkpasswd import Policy
     from mkpasswd.crypt import crypt

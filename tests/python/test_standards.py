@@ -7,12 +7,12 @@ from typing import Any
 
 import pytest
 from support.needs import needed
-from support.package import crypt, tried_package
+from support.package import crypt, tested_package
 
 with needed("python3-hypothesis"):
     from hypothesis import configuration, given, settings
     from hypothesis import strategies as st
-with tried_package():
+with tested_package():
     import mkpasswd
     from mkpasswd.crypt import METHOD_MD5, mksalt
     from mkpasswd.crypt import crypt as crypt_call

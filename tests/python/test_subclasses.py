@@ -4,9 +4,9 @@ from __future__ import annotations
 from typing import Any
 
 import pytest
-from support.package import error_of, tried_package
+from support.package import error_of, tested_package
 
-with tried_package():
+with tested_package():
     import mkpasswd
     from mkpasswd import Policy, cost, needs_rehash
     from mkpasswd.crypt import crypt, mksalt

@@ -9,11 +9,11 @@ import pytest
 from support import ROOT
 from support.interpreters import OLDEST, interpreters
 from support.needs import built
-from support.package import ELSEWHERE, LIBRARY, PACKAGE, recipe, tried_package
+from support.package import ELSEWHERE, LIBRARY, PACKAGE, recipe, tested_package
 from support.process import Result, run
 from support.stored_strings import MD5
 
-with tried_package():
+with tested_package():
     import mkpasswd
 
 # A fixture of a worker makes the wheels once, in seconds.

@@ -1,4 +1,4 @@
-"""The archive, the packages and the roots: each worker that needs them makes its own once."""
+"""The archive, the packages and the roots. Each worker that needs one builds it once."""
 from __future__ import annotations
 
 import shutil
@@ -21,8 +21,9 @@ from support.debian import (
 )
 from support.release import Archive, packed, processor_of_build, version
 
-OF_2_0_1 = Path(__file__).parent / "of_2_0_1"  # scripts of its packages
-# The package mkpasswd as it was in 2.0.1, and mkpasswd-default, which had whois' names.
+OF_2_0_1 = Path(__file__).parent / "of_2_0_1"  # maintainer scripts of 2.0.1's packages
+# Turns this tree's package mkpasswd into 2.0.1's, and into 2.0.1's mkpasswd-default, which
+# installed files under the names that whois uses.
 AS_2_0_1 = r"""
 sed -i 's/^Version: .*/Version: 2.0.1/; /^Conflicts:/d; /^Replaces:/d' control
 install -m 755 "$0/postrm" postinst
@@ -68,7 +69,7 @@ def fixture_packages(tmp_path_factory: pytest.TempPathFactory) -> Packages:
 def fixture_base(
     request: pytest.FixtureRequest, packages: Packages, tmp_path_factory: pytest.TempPathFactory
 ) -> Iterator[Path]:
-    """A root of a release, with the packages in /debs, and changed ones in /changed."""
+    """A root of a Debian release, with the packages in /debs and changed copies in /changed."""
     need_layers(tmp_path_factory.mktemp("layers"))
     folder = tmp_path_factory.mktemp("root") / request.param
     make_root(request.param, folder)
@@ -86,6 +87,6 @@ def fixture_base(
 
 @pytest.fixture(name="root")
 def fixture_root(base: Path, tmp_path: Path) -> Iterator[Root]:
-    """A root of this test alone, in which none of ours is installed."""
+    """A root for this test alone, in which none of our packages is installed."""
     with layer_over(base, folder=tmp_path / "root") as root:
         yield root

@@ -70,13 +70,13 @@ def test_each_crate_has_a_line_that_changes_at_a_terminal(tree: ToolTree) -> Non
         str(tree.path("tools/gate")), env=tree.whole_environment(), dimensions=(24, 50), timeout=60
     )
     child.expect(pexpect.EOF)
-    shown = child.before.decode()
-    texts = [text for line in shown.split("\r\n") for text in line.split("\r\033[K")]
-    assert max(map(len, texts)) < 50, shown
-    lines = [line.rpartition("\033[K")[2] for line in shown.split("\r\n")]
+    screen = child.before.decode()
+    texts = [text for line in screen.split("\r\n") for text in line.split("\r\033[K")]
+    assert max(map(len, texts)) < 50, screen
+    lines = [line.rpartition("\033[K")[2] for line in screen.split("\r\n")]
     subjects = [re.split("[: ]", line)[0] for line in lines]
-    assert subjects == ["prims_core", "kdf_core", "must-fail", "12", ""], shown
-    assert "kdf_core: 39 functions proved" in shown, shown
+    assert subjects == ["prims_core", "kdf_core", "must-fail", "12", ""], screen
+    assert "kdf_core: 39 functions proved" in screen, screen
 
 
 def test_a_character_that_the_encoding_lacks_stops_nothing(tree: ToolTree) -> None:
@@ -409,9 +409,9 @@ def test_the_processor_time_of_all_processes_is_counted(tree: ToolTree) -> None:
     burns = "import time\nwhile time.process_time() < 1.2:\n    pass"
     tree.rt_is(f"/usr/bin/python3 -c '{burns}' & /usr/bin/python3 -c '{burns}' & wait")
     tree.run("gate").required()
-    shown = tree.run("gate", "--times").required()
-    found = re.search(rb"(\d+) s of processor time", shown.stdout)
-    assert found and int(found[1]) >= 2, shown
+    result = tree.run("gate", "--times").required()
+    found = re.search(rb"(\d+) s of processor time", result.stdout)
+    assert found and int(found[1]) >= 2, result
 
 
 @pytest.mark.parametrize(

@@ -1,4 +1,4 @@
-"""What the tests of services share: machines of their own, with recipes or the PAM module."""
+"""Fixtures for the tests of services: machines on which recipes or the PAM module run."""
 from __future__ import annotations
 
 from collections.abc import Iterator
@@ -19,7 +19,7 @@ EMPTIED = ("/run", "/srv", "/var/log", "/var/lib/dovecot", "/var/lib/ldap", "/va
 
 @pytest.fixture(scope="module", name="machine")
 def fixture_machine() -> Iterator[Namespaces]:
-    """A machine of a module's own: what its services change is theirs."""
+    """A machine for one module of tests, whose services may change its files."""
     with namespaces() as machine:
         for folder in COPIED:
             if Path(folder).is_dir():
@@ -36,7 +36,7 @@ def fixture_machine() -> Iterator[Namespaces]:
 
 @pytest.fixture(scope="module", name="with_module")
 def fixture_with_module(machine: Namespaces) -> Namespaces:
-    """The machine, with the PAM module."""
+    """The machine, with the PAM module installed."""
     module = built("pam_mkpasswd.so", "lib")
     machine.write(f"{MODULES}/pam_mkpasswd.so", module.read_bytes())
     return machine
@@ -44,7 +44,7 @@ def fixture_with_module(machine: Namespaces) -> Namespaces:
 
 @pytest.fixture(scope="module", name="pam")
 def fixture_pam(with_module: Namespaces) -> Iterator[Pam]:
-    """PAM with the module, and the log of what it does."""
+    """PAM with the module, and the system log."""
     with system_log(with_module) as log:
         yield Pam(with_module, log)
 
@@ -59,7 +59,7 @@ def fixture_site(
     program: Path,
     tmp_path_factory: pytest.TempPathFactory,
 ) -> Site:
-    """A machine where recipes are followed. Its web servers have a page."""
+    """A machine on which tests follow recipes. Its web servers have a page to serve."""
     folder = tmp_path_factory.mktemp("recipes")
     machine.make_folder("/run/www")
     machine.write("/run/www/index.html", PAGE)
@@ -68,9 +68,9 @@ def fixture_site(
 
 @pytest.fixture(scope="module", name="site_with_module")
 def fixture_site_with_module(site: Site, with_module: Namespaces) -> Site:
-    """The site, with the PAM module and a file for it by its recipe.
+    """The site, with the PAM module and the file of hashes that its recipe makes.
 
-    Names that few services take are in the file too.
+    The file also has names that few services accept.
     """
     with_module.write("/etc/pam.d/example", marked("pam_mkpasswd", "pam").code)
     site.install_hashes("pam_mkpasswd", "/etc/example.passwords")

@@ -1,5 +1,5 @@
-"""What the tests share. Nothing here imports the Python package that is tested."""
+"""Helpers for the tests. None of them imports the Python package under test."""
 from pathlib import Path
 
-# A tree is tested by its own tests: a changed copy of it finds itself here.
+# Derived from this file's path, so that the tests of a copied tree test the copy.
 ROOT = Path(__file__).resolve().parents[2]

@@ -1,8 +1,8 @@
-"""Browsers without a window: each opens an address and evaluates a script there.
+"""Starts browsers without a window, opens an address in them and evaluates scripts there.
 
-Chromium and WebKit have drivers in Debian, which Selenium calls. Debian has no driver for Firefox,
-which speaks WebDriver BiDi itself: JSON over a WebSocket. A browser and all its processes end with
-the `with` that started it, or after half an hour.
+Selenium calls Debian's drivers for Chromium and WebKit. Debian has no driver for Firefox, but
+Firefox itself speaks WebDriver BiDi, which is JSON over a WebSocket. A browser and all its
+processes end with the `with` that started it, or after half an hour.
 """
 from __future__ import annotations
 
@@ -19,14 +19,14 @@ from .process import Changes, Word, started
 SECONDS_TO_START = 120
 SECONDS_TO_EVALUATE = 600
 SECONDS_TO_LIVE = 1800
-LISTENING = "0A"  # the state of a socket in /proc/net/tcp
+LISTENING = "0A"  # the state of a listening socket in /proc/net/tcp
 
 
 class Browser(Protocol):
-    """A browser that runs."""
+    """A running browser."""
 
     def evaluate(self, address: str, script: str) -> Any:
-        """Opens an address, and returns what the body of a function returns or promises there."""
+        """Opens an address, runs a function's body there, and returns or awaits its result."""
 
 
 class DrivenBrowser:
@@ -38,13 +38,13 @@ class DrivenBrowser:
         driver.set_script_timeout(SECONDS_TO_EVALUATE)
 
     def evaluate(self, address: str, script: str) -> Any:
-        """Opens an address, and returns what the body of a function returns or promises there."""
+        """Opens an address, runs a function's body there, and returns or awaits its result."""
         self._driver.get(address)
         return self._driver.execute_script(script)
 
 
 class Firefox:
-    """Firefox, by the commands of WebDriver BiDi. Its answers are matched by their numbers."""
+    """Firefox, controlled by WebDriver BiDi. An answer has the number of its command."""
 
     def __init__(self, address: str) -> None:
         import websocket
@@ -63,13 +63,13 @@ class Firefox:
         while answer.get("id") != self._number:  # an event
             answer = json.loads(self._socket.recv())
         if answer["type"] != "success":
-            raise AssertionError(f"Firefox refuses {method}: {answer['message']}")
+            raise AssertionError(f"Firefox rejects {method}: {answer['message']}")
         return answer["result"]
 
     def evaluate(self, address: str, script: str) -> Any:
-        """Opens an address, and returns what the body of a function returns or promises there.
+        """Opens an address, runs a function's body there, and returns or awaits its result.
 
-        That has to be a string, a number or a boolean.
+        The result must be a string, a number or a boolean.
         """
         self._call("browsingContext.navigate", context=self._tab, url=address, wait="complete")
         answer = self._call(
@@ -85,7 +85,7 @@ class Firefox:
 
 @contextlib.contextmanager
 def chromium(folder: Path) -> Iterator[Browser]:
-    """Starts Chromium and its driver. The folder is theirs."""
+    """Starts Chromium and its driver, which keep their files in the folder."""
     from selenium import webdriver
 
     options = webdriver.ChromeOptions()
@@ -99,7 +99,7 @@ def chromium(folder: Path) -> Iterator[Browser]:
 
 @contextlib.contextmanager
 def firefox(folder: Path) -> Iterator[Browser]:
-    """Starts Firefox. The folder is its own."""
+    """Starts Firefox, which keeps its files in the folder."""
     command = ("firefox-esr", "--headless", "--profile", folder, "--remote-debugging-port=0")
     environment = {"HOME": str(folder), "TMPDIR": str(folder)}
     with started_with_log(*command, folder=folder, env=environment) as process:
@@ -109,7 +109,7 @@ def firefox(folder: Path) -> Iterator[Browser]:
 
 @contextlib.contextmanager
 def webkit(folder: Path) -> Iterator[Browser]:
-    """Starts WebKit and its driver, on a screen of their own. The folder is theirs."""
+    """Starts WebKit and its driver on a virtual display. They keep their files in the folder."""
     from selenium.webdriver.common.options import ArgOptions
 
     command = ("WebKitWebDriver", "--port=0")
@@ -128,11 +128,11 @@ BROWSERS: dict[str, Callable[[Path], ContextManager[Browser]]] = {
 
 
 def connected(port: int, options: Any) -> Browser:
-    """A session with the driver that listens on this port of this machine."""
+    """Opens a session with the driver that listens on this local port."""
     from selenium import webdriver
     from selenium.webdriver.remote.remote_connection import RemoteConnection
 
-    # A driver that hangs answers nothing.
+    # A driver that hangs never answers.
     RemoteConnection.set_timeout(SECONDS_TO_EVALUATE + SECONDS_TO_START)
     options.ignore_local_proxy_environment_variables()
     return DrivenBrowser(webdriver.Remote(f"http://127.0.0.1:{port}", options=options))
@@ -140,7 +140,7 @@ def connected(port: int, options: Any) -> Browser:
 
 @contextlib.contextmanager
 def screen() -> Iterator[str]:
-    """Starts an X server without a screen, and gives the name of its display."""
+    """Starts an X server without a screen, and yields the name of its display."""
     command = ("Xvfb", "-displayfd", "1", "-screen", "0", "1280x1024x24", "-nolisten", "tcp")
     with started(*command, stdout=subprocess.PIPE, timeout=SECONDS_TO_LIVE) as process:
         assert process.stdout is not None
@@ -149,26 +149,26 @@ def screen() -> Iterator[str]:
         try:
             yield f":{number}"
         finally:
-            process.terminate()  # killed, it would leave files in /tmp
+            process.terminate()  # SIGKILL would leave its files in /tmp
             with contextlib.suppress(subprocess.TimeoutExpired):
                 process.wait(timeout=10)
 
 
-# ---- Programs that say when they have started
+# ---- Programs that print when they are ready
 
 
 @contextlib.contextmanager
 def started_with_log(
     *command: Word, folder: Path, env: Changes
 ) -> Iterator[subprocess.Popen[bytes]]:
-    """Runs a command beside the block. What it prints is in the file `log` of the folder."""
+    """Runs a command while the block runs. Its output goes to the file `log` in the folder."""
     with (folder / "log").open("wb") as log:
         with started(*command, stdout=log, stderr=log, env=env, timeout=SECONDS_TO_LIVE) as process:
             yield process
 
 
 def wait_for(find: Callable[[], Any], process: subprocess.Popen[bytes], folder: Path) -> Any:
-    """Returns what is found, once something is."""
+    """Calls `find` until it returns something, and returns that."""
     end = time.monotonic() + SECONDS_TO_START
     while process.poll() is None and time.monotonic() < end:
         found = find()
@@ -180,14 +180,14 @@ def wait_for(find: Callable[[], Any], process: subprocess.Popen[bytes], folder: 
 
 
 def wait_for_output(process: subprocess.Popen[bytes], folder: Path, pattern: str) -> str:
-    """Returns the group of a pattern, once the command has printed that."""
+    """Waits until the command prints a match of the pattern, and returns the match's group."""
     log = folder / "log"
     match = wait_for(lambda: re.search(pattern, log.read_text(errors="replace")), process, folder)
     return str(match[1])
 
 
 def listening_port(process: subprocess.Popen[bytes]) -> int | None:
-    """The port of 127.0.0.1 on which a process listens. WebKitWebDriver doesn't print it."""
+    """Returns the port of 127.0.0.1 on which a process listens: WebKitWebDriver prints none."""
     sockets = {str(link.readlink()) for link in Path(f"/proc/{process.pid}/fd").iterdir()}
     for line in Path("/proc/net/tcp").read_text(encoding="ascii").splitlines()[1:]:
         fields = line.split()

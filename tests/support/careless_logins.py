@@ -1,4 +1,4 @@
-"""Calls as a service makes them that looks at nothing but the result."""
+"""The calls of a careless service, which checks only their result."""
 from __future__ import annotations
 
 from dataclasses import dataclass
@@ -38,7 +38,7 @@ CHEAP_SCRYPT = b"$7$2/..../....ab"
 
 @dataclass(frozen=True)
 class WrongPassword:
-    """What is not "password", and the error with which it is refused."""
+    """A password other than "password", and the error that refuses it."""
 
     title: str
     password: bytes
@@ -51,15 +51,15 @@ class WrongPassword:
 WRONG_PASSWORDS = (
     WrongPassword("the empty password", b""),
     WrongPassword("another first letter", b"Password"),
-    WrongPassword("a space behind it", b"password "),
+    WrongPassword("a trailing space", b"password "),
     WrongPassword("1024 bytes", LONGEST_PASSWORD),
-    WrongPassword("a zero byte behind it", b"password\0", Reason.PASSWORD_ZERO_BYTE),
+    WrongPassword("a trailing zero byte", b"password\0", Reason.PASSWORD_ZERO_BYTE),
     WrongPassword("1025 bytes", LONGEST_PASSWORD + b"a", Reason.PASSWORD_TOO_LONG),
 )
 
 
 def careless_logins() -> list[Verify]:
-    """Every field with the password, then every password and budget with one hash."""
+    """Returns every field with the right password, then every password and budget with one hash."""
     fields = [*(field.text for field in NEVER_OPEN), MD5CRYPT, SCRYPT_OF_PASSWORD.text]
     calls = [Verify(b"password", field) for field in fields]
     calls += [Verify(b"password", MD5CRYPT, budget) for budget in (0, COST - 1, COST, GREATEST)]
@@ -68,7 +68,7 @@ def careless_logins() -> list[Verify]:
 
 
 def calls_of_each_kind() -> list[Call]:
-    """Some of the calls above, and each other one: what a build of a caller has to do."""
+    """Returns some of these calls and one of each other kind, to try a build of the library."""
     calls: list[Call] = [
         call for call in careless_logins() if call.form is Form.STRINGS or call.stored == MD5CRYPT
     ]

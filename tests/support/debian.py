@@ -1,6 +1,6 @@
-"""Debian's packages: built by tools/deb, and installed in roots of Debian releases.
+"""Builds the Debian packages with tools/deb, and installs them in roots of Debian releases.
 
-A root is made once and doesn't change: each test works in a layer of its own over it.
+A root is made once and never changes: each test works in an overlay over it.
 """
 from __future__ import annotations
 
@@ -25,7 +25,8 @@ PACKAGES = (
     "pwhash",
     "python3-mkpasswd",
 )
-# What else is in a root: what ours depend on, what tries them, and what they meet.
+# The other packages of a root: dependencies of ours, what tests need, and packages that ours
+# share names with.
 OTHERS = (
     "autopkgtest",
     "bash-completion",
@@ -42,19 +43,19 @@ OTHERS = (
     "sse4.2-support",
     "whois",
 )
-# Each release has a worker of its own, which makes its root.
+# One worker runs all tests of a release, so that its root is made once.
 RELEASES = {"bookworm": "Debian 12", "trixie": "Debian 13"}
 OLDEST = "bookworm"
-# Without its cache, which apt takes for true for a second after dpkg has changed something.
+# apt trusts its cache for a second after dpkg has changed something, so it runs without one.
 APT = "apt-get -q -y --no-install-recommends -o Dir::Cache::pkgcache="
 LONGEST_BUILD = 900  # seconds
-LONGEST_SCRIPT = 1200  # seconds, in a root
+LONGEST_SCRIPT = 1200  # seconds that a script in a root may take
 LONGEST_BOOTSTRAP = 1800  # seconds
-LAST_LINES = 60  # of a script that failed
+LAST_LINES = 60  # that a failure shows of the script's output
 LAYER = """
 mount -t overlay overlay -o "lowerdir=$0,upperdir=$1/changes,workdir=$1/work" "$1/root"
 """
-# GNU parallel needs /dev/pts and /sys, without which it warns or counts no processors.
+# GNU parallel warns without /dev/pts, and counts no processors without /sys.
 ENTER = f"""{LAYER}
 mount -t proc proc "$1/root/proc"
 mount --rbind /sys "$1/root/sys"
@@ -77,13 +78,13 @@ UNSHARE = ("unshare", "--mount", "--pid", "--fork", "--kill-child")
 
 
 def release(suite: str) -> object:
-    """A parameter for a release."""
+    """Returns a Debian release as a parameter of tests."""
     title = RELEASES[suite]
     return pytest.param(suite, id=title, marks=pytest.mark.xdist_group(title))
 
 
 def need_packages() -> None:
-    """Ends the test where no packages can be built, or nobody asked for tests that take long."""
+    """Skips the test unless DEB=1 or STRICT=1 is set and packages can be built here."""
     if "1" not in (os.environ.get("DEB"), os.environ.get("STRICT")):
         missing("DEB=1", "tests of the packages take ten minutes and 3 GB")
     for path in ("libmkpasswd.so.3", "build/x86-64-v3/libmkpasswd.so.3"):
@@ -101,16 +102,16 @@ class Packages:
     folder: Path
 
     def names(self) -> list[str]:
-        """The name of each package."""
+        """Returns the names of the packages."""
         return sorted(path.name.partition("_")[0] for path in self.folder.iterdir())
 
     def file(self, name: str) -> Path:
-        """The file of a package."""
+        """Returns the path of a package's file."""
         (path,) = self.folder.glob(f"{name}_*.deb")
         return path
 
     def field(self, name: str, field: str) -> str:
-        """A field in the control file of a package."""
+        """Returns a field of a package's control file."""
         result = run("dpkg-deb", "-f", self.file(name), field).required()
         return result.stdout.decode().strip()
 
@@ -122,7 +123,7 @@ def build_packages(folder: Path) -> Packages:
 
 
 def change_package(package: Path, folder: Path, script: str, *words: Word) -> Path:
-    """A copy of a package in a folder, which a script changes that runs in its DEBIAN.
+    """Copies a package into a folder, and changes the copy by a script, which runs in its DEBIAN.
 
     The script gets the words as $0, $1 and so on.
     """
@@ -139,7 +140,7 @@ def change_package(package: Path, folder: Path, script: str, *words: Word) -> Pa
 
 
 def mirror() -> str | None:
-    """Debian's mirror: MIRROR, or the first that apt has here."""
+    """Returns the URL of a Debian mirror: MIRROR, or the first one in apt's sources."""
     listed = run("apt-get", "indextargets", "--format", "$(REPO_URI)", "Created-By: Packages")
     lines = listed.stdout.decode().splitlines()
     return os.environ.get("MIRROR") or (lines[0] if lines else None)
@@ -148,7 +149,7 @@ def mirror() -> str | None:
 def make_root(suite: str, folder: Path) -> None:
     """Makes a root of a Debian release in a folder.
 
-    It keeps the lists of the mirror, from which whois is installed again.
+    The root keeps apt's package lists, since tests reinstall whois.
     """
     options: list[Word] = ["--variant=minbase", "--skip=cleanup", f"--include={','.join(OTHERS)}"]
     address = mirror()
@@ -160,15 +161,15 @@ def make_root(suite: str, folder: Path) -> None:
 
 
 def last_error(result: Result) -> str:
-    """The last line on the standard error of a command."""
+    """Returns the last line that a command printed on standard error."""
     return result.stderr.decode(errors="replace").strip().rpartition("\n")[2]
 
 
 @dataclass(frozen=True)
 class Root:
-    """A root: folders that don't change, and a folder with what is changed over them."""
+    """An overlay: read-only folders, and one folder above them that takes all changes."""
 
-    lower: tuple[Path, ...]  # the highest first
+    lower: tuple[Path, ...]  # the read-only folders, topmost first
     layer: Path
 
     def run(self, script: str) -> Result:
@@ -178,7 +179,7 @@ class Root:
         return run(*command, timeout=LONGEST_SCRIPT)
 
     def output_of(self, script: str) -> str:
-        """What a script prints, which has to end well."""
+        """Runs a script that must succeed, and returns what it prints."""
         result = self.run(script)
         if result.status != 0 or result.has_timed_out:
             lines = (result.stdout + result.stderr).decode(errors="replace").splitlines()
@@ -187,13 +188,13 @@ class Root:
         return result.stdout.decode(errors="replace")
 
     def files(self) -> set[str]:
-        """All files but those that apt and dpkg write of any package."""
+        """Returns the paths of all files except those that apt and dpkg write for any package."""
         pruned = " -o ".join(f"-path {path}" for path in UNWATCHED)
         return set(self.output_of(f"find / \\( {pruned} \\) -prune -o -print").splitlines())
 
 
 def need_layers(folder: Path) -> None:
-    """Ends the test where no layer can be put over a folder. An empty one is for the attempt."""
+    """Skips the test unless an overlay can be mounted over a folder. Tries that in an empty one."""
     lower = folder / "lower"
     lower.mkdir()
     with layer_over(lower, folder=folder / "attempt") as root:
@@ -204,7 +205,7 @@ def need_layers(folder: Path) -> None:
 
 @contextlib.contextmanager
 def layer_over(*lower: Path, folder: Path) -> Iterator[Root]:
-    """A root that can be changed, in an empty or new folder, until the end of the block."""
+    """Mounts a writable root over others, in an empty or new folder, while the block runs."""
     for name in ("changes", "work", "root"):
         (folder / name).mkdir(parents=True)
     (folder / "changes").chmod(0o755)  # which is the mode of / in the root
@@ -215,5 +216,5 @@ def layer_over(*lower: Path, folder: Path) -> Iterator[Root]:
 
 
 def above(root: Root, folder: Path) -> contextlib.AbstractContextManager[Root]:
-    """A root that begins as another one is now, which isn't changed any more."""
+    """Mounts a writable root over another one, which must not change any more."""
     return layer_over(root.layer / "changes", *root.lower, folder=folder)

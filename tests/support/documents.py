@@ -1,6 +1,6 @@
-"""Finds what documents and manuals show: blocks of code, and commands with what they print.
+"""Finds the blocks of code in documents, and the commands with output in documents and manuals.
 
-Nothing is run here but mandoc, which shows the manuals; support/examples.py runs the commands.
+support/examples.py runs the commands. This module runs only mandoc, which renders the manuals.
 """
 from __future__ import annotations
 
@@ -17,7 +17,7 @@ MARK = re.compile(r"<!-- tested: (.+) -->")
 FENCE = re.compile(r"( *)```(\S*) *")
 PROMPT = "$ "
 CONTINUATION = "> "
-# Characters as a manual writes them.
+# Characters that manuals escape.
 ESCAPES = {r"\-": "-", r"\(aq": "'", r"\e": "\\"}
 
 
@@ -26,7 +26,7 @@ class Place:
     """A line of a document or of a manual."""
 
     path: Path
-    line: int  # from 1 on
+    line: int  # counted from 1
 
     def __str__(self) -> str:
         return f"{name_of(self.path)}:{self.line}"
@@ -36,8 +36,8 @@ class Place:
 class Block:
     """A block of code in a document."""
 
-    place: Place  # of the first line of its code
-    number: int  # among the blocks of its document, from 1 on
+    place: Place  # the first line of its code
+    number: int  # within its document, counted from 1
     language: str
     mark: str | None  # the name in `<!-- tested: NAME -->` above the block
     code: str
@@ -49,7 +49,7 @@ class Block:
 
 @dataclass(frozen=True)
 class Example:
-    """A command in a document or in a manual, and what it prints there."""
+    """A command in a document or a manual, with the output that is shown."""
 
     place: Place
     command: str
@@ -57,22 +57,22 @@ class Example:
 
 
 def documents() -> list[Path]:
-    """The documents of the tree."""
+    """Returns the paths of the tree's documents."""
     return sorted(ROOT.glob("*.md")) + sorted(ROOT.glob("docs/*.md"))
 
 
 def manuals() -> list[Path]:
-    """The manuals of the tree."""
+    """Returns the paths of the tree's manuals."""
     return sorted(ROOT.glob("man/*.[1-8]"))
 
 
 def name_of(path: Path) -> str:
-    """A path below the top of the tree."""
+    """Returns a path relative to the tree's root."""
     return str(path.relative_to(ROOT))
 
 
 def lines_of(path: Path) -> list[str]:
-    """The lines of a document, or those that a manual is written in."""
+    """Returns the lines of a document, or of a manual's source."""
     return path.read_text(encoding="utf-8").splitlines()
 
 
@@ -81,10 +81,10 @@ def lines_of(path: Path) -> list[str]:
 
 @functools.cache
 def blocks_of(path: Path) -> list[Block]:
-    """The blocks of a document. One that isn't closed ends with the document."""
+    """Returns the blocks of a document. A block without a closing fence ends with the document."""
     blocks: list[Block] = []
     lines = lines_of(path)
-    above = ""  # the last line before a block that isn't empty
+    above = ""  # the last line before the block that isn't empty
     number = 0
     while number < len(lines):
         fence = FENCE.fullmatch(lines[number])
@@ -109,7 +109,7 @@ def blocks_of(path: Path) -> list[Block]:
 
 
 def code_until_fence(lines: list[str], margin: str) -> list[str]:
-    """The lines before the one that ends a block, without the margin of the block."""
+    """Returns the lines before a block's closing fence, without the block's margin."""
     code = []
     for line in lines:
         if line.rstrip() == f"{margin}```":
@@ -119,17 +119,17 @@ def code_until_fence(lines: list[str], margin: str) -> list[str]:
 
 
 def all_blocks(*languages: str) -> list[Block]:
-    """The blocks of all documents in these languages."""
+    """Returns the blocks of all documents that are in these languages."""
     blocks = [block for path in documents() for block in blocks_of(path)]
     return [block for block in blocks if block.language in languages]
 
 
 def marked(mark: str, language: str) -> Block:
-    """The block in a language that has `<!-- tested: MARK -->` above it, in whatever document."""
+    """Returns the block in a language below `<!-- tested: MARK -->`, from any document."""
     for block in all_blocks(language):
         if block.mark == mark:
             return block
-    raise AssertionError(f"expected: a block in {language} below `<!-- tested: {mark} -->`")
+    raise AssertionError(f"expected: a {language} block below `<!-- tested: {mark} -->`")
 
 
 # ---- Examples
@@ -137,20 +137,20 @@ def marked(mark: str, language: str) -> Block:
 
 @functools.cache
 def shown_manual(path: Path) -> str:
-    """What mandoc shows of a manual, without margins."""
+    """Returns a manual as mandoc renders it, without margins."""
     output = run("mandoc", "-T", "utf8", "-O", "width=200", path).required().stdout.decode()
-    plain = re.sub(r".\x08", "", output)  # bold and underlined characters are struck twice
+    plain = re.sub(r".\x08", "", output)  # mandoc overstrikes bold and underlined characters
     return re.sub(r"^ +", "", plain, flags=re.MULTILINE)
 
 
 def prompts_of(path: Path) -> list[Place]:
-    """The lines that look like commands of examples, wherever they stand."""
+    """Returns the places of all lines that look like an example's command."""
     lines = enumerate(lines_of(path), start=1)
     return [Place(path, number) for number, line in lines if line.lstrip().startswith(PROMPT)]
 
 
 def typed_at(place: Place) -> str:
-    """The command that a line shows, without what continues it."""
+    """Returns the command on a line, without its continuation lines."""
     text = lines_of(place.path)[place.line - 1].strip().removeprefix(PROMPT)
     if is_manual(place.path):
         for escape, character in ESCAPES.items():
@@ -159,13 +159,13 @@ def typed_at(place: Place) -> str:
 
 
 def is_manual(path: Path) -> bool:
-    """Whether this is a manual, and no document."""
+    """Returns whether this is a manual, not a document."""
     return path.suffix != ".md"
 
 
 @functools.cache
 def examples_of(path: Path) -> list[Example]:
-    """The examples of a document's `console` blocks, or of a manual as mandoc shows it."""
+    """Returns the examples of a document's `console` blocks, or of a rendered manual."""
     if is_manual(path):
         return list(examples_of_manual(path))
     blocks = [block for block in blocks_of(path) if block.language == "console"]
@@ -173,7 +173,7 @@ def examples_of(path: Path) -> list[Example]:
 
 
 def examples_of_console(block: Block) -> Iterator[Example]:
-    """The examples of one block."""
+    """Yields the examples of one block."""
     path, number = block.place.path, block.place.line
     for text in texts_of_examples(block.code):
         yield example_of(text, Place(path, number))
@@ -181,7 +181,7 @@ def examples_of_console(block: Block) -> Iterator[Example]:
 
 
 def examples_of_manual(path: Path) -> Iterator[Example]:
-    """The examples of a manual, each with the line where its source has it."""
+    """Yields the examples of a manual, each with its line in the manual's source."""
     blocks = re.findall(r"^\$ .*?\n(?=\n|\Z)", shown_manual(path), re.MULTILINE | re.DOTALL)
     texts = [text for block in blocks for text in texts_of_examples(block)]
     for text, place in zip(texts, prompts_of(path)):
@@ -189,12 +189,12 @@ def examples_of_manual(path: Path) -> Iterator[Example]:
 
 
 def texts_of_examples(code: str) -> Iterable[str]:
-    """The parts of a block that begin with a command each."""
+    """Splits a block into parts that each begin with a command."""
     return re.findall(r"^\$ .*?\n(?=\$ |\Z)", code, re.MULTILINE | re.DOTALL)
 
 
 def example_of(text: str, place: Place) -> Example:
-    """An example by its command, which goes on after "> ", and what follows that."""
+    """Reads an example: a command, whose continuation lines begin with "> ", and its output."""
     first, *others = text.splitlines(keepends=True)
     command = [first.removeprefix(PROMPT)]
     while others and others[0].startswith(CONTINUATION):

@@ -1,8 +1,8 @@
-"""Runs the examples of documents and manuals, and compares what they print with what is shown.
+"""Runs the examples of documents and manuals, and compares their output with the shown output.
 
-Where two runs of a command without -S differ, it makes salts. Then what it prints has to have the
-form that is shown, and each hash, the shown one too, has to be libxcrypt's for one word of the
-examples up to there, with another salt.
+A command without -S whose output differs between two runs draws salts. Its output must then have
+the form that is shown, with other salts. Each hash, in the document and in the output, must be
+libxcrypt's hash of a word from the examples so far.
 """
 from __future__ import annotations
 
@@ -20,34 +20,34 @@ HASH = re.compile(
     r"(\$1\$|\$[56]\$(?:rounds=[0-9]+\$)?|\$7\$[./0-9A-Za-z]{11})"
     r"([./0-9A-Za-z]+)\$([./0-9A-Za-z]+)"
 )
-WORD = re.compile(r"[A-Za-z :]{2,}")  # what can be a password of an example
+WORD = re.compile(r"[A-Za-z :]{2,}")  # the passwords of examples look like this
 SALT_OPTION = re.compile(r"(?:^|\s)(?:-S|--salt)")
 COMMAND_NOT_FOUND = re.compile(r": (\S+): command not found$", re.MULTILINE)
 
 
 @dataclass(frozen=True)
 class Played:
-    """What an example printed, on both streams together."""
+    """An example with its output, standard output and standard error together."""
 
     example: Example
-    words: tuple[str, ...]  # of the examples up to this one
+    words: tuple[str, ...]  # possible passwords in the examples up to this one
     output: str
-    repeated_output: str | None  # of a second run, where the first printed something else
+    repeated_output: str | None  # of a second run, if the first one wasn't as shown
 
     @property
     def makes_salts(self) -> bool:
-        """Whether two runs print different things."""
+        """Whether the outputs of two runs differ."""
         return self.repeated_output is not None and self.repeated_output != self.output
 
     @property
     def missing_command(self) -> str | None:
-        """A command that the shell didn't find."""
+        """The name of a command that the shell didn't find."""
         found = COMMAND_NOT_FOUND.search(self.output)
         return found[1] if found else None
 
 
 class Player:
-    """Runs the examples of one document in their order, each once, in one folder."""
+    """Runs the examples of one document in order, each once, all in the same folder."""
 
     def __init__(self, examples: Sequence[Example], folder: Path, environment: Changes) -> None:
         self.examples = examples
@@ -57,7 +57,7 @@ class Player:
         self.played: list[Played] = []
 
     def play(self, number: int) -> Played:
-        """What an example printed. Those before it are run before it."""
+        """Runs the examples up to this one that haven't run yet, and returns this one's output."""
         while len(self.played) <= number:
             example = self.examples[len(self.played)]
             self.words += words_of(example.command)
@@ -68,60 +68,60 @@ class Player:
         return self.played[number]
 
     def output_of(self, example: Example) -> str:
-        """What a shell prints for a command."""
+        """Runs a command in a shell, and returns its output."""
         script = f"exec 2>&1\n{example.command}"
         result = run("bash", "-c", script, env=self.environment, cwd=self.folder)
         return result.stdout.decode(errors="backslashreplace")
 
 
 def words_of(command: str) -> list[str]:
-    """What can be a password in a command. What stands in quotes comes last, as the likeliest."""
+    """Returns the words of a command that can be passwords, the likeliest, quoted ones last."""
     bare = re.split(r"[\s:'\"|<>;]+|\\n", command)
     quoted = re.split(r"['\":]|\\n|\n", command)
     return [word for word in [*bare, *quoted] if WORD.fullmatch(word)]
 
 
 def assert_shown(played: Played) -> None:
-    """Fails the test where an example printed something else than the document shows."""
+    """Fails the test if an example's output isn't what the document shows."""
     if played.output == played.example.shown:
         return
     if played.makes_salts:
         problem = next(problems_of_salted(played), None)
     else:
-        problem = "the output is another one"
+        problem = "the output differs"
     if problem is not None:
-        raise AssertionError(f"{problem}\n{described(played)}")
+        raise AssertionError(f"{problem}\n{describe(played)}")
 
 
-def described(played: Played) -> str:
-    """The place, the command, what was expected and what came."""
+def describe(played: Played) -> str:
+    """Returns the place, the command, the expected output and the received one."""
     lines = [
         f"the document: {played.example.place}",
         f"the command: {played.example.command.rstrip()}",
         f"expected:\n{played.example.shown}",
-        f"what came:\n{played.output}",
+        f"received:\n{played.output}",
     ]
     return "\n".join(lines)
 
 
 def problems_of_salted(played: Played) -> Iterator[str]:
-    """What is wrong with the output of a command that makes salts."""
+    """Yields what is wrong with the output of a command that draws salts."""
     shown = played.example.shown
     if form_of(shown) != form_of(played.output):
         yield "the output has another form"
         return
-    for shown_hash, made_hash in zip(hashes_of(shown), hashes_of(played.output)):
-        word = word_of(made_hash, played.words)
+    for shown_hash, received_hash in zip(hashes_of(shown), hashes_of(played.output)):
+        word = word_of(received_hash, played.words)
         if word is None:
-            yield f"{made_hash}, which came, is the hash of no word of the examples"
+            yield f"{received_hash} is not the hash of any word in the examples"
         elif not is_hash_of(shown_hash, word):
-            yield f"{shown_hash}, which is shown, is no hash of '{word}'"
-        elif shown_hash == made_hash:
-            yield f"{made_hash} came, and its salt isn't new"
+            yield f"{shown_hash}, as shown, is not a hash of '{word}'"
+        elif shown_hash == received_hash:
+            yield f"{received_hash} has the salt that is shown, not a new one"
 
 
 def form_of(text: str) -> str:
-    """A text whose salts and digests have only their lengths."""
+    """Returns a text in which each salt and digest is replaced by its length."""
     return HASH.sub(lambda found: f"{found[1]}{len(found[2])} ${len(found[3])} ", text)
 
 
@@ -131,11 +131,11 @@ def hashes_of(text: str) -> list[str]:
 
 
 def is_hash_of(text: str, password: str) -> bool:
-    """Whether libxcrypt makes this hash of a password."""
+    """Returns whether libxcrypt gives this hash for a password."""
     return crypt_or_none(password.encode(), text.encode()) == text.encode()
 
 
 def word_of(text: str, words: Sequence[str]) -> str | None:
-    """The word of which this is the hash, the last ones tried first."""
+    """Returns the word whose hash this is, trying the last words first."""
     candidates = dict.fromkeys(reversed(words))
     return next((word for word in candidates if is_hash_of(text, word)), None)

@@ -1,4 +1,4 @@
-"""The versions of Python that this machine has."""
+"""Finds the versions of Python on this machine."""
 from __future__ import annotations
 
 import glob
@@ -7,12 +7,12 @@ import shutil
 from collections.abc import Iterator
 from dataclasses import dataclass
 
-OLDEST = 8  # of Python 3, that our code runs with
+OLDEST = 8  # the oldest minor version of Python 3 that our code supports
 
 
 @dataclass(frozen=True)
 class Interpreter:
-    """A version of Python, and where its interpreter is."""
+    """A version of Python, and the path of its interpreter."""
 
     minor: int
     path: str
@@ -22,7 +22,7 @@ class Interpreter:
 
 
 def interpreters() -> Iterator[Interpreter]:
-    """One interpreter of each version of Python 3, of the system or of the user's pyenv."""
+    """Yields one interpreter for each version of Python 3, from the system or the user's pyenv."""
     for minor in range(6, 20):
         version = f"3.{minor}"
         found = shutil.which(f"python{version}", path="/usr/bin:/usr/local/bin")

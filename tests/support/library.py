@@ -1,4 +1,4 @@
-"""The library as it is installed, and programs in C that call it."""
+"""Installs the library, and builds C programs that call it."""
 from __future__ import annotations
 
 import os
@@ -16,7 +16,7 @@ SOURCES = ROOT / "tests/c"
 
 @dataclass(frozen=True)
 class Installed:
-    """The library's files below the folder where they were installed."""
+    """The library's files, below the folder in which they are installed."""
 
     root: Path
 
@@ -37,35 +37,35 @@ class Installed:
 
     @property
     def static(self) -> list[Word]:
-        """A compiler's words for the static library."""
+        """The compiler's arguments that link the static library."""
         return [f"-I{self.include}", self.libraries / "libmkpasswd.a"]
 
     @property
     def shared(self) -> list[Word]:
-        """A compiler's words for the shared library, which the program finds here."""
+        """The compiler's arguments that link the shared library, with this path to find it."""
         folder = self.libraries
         return [f"-I{self.include}", f"-L{folder}", f"-Wl,-rpath,{folder}", "-lmkpasswd"]
 
     def defined(self, name: str) -> int:
-        """The number that the header defines a name as."""
+        """Returns the number that the header defines as MKPASSWD_NAME."""
         pattern = rf"^#define MKPASSWD_{name} (\d+)"
         found = re.search(pattern, self.header, re.MULTILINE)
         assert found is not None, f"the header doesn't define MKPASSWD_{name}"
         return int(found[1])
 
     def exported(self) -> list[str]:
-        """The names of the functions that the library has."""
+        """Returns the names of the functions that the library exports."""
         pattern = r"^MKPASSWD_EXPORT[^;]*?int32_t\s+(mkpasswd_\w+)\("
         return sorted(re.findall(pattern, self.header, re.MULTILINE))
 
     def inline(self) -> list[str]:
-        """The names of the calls that the header has itself and declares for its users."""
+        """Returns the names of the inline calls that the header declares for its users."""
         pattern = r"static inline (?:bool|struct \w+) (mkpasswd_\w+)\([^{;]*\);"
         return sorted(re.findall(pattern, self.header))
 
 
 def install(folder: Path) -> Installed:
-    """Installs what is built below a folder, as tools/install does."""
+    """Installs the built files below a folder with tools/install."""
     installed = Installed(folder)
     libraries = "/" + str(installed.libraries.relative_to(folder))
     environment = {"DESTDIR": str(folder), "PREFIX": "/usr", "LIBDIR": libraries}
@@ -75,13 +75,13 @@ def install(folder: Path) -> Installed:
 
 @dataclass(frozen=True)
 class Builder:
-    """Builds programs as C99 with the installed static library, in a folder."""
+    """Compiles C99 programs in a folder, with the installed static library."""
 
     installed: Installed
     folder: Path
 
     def build(self, source: Path, *words: Word) -> Path:
-        """A program, of which the compiler says nothing."""
+        """Compiles a program without any warning, and returns its path."""
         program = self.folder / source.stem
         command = (COMPILER, "-std=c99", *WARNINGS, *words, source, *self.installed.static)
         assert_result(run(*command, "-o", program))

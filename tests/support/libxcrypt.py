@@ -1,4 +1,4 @@
-"""crypt(5)'s hashes by libxcrypt, an implementation that is not ours."""
+"""Makes the hashes of crypt(5) with libxcrypt, an independent implementation."""
 from __future__ import annotations
 
 import ctypes
@@ -13,11 +13,11 @@ _library.crypt_rn.restype = ctypes.c_char_p
 
 
 def crypt_or_none(password: bytes, setting: bytes) -> bytes | None:
-    """The hash of a password, or None where libxcrypt refuses the password or the setting.
+    """Returns the hash of a password, or None if libxcrypt refuses the password or the setting.
 
-    Each call has its own memory, so threads can make hashes beside each other.
+    Each call has its own memory, so threads may call it at once.
     """
-    assert b"\0" not in password + setting, "a string of C has no zero byte"
+    assert b"\0" not in password + setting, "a C string has no zero byte"
     data = ctypes.create_string_buffer(SIZE_OF_CRYPT_DATA)
     ctypes.set_errno(0)
     text: bytes | None = _library.crypt_rn(password, setting, data, SIZE_OF_CRYPT_DATA)
@@ -27,7 +27,7 @@ def crypt_or_none(password: bytes, setting: bytes) -> bytes | None:
 
 
 def crypt(password: bytes, setting: bytes) -> bytes:
-    """The hash of a password with a setting that libxcrypt takes."""
+    """Returns the hash of a password with a setting that libxcrypt accepts."""
     text = crypt_or_none(password, setting)
     assert text is not None, f"libxcrypt refuses the setting {setting!r} or the password"
     return text

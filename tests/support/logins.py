@@ -1,6 +1,6 @@
-"""Tests of whatever users log in to: each method's hash lets its owner in, and nobody else.
+"""Tests for anything that users log in to: it accepts the right passwords and nothing else.
 
-A class of tests inherits them, and has a fixture `door`.
+A class of tests inherits them, and defines a fixture `door`.
 """
 from __future__ import annotations
 
@@ -20,7 +20,7 @@ from .services import SECONDS, Service
 
 
 class Verdict(enum.Enum):
-    """What a service says to a login."""
+    """A service's answer to a login."""
 
     ACCEPTED = "accepted"
     REFUSED = "refused"
@@ -28,24 +28,24 @@ class Verdict(enum.Enum):
 
 @dataclass(frozen=True)
 class Door:
-    """Where users of a site log in, and the service that answers, if one runs for that."""
+    """A way to log in to a site, with the service behind it, if there is one."""
 
     site: Site
     log_in: Callable[[str, str], Verdict]
     service: Service | None = None
 
     def assert_verdict(self, name: str, password: str, expected: Verdict) -> None:
-        """Fails the test where a login isn't answered so, with the service's log."""
+        """Fails the test, with the service's log, unless a login has this verdict."""
         found = self.log_in(name, password)
-        message = f"{name!r} with {password!r}: expected: {expected.value}, and not {found.value}"
+        message = f"{name!r} with {password!r}: expected {expected.value}, got {found.value}"
         assert found is expected, f"{message}\n{self.service or ''}"
 
 
 class LoginTests:
-    """What holds for every service."""
+    """Tests for every service."""
 
     @pytest.mark.parametrize("user", USERS, ids=str)
-    def test_the_right_password_gets_in(self, door: Door, user: User) -> None:
+    def test_the_right_password_is_accepted(self, door: Door, user: User) -> None:
         door.assert_verdict(user.name, user.password, Verdict.ACCEPTED)
 
     @pytest.mark.parametrize("user", USERS, ids=str)
@@ -63,18 +63,18 @@ class LoginTests:
 
 
 class PamLoginTests(LoginTests):
-    """What holds where the PAM module checks passwords, besides.
+    """Further tests for services whose passwords the PAM module checks.
 
-    The hash that `hostile` asks for would take longer than any service waits.
+    To check the field of `hostile` would take longer than any service waits.
     """
 
-    takes_blank = False  # whether the service takes names with a blank
+    takes_blank = False  # whether the service accepts names with a space
 
     @pytest.mark.parametrize("name", CLOSED)
     def test_a_field_that_is_no_hash_of_ours_is_refused(self, door: Door, name: str) -> None:
         door.assert_verdict(name, SECRET, Verdict.REFUSED)
 
-    def test_a_name_with_a_blank_gets_in_where_the_service_takes_it(self, door: Door) -> None:
+    def test_a_name_with_a_space_is_accepted_if_the_service_allows_it(self, door: Door) -> None:
         verdict = Verdict.ACCEPTED if self.takes_blank else Verdict.REFUSED
         door.assert_verdict("a b", SIX.password, verdict)
 
@@ -83,19 +83,19 @@ class PamLoginTests(LoginTests):
 
 
 def verdict_of(result: Result, *, refused: int) -> Verdict:
-    """The verdict of a client that ends with 0 for a login that is accepted."""
+    """Returns the verdict that a client's exit status shows: 0 for a login that is accepted."""
     if result.status == 0:
         return Verdict.ACCEPTED
     assert result.status == refused, f"expected status: 0 or {refused}\n{result}"
     return Verdict.REFUSED
 
 
-PAGE = b"in\n"  # that the web server serves to those whom it lets in
+PAGE = b"in\n"  # what the web server serves after a login
 HTTP_REFUSALS = (401, 403, 500)
 
 
 def http_verdict(machine: Namespaces, port: int, name: str, password: str) -> Verdict:
-    """Logs in to a web server."""
+    """Logs in to a web server, and returns its verdict."""
     user = base64.b64encode(f"{name}:{password}".encode()).decode()
     connection = http.client.HTTPConnection("127.0.0.1", port, timeout=SECONDS)
     with machine.network():
@@ -112,7 +112,7 @@ def http_verdict(machine: Namespaces, port: int, name: str, password: str) -> Ve
 
 
 def pam_verdict(machine: Namespaces, service: str, name: str, password: str) -> Verdict:
-    """Logs in by PAM alone."""
+    """Logs in by PAM alone, and returns its verdict."""
     words = ("pamtester", service, name, "authenticate", "acct_mgmt")
     answer = answer_of(machine.run(*words, stdin=f"{password}\n".encode()))
     assert answer in (Answer.ACCEPTED, Answer.REFUSED), answer

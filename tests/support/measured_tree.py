@@ -1,7 +1,7 @@
-"""A tiny repository that tools/evidence measures, where rt, make and others only seem to work.
+"""A tiny repository for tests of tools/evidence, with fake commands for rt, make and others.
 
-Each fake command prints and writes what a test has put beside it. What they print is in the form
-of the real commands, and each call of make and rt is noted.
+Each fake command prints and writes what a test has put beside it, in the form of the real
+command. Calls of make and rt are recorded.
 """
 from __future__ import annotations
 
@@ -49,7 +49,7 @@ SPEED = """\
  "quartiles": [0.0029, 0.0031], "measurements": 9}
 ]}
 """
-# What the fake commands have beside themselves.
+# The files beside the fake commands: their outputs.
 OUTPUTS = {
     "gate.log": GATE.format(share=FROM_NOTHING),
     "soak": SOAK,
@@ -81,12 +81,12 @@ version) cat "$fakes/version" ;;
 plant) echo "rt $* in ${PWD##*/}" >> "$fakes/calls" && cat "$fakes/plant" ;;
 esac
 """
-# A folder in place of a root: the words after the options are the release and the folder.
+# Makes a folder in place of a root. The arguments after the options: the release, the folder.
 MMDEBSTRAP = r"""#!/bin/sh
 while [ "${1#-}" != "$1" ]; do shift; done
 mkdir -p "$2/root" "$2/usr/local/bin"
 """
-# What runs in the root: of the words after the options, the fourth is the root.
+# Stands in for the check in the root, which is the fourth argument after the options.
 UNSHARE = r"""#!/bin/sh
 while [ "${1#-}" != "$1" ]; do shift; done
 [ "$1" != mmdebstrap ] || exec "$@"
@@ -94,7 +94,7 @@ fakes=$(dirname "$0")
 log=$4/root/mkpasswd/build/log
 mkdir -p "$log" && cp "$fakes/gate.log" "$log" && cat "$fakes/check"
 """
-# Which runs the command without another user, since tests can't count on one that sees their files.
+# Runs the command as the same user, since another one may not be able to read the test's files.
 RUNUSER = r"""#!/bin/sh
 while [ "$1" != -- ]; do shift; done
 shift
@@ -132,45 +132,45 @@ FILES = {
 
 @dataclass(frozen=True)
 class MeasuredTree:
-    """The repository, and the folder of the fake commands."""
+    """A repository, and the folder of its fake commands."""
 
     folder: Path
     fakes: Path
 
     @property
     def environment(self) -> Changes:
-        """Where the fake commands are found first."""
+        """The environment in which the fake commands are found first."""
         return {"PATH": f"{self.fakes}:/usr/sbin:/usr/bin:/sbin:/bin", "RT": None}
 
     @property
     def command(self) -> Path:
-        """The command that measures it."""
+        """The path of the tree's tools/evidence."""
         return self.folder / "tools/evidence"
 
     def evidence(self, *words: Word) -> Result:
-        """Measures it."""
+        """Runs tools/evidence."""
         return run(self.command, *words, env=self.environment)
 
     def states(self) -> dict[str, str]:
-        """What --list says of each part."""
+        """Returns the state of each part, as --list prints it."""
         lines = self.evidence("--list").required().stdout.decode().splitlines()
         return {line.split()[0]: line.split(maxsplit=1)[1] for line in lines}
 
     def not_measured(self) -> set[str]:
-        """The parts that are not measured for the commit."""
+        """Returns the parts that --list calls not measured for the commit."""
         return {name for name, state in self.states().items() if state == "not measured"}
 
     def page(self) -> str:
-        """The page that was written."""
+        """Returns the page that tools/evidence wrote."""
         return (self.folder / "docs/EVIDENCE.md").read_text(encoding="utf-8")
 
     def calls(self) -> list[str]:
-        """The calls of make and rt that measured something."""
+        """Returns the recorded calls of make and rt."""
         path = self.fakes / "calls"
         return path.read_text(encoding="utf-8").splitlines() if path.exists() else []
 
     def kept(self, pattern: str) -> list[str]:
-        """The files that are kept of measurements, by a pattern for their names."""
+        """Returns the kept files of measurements whose names match a pattern."""
         return sorted(path.name for path in self.folder.glob(f"build/evidence/*/{pattern}"))
 
     def write(self, path: str, text: str) -> None:
@@ -180,7 +180,7 @@ class MeasuredTree:
         file.write_text(text, encoding="utf-8")
 
     def commit(self) -> None:
-        """Commits every file as it is."""
+        """Commits all files."""
         self.git("add", "--all")
         who = ("-c", "user.name=somebody", "-c", "user.email=somebody@mkpasswd.invalid")
         self.git(*who, "commit", "--quiet", "--message", "files")
@@ -190,20 +190,20 @@ class MeasuredTree:
         run("git", "-C", self.folder, *words).required()
 
     def prepare(self, name: str, output: str) -> None:
-        """Puts what a fake command prints beside it, or a script that it runs first."""
+        """Writes a fake command's output beside it, or a script that it runs first."""
         (self.fakes / name).write_text(output, encoding="utf-8")
 
 
 def wait_for(condition: Callable[[], bool]) -> None:
-    """Waits until something is so, for at most a minute."""
+    """Waits for a condition, for at most a minute."""
     end = time.monotonic() + 60
     while not condition():
-        assert time.monotonic() < end, "waited for a minute"
+        assert time.monotonic() < end, "the condition didn't hold within a minute"
         time.sleep(0.01)
 
 
 def measured_tree(folder: Path) -> MeasuredTree:
-    """Makes the repository, with this tree's tools that measure, and the fake commands."""
+    """Makes the repository with a copy of this tree's tools/evidence, and the fake commands."""
     tree = MeasuredTree(folder / "tree", folder / "fakes")
     tree.fakes.mkdir()
     for name, script in COMMANDS.items():

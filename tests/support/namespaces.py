@@ -1,9 +1,9 @@
-"""Mounts, processes and a network of a test's own, in which services run.
+"""Gives a test a machine of its own: namespaces for mounts, processes and the network.
 
-One process holds the namespaces, and the kernel ends all processes in them with it. The test itself
-stays outside: nsenter brings commands inside, files are found below /proc, and a thread can open
-sockets there. Each such network is a loopback on which every port is free, and each such machine
-may change its /etc, so these tests can run beside each other.
+One process holds the namespaces, and when it ends the kernel ends all processes in them. The test
+itself stays outside: nsenter runs commands inside, the machine's files are below /proc, and a
+thread can open sockets inside. Each machine has a loopback on which every port is free, and may
+change its /etc, so that such tests can run in parallel.
 """
 from __future__ import annotations
 
@@ -22,13 +22,13 @@ from pathlib import Path
 from .process import Changes, Result, Word, run, started
 
 UNSHARE = ("unshare", "--mount", "--net", "--pid", "--fork", "--kill-child", "--mount-proc")
-# They end with the process that runs tests, however it ends.
+# The namespaces end with the process that runs the tests, however that ends.
 UNTIL_TESTS_END = ("setpriv", "--pdeathsig", "KILL", *UNSHARE)
-# The first process inside. What others leave behind needs no reaping.
+# The first process inside. It ignores SIGCHLD, so that the kernel reaps orphans.
 HOLDER = "trap '' CHLD; echo ready; exec sleep infinity"
-LONGEST = 7200  # seconds that namespaces are held
-CLONE_NEWNET = 0x40000000  # of setns(2)
-SIOCSIFFLAGS, IFF_UP = 0x8914, 1  # of netdevice(7)
+LONGEST = 7200  # seconds that namespaces may last
+CLONE_NEWNET = 0x40000000  # from setns(2)
+SIOCSIFFLAGS, IFF_UP = 0x8914, 1  # from netdevice(7)
 DEVICES = "null zero full random urandom tty"
 
 OWN_FOLDER = """\
@@ -58,7 +58,7 @@ _library = ctypes.CDLL(None, use_errno=True)
 
 
 def children_of(number: int) -> list[int]:
-    """The numbers of the processes that a process has started and that haven't been reaped."""
+    """Returns the process ids of a process's children that haven't been reaped."""
     try:
         text = Path(f"/proc/{number}/task/{number}/children").read_text(encoding="ascii")
     except (FileNotFoundError, ProcessLookupError):
@@ -68,12 +68,12 @@ def children_of(number: int) -> list[int]:
 
 @dataclass(frozen=True)
 class Namespaces:
-    """A machine within this one, which shares the files that are not its own."""
+    """A machine within this one. It shares all files for which it has no mount of its own."""
 
-    holder: int  # the number of its first process, as it is outside
+    holder: int  # the id of its first process, as seen from outside
 
     def entering(self, *command: Word, folder: Path | None = None) -> list[Word]:
-        """The command that runs a command inside, in a folder of there."""
+        """Returns the command that runs a command inside, in a folder of the machine."""
         namespaces = [f"--target={self.holder}", "--mount", "--net", "--pid"]
         return ["nsenter", *namespaces, f"--wdns={folder or '/'}", "--", *command]
 
@@ -93,9 +93,9 @@ class Namespaces:
     def started(
         self, *command: Word, log: Path | None = None, env: Changes | None = None
     ) -> Iterator[subprocess.Popen[bytes]]:
-        """Runs a command inside, beside the block, and kills it at the end.
+        """Runs a command inside while the block runs, and then kills it.
 
-        What it prints goes into a file.
+        Its output goes into the file `log`.
         """
         words = self.entering(*command)
         with open(log or os.devnull, "wb") as out:
@@ -105,9 +105,9 @@ class Namespaces:
     # ---- Files
 
     def path(self, path: str | Path) -> Path:
-        """Where a file of inside is for the test.
+        """Returns the path by which the test reaches a file of the machine.
 
-        A link to an absolute path leads to the test's own files, so this may name the link only.
+        A link to an absolute path would lead to the test's own files, so don't follow such links.
         """
         return Path(f"/proc/{self.holder}/root{path}")
 
@@ -116,35 +116,35 @@ class Namespaces:
         return self.path(path).read_bytes()
 
     def write(self, path: str, content: bytes | str, mode: int | None = None) -> None:
-        """Writes a file, by default with the mode that it has or that new files have."""
+        """Writes a file. By default it keeps its mode, or gets that of new files."""
         file = self.path(path)
         file.write_bytes(content.encode() if isinstance(content, str) else content)
         if mode is not None:
             file.chmod(mode)
 
     def append(self, path: str, content: bytes | str) -> None:
-        """Adds to the end of a file."""
+        """Appends to a file."""
         self.write(
             path, self.read(path) + (content.encode() if isinstance(content, str) else content)
         )
 
     def make_folder(self, path: str) -> None:
-        """Makes a folder, with those above it, where there is none."""
+        """Makes a folder and its parents, if they don't exist."""
         self.path(path).mkdir(parents=True, exist_ok=True)
 
     def own_folder(self, folder: str, *, is_empty: bool = False) -> None:
-        """Puts a folder in memory over one that is there: a copy of it, or an empty one."""
+        """Mounts a folder in memory over an existing one: a copy of it, or an empty one."""
         self.run("sh", "-euc", OWN_FOLDER, "sh", folder, "empty" if is_empty else "copy").required()
 
     def own_devices(self) -> None:
-        """Gives the machine its own /dev, with the devices that every program may expect."""
+        """Gives the machine a /dev of its own, with the devices that every program may expect."""
         self.run("sh", "-euc", OWN_DEVICES).required()
 
     # ---- The network
 
     @contextlib.contextmanager
     def network(self) -> Iterator[None]:
-        """Moves this thread inside for the block: sockets that it opens there stay there."""
+        """Moves this thread into the machine's network for the block. New sockets stay there."""
         with open("/proc/thread-self/ns/net", "rb") as outside:
             with open(f"/proc/{self.holder}/ns/net", "rb") as inside:
                 enter_network(inside.fileno())
@@ -154,19 +154,19 @@ class Namespaces:
                 enter_network(outside.fileno())
 
     def connected(self, port: int, seconds: float) -> socket.socket:
-        """A connection to a port inside."""
+        """Opens a connection to a port inside."""
         with self.network():
             return socket.create_connection(("127.0.0.1", port), seconds)
 
     def raise_loopback(self) -> None:
-        """Brings the network up."""
+        """Brings the loopback interface up."""
         request = struct.pack("16sH22x", b"lo", IFF_UP)
         with self.network(), socket.socket(socket.AF_INET, socket.SOCK_DGRAM) as control:
             fcntl.ioctl(control, SIOCSIFFLAGS, request)
 
 
 def enter_network(descriptor: int) -> None:
-    """Moves this thread into a network."""
+    """Moves this thread into a network namespace."""
     if _library.setns(descriptor, CLONE_NEWNET) != 0:
         error = ctypes.get_errno()
         raise OSError(error, f"setns: {os.strerror(error)}")
@@ -174,7 +174,7 @@ def enter_network(descriptor: int) -> None:
 
 @contextlib.contextmanager
 def namespaces() -> Iterator[Namespaces]:
-    """Makes namespaces, which end with the block. Only the superuser can."""
+    """Makes namespaces that end with the block. Only root can."""
     words = (*UNTIL_TESTS_END, "sh", "-c", HOLDER)
     with started(*words, stdout=subprocess.PIPE, timeout=LONGEST) as process:
         assert process.stdout is not None
@@ -185,5 +185,5 @@ def namespaces() -> Iterator[Namespaces]:
         try:
             yield inside
         finally:
-            with contextlib.suppress(ProcessLookupError):  # it has ended, and the block said why
+            with contextlib.suppress(ProcessLookupError):  # it has ended, and so the block failed
                 os.kill(inside.holder, signal.SIGKILL)

@@ -1,7 +1,7 @@
-"""What tests need of the machine: commands, files and Python modules of Debian's packages; root.
+"""Skips tests for which this machine lacks a command, a file, a Python module or root.
 
-What is missing skips a test, or fails it with STRICT=1. What can't be had on this machine, as
-another processor, skips it also then.
+With STRICT=1 such a test fails instead. A test that makes no sense on this machine, as on another
+processor, is skipped even then.
 """
 from __future__ import annotations
 
@@ -23,7 +23,7 @@ PACKAGES = ROOT / "tests/packages.txt"
 
 
 def missing(what: str, remedy: str) -> NoReturn:
-    """Ends a test that lacks something, or a module of tests before they are collected."""
+    """Skips a test, or a module that is being imported; with STRICT=1 it fails."""
     reason = f"{what} is missing ({remedy})"
     if os.environ.get("STRICT") == "1":
         pytest.fail(reason, pytrace=False)
@@ -31,13 +31,13 @@ def missing(what: str, remedy: str) -> NoReturn:
 
 
 def not_applicable(reason: str) -> NoReturn:
-    """Ends a test that says nothing on this machine, also with STRICT=1."""
+    """Skips a test that makes no sense on this machine, even with STRICT=1."""
     pytest.skip(f"not applicable: {reason}")
 
 
 @functools.cache
 def package_of() -> dict[str, str]:
-    """The package of each name that tests ask for."""
+    """Returns the Debian package of each name that a test can need."""
     packages = {}
     for line in PACKAGES.read_text(encoding="ascii").splitlines():
         words = line.split("#")[0].split()
@@ -47,7 +47,7 @@ def package_of() -> dict[str, str]:
 
 
 def is_there(name: str) -> bool:
-    """Whether a file /.., a Python module python3-.., or else a command is on this machine."""
+    """Returns whether a file /.., a Python module python3-.., or else a command is installed."""
     if name.startswith("/"):
         return Path(name).exists()
     if name.startswith("python3-"):
@@ -57,7 +57,7 @@ def is_there(name: str) -> bool:
 
 @functools.cache
 def can_make_namespaces() -> bool:
-    """Whether this process may have mounts, processes and a network of its own."""
+    """Returns whether this process may make namespaces for mounts, processes and a network."""
     if os.geteuid() != 0:
         return False
     words = ["unshare", "--mount", "--net", "--pid", "--fork", "--kill-child", "--mount-proc"]
@@ -65,7 +65,7 @@ def can_make_namespaces() -> bool:
 
 
 def need(*names: str) -> None:
-    """Ends the test where one of these is missing; `root` and `namespaces` are names too."""
+    """Skips the test if one of these is missing. `root` and `namespaces` are names too."""
     for name in names:
         if name == "root":
             if os.geteuid() != 0:
@@ -79,13 +79,13 @@ def need(*names: str) -> None:
 
 @contextlib.contextmanager
 def needed(*names: str) -> Iterator[None]:
-    """Lets the block import modules; where one is missing, the tests of this module end."""
+    """Skips the importing module of tests if one of these is missing, and else runs the block."""
     need(*names)
     yield
 
 
 def built(path: str, target: str) -> Path:
-    """A file of the tree that `make TARGET` builds. Where it isn't there, the test ends."""
+    """Returns the path of a file that `make TARGET` builds. Skips the test if it isn't built."""
     file = ROOT / path
     if not file.exists():
         missing(path, f"make {target}")

@@ -1,4 +1,4 @@
-"""Hashes of the schemes of crypt(5) that mkpasswd doesn't hash, as libxcrypt makes them."""
+"""libxcrypt's hashes of crypt(5)'s other schemes, which mkpasswd doesn't support."""
 from __future__ import annotations
 
 from dataclasses import dataclass
@@ -8,14 +8,14 @@ from .libxcrypt import crypt
 
 @dataclass(frozen=True)
 class OtherHash:
-    """A hash, and the name of its scheme in crypt(5)."""
+    """A hash, and its scheme's name in crypt(5)."""
 
     scheme: str
     setting: bytes
 
     @property
     def text(self) -> str:
-        """The hash of password."""
+        """The hash of "password"."""
         return crypt(b"password", self.setting).decode()
 
     def __str__(self) -> str:

@@ -1,12 +1,12 @@
-"""The Python package that is tried, over the library that is tried.
+"""Imports the Python package under test over the library under test.
 
-A module of tests imports the package so, and then knows its types:
+A module of tests imports the package like this, so that mypy knows its types:
 
-    with tried_package():
+    with tested_package():
         import mkpasswd
 
-PACKAGE names another folder than python/src in which a package mkpasswd is, and LIBRARY another
-file of the name libmkpasswd.so.3. What a test starts gets both by environment_of().
+PACKAGE names a folder with a package mkpasswd, by default python/src, and LIBRARY a file named
+libmkpasswd.so.3. environment_of() passes both to the interpreters that a test starts.
 """
 from __future__ import annotations
 
@@ -34,13 +34,13 @@ PACKAGE = Path(os.environ.get("PACKAGE", ROOT / "python/src")).absolute()
 
 
 @contextlib.contextmanager
-def tried_package() -> Iterator[None]:
-    """Lets the block import the package. Without a library, the tests of the module are skipped.
+def tested_package() -> Iterator[None]:
+    """Lets the block import the package. Skips the module's tests if the library isn't built.
 
-    The package asks for its library by name, and a library of that name is loaded here by its
-    path. So no environment has to change, which other tests of this process have too.
+    The package loads its library by name, and finds the one of that name that is loaded here by
+    its path. So the environment, which other tests of this process share, needn't change.
     """
-    assert LIBRARY.name == SONAME, f"LIBRARY has to be a file of the name {SONAME}"
+    assert LIBRARY.name == SONAME, f"LIBRARY must name a file called {SONAME}"
     if not LIBRARY.is_file():
         missing(str(LIBRARY), "make lib")
     ctypes.CDLL(str(LIBRARY))
@@ -52,7 +52,7 @@ def tried_package() -> Iterator[None]:
 
 
 def environment_of(library: Path = LIBRARY, package: Path = PACKAGE) -> dict[str, str | None]:
-    """What an interpreter needs that imports the package over a library."""
+    """Returns the environment in which an interpreter imports the package over a library."""
     return {
         "PYTHONPATH": str(package),
         "LD_LIBRARY_PATH": str(library.parent),
@@ -60,47 +60,47 @@ def environment_of(library: Path = LIBRARY, package: Path = PACKAGE) -> dict[str
     }
 
 
-# What an interpreter gets that was never told of this tree.
+# The environment of an interpreter that knows nothing of this tree.
 ELSEWHERE: dict[str, str | None] = {"PYTHONPATH": None, "LD_LIBRARY_PATH": None}
 
 
 def run_python(code: str, *, env: Changes | None = None, cwd: Path | None = None) -> Result:
-    """Runs a script in an interpreter of its own, which can import the package."""
+    """Runs a script in a new interpreter, which can import the package."""
     environment = {**environment_of(), **(env or {})}
     return run(sys.executable, "-c", code, env=environment, cwd=cwd)
 
 
 def error_of(call: Callable[..., object], *arguments: object, **named: object) -> Exception:
-    """What a call raises."""
+    """Returns the exception that a call raises."""
     with pytest.raises(Exception) as raised:
         call(*arguments, **named)
     return raised.value
 
 
-def kind_raised(call: Callable[..., object], *arguments: object, **named: object) -> object:
-    """The very class of what a call raises."""
+def class_raised(call: Callable[..., object], *arguments: object, **named: object) -> object:
+    """Returns the exact class of the exception that a call raises."""
     return error_of(call, *arguments, **named).__class__
 
 
 def crypt(password: str | bytes, setting: str) -> str:
-    """The hash of a password by libxcrypt, or the model if it is too long for that."""
+    """Returns libxcrypt's hash of a password, or the model's if libxcrypt refuses the length."""
     word = password.encode() if isinstance(password, str) else password
     if len(word) <= libxcrypt.LONGEST_PASSWORD:
         return libxcrypt.crypt(word, setting.encode()).decode()
     text = hash_of(read_setting(setting.encode()), word)
-    assert text is not None, f"the model makes no hash with {setting!r} of {len(word)} bytes"
+    assert text is not None, f"the model can't hash {len(word)} bytes with {setting!r}"
     return text.decode()
 
 
-# ---- Recipes of docs/PYTHON.md, which are blocks below `<!-- tested: Python, NAME -->`
+# ---- Recipes of docs/PYTHON.md: blocks below `<!-- tested: Python, NAME -->`
 
 
 def recipe(name: str, language: str = "python") -> str:
-    """The code of a recipe."""
+    """Returns the code of a recipe."""
     return marked(f"Python, {name}", language).code
 
 
-# The blocks of "A whole login", in the order in which a reader copies them.
+# The blocks of "A whole login", in the order of the document.
 WHOLE_LOGIN = (
     "read and replace a hash",
     "register a user",
@@ -110,46 +110,46 @@ WHOLE_LOGIN = (
 
 
 def whole_login() -> str:
-    """What a reader of the document has in a file after "A whole login"."""
+    """Returns the code of "A whole login", as a reader would collect it in a file."""
     return "\n\n".join(recipe(name) for name in WHOLE_LOGIN)
 
 
 def whole_login_of_a_moving_service() -> str:
-    """The same with the checks of old hashes, and with the lines that the document changes."""
+    """Returns that code with the changes and the checks for a service that has old hashes."""
     code = whole_login()
     for old, new in line_changes(recipe("change the login", "diff")).items():
-        code = changed(code, {old: new})
+        code = replace_lines(code, {old: new})
     return code + "\n\n" + recipe("check old hashes")
 
 
 def line_changes(diff: str) -> dict[str, str]:
-    """New lines by old ones, of a diff in which one line after the other is changed."""
+    """Returns the new line for each old one, from a diff that changes single lines."""
     lines = diff.splitlines()
     marks = [line[0] for line in lines]
     assert marks == ["-", "+"] * (len(lines) // 2), diff
     return {old[1:]: new[1:] for old, new in zip(lines[::2], lines[1::2])}
 
 
-def changed(code: str, changes: dict[str, str]) -> str:
-    """Code of the document with other code in the place of some."""
+def replace_lines(code: str, changes: dict[str, str]) -> str:
+    """Returns code of the document in which some lines are replaced."""
     for old, new in changes.items():
-        assert code.count(old) == 1, f"expected: {old!r} once in:\n{code}"
+        assert code.count(old) == 1, f"expected {old!r} once in:\n{code}"
         code = code.replace(old, new)
     return code
 
 
 class Cook:
-    """Runs code of docs/PYTHON.md from files of a folder, so that failures show lines."""
+    """Runs code of docs/PYTHON.md from files in a folder, so that tracebacks show its lines."""
 
     def __init__(self, folder: Path) -> None:
         self.folder = folder
 
     def follow(self, name: str, **names: object) -> dict[str, Any]:
-        """The names that a recipe defines, where these are defined before it."""
+        """Runs a recipe after defining these names, and returns the names that it defines."""
         return self.run(recipe(name), **names)
 
     def run(self, code: str, **names: object) -> dict[str, Any]:
-        """The names that some code defines, where these are defined before it."""
+        """Runs code after defining these names, and returns the names that it defines."""
         path = self.folder / "service.py"
         path.write_text(code, encoding="utf-8")
         return runpy.run_path(str(path), init_globals=names)

@@ -1,4 +1,4 @@
-"""PAM as an administrator meets it: stacks, what pamtester answers, and the system log."""
+"""PAM as an administrator sees it: stacks, pamtester's answers, and the system log."""
 from __future__ import annotations
 
 import contextlib
@@ -19,7 +19,7 @@ LONGEST_ENTRY = 2048  # bytes
 
 
 class Answer(enum.Enum):
-    """How PAM answers a call, in pam_strerror(3)'s words."""
+    """PAM's answers to a call, in pam_strerror(3)'s words."""
 
     ACCEPTED = "Success"
     REFUSED = "Authentication failure"
@@ -34,7 +34,7 @@ class Answer(enum.Enum):
 
 @dataclass(frozen=True)
 class Login:
-    """How PAM answered a login or another call, and what was logged meanwhile."""
+    """PAM's answer to a login or another call, and what was logged meanwhile."""
 
     answer: Answer
     log: tuple[str, ...] = ()
@@ -42,20 +42,20 @@ class Login:
 
 @dataclass(frozen=True)
 class Stacks:
-    """The stacks that the module's manual shows."""
+    """The PAM stacks in the module's manual."""
 
     of_file: str
-    with_pwquality: str  # the lines for changes of passwords alone
+    with_pwquality: str  # only the lines for changing passwords
 
 
 def displays_of_manual() -> list[str]:
-    """The blocks of the module's manual that are shown as they are."""
+    """Returns the literal blocks of the module's manual."""
     pattern = r"^\.Bd -literal.*\n((?:.*\n)*?)^\.Ed"
     return re.findall(pattern, MANUAL.read_text("ascii"), re.MULTILINE)
 
 
 def stacks_of_manual() -> Stacks:
-    """The stacks of the manual's examples."""
+    """Returns the stacks of the manual's examples."""
     displays = displays_of_manual()
     of_file = [display for display in displays if display.startswith("auth  ")]
     with_pwquality = [display for display in displays if "pam_pwquality" in display]
@@ -64,31 +64,31 @@ def stacks_of_manual() -> Stacks:
 
 
 def answer_of(result: Result) -> Answer:
-    """The answer that pamtester got and prints."""
+    """Returns PAM's answer, which pamtester prints."""
     if result.status == 0:
         return Answer.ACCEPTED
     said = re.search(r"\bpamtester: (.*)", (result.stdout + result.stderr).decode())
     for answer in Answer:
         if said and said[1] == answer.value:
             return answer
-    raise AssertionError(f"expected: an answer of PAM\n{result}")
+    raise AssertionError(f"pamtester printed no answer of PAM\n{result}")
 
 
 def failure_of(name: str | None, rhost: str = "") -> str:
-    """The entry for a failed login of the superuser's service, by a name that the file has."""
+    """Returns the log entry for a failed login to a service of root, by a name in the file."""
     items = f"logname= uid=0 euid=0 tty= ruser= rhost={rhost} "
     user = f" user={name}" if name is not None else ""
     return f"authentication failure; {items}{user}"
 
 
 class SystemLog:
-    """The system log of a machine, in place of its daemon."""
+    """A machine's system log, received in place of its daemon."""
 
     def __init__(self, receiver: socket.socket) -> None:
         self.receiver = receiver
 
     def raw_entries(self) -> tuple[str, ...]:
-        """What has been logged since the last call, as programs write it."""
+        """Returns what has been logged since the last call, as programs write it."""
         entries = []
         with contextlib.suppress(BlockingIOError):
             while True:
@@ -97,7 +97,7 @@ class SystemLog:
         return tuple(entries)
 
     def entries(self) -> tuple[str, ...]:
-        """The same, the entries of pam_mkpasswd by their text."""
+        """Returns the same, but of pam_mkpasswd's entries only their text."""
         texts = []
         for entry in self.raw_entries():
             beginning = re.match(r".*?pam_mkpasswd\([\w-]+:\w+\): ", entry, re.DOTALL)
@@ -107,7 +107,7 @@ class SystemLog:
 
 @contextlib.contextmanager
 def system_log(machine: Namespaces) -> Iterator[SystemLog]:
-    """Keeps the log of a machine that has its own devices."""
+    """Receives the system log of a machine that has a /dev of its own."""
     with socket.socket(socket.AF_UNIX, socket.SOCK_DGRAM) as receiver:
         path = machine.path("/dev/log")
         receiver.bind(str(path))
@@ -118,17 +118,17 @@ def system_log(machine: Namespaces) -> Iterator[SystemLog]:
 
 @dataclass(frozen=True)
 class Pam:
-    """The PAM of a machine, where pamtester is the service."""
+    """The PAM of a machine, with pamtester as the service."""
 
     machine: Namespaces
     log: SystemLog
 
     def set_stack(self, stack: str, service: str = "example") -> None:
-        """Gives a service a stack."""
+        """Writes the stack of a service."""
         self.machine.write(f"/etc/pam.d/{service}", stack)
 
     def set_arguments(self, arguments: str) -> None:
-        """Gives the service `example` the module alone, with these arguments."""
+        """Gives the service `example` a stack of the module alone, with these arguments."""
         line = f"required pam_mkpasswd.so {arguments}"
         self.set_stack(f"auth {line}\naccount {line}\npassword {line}\n")
 
@@ -140,7 +140,7 @@ class Pam:
         service: str = "example",
         through: tuple[Word, ...] = (),
     ) -> Login:
-        """Logs in, by default with nothing between: `through` is a command that runs another."""
+        """Logs in, and returns the answer and the log. The command `through` runs pamtester."""
         answer = answer_of(self.login_result(name, password, service=service, through=through))
         return Login(answer, self.log.entries())
 
@@ -152,9 +152,9 @@ class Pam:
         service: str = "example",
         through: tuple[Word, ...] = (),
     ) -> Result:
-        """How pamtester ends that logs in.
+        """Logs in, and returns how pamtester ends.
 
-        Nobody else reads the log, and what logs waits where ten entries haven't been read.
+        Reads the log first: nothing else does, and a program that logs hangs at ten unread entries.
         """
         self.log.entries()
         command = (*through, "pamtester", service, name, "authenticate", "acct_mgmt")
@@ -163,7 +163,7 @@ class Pam:
     def call(
         self, name: str, operation: str, *lines: bytes, through: tuple[Word, ...] = ()
     ) -> Login:
-        """Makes one call for a name, as of pam_chauthtok(3), where somebody types these lines."""
+        """Makes one call of PAM for a name, such as pam_chauthtok(3), and types these lines."""
         self.log.entries()
         stdin = b"".join(line + b"\n" for line in lines)
         result = self.machine.run(*through, "pamtester", "example", name, operation, stdin=stdin)

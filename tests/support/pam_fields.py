@@ -1,10 +1,10 @@
-"""Stored fields for the PAM module's tests, of one password, by libxcrypt."""
+"""Stored fields for the PAM module's tests: libxcrypt's hashes of one password."""
 from __future__ import annotations
 
 from .libxcrypt import crypt
 
 FILE = "/srv/passwords"
-# With these the field SHA512 is current, and the cost of a hash is small.
+# With these arguments the field SHA512 is current, and hashes are cheap.
 CURRENT = f"file={FILE} rounds=1000 budget=1000000"
 
 PASSWORD = b"pass word"
@@ -26,7 +26,7 @@ OTHERS = ("yescrypt", "bcrypt", "descrypt", "bsdicrypt")
 SHA512 = HASHES["sha512crypt"]
 CUT = SHA512[:-1]
 HOSTILE = b"$6$rounds=999999999$saltsalt$" + b"a" * 86
-# The hash that a new one is like by default.
+# A hash with the default policy of new hashes.
 RECOMMENDED = b"$6$rounds=656000$"
 SHA512_RECOMMENDED = (
     RECOMMENDED + b"abcdefghijklmnop$fiPLN8PJZDrnKw45jP4lFu5V3YSzxzKd0fzICIEExvMrpKJaHNJay"

@@ -1,4 +1,4 @@
-"""Methods and rounds of new hashes, as the calls take them: 0 stands for what is recommended."""
+"""Methods and rounds of new hashes, as arguments of the calls: 0 means the recommended ones."""
 from __future__ import annotations
 
 from dataclasses import dataclass
@@ -22,35 +22,35 @@ class Policy:
 
     @property
     def setting(self) -> Setting:
-        """The setting of new hashes, but for the salt."""
+        """The setting of new hashes. Its salt means nothing."""
         return recommended_setting(METHODS[self.method or RECOMMENDED_METHOD], self.rounds)
 
 
 @dataclass(frozen=True)
 class InvalidPolicy(Policy):
-    """A method or rounds that calls refuse, and the error."""
+    """A method or rounds that the calls refuse, and the error."""
 
     error: Reason
 
 
 RECOMMENDED = Policy("the recommended one", 0, 0)
-# The formats clamp rounds of SHA-crypt, and so does mkpasswd_needs_rehash, alone of the calls.
+# Of all calls, only mkpasswd_needs_rehash clamps SHA-crypt's rounds, as the formats do.
 CLAMPED = (
-    Policy("sha512crypt of 10 rounds", 6, 10),
-    Policy("sha512crypt of the most rounds there could be", 6, GREATEST_32),
+    Policy("sha512crypt with 10 rounds", 6, 10),
+    Policy("sha512crypt with the greatest number as rounds", 6, GREATEST_32),
 )
 POLICIES = (
     Policy("md5crypt", 1, 0),
     Policy("md5crypt with rounds, which it ignores", 1, 5),
     Policy("sha256crypt as recommended", 5, 0),
-    Policy("sha256crypt of 5000 rounds", 5, 5000),
+    Policy("sha256crypt with 5000 rounds", 5, 5000),
     RECOMMENDED,
-    Policy("the recommended method of 5000 rounds", 0, 5000),
+    Policy("the recommended method with 5000 rounds", 0, 5000),
     Policy("sha512crypt as recommended", 6, 0),
     *CLAMPED,
     Policy("scrypt as recommended", 7, 0),
-    Policy("scrypt of the least cost", 7, 6),
-    Policy("scrypt of the highest cost", 7, 11),
+    Policy("scrypt with the lowest cost", 7, 6),
+    Policy("scrypt with the highest cost", 7, 11),
 )
 INVALID_POLICIES = (
     InvalidPolicy("method 2", 2, 0, Reason.UNKNOWN_METHOD),
@@ -58,15 +58,15 @@ INVALID_POLICIES = (
     InvalidPolicy("method 4", 4, 0, Reason.UNKNOWN_METHOD),
     InvalidPolicy("method 8", 8, 0, Reason.UNKNOWN_METHOD),
     InvalidPolicy("the greatest number as the method", GREATEST_32, 7, Reason.UNKNOWN_METHOD),
-    InvalidPolicy("scrypt of cost 1", 7, 1, Reason.ROUNDS),
-    InvalidPolicy("scrypt of cost 5", 7, 5, Reason.ROUNDS),
-    InvalidPolicy("scrypt of cost 12", 7, 12, Reason.ROUNDS),
-    InvalidPolicy("scrypt of the greatest number as the cost", 7, GREATEST_32, Reason.ROUNDS),
+    InvalidPolicy("scrypt with cost 1", 7, 1, Reason.ROUNDS),
+    InvalidPolicy("scrypt with cost 5", 7, 5, Reason.ROUNDS),
+    InvalidPolicy("scrypt with cost 12", 7, 12, Reason.ROUNDS),
+    InvalidPolicy("scrypt with the greatest number as cost", 7, GREATEST_32, Reason.ROUNDS),
 )
-# What the other calls with a method refuse, since they clamp nothing.
+# What the other calls refuse, since they don't clamp rounds.
 INVALID_ROUNDS = (
-    InvalidPolicy("the recommended method of 999 rounds", 0, 999, Reason.ROUNDS),
-    InvalidPolicy("sha512crypt of 999 rounds", 6, 999, Reason.ROUNDS),
-    InvalidPolicy("sha256crypt of one round", 5, 1, Reason.ROUNDS),
-    InvalidPolicy("sha512crypt of 1000000000 rounds", 6, 1_000_000_000, Reason.ROUNDS),
+    InvalidPolicy("the recommended method with 999 rounds", 0, 999, Reason.ROUNDS),
+    InvalidPolicy("sha512crypt with 999 rounds", 6, 999, Reason.ROUNDS),
+    InvalidPolicy("sha256crypt with one round", 5, 1, Reason.ROUNDS),
+    InvalidPolicy("sha512crypt with 1000000000 rounds", 6, 1_000_000_000, Reason.ROUNDS),
 )

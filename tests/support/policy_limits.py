@@ -1,6 +1,6 @@
-"""What a policy of new hashes admits, by the formulas of docs/FORMATS.md, and policies to try.
+"""The limits of policies, by the formulas of docs/FORMATS.md, and random policies to test.
 
-Of the model this has the numbers of errors alone.
+It is independent of the model, except for the numbers of the errors.
 """
 from __future__ import annotations
 
@@ -27,7 +27,7 @@ SALT_LENGTH = {MD5CRYPT: 8, SHA256CRYPT: 16, SHA512CRYPT: 16, SCRYPT: 22}
 
 @dataclass(frozen=True)
 class Policy:
-    """What a service gives mkpasswd_login() and mkpasswd_new(), with a method that is named."""
+    """A service's arguments for mkpasswd_login() and mkpasswd_new(). Its method isn't 0."""
 
     method: int
     rounds: int
@@ -35,12 +35,12 @@ class Policy:
 
     @property
     def chosen_rounds(self) -> int:
-        """The rounds of new hashes."""
+        """Returns the rounds of new hashes."""
         return self.rounds or RECOMMENDED_ROUNDS[self.method]
 
     @property
     def error(self) -> Reason | None:
-        """Why no new hash has the method and the rounds."""
+        """Returns why new hashes can't have this method and these rounds, if they can't."""
         if self.method not in METHODS:
             return Reason.UNKNOWN_METHOD
         if self.method == SCRYPT and self.rounds not in (0, *range(6, 12)):
@@ -52,17 +52,17 @@ class Policy:
 
     @property
     def limit(self) -> int:
-        """The most that a login or a new hash may cost."""
+        """Returns the most that a login or a new hash may cost."""
         if self.budget:
             return self.budget
         return max(LIMIT_FLOOR, 2 * new_cost(self.method, self.chosen_rounds, 64))
 
 
-# ---- the formulas of docs/FORMATS.md
+# ---- The formulas of docs/FORMATS.md
 
 
 def scrypt_cost(rounds: int, length: int) -> int:
-    """The cost of a new hash by scrypt: N = 2^(rounds + 7), r = 32, p = 1."""
+    """Returns the cost of a new scrypt hash: N = 2^(rounds + 7), r = 32, p = 1."""
     rows, block_size, parts = 1 << (rounds + 7), 32, 1
     of_key = length if length > 64 else 0
     of_tags = 4 * block_size * parts * (164 + SALT_LENGTH[SCRYPT])
@@ -71,7 +71,7 @@ def scrypt_cost(rounds: int, length: int) -> int:
 
 
 def md5crypt_cost(length: int) -> int:
-    """The cost of a new hash by md5crypt."""
+    """Returns the cost of a new md5crypt hash."""
     salt = SALT_LENGTH[MD5CRYPT]
     digits = length.bit_length()
     opening = 2 * length + salt + 2 * length + salt + 3 + digits
@@ -79,7 +79,7 @@ def md5crypt_cost(length: int) -> int:
 
 
 def opening_of(method: int, length: int) -> int:
-    """The most bytes that SHA-crypt digests before the rounds, in a new hash."""
+    """Returns the most bytes that SHA-crypt digests before its rounds, for a new hash."""
     digest, salt = DIGEST_LENGTH[method], SALT_LENGTH[method]
     ones = bin(length).count("1")
     zeros = length.bit_length() - ones
@@ -88,7 +88,7 @@ def opening_of(method: int, length: int) -> int:
 
 
 def sha_cost(method: int, rounds: int, length: int) -> int:
-    """The cost of a new hash by SHA-crypt."""
+    """Returns the cost of a new SHA-crypt hash."""
     digest, salt = DIGEST_LENGTH[method], SALT_LENGTH[method]
     thirds = (rounds + 2) // 3
     sevenths = (rounds + 6) // 7
@@ -97,7 +97,7 @@ def sha_cost(method: int, rounds: int, length: int) -> int:
 
 
 def new_cost(method: int, rounds: int, length: int) -> int:
-    """The cost of a new hash of a password of this length."""
+    """Returns the cost of a new hash of a password of this length."""
     if method == MD5CRYPT:
         return md5crypt_cost(length)
     if method == SCRYPT:
@@ -106,7 +106,7 @@ def new_cost(method: int, rounds: int, length: int) -> int:
 
 
 def fitted_rounds(policy: Policy, length: int) -> int | None:
-    """The rounds of a new hash that is within the limit, by the formula of docs/FORMATS.md."""
+    """Returns the rounds of a new hash within the limit, by the formula of docs/FORMATS.md."""
     if new_cost(policy.method, policy.chosen_rounds, length) <= policy.limit:
         return 0 if policy.method == MD5CRYPT else policy.chosen_rounds
     if policy.method in (MD5CRYPT, SCRYPT):
@@ -117,11 +117,11 @@ def fitted_rounds(policy: Policy, length: int) -> int | None:
     return rounds if new_cost(policy.method, rounds, length) <= policy.limit else None
 
 
-# ---- random policies
+# ---- Random policies
 
 
 def random_rounds(source: random.Random, method: int) -> int:
-    """Rounds of all sizes, most of which new hashes can have."""
+    """Returns rounds of any size, valid in most cases."""
     if source.random() < 0.1:
         return source.choice((0, 1, 999, 1000, 5000, MOST_ROUNDS, MOST_ROUNDS + 1, 2**32 - 1))
     if method == SCRYPT:
@@ -130,7 +130,7 @@ def random_rounds(source: random.Random, method: int) -> int:
 
 
 def random_budget(source: random.Random, policy: Policy) -> int:
-    """No budget of one's own, the cost of some new hash or one beside it, or any number."""
+    """Returns 0 for the default budget, a number near the cost of a new hash, or any number."""
     kind = source.random()
     if kind < 0.4:
         return 0
@@ -142,7 +142,7 @@ def random_budget(source: random.Random, policy: Policy) -> int:
 
 
 def random_policies(seed: int, count: int) -> Iterator[Policy]:
-    """Policies of each method, and some of none."""
+    """Yields policies with each method, and some with an unknown one."""
     source = random.Random(seed)
     for _ in range(count):
         method = source.choice(METHODS) if source.random() < 0.97 else source.randrange(1, 2**32)

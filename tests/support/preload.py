@@ -1,4 +1,4 @@
-"""Libraries of tests/c that a program loads before the C library."""
+"""Builds libraries from tests/c that LD_PRELOAD puts before the C library."""
 from __future__ import annotations
 
 import os
@@ -9,7 +9,7 @@ from .process import run
 
 
 def preload_library(name: str, folder: Path) -> Path:
-    """Builds tests/c/NAME.c in a folder. LD_PRELOAD takes the library's path."""
+    """Builds tests/c/NAME.c in a folder, and returns the library's path, for LD_PRELOAD."""
     library = folder / f"{name}.so"
     flags = ["-std=gnu11", "-Wall", "-Wextra", "-Werror", "-O1", "-fPIC", "-shared"]
     source = ROOT / "tests/c" / f"{name}.c"

@@ -1,4 +1,4 @@
-"""Runs commands; a failure says what the command was, what was expected and what came."""
+"""Runs commands. A failure shows the command, what was expected and what came."""
 from __future__ import annotations
 
 import contextlib
@@ -11,48 +11,48 @@ from dataclasses import dataclass
 from pathlib import Path
 from typing import IO, Iterator, Mapping, Sequence
 
-Word = str | bytes | Path | int  # one word of a command
-Changes = Mapping[str, str | None]  # of the environment: None removes a variable
+Word = str | bytes | Path | int  # an argument of a command
+Changes = Mapping[str, str | None]  # changes to the environment: None removes a variable
 LONGEST_SHOWN = 3000
 
 
 @dataclass(frozen=True)
 class Result:
-    """How a command ended, and what it printed."""
+    """A command's exit status and output."""
 
     command: tuple[Word, ...]
-    status: int  # 128 + the signal where a signal ended it, as a shell says
+    status: int  # 128 + the signal if a signal ended it, as in a shell
     stdout: bytes
     stderr: bytes
     has_timed_out: bool = False
 
     def __str__(self) -> str:
         ending = (
-            f"{self.status}, killed when its time was over" if self.has_timed_out else self.status
+            f"{self.status}, killed after its time limit" if self.has_timed_out else self.status
         )
         lines = [
-            f"the command: {shown_command(self.command)}",
+            f"the command: {printable_command(self.command)}",
             f"its status: {ending}",
-            f"its stdout: {shown(self.stdout)}",
-            f"its stderr: {shown(self.stderr)}",
+            f"its stdout: {printable(self.stdout)}",
+            f"its stderr: {printable(self.stderr)}",
         ]
         return "\n".join(lines)
 
     def required(self) -> Result:
-        """This result, where the command succeeded; otherwise the test fails."""
+        """Returns this result. Fails the test unless the command succeeded."""
         if self.status != 0:
             raise AssertionError(f"expected status: 0\n{self}")
         return self
 
 
-def shown(value: bytes) -> str:
-    """Bytes to be printed: cut if there are very many."""
+def printable(value: bytes) -> str:
+    """Returns bytes as a literal, cut if there are very many."""
     cut = f".. ({len(value)} bytes)" if len(value) > LONGEST_SHOWN else ""
     return repr(value[:LONGEST_SHOWN]) + cut
 
 
-def shown_command(command: Sequence[Word]) -> str:
-    """A command to be printed, in one line of printable characters, cut if it is very long."""
+def printable_command(command: Sequence[Word]) -> str:
+    """Returns a command as one line of printable characters, cut if it is very long."""
     words = [ascii(word)[2:-1] if isinstance(word, bytes) else str(word) for word in command]
     text = shlex.join(words).replace("\n", "\\n")
     return text if len(text) <= LONGEST_SHOWN else f"{text[:LONGEST_SHOWN]}.."
@@ -66,15 +66,15 @@ def assert_result(
     if result.status != status:
         expected.append(f"expected status: {status}")
     if result.stdout != stdout:
-        expected.append(f"expected stdout: {shown(stdout)}")
+        expected.append(f"expected stdout: {printable(stdout)}")
     if result.stderr != stderr:
-        expected.append(f"expected stderr: {shown(stderr)}")
+        expected.append(f"expected stderr: {printable(stderr)}")
     if expected:
         raise AssertionError("\n".join([*expected, str(result)]))
 
 
 def changed_environment(changes: Changes | None) -> dict[str, str]:
-    """This process's environment, in the C locale and with these changes."""
+    """Returns this process's environment with the C locale and these changes."""
     environment = {**os.environ, "LC_ALL": "C"}
     for name, value in (changes or {}).items():
         if value is None:
@@ -85,12 +85,12 @@ def changed_environment(changes: Changes | None) -> dict[str, str]:
 
 
 def words_of(command: Sequence[Word]) -> list[str | bytes]:
-    """The words as subprocess takes them."""
+    """Returns a command's arguments as subprocess accepts them."""
     return [word if isinstance(word, bytes) else str(word) for word in command]
 
 
 def kill_group(process: subprocess.Popen[bytes]) -> None:
-    """Kills a process that leads a group, and all that it started there."""
+    """Kills a process that leads a process group, and all others in the group."""
     with contextlib.suppress(ProcessLookupError):
         os.killpg(process.pid, signal.SIGKILL)
 
@@ -103,10 +103,10 @@ def run(
     cwd: Path | None = None,
     timeout: float = 300,
 ) -> Result:
-    """Runs a command, which reads these bytes or this file and may print into a file.
+    """Runs a command. Its stdin is these bytes or a file, and its stdout may be a file.
 
-    The command has a process group of its own, and all of that is killed when its time is over:
-    subprocess.run would kill the first process alone, and wait for the pipes that others hold.
+    After the time limit, the command's whole process group is killed: subprocess.run would kill
+    only the first process, and wait for others that still hold the pipes.
     """
     with contextlib.ExitStack() as files:
         reader = subprocess.PIPE if isinstance(stdin, bytes) else opened(files, stdin, os.O_RDONLY)
@@ -128,7 +128,7 @@ def run(
         has_timed_out = True
         kill_group(process)
         out, err = process.communicate()
-    except BaseException:  # as by ^C, of which a session of its own hears nothing
+    except BaseException:  # such as ^C, which doesn't reach the command's own session
         kill_group(process)
         process.wait()
         raise
@@ -136,14 +136,14 @@ def run(
 
 
 def opened(files: contextlib.ExitStack, path: Path, flags: int) -> int:
-    """The descriptor of a file, or of a folder, which is closed with the others."""
+    """Opens a file or a folder, to be closed with the others, and returns its descriptor."""
     descriptor = os.open(path, flags)
     files.callback(os.close, descriptor)
     return descriptor
 
 
 def status_of(process: subprocess.Popen[bytes]) -> int:
-    """The status of a process that has ended, as a shell says it."""
+    """Returns the exit status of a process that has ended, as a shell would."""
     status = process.returncode
     return status if status >= 0 else 128 - status
 
@@ -158,9 +158,9 @@ def started(
     cwd: Path | None = None,
     timeout: float = 300,
 ) -> Iterator[subprocess.Popen[bytes]]:
-    """Runs a command beside the block.
+    """Runs a command while the block runs.
 
-    At the end of the block, or of its time, all of its process group is killed.
+    At the end of the block, or after the time limit, its whole process group is killed.
     """
     with subprocess.Popen(
         words_of(command),

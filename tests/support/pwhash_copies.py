@@ -1,4 +1,4 @@
-"""Copies of pwhash that every user can run, and in which a test may change a module."""
+"""Copies of pwhash that every user can run, and whose modules a test may change."""
 from __future__ import annotations
 
 import contextlib
@@ -17,7 +17,7 @@ MODULES = "python/src"
 
 @dataclass(frozen=True)
 class Copy:
-    """A folder with pwhash, its modules, its library and the program, which everybody can read."""
+    """A folder with pwhash, its modules, its library and the program, readable by everybody."""
 
     folder: Path
 
@@ -27,7 +27,7 @@ class Copy:
 
     @property
     def modules(self) -> Path:
-        """The folder with the packages mkpasswd and pwhash."""
+        """The folder of the packages mkpasswd and pwhash."""
         return self.folder / MODULES
 
     @property
@@ -41,13 +41,13 @@ class Copy:
         before: tuple[Word, ...] = (),
         env: Changes | None = None,
     ) -> Result:
-        """Runs the copy, perhaps by a command before it that runs it."""
+        """Runs the copy, perhaps with a wrapper command before it."""
         return run(*before, self.pwhash, *words, stdin=stdin, env=env)
 
 
 @contextlib.contextmanager
 def copied(program: Path) -> Iterator[Copy]:
-    """A copy of pwhash, in whose folder nothing else is; pytest's own folders are one user's."""
+    """Makes a copy of pwhash for the block, where all users can read it, unlike tmp_path."""
     with tempfile.TemporaryDirectory() as name:
         copy = Copy(Path(name))
         copy.folder.chmod(0o755)

@@ -1,6 +1,7 @@
 """Runs pwhash as a user does: in the current folder, at a terminal, on a machine with limits.
 
-PWHASH names another one that is tried, beside whose folder are its python/src and its library.
+The variable PWHASH names another pwhash to test, with its python/src and its library beside
+its folder.
 """
 
 from __future__ import annotations
@@ -24,18 +25,18 @@ from .libxcrypt import crypt
 from .needs import need, not_applicable
 
 PWHASH = os.environ.get("PWHASH", str(ROOT / "bin/pwhash"))
-MD5 = "$1$xxxxxxxx$UYCIxa628.9qXjpQCjM4a."  # by libxcrypt, of "password" with MD5CRYPT's salt
+MD5 = "$1$xxxxxxxx$UYCIxa628.9qXjpQCjM4a."  # libxcrypt's hash of "password" with MD5CRYPT's salt
 MD5CRYPT = ("-m", "md5crypt", "-S", "xxxxxxxx")
-MARK = b"\xef\xbb\xbf"  # which Windows puts before UTF-8
+BOM = b"\xef\xbb\xbf"  # Windows puts it before UTF-8
 ESCAPE = "\x1b[2J"  # clears the screen of a terminal
 BY_NUMBER = ("--columns", "1,2")
-SECONDS_OF_A_RUN = 900  # what takes longer hangs
+SECONDS_OF_A_RUN = 900  # a run that takes longer hangs
 SLOW = ("-m", "sha512crypt", "-R", "20000", "-S", "saltsalt")
 
 
 @dataclasses.dataclass(frozen=True)
 class Ended:
-    """A command that ended."""
+    """A command that has ended, and what it printed."""
 
     command: str
     status: int
@@ -43,11 +44,11 @@ class Ended:
     err: bytes
 
     def __str__(self) -> str:
-        return f"{self.command}\nstatus {self.status}\nprinted {self.out!r}\nsaid {self.err!r}"
+        return f"{self.command}\nstatus {self.status}\nstdout {self.out!r}\nstderr {self.err!r}"
 
 
 def ended(process: subprocess.Popen[bytes], data: bytes = b"") -> Ended:
-    """Waits for a command, which gets the data."""
+    """Feeds data to a command, and waits for its end."""
     try:
         out, err = process.communicate(data, timeout=120)
     except subprocess.TimeoutExpired:
@@ -84,7 +85,7 @@ def shell(script: str, *words: str, stdin: bytes = b"") -> Ended:
 
 
 def in_namespace(script: str, *words: str, stdin: bytes = b"") -> Ended:
-    """The same with mounts of its own, which only root can make."""
+    """Runs such a script in a mount namespace, which only root can make."""
     need("unshare", "namespaces")
     command = ["unshare", "--mount", "/bin/sh", "-c", f"set -e\n{script}", "sh", PWHASH, *words]
     return ended(started_program(*command), stdin)
@@ -96,7 +97,7 @@ def save(name: str, data: bytes) -> str:
 
 
 def save_part(name: str, data: bytes) -> str:
-    """A part as a run leaves it."""
+    """Writes a part file with the mode that pwhash gives it."""
     save(name, data)
     os.chmod(name, 0o600)
     return name
@@ -107,7 +108,7 @@ def read(name: str) -> bytes:
 
 
 def hashed(password: bytes, setting: str = "$1$xxxxxxxx") -> bytes:
-    """The hash of a password by libxcrypt."""
+    """Returns libxcrypt's hash of a password."""
     return crypt(password, setting.encode())
 
 
@@ -115,7 +116,7 @@ def lines_named_in(message: bytes) -> list[int]:
     return [int(number) for number in re.findall(rb"line ([0-9]+)", message)]
 
 
-# What pwhash makes of "ann:pw1" and "bob:pw2" with MD5CRYPT.
+# The lines that pwhash makes from "ann:pw1" and "bob:pw2" with MD5CRYPT.
 ANN = b"ann:" + hashed(b"pw1") + b"\n"
 BOB = b"bob:" + hashed(b"pw2") + b"\n"
 
@@ -123,7 +124,7 @@ BOB = b"bob:" + hashed(b"pw2") + b"\n"
 def wait_for(condition: Callable[[], bool]) -> None:
     end = time.monotonic() + 60
     while not condition():
-        assert time.monotonic() < end, "waited for a minute"
+        assert time.monotonic() < end, "the condition didn't hold within a minute"
         time.sleep(0.005)
 
 
@@ -137,7 +138,7 @@ def users(count: int) -> bytes:
 
 @contextlib.contextmanager
 def slow_run(*words: str) -> Iterator[subprocess.Popen[bytes]]:
-    """A run that takes some seconds, once it has begun its part."""
+    """Starts a run of some seconds, and runs the block once its part file has lines."""
     save("passwords", users(1500))
     os.utime("passwords", (1e9, 1e9))
     with started("file", *SLOW, "passwords", "-o", "hashes", *words) as process:
@@ -149,16 +150,16 @@ def slow_run(*words: str) -> Iterator[subprocess.Popen[bytes]]:
 
 
 def command_to_go_on(done: Ended) -> str:
-    """The command by which an interrupted run says that it goes on."""
+    """Returns the command that an interrupted run prints for going on."""
     return done.err.decode().split("To go on:\n")[1].strip()
 
 
 @dataclasses.dataclass(frozen=True)
 class Terminal:
-    """What a terminal showed, and how the command on it ended."""
+    """What a terminal displayed, and how the command on it ended."""
 
     status: int
-    shown: bytes
+    screen: bytes
     shows_keys_at_prompt: bool
     shows_keys_afterwards: bool
 
@@ -170,7 +171,7 @@ def shows_keys(terminal: int) -> bool:
 def at_terminal(
     words: Sequence[str], keys: Sequence[bytes], kill: int | None = None, utf8: bool = False
 ) -> Terminal:
-    """Types keys, each at a prompt, then sends a signal if one is given."""
+    """Runs pwhash at a terminal, types keys, each at a prompt, and may then send a signal."""
     need("python3-pexpect")
     import pexpect
 
@@ -179,48 +180,48 @@ def at_terminal(
     iutf8 = getattr(termios, "IUTF8", 0o40000)
     flags[0] = flags[0] | iutf8 if utf8 else flags[0] & ~iutf8
     termios.tcsetattr(child.child_fd, termios.TCSANOW, flags)
-    shown = b""
+    screen = b""
     shows_at_prompt = False
     for key in keys:
         child.expect(rb": ")
-        shown += child.before + child.after
+        screen += child.before + child.after
         shows_at_prompt = shows_at_prompt or shows_keys(child.child_fd)
         child.send(key)
     if kill is not None:
         child.expect(rb": ")
         child.kill(kill)
     child.expect(pexpect.EOF)
-    shown += child.before
+    screen += child.before
     shows_afterwards = shows_keys(child.child_fd)
     child.close()
     status = os.waitstatus_to_exitcode(child.status)
-    return Terminal(status, shown, shows_at_prompt, shows_afterwards)
+    return Terminal(status, screen, shows_at_prompt, shows_afterwards)
 
 
 def type_secret(child: Any) -> bytes:
-    """Types "secret" at both prompts, the first of which is shown. Returns what is shown then."""
+    """Types "secret" at both prompts, once the first one is there. Returns what appears then."""
     import pexpect
 
     child.send(b"secret\r")
     child.expect(rb"Again: ")
-    shown = bytes(child.before)
+    screen = bytes(child.before)
     child.send(b"secret\r")
     child.expect(pexpect.EOF)
-    shown += bytes(child.before)
+    screen += bytes(child.before)
     child.close()
-    return shown
+    return screen
 
 
 @dataclasses.dataclass(frozen=True)
 class Load:
-    """What a run took: threads that compute beside its first one, and bytes of memory."""
+    """What a run uses: working threads (without the first one, as a median) and bytes of memory."""
 
     working: float
     memory: int
 
 
 def tree(first: int) -> list[int]:
-    """A process and all that it has begun."""
+    """Returns the ids of a process and of all its descendants."""
     children: dict[int, list[int]] = {}
     for process in filter(str.isdecimal, os.listdir("/proc")):
         with contextlib.suppress(OSError):  # it has ended
@@ -234,7 +235,7 @@ def tree(first: int) -> list[int]:
 
 
 def working_threads(process: int, first: int) -> int:
-    """Threads that compute or wait for a processor, without the first, which deals out work."""
+    """Counts the threads that are running or ready, except the first, which deals out the work."""
     count = 0
     with contextlib.suppress(OSError):  # it has ended
         for path in pathlib.Path(f"/proc/{process}/task").iterdir():
@@ -245,7 +246,7 @@ def working_threads(process: int, first: int) -> int:
 
 
 def state_of(process: int) -> str:
-    """The letter of proc(5) for what a process does, as T if it is stopped; empty if it is gone."""
+    """Returns proc(5)'s letter for a process's state, T if it is stopped, or "" if it is gone."""
     with contextlib.suppress(OSError):
         text = pathlib.Path(f"/proc/{process}/stat").read_text(encoding="latin-1")
         return text.rpartition(")")[2].split()[0]
@@ -260,7 +261,7 @@ def resident(process: int) -> int:
 
 
 def load_of(process: subprocess.Popen[bytes]) -> Load:
-    """Watches a command until it ends."""
+    """Watches a command until it ends, and returns what it used."""
     working: list[int] = []
     memory = 0
     hangs_at = time.monotonic() + SECONDS_OF_A_RUN
@@ -276,7 +277,7 @@ def load_of(process: subprocess.Popen[bytes]) -> Load:
 
 
 def watched(script: str, *words: str) -> tuple[Ended, Load]:
-    """Runs pwhash after a script that gives it what the machine shall look like."""
+    """Runs pwhash after a script that changes how the machine looks to it."""
     need("unshare", "namespaces")
     script = f'set -e\n{script}\nexec "$@"'
     command = ["unshare", "--mount", "/bin/sh", "-c", script, "sh", PWHASH, *words]

@@ -1,4 +1,4 @@
-"""Follows the recipes of documents on a machine of a test's own, for users of each method."""
+"""Follows the recipes of documents on a test's own machine, with users of each method."""
 from __future__ import annotations
 
 import functools
@@ -16,12 +16,12 @@ RECOMMENDED = b"$6$rounds=656000$"
 
 @dataclass(frozen=True)
 class User:
-    """Somebody with a password, and how its hash is made."""
+    """A user's name and password, and how the password is hashed."""
 
     name: str
     password: str
     method: str
-    cost: int | None = None  # None where the recipe says it
+    cost: int | None = None  # None if the recipe gives it
 
     def __str__(self) -> str:
         return self.method
@@ -35,14 +35,14 @@ SIX = User("six", "pass word:six", "sha512crypt", 1000)
 SEVEN = User("seven", "pass word:seven", "scrypt", 6)
 USERS = (ANN, ONE, FIVE, SIX, SEVEN)
 
-# Names whose field lets nobody in, or which only the system's own scheme lets in.
+# Names that must not log in: their fields are locked, broken or too costly, or of another scheme.
 SECRET = "secret"
 CLOSED = ("cut", "hostile", "locked", "star", "yescrypt")
 
 
 @functools.cache
 def closed_fields() -> dict[str, bytes]:
-    """The fields of these names, made of one password."""
+    """Returns the fields of these names, all for one password."""
     sha512 = crypt(SECRET.encode(), b"$6$abcdefghijklmnop")
     return {
         "cut": sha512[:-1],
@@ -54,13 +54,13 @@ def closed_fields() -> dict[str, bytes]:
 
 
 def closed_lines() -> bytes:
-    """The lines of these names."""
+    """Returns the lines of these names."""
     return b"".join(b"%b:%b\n" % (name.encode(), field) for name, field in closed_fields().items())
 
 
 @dataclass(frozen=True)
 class Site:
-    """A machine, and a folder of it where somebody follows the recipes."""
+    """A machine, and the folder in which the recipes are followed."""
 
     machine: Namespaces
     folder: Path
@@ -74,23 +74,23 @@ class Site:
         )
 
     def follow(self, mark: str) -> None:
-        """Follows a recipe, as it stands."""
+        """Runs a recipe exactly as the document has it."""
         block = marked(mark, "sh")
         result = self.answer(block.code)
         assert result.status == 0, f"{block.place}\nexpected status: 0\n{result}"
 
     def answer(self, commands: str) -> Result:
-        """Runs commands. Whatever asks for a password gets Ann's, and another line behind it."""
+        """Runs commands. On their stdin are Ann's password and another line."""
         return self.run("sh", "-euc", commands, stdin=f"{ANN.password}\nmore\n")
 
     def hash_passwords(self) -> None:
-        """Makes the file `hashes` of `passwords` by its recipe, and adds all other names."""
+        """Makes the file `hashes` from `passwords` by the recipe, and adds all other names."""
         self.hash_passwords_of_users()
         with (self.folder / "hashes").open("ab") as file:
             file.write(closed_lines())
 
     def hash_passwords_of_users(self) -> None:
-        """The same without the names that nobody gets in by."""
+        """Makes the file `hashes` without the names that must not log in."""
         (self.folder / "passwords").write_text(f"{ANN.name}:{ANN.password}\n", encoding="ascii")
         self.follow("hashes for services")
         with (self.folder / "hashes").open("ab") as file:
@@ -99,13 +99,13 @@ class Site:
                     file.write(self.line_of(user))
 
     def line_of(self, user: User) -> bytes:
-        """A user's line, with a hash that the program makes."""
+        """Returns a user's line, with a hash by the program."""
         options = ("--batch", "-m", user.method, "-R", user.cost or 0)
         line = f"{user.name}:{user.password}\n".encode()
         return run(self.program, *options, stdin=line).required().stdout
 
     def hashes(self) -> dict[str, str]:
-        """The fields of the file `hashes`, by their names."""
+        """Returns the fields of the file `hashes` by name."""
         lines = (self.folder / "hashes").read_text(encoding="ascii").splitlines()
         fields = {}
         for line in lines:
@@ -114,21 +114,21 @@ class Site:
         return fields
 
     def load_hashes(self, mark: str) -> None:
-        """Makes the hashes, and loads them by the recipe for a service."""
+        """Makes the hashes, and loads them into a service by its recipe."""
         self.hash_passwords()
         self.follow(mark)
 
     def install_hashes(self, mark: str, path: str) -> None:
-        """Makes the hashes of users, and installs them as a file by the recipe for a service.
+        """Makes the users' hashes, and installs them as a file by the recipe for a service.
 
-        The other names are then added, most of which `pwhash install` refuses.
+        Then adds the other names, most of which `pwhash install` would refuse.
         """
         self.hash_passwords_of_users()
         self.follow(mark)
         self.machine.append(path, closed_lines())
 
     def add_accounts(self) -> None:
-        """Gives all names an account of the system, with a locked password."""
+        """Gives all names a system account with a locked password."""
         names = sorted([*(user.name for user in USERS), *CLOSED])
         users = "".join(f"{name}:x:4242:4242::/:/bin/sh\n" for name in names)
         self.machine.append("/etc/passwd", users)
@@ -137,7 +137,7 @@ class Site:
 
 
 def is_recommended_hash(field: bytes, password: str) -> bool:
-    """Whether a field is a hash of a password, with the cost that is recommended."""
+    """Returns whether a field is a hash of a password, with the recommended cost."""
     if not field.startswith(RECOMMENDED) or re.search(rb"\s", field):
         return False
     return crypt(password.encode(), field) == field

@@ -1,4 +1,4 @@
-"""What is released: archives as somebody has them who unpacked one, and the program elsewhere."""
+"""Packs the release archives, and unpacks them as a user does."""
 from __future__ import annotations
 
 import re
@@ -13,19 +13,19 @@ SUMS = "share/doc/mkpasswd/SHA256SUMS"
 
 
 def version() -> str:
-    """The version of this tree."""
+    """Returns the version of this tree."""
     return run(ROOT / "tools/version").required().stdout.decode().strip()
 
 
 def processor_of_build() -> str:
-    """The processor that the archive is for, as make was told."""
+    """Returns the processor that make built the archive for."""
     path = ROOT / "build/cpu"
     told = path.read_text(encoding="ascii").strip() if path.exists() else ""
     return told or "x86-64"
 
 
 def files_below(folder: Path) -> list[str]:
-    """The files and links below a folder, but no folders."""
+    """Returns the files and links below a folder, without the folders."""
     return sorted(
         str(path.relative_to(folder))
         for path in folder.rglob("*")
@@ -35,7 +35,7 @@ def files_below(folder: Path) -> list[str]:
 
 @dataclass(frozen=True)
 class Archive:
-    """An archive, and the folder that it was unpacked in."""
+    """An archive, and the folder in which it is unpacked."""
 
     file: Path
     tree: Path
@@ -54,7 +54,7 @@ class Archive:
 def pack(
     processor: str, file: Path, mask: str = "022", environment: Changes | None = None
 ) -> Result:
-    """Packs what was built for a processor."""
+    """Packs the build for a processor."""
     for path in ("build/site", "build/mkpasswd.mjs", f"build/{processor}/mkpasswd"):
         built(path, "dist")
     changes: dict[str, str | None] = {"ARCHIVE": str(file), **(environment or {})}
@@ -63,7 +63,7 @@ def pack(
 
 
 def packed(processor: str, folder: Path) -> Archive:
-    """The archive for a processor, packed and unpacked in a folder."""
+    """Packs the archive for a processor, and unpacks it in a folder."""
     machine = "aarch64" if processor == "aarch64" else "x86_64"
     archive = Archive(folder / f"mkpasswd-{version()}-{machine}-linux.tar.gz", folder / "tree")
     pack(processor, archive.file).required()
@@ -76,8 +76,8 @@ def packed(processor: str, folder: Path) -> Archive:
 
 
 def oldest_glibc(library: Path) -> str:
-    """The oldest version of glibc that has all that a library wants."""
+    """Returns the oldest version of glibc that a library runs with."""
     found = re.findall(rb"\bGLIBC_([\d.]+)", run("objdump", "-p", library).required().stdout)
-    assert found, f"{library} wants no version of glibc"
+    assert found, f"{library} names no version of glibc"
     numbers = [tuple(int(part) for part in text.split(b".")) for text in found]
     return ".".join(str(part) for part in max(numbers))

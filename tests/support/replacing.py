@@ -1,6 +1,6 @@
-"""Replaces a field of a password file, as REPLACING A FIELD in pam_mkpasswd(8) says.
+"""Replaces a field of a password file by the protocol in pam_mkpasswd(8), REPLACING A FIELD.
 
-This is written from the manual alone. It runs as a command too, so that a test can kill it:
+It is written from the manual alone. It is a command too, so that a test can kill it:
 
     python3 replacing.py PATH NAME OLD-FIELD NEW-FIELD
 """
@@ -17,18 +17,18 @@ from collections.abc import Iterator
 from pathlib import Path
 
 RENAME_EXCHANGE = 2
-SECONDS = 1.0  # that it waits for the lock
+SECONDS = 1.0  # to wait for the lock
 PAUSE = 0.01
 
 _library = ctypes.CDLL(None, use_errno=True)
 
 
 class NotReplaced(Exception):
-    """Why the field is what it was."""
+    """The field wasn't replaced. The text says why."""
 
 
 def beside(path: Path, ending: str) -> Path:
-    """One of the protocol's files."""
+    """Returns the path of one of the protocol's files."""
     return path.with_name(f"{path.name}.mkpasswd.{ending}")
 
 
@@ -39,24 +39,24 @@ def exchange(one: Path, other: Path) -> None:
 
 
 def is_same_file(one: os.stat_result, other: os.stat_result) -> bool:
-    """Whether two descriptions are of one file."""
+    """Returns whether two results of stat(2) are of one file."""
     return (one.st_dev, one.st_ino) == (other.st_dev, other.st_ino)
 
 
 def open_lock(path: Path) -> int:
-    """Opens the lock of a password file, or makes it."""
+    """Opens the lock file of a password file, which it creates if necessary."""
     lock, flags = beside(path, "lock"), os.O_NOFOLLOW | os.O_CLOEXEC
     try:
-        made = os.open(lock, os.O_RDWR | os.O_CREAT | os.O_EXCL | flags, 0o600)
+        created = os.open(lock, os.O_RDWR | os.O_CREAT | os.O_EXCL | flags, 0o600)
     except FileExistsError:
         return os.open(lock, os.O_RDONLY | flags)
     owner = path.stat()
-    os.fchown(made, owner.st_uid, owner.st_gid)
-    return made
+    os.fchown(created, owner.st_uid, owner.st_gid)
+    return created
 
 
 def try_lock(path: Path) -> int | None:
-    """The descriptor of the lock, or None where somebody has it."""
+    """Takes the lock and returns its descriptor, or None if another process holds it."""
     lock = open_lock(path)
     try:
         fcntl.flock(lock, fcntl.LOCK_EX | fcntl.LOCK_NB)
@@ -70,12 +70,12 @@ def try_lock(path: Path) -> int | None:
 
 @contextlib.contextmanager
 def locked(path: Path) -> Iterator[None]:
-    """Holds the lock of a password file for the block."""
+    """Holds the lock of a password file while the block runs."""
     end = time.monotonic() + SECONDS
     lock = try_lock(path)
     while lock is None:
         if time.monotonic() > end:
-            raise NotReplaced("another process keeps the lock")
+            raise NotReplaced("another process holds the lock")
         time.sleep(PAUSE)
         lock = try_lock(path)
     try:
@@ -86,7 +86,7 @@ def locked(path: Path) -> Iterator[None]:
 
 
 def clear_up(path: Path) -> None:
-    """Ends what a process began that was killed."""
+    """Finishes or undoes what a killed process has begun."""
     new, link = beside(path, "new"), beside(path, "exchange")
     try:
         old_number, new_number = map(int, os.readlink(link).split())
@@ -98,13 +98,13 @@ def clear_up(path: Path) -> None:
             if path.stat().st_ino == new_number:
                 exchange(new, path)
         if new.stat().st_ino not in (old_number, new_number):
-            raise NotReplaced(f"{new} is somebody's version")
+            raise NotReplaced(f"{new} is a version from somebody else")
         new.unlink()
     link.unlink()
 
 
 def with_new_field(content: bytes, name: bytes, old: bytes, new: bytes) -> bytes:
-    """The content with another field in the first line of a name."""
+    """Returns the content with a new field in the first line of a name."""
     lines = content.split(b"\n")
     for number, line in enumerate(lines):
         parts = line.split(b":", 2)
@@ -114,11 +114,11 @@ def with_new_field(content: bytes, name: bytes, old: bytes, new: bytes) -> bytes
             parts[1] = new
             lines[number] = b":".join(parts)
             return b"\n".join(lines)
-    raise NotReplaced("the field is another one")
+    raise NotReplaced("the field has changed")
 
 
 def write_new(file: int, content: bytes, old: int) -> None:
-    """Writes a new file with everything that the old one has."""
+    """Writes a new file with the old one's attributes, owner and mode."""
     status = os.fstat(old)
     with os.fdopen(file, "wb", closefd=False) as writer:
         writer.write(content)
@@ -130,7 +130,7 @@ def write_new(file: int, content: bytes, old: int) -> None:
 
 
 def version(status: os.stat_result) -> tuple[int, ...]:
-    """What stays the same of a file that nobody changes, also when it is exchanged."""
+    """Returns what identifies a version of a file, and doesn't change in an exchange."""
     return (
         *(status.st_dev, status.st_ino, status.st_size, status.st_mtime_ns),
         *(status.st_mode, status.st_uid, status.st_gid),
@@ -138,7 +138,7 @@ def version(status: os.stat_result) -> tuple[int, ...]:
 
 
 def put_in_place(path: Path, old: os.stat_result, new: os.stat_result) -> bool:
-    """Exchanges the two, and says whether the new one stays."""
+    """Exchanges the files, undoes that if somebody changed one, and says if the new one stays."""
     expected, inside = old, new
     while True:
         exchange(beside(path, "new"), path)
@@ -149,7 +149,7 @@ def put_in_place(path: Path, old: os.stat_result, new: os.stat_result) -> bool:
 
 
 def replace_under_lock(path: Path, name: bytes, old: bytes, new: bytes) -> None:
-    """Replaces a field, if it is the one that was checked."""
+    """Replaces a field, unless it has changed."""
     with contextlib.ExitStack() as files:
         reader = os.open(path, os.O_RDONLY | os.O_CLOEXEC)
         files.callback(os.close, reader)
@@ -158,7 +158,7 @@ def replace_under_lock(path: Path, name: bytes, old: bytes, new: bytes) -> None:
         writer = os.open(path.parent, os.O_TMPFILE | os.O_RDWR | os.O_CLOEXEC, 0o600)
         files.callback(os.close, writer)
         write_new(writer, content, reader)
-        # With a descriptor, which the absolute path doesn't need, Python follows the link.
+        # Python follows the link only if it gets a descriptor, which an absolute path ignores.
         nameless = f"/proc/self/fd/{writer}"
         os.link(nameless, beside(path, "new"), src_dir_fd=writer, follow_symlinks=True)
         new_status = os.fstat(writer)
@@ -180,7 +180,7 @@ def replace(path: Path, name: bytes, old: bytes, new: bytes) -> None:
 
 
 def main(arguments: list[str]) -> int:
-    """The command."""
+    """Runs the command."""
     path, name, old, new = arguments
     try:
         replace(Path(path), name.encode(), old.encode(), new.encode())

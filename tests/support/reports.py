@@ -1,4 +1,4 @@
-"""What scripts in JavaScript report as JSON, and how they were run."""
+"""Runs scripts in JavaScript, which report their results as JSON."""
 from __future__ import annotations
 
 import json
@@ -8,33 +8,33 @@ from typing import Any
 
 from .process import Word, run
 
-LONGEST_SECONDS = 1500  # of a script in node, on a machine that has much else to do
+LONGEST_SECONDS = 1500  # that a script may take in node, on a busy machine
 
 
 @dataclass(frozen=True)
 class Report:
-    """What a script reported. A test that fails prints how the script was run."""
+    """What a script reported. A failing test prints how to run the script."""
 
-    how: str
+    origin: str
     value: Any
 
     def __str__(self) -> str:
-        return f"{self.how}\nreported: {self.value}"
+        return f"{self.origin}\nreported: {self.value}"
 
     def __getitem__(self, name: str) -> Any:
         return self.value[name]
 
 
-def read_report(how: str, text: str) -> Report:
-    """The report in what a script returned or printed."""
+def read_report(origin: str, text: str) -> Report:
+    """Returns the report that a script returned or printed."""
     try:
-        return Report(how, json.loads(text))
+        return Report(origin, json.loads(text))
     except ValueError as error:
-        raise AssertionError(f"expected: JSON\n{how}\ngot: {text}") from error
+        raise AssertionError(f"expected: JSON\n{origin}\ngot: {text}") from error
 
 
 def report_of_node(*command: Word, folder: Path | None = None, stdin: bytes = b"") -> Report:
-    """Runs a command of node, which has to end by itself, and returns what it reports."""
+    """Runs node, which must end by itself, and returns the script's report."""
     environment = {"NODE_OPTIONS": None, "NODE_PATH": None}
     result = run(
         *command, stdin=stdin, cwd=folder, env=environment, timeout=LONGEST_SECONDS

@@ -1,4 +1,4 @@
-"""Runs a service on a machine of a test's own, once it answers and until the test has ended."""
+"""Runs a service on a test's own machine until the end of the test."""
 from __future__ import annotations
 
 import contextlib
@@ -11,15 +11,15 @@ from dataclasses import dataclass
 from pathlib import Path
 
 from .namespaces import Namespaces, children_of
-from .process import Changes, Word, shown_command
+from .process import Changes, Word, printable_command
 
 SECONDS = 120  # that a service may take for anything
-PAUSE = 0.005  # seconds between two looks
-LONGEST_SHOWN = 4000  # bytes of a log
+PAUSE = 0.005  # seconds between two checks of a condition
+LONGEST_SHOWN = 4000  # bytes of a log that a failure shows
 
 
 def wait_until(condition: Callable[[], bool], what: str) -> None:
-    """Waits until something is so, and fails the test where it takes too long."""
+    """Waits for a condition, and fails the test if it takes too long."""
     end = time.monotonic() + SECONDS
     while not condition():
         assert time.monotonic() < end, f"waited {SECONDS} s for {what}"
@@ -28,21 +28,21 @@ def wait_until(condition: Callable[[], bool], what: str) -> None:
 
 @dataclass(frozen=True)
 class Service:
-    """A service that runs in the foreground and has a port of its machine."""
+    """A service that runs in the foreground and listens on a port of its machine."""
 
     machine: Namespaces
     command: tuple[Word, ...]
     port: int
     log: Path
-    process: subprocess.Popen[bytes]  # that has brought it inside
+    process: subprocess.Popen[bytes]  # nsenter, which runs it inside
 
     def __str__(self) -> str:
         printed = self.log.read_bytes()[-LONGEST_SHOWN:].decode(errors="backslashreplace")
-        return f"the service: {shown_command(self.command)}\nits log:\n{printed}"
+        return f"the service: {printable_command(self.command)}\nits log:\n{printed}"
 
     @property
     def number(self) -> int:
-        """The number of the service's process, as it is outside."""
+        """The id of the service's process, as seen from outside."""
         children = children_of(self.process.pid)
         assert children, f"the service has ended\n{self}"
         return children[0]
@@ -53,7 +53,7 @@ class Service:
         return self.process.poll() is not None
 
     def answers(self) -> bool:
-        """Whether the port takes connections. A service that has ended fails the test."""
+        """Returns whether the port accepts connections. Fails the test if the service has ended."""
         assert not self.has_ended, "the service has ended"
         try:
             self.machine.connected(self.port, SECONDS).close()
@@ -62,7 +62,7 @@ class Service:
         return True
 
     def stop(self) -> None:
-        """Ends the service as an administrator would. It has to run until then."""
+        """Stops the service as an administrator would. Fails the test if it has ended already."""
         assert not self.has_ended, f"the service has ended\n{self}"
         os.kill(self.number, signal.SIGTERM)
         with contextlib.suppress(subprocess.TimeoutExpired):
@@ -73,7 +73,7 @@ class Service:
 def serving(
     machine: Namespaces, port: int, *command: Word, log: Path, env: Changes | None = None
 ) -> Iterator[Service]:
-    """Runs a service beside the block, which begins when the service answers."""
+    """Runs a service while the block runs, which begins once the service's port answers."""
     with machine.started(*command, log=log, env=env) as process:
         service = Service(machine, command, port, log, process)
         try:

@@ -1,6 +1,6 @@
-"""Shells as somebody meets them who presses Tab: what each offers at the end of a line.
+"""Shells, and the completions that each offers to a user who presses Tab at the end of a line.
 
-Bash and zsh stand in a terminal. Fish can be asked without one.
+Bash and zsh run in a terminal. Fish lists completions without one.
 """
 from __future__ import annotations
 
@@ -18,15 +18,16 @@ if TYPE_CHECKING:
     import pexpect
 
 SECONDS = 60  # that an answer may take
-WIDE = (24, 1000)  # rows and columns, so that no line is broken
-KEY = "\x14"  # Control-T, by which a line is answered
+WIDE = (24, 1000)  # rows and columns: so wide that no line wraps
+KEY = "\x14"  # Control-T, which makes the shell print the completed line
 READY = "ready> "
 BASH_COMPLETION = "/usr/share/bash-completion/bash_completion"
-ANSWER = "\x01([^\x02]*)\x02"  # in control characters, which nothing else prints
+ANSWER = "\x01([^\x02]*)\x02"  # between control characters that nothing else prints
 
 BASHRC = r"""
 PS1='ready> '
-if [ -n "$package" ]; then . "$package"; else for file in "$made"/*.bash; do . "$file"; done; fi
+if [ -n "$package" ]; then . "$package"; fi
+[ -n "$package" ] || for file in "$completions"/*.bash; do . "$file"; done
 answer() { printf '\001%s\002' "$READLINE_LINE"; READLINE_LINE=''; }
 bind '"\t": insert-completions'
 bind -x '"\C-t": answer'
@@ -34,7 +35,7 @@ bind -x '"\C-t": answer'
 
 ZSHRC = r"""
 PROMPT='ready> '
-fpath=($made $fpath)
+fpath=($completions $fpath)
 autoload -Uz compinit
 compinit -D -u
 offer-all() {
@@ -53,7 +54,7 @@ bindkey '^T' answer
 """
 
 FISH = r"""
-set fish_complete_path $made $fish_complete_path
+set fish_complete_path $completions $fish_complete_path
 while read -l line
     set words (complete -C $line | string replace -r '\t.*' '')
     echo "$words"
@@ -63,30 +64,30 @@ end
 
 @dataclass(frozen=True)
 class Surroundings:
-    """Where a shell stands, with completions that were made for it."""
+    """The folder and environment of a shell, and the completions for it."""
 
-    completions: Path  # a folder of them
-    folder: Path  # where it stands
-    scratch: Path  # for its own files
+    completions: Path  # the folder with the files of completions
+    folder: Path  # the shell's current folder
+    scratch: Path  # a folder for the shell's own files
     environment: Changes
 
 
 class Shell(Protocol):
-    """A shell that says what it offers."""
+    """A shell that can be asked for its completions."""
 
     def offered(self, line: str) -> list[str]:
-        """The words that it offers at the end of a line, in place of the last one."""
+        """Returns the words that the shell offers in place of the line's last one."""
 
 
 class InTerminal:
-    """A shell in a terminal, which answers a line by the line with all that it offers."""
+    """A shell in a terminal. It answers a line by printing it with all completions inserted."""
 
     def __init__(self, terminal: pexpect.spawn, keys: str) -> None:
         self.terminal = terminal
-        self.keys = keys  # which complete a line and answer it
+        self.keys = keys  # complete the line and print it
 
     def offered(self, line: str) -> list[str]:
-        """The words that it offers at the end of a line, in place of the last one."""
+        """Returns the words that the shell offers in place of the line's last one."""
         self.terminal.send(line + self.keys)
         self.terminal.expect(ANSWER)
         completed: str = self.terminal.match[1]
@@ -100,7 +101,7 @@ class InTerminal:
 def in_terminal(
     surroundings: Surroundings, keys: str, command: list[str], changes: Changes
 ) -> Iterator[Shell]:
-    """Runs a shell in a terminal until the end of the block."""
+    """Runs a shell in a terminal while the block runs."""
     import pexpect
 
     environment = changed_environment({**surroundings.environment, **changes, "TERM": "dumb"})
@@ -122,10 +123,10 @@ def in_terminal(
 
 @contextlib.contextmanager
 def bash(surroundings: Surroundings, package: str = "") -> Iterator[Shell]:
-    """Bash, which reads the completions itself, or by the package bash-completion."""
+    """Runs bash, which loads the completions directly or through the package bash-completion."""
     settings = surroundings.scratch / "bashrc"
     settings.write_text(BASHRC, encoding="ascii")
-    changes = {"package": package, "made": str(surroundings.completions)}
+    changes = {"package": package, "completions": str(surroundings.completions)}
     command = ["bash", "--rcfile", str(settings), "-i"]
     with in_terminal(surroundings, f"\t{KEY}", command, changes) as shell:
         yield shell
@@ -133,44 +134,45 @@ def bash(surroundings: Surroundings, package: str = "") -> Iterator[Shell]:
 
 @contextlib.contextmanager
 def bash_with_package(surroundings: Surroundings) -> Iterator[Shell]:
-    """Bash with the package bash-completion, which finds completions by a command's name."""
+    """Runs bash with the package bash-completion, which loads completions by a command's name."""
     with bash(surroundings, package=BASH_COMPLETION) as shell:
         yield shell
 
 
 @contextlib.contextmanager
 def zsh(surroundings: Surroundings) -> Iterator[Shell]:
-    """Zsh without the system's settings."""
+    """Runs zsh without the system's settings."""
     (surroundings.scratch / ".zshrc").write_text(ZSHRC, encoding="ascii")
-    changes = {"ZDOTDIR": str(surroundings.scratch), "made": str(surroundings.completions)}
+    changes = {"ZDOTDIR": str(surroundings.scratch), "completions": str(surroundings.completions)}
     with in_terminal(surroundings, KEY, ["zsh", "-d", "-i"], changes) as shell:
         yield shell
 
 
 @dataclass(frozen=True)
 class Fish:
-    """Fish, which reads lines and prints for each what it offers."""
+    """Fish, running a script that reads lines and prints the completions of each."""
 
     process: subprocess.Popen[bytes]
 
     def offered(self, line: str) -> list[str]:
-        """The words that it offers at the end of a line, in place of the last one."""
+        """Returns the words that the shell offers in place of the line's last one."""
         assert self.process.stdin is not None and self.process.stdout is not None
         self.process.stdin.write(f"{line}\n".encode())
         self.process.stdin.flush()
         words = self.process.stdout.readline().decode().split()
-        # Fish 4 tells words that have what was typed anywhere, too. Its menu shows them only if
-        # none begins with that.
+        # Fish 4 also lists words that only contain what was typed. Its menu shows those only if
+        # no word begins with it.
         typed = line.rpartition(" ")[2]
         return [word for word in words if word.startswith(typed)] or words
 
 
 @contextlib.contextmanager
 def fish(surroundings: Surroundings) -> Iterator[Shell]:
-    """Fish without settings."""
+    """Runs fish without settings."""
     script = surroundings.scratch / "answer.fish"
     script.write_text(FISH, encoding="ascii")
-    environment: Changes = {**surroundings.environment, "made": str(surroundings.completions)}
+    completions = str(surroundings.completions)
+    environment: Changes = {**surroundings.environment, "completions": completions}
     with started(
         *("fish", "--no-config", script),
         stdin=subprocess.PIPE,

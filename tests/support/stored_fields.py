@@ -1,7 +1,7 @@
-"""Stored hashes that are published, and fields of password files that are none.
+"""Published hashes, and fields of password files that no password matches.
 
-Published are those of openssl-passwd(1), of Drepper's text on SHA-crypt, of libxcrypt's tests and
-of RFC 7914. Those of 1,024 bytes are made over hashlib as Drepper's text says, and by passlib.
+The hashes are from openssl-passwd(1), Drepper's specification of SHA-crypt, libxcrypt's tests and
+RFC 7914. Those of 1,024 bytes are from passlib, and from hashlib by Drepper's specification.
 """
 from __future__ import annotations
 
@@ -27,7 +27,7 @@ class KnownHash:
 
 @dataclass(frozen=True)
 class Field:
-    """What is stored for a name, and the error with which "password" is refused."""
+    """A stored field, and the error with which it refuses "password"."""
 
     title: str
     text: bytes
@@ -100,7 +100,7 @@ KNOWN_HASHES = (
 )
 SCRYPT_WITH_LONGEST_SALT = b"$7$2/..../...." + b"a" * 86
 
-# Fields that have no setting, so that whatever hash follows is not looked at.
+# Fields without a setting, so that a hash after it doesn't matter.
 EMPTY = Field("an empty field", b"", Reason.NO_HASH)
 LOCKED_FIELDS = (
     Field("an exclamation mark", b"!", Reason.LOCKED),
@@ -108,18 +108,18 @@ LOCKED_FIELDS = (
     Field("two exclamation marks", b"!!", Reason.LOCKED),
     Field("the token of a refused hash", b"*0", Reason.LOCKED),
     Field("the other token of a refused hash", b"*1", Reason.LOCKED),
-    Field("a token with more behind it", b"*0abc", Reason.LOCKED),
-    Field("a hash behind an exclamation mark", b"!" + MD5CRYPT, Reason.LOCKED),
-    Field("a hash behind an asterisk", b"*" + MD5CRYPT, Reason.LOCKED),
-    Field("a locked field of the longest setting's length", b"!" + b"a" * 383, Reason.LOCKED),
+    Field("a token with more after it", b"*0abc", Reason.LOCKED),
+    Field("a hash after an exclamation mark", b"!" + MD5CRYPT, Reason.LOCKED),
+    Field("a hash after an asterisk", b"*" + MD5CRYPT, Reason.LOCKED),
+    Field("a locked field as long as the longest setting", b"!" + b"a" * 383, Reason.LOCKED),
     Field("a locked field that is longer than a setting", b"!" + b"a" * 384, Reason.LOCKED),
-    Field("a long field behind an asterisk", b"*" + b"a" * 384, Reason.LOCKED),
+    Field("a long field after an asterisk", b"*" + b"a" * 384, Reason.LOCKED),
 )
 OF_OTHER_SCHEMES = (
     Field("the one character x", b"x", Reason.UNKNOWN_SCHEME),
     Field("the password itself", b"password", Reason.UNKNOWN_SCHEME),
     Field("descrypt", b"abJnggxhB/yWI", Reason.UNKNOWN_SCHEME),
-    Field("a prefix that is cut", b"$1", Reason.UNKNOWN_SCHEME),
+    Field("an incomplete prefix", b"$1", Reason.UNKNOWN_SCHEME),
     Field("a number that no method has", b"$2$ab", Reason.UNKNOWN_SCHEME),
     Field("bcrypt", b"$2b$05$abcdefghijklmnopqrstuu", Reason.UNKNOWN_SCHEME),
     Field("yescrypt", b"$y$j9T$salt$hash", Reason.UNKNOWN_SCHEME),
@@ -132,36 +132,36 @@ WITH_BAD_CHARACTERS = (
     Field("a colon without a scheme", b"a:c", Reason.BAD_CHARACTER),
     Field("a colon for rounds", b"$6$rounds=:$ab", Reason.BAD_CHARACTER),
     Field("a colon in scrypt's cost", b"$7$C:", Reason.BAD_CHARACTER),
-    Field("a line end behind a salt", b"$5$ab\n", Reason.BAD_CHARACTER),
+    Field("a line feed after a salt", b"$5$ab\n", Reason.BAD_CHARACTER),
     Field("a delete character in a hash", b"$5$ab$\x7f", Reason.BAD_CHARACTER),
-    Field("a letter of two bytes", b"$6$\xc3\xa9", Reason.BAD_CHARACTER),
-    Field("a line end behind a hash", MD5CRYPT + b"\n", Reason.BAD_CHARACTER),
-    Field("a zero byte behind a hash", MD5CRYPT + b"\0", Reason.BAD_CHARACTER),
+    Field("a two-byte letter", b"$6$\xc3\xa9", Reason.BAD_CHARACTER),
+    Field("a line feed after a hash", MD5CRYPT + b"\n", Reason.BAD_CHARACTER),
+    Field("a zero byte after a hash", MD5CRYPT + b"\0", Reason.BAD_CHARACTER),
     Field("a zero byte before a hash", b"\0" + MD5CRYPT, Reason.BAD_CHARACTER),
-    Field("a colon behind a hash", MD5CRYPT + b":", Reason.BAD_CHARACTER),
-    Field("the byte ff behind a hash", MD5CRYPT + b"\xff", Reason.BAD_CHARACTER),
+    Field("a colon after a hash", MD5CRYPT + b":", Reason.BAD_CHARACTER),
+    Field("the byte ff after a hash", MD5CRYPT + b"\xff", Reason.BAD_CHARACTER),
     Field("a colon in a field of the longest length", b"$1$:" + b"a" * 380, Reason.BAD_CHARACTER),
 )
 WITH_BAD_NUMBERS = (
-    Field("no number behind rounds=", b"$5$rounds=$ab", Reason.BAD_ROUNDS),
+    Field("no number after rounds=", b"$5$rounds=$ab", Reason.BAD_ROUNDS),
     Field("a zero before the rounds", b"$6$rounds=01000$ab", Reason.BAD_ROUNDS),
-    Field("no dollar sign behind the rounds", b"$6$rounds=1000", Reason.BAD_ROUNDS),
-    Field("a cost of scrypt that is cut", b"$7$C", Reason.BAD_COST),
-    Field("a cost of scrypt without its last character", b"$7$20....0...", Reason.BAD_COST),
+    Field("no dollar sign after the rounds", b"$6$rounds=1000", Reason.BAD_ROUNDS),
+    Field("an incomplete scrypt cost", b"$7$C", Reason.BAD_COST),
+    Field("a scrypt cost without its last character", b"$7$20....0...", Reason.BAD_COST),
     Field("an N of 1", b"$7$./..../....ab", Reason.SCRYPT_RANGE),
     Field("an r of 0", b"$7$6...../....ab", Reason.SCRYPT_RANGE),
     Field("a p of 0 and a bad salt", b"$7$6/.........a_b", Reason.SCRYPT_RANGE),
     Field("an N that is too large for its r", b"$7$E/..../....ab", Reason.SCRYPT_RANGE),
     Field("twice the ceiling by p", b"$7$GU....0....ab", Reason.ABOVE_CEILING),
     Field("twice the ceiling by N and a bad salt", b"$7$HU..../....a_b", Reason.ABOVE_CEILING),
-    Field("a bad salt of scrypt", b"$7$20....0....a_b", Reason.BAD_SALT),
-    Field("a salt of scrypt that is too long", SCRYPT_WITH_LONGEST_SALT + b"a", Reason.BAD_SALT),
+    Field("a bad scrypt salt", b"$7$20....0....a_b", Reason.BAD_SALT),
+    Field("a scrypt salt that is too long", SCRYPT_WITH_LONGEST_SALT + b"a", Reason.BAD_SALT),
 )
 TOO_LONG = (
-    Field("a salt up to a byte too much", b"$1$a" + b"a" * 381, Reason.SETTING_TOO_LONG),
-    Field("a colon in a field too long", b"$1$:" + b"a" * 381, Reason.SETTING_TOO_LONG),
+    Field("a salt one byte too long", b"$1$a" + b"a" * 381, Reason.SETTING_TOO_LONG),
+    Field("a colon in a field that is too long", b"$1$:" + b"a" * 381, Reason.SETTING_TOO_LONG),
     Field("385 letters", b"a" * 385, Reason.SETTING_TOO_LONG),
-    Field("a hash with much behind it", MD5CRYPT + b"a" * 400, Reason.SETTING_TOO_LONG),
+    Field("a hash with much after it", MD5CRYPT + b"a" * 400, Reason.SETTING_TOO_LONG),
 )
 WITHOUT_SETTING = (
     EMPTY,
@@ -171,16 +171,16 @@ WITHOUT_SETTING = (
     *WITH_BAD_NUMBERS,
     *TOO_LONG,
 )
-# Fields that have a setting, and are no hash of "password", or cost too much.
+# Fields with a setting that aren't hashes of "password", or cost too much.
 DIFFERENT = (
     Field("a hash without its last character", MD5CRYPT[:-1], Reason.WRONG_PASSWORD),
-    Field("a hash with a dot behind it", MD5CRYPT + b".", Reason.WRONG_PASSWORD),
-    Field("a hash with a dollar sign behind it", MD5CRYPT + b"$", Reason.WRONG_PASSWORD),
+    Field("a hash with a dot after it", MD5CRYPT + b".", Reason.WRONG_PASSWORD),
+    Field("a hash with a dollar sign after it", MD5CRYPT + b"$", Reason.WRONG_PASSWORD),
     Field("a prefix alone", b"$1$", Reason.WRONG_PASSWORD),
     Field("a setting alone", b"$1$xxxxxxxx", Reason.WRONG_PASSWORD),
     Field("a setting with its dollar sign", b"$1$xxxxxxxx$", Reason.WRONG_PASSWORD),
-    Field("fewer rounds than there are", b"$6$rounds=10$ab$x", Reason.WRONG_PASSWORD),
-    Field("a salt up to the longest field", b"$1$" + b"a" * 381, Reason.WRONG_PASSWORD),
+    Field("fewer rounds than the minimum", b"$6$rounds=10$ab$x", Reason.WRONG_PASSWORD),
+    Field("a salt up to the longest field's length", b"$1$" + b"a" * 381, Reason.WRONG_PASSWORD),
 )
 TOO_DEAR = (
     Field("scrypt at the ceiling", b"$7$GU..../....ab$x", Reason.OVER_BUDGET),

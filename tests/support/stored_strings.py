@@ -1,11 +1,11 @@
-"""Stored hashes and fields as the Python package gets them: str, also what no file could have."""
+"""Stored hashes and fields for the Python package, as str, even some that no file can have."""
 from __future__ import annotations
 
 from dataclasses import dataclass
 
 from .model.calls import Reason
 
-# Hashes that libxcrypt makes, of "password" and of "Hello world!".
+# libxcrypt's hashes of "password" and "Hello world!".
 MD5 = "$1$xxxxxxxx$UYCIxa628.9qXjpQCjM4a."
 SHA256 = "$5$saltstring$5B8vYYiY.CVt1RlTTf8KbXBH3hsxY/GNooZaBBGWEc5"
 SHA512 = (
@@ -13,13 +13,13 @@ SHA512 = (
     "S35inz1"
 )
 SCRYPT = "$7$CU..../....s"
-# It would take a second or two, which a test can wait for if the budget is not heeded.
+# It takes only a second or two, so that a test ends even if the budget is ignored.
 COSTLY = "$6$rounds=2500000$saltstring$" + "x" * 86
 
 
 @dataclass(frozen=True)
 class StoredField:
-    """A field without a valid setting of ours, and why it is refused."""
+    """A field without a valid setting, and why it is refused."""
 
     text: str
     reason: Reason
@@ -61,16 +61,16 @@ INVALID = [
 REFUSED = [*UNKNOWN, *OTHER_SCHEMES, *WITH_BAD_CHARACTERS, *INVALID]
 
 LOCKED = ["", "!", "*", "!!", "*0", "*1", "*LK*", "!" + MD5, "*" + MD5, "!" + "x" * 500]
-# Settings without a hash, and hashes that are cut, longer, or not written as they are made.
+# Settings without a hash, and hashes that are cut, too long, or not in their canonical form.
 DEAD = [
     *("$6$", "$1$xxxxxxxx", "$1$xxxxxxxx$", "$5$rounds=10$salt$x"),
     *(MD5[:-1], SHA512[:-1], MD5 + "x", MD5 + "$", "$5$" + MD5[3:]),
 ]
-# No password gets in by any of these.
+# Fields that no password matches.
 NEVER_OPEN = [*LOCKED, *DEAD, *(field.text for field in REFUSED), COSTLY]
 
 
 def title(text: str) -> str:
-    """A field as the id of a test, cut if it is long."""
+    """Returns a field as the id of a test, cut if it is long."""
     shown = ascii(text[:40])[1:-1] + (".." if len(text) > 40 else "")
     return shown or "nothing"

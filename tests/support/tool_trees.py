@@ -1,4 +1,4 @@
-"""Trees of their own in which the tools around rt run, with an rt that does what a test says."""
+"""Trees in which the tools around rt run with a fake rt, which does what a test says."""
 from __future__ import annotations
 
 import shutil
@@ -27,39 +27,39 @@ class ToolTree:
 
     @property
     def program(self) -> Path:
-        """The rt of this tree."""
+        """The fake rt of this tree."""
         return self.folder / "rt"
 
     def path(self, name: str) -> Path:
-        """A file of this tree."""
+        """Returns the path of a file of this tree."""
         return self.folder / name
 
     def rt_is(self, script: str) -> None:
-        """Makes an rt of a script for sh."""
+        """Makes the fake rt a script for sh."""
         self.program.write_text(f"#!/bin/sh\n{script}\n", encoding="utf-8")
         self.program.chmod(0o755)
 
     def rt_prints(self, lines: bytes, status: int = 0) -> None:
-        """Makes an rt that prints this and ends."""
+        """Makes a fake rt that prints this and ends."""
         self.path("rt.lines").write_bytes(lines)
         self.rt_is(f'cat "$0.lines"\nexit {status}')
 
     def environment(self, changes: Changes | None = None) -> Changes:
-        """What the tools get: this rt, and nothing of how the tests themselves were called."""
+        """Returns the tools' environment: the fake rt, without settings of the tests' own run."""
         return {"RT": str(self.program), "RT_JOBS": None, **(changes or {})}
 
-    def whole_environment(self) -> dict[str, str]:
-        """The same, with all that the tests' own environment has."""
+    def full_environment(self) -> dict[str, str]:
+        """Returns the same, with all that the tests' own environment has."""
         return changed_environment(self.environment())
 
     def run(self, tool: str, *words: Word, env: Changes | None = None) -> Result:
-        """Runs a tool, from another folder than the tree's."""
+        """Runs a tool, from a folder outside the tree."""
         command = (self.path(f"tools/{tool}"), *words)
         return run(*command, env=self.environment(env), cwd=self.folder.parent)
 
 
 def tool_tree(folder: Path) -> ToolTree:
-    """Makes such a tree."""
+    """Makes such a tree in a folder."""
     tree = ToolTree(folder)
     for name in COPIED:
         tree.path(name).parent.mkdir(parents=True, exist_ok=True)
@@ -70,8 +70,8 @@ def tool_tree(folder: Path) -> ToolTree:
 
 
 def wait_for(condition: Callable[[], bool]) -> None:
-    """Waits until something is so."""
+    """Waits for a condition."""
     end = time.monotonic() + SECONDS_TO_WAIT
     while not condition():
-        assert time.monotonic() < end, f"waited for {SECONDS_TO_WAIT} seconds"
+        assert time.monotonic() < end, f"the condition didn't hold within {SECONDS_TO_WAIT} seconds"
         time.sleep(0.01)

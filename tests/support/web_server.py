@@ -1,4 +1,4 @@
-"""A web server on this machine, which records what it is asked for."""
+"""A web server on this machine that records the requests."""
 from __future__ import annotations
 
 import contextlib
@@ -32,7 +32,7 @@ class RecordingHandler(http.server.SimpleHTTPRequestHandler):
 
 @contextlib.contextmanager
 def serving(folder: Path) -> Iterator[WebServer]:
-    """Serves a folder beside the block."""
+    """Serves a folder while the block runs."""
     with WebServer(folder) as server:
         thread = threading.Thread(target=server.serve_forever, daemon=True)
         thread.start()

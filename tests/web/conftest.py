@@ -1,4 +1,4 @@
-"""What the tests of the page and of mkpasswd.mjs share: what was built, node, browsers."""
+"""Fixtures for the tests of the page and of mkpasswd.mjs: the build, node, browsers."""
 from __future__ import annotations
 
 import os
@@ -19,7 +19,7 @@ OLDEST_NODE = 20
 
 @pytest.fixture(scope="session")
 def web_build() -> Path:
-    """The folder of what `make web` and `make npm` build, or another one like it: WEB_BUILD."""
+    """The folder that `make web` and `make npm` build, or the one that WEB_BUILD names."""
     folder = Path(os.environ.get("WEB_BUILD", ROOT / "build"))
     for name in ("mkpasswd.wasm", "mkpasswd.html", "mkpasswd.mjs", "npm/package.json"):
         if not (folder / name).exists():
@@ -29,7 +29,7 @@ def web_build() -> Path:
 
 @pytest.fixture(scope="session")
 def node() -> str:
-    """The command node, where it isn't older than what mkpasswd.mjs is for."""
+    """The command node. Skips the test if it is older than mkpasswd.mjs supports."""
     need("node")
     version = run("node", "--version").required().stdout.decode().strip()
     match = re.match(r"v(\d+)\.", version)
@@ -41,12 +41,12 @@ def node() -> str:
 
 @pytest.fixture(scope="session")
 def seed() -> int:
-    """The seed of what is random."""
+    """The seed of the tests' random values."""
     return int(os.environ.get("SEED", "1"))
 
 
 def pytest_runtest_call(item: pytest.Function) -> None:
-    """Has a failed test print how the script was run whose report it is about."""
+    """Shows how the script of a test was run, if the test fails."""
     for value in item.funcargs.values():
         if isinstance(value, Report):
             item.add_report_section("call", "script", value.how)
@@ -56,13 +56,16 @@ def pytest_runtest_call(item: pytest.Function) -> None:
 
 
 def needing(name: str, *needed: str) -> Any:
-    """A browser with what it needs. Its tests run in one worker, which starts it once."""
+    """Returns a browser as a parameter, with what it needs to run.
+
+    One worker runs all of its tests, so that it starts once.
+    """
     marks = [pytest.mark.needs(*needed), pytest.mark.xdist_group(name), pytest.mark.slow]
     return pytest.param(name, id=name, marks=marks)
 
 
 @pytest.fixture(
-    scope="module",  # so that it ends with its tests, and not with all tests
+    scope="module",  # so that it ends with its tests, not at the end of the run
     params=[
         needing("Chromium", "chromium", "chromedriver", "python3-selenium"),
         needing("Firefox", "firefox-esr", "python3-websocket"),
@@ -79,7 +82,7 @@ def browser(
 
 @pytest.fixture(scope="module")
 def server(browser: Browser, web_build: Path) -> Iterator[WebServer]:
-    """A server of the page, for one browser."""
-    del browser  # each gets a server of its own, by naming it here
+    """A web server with the page, for one browser."""
+    del browser  # naming the fixture gives each browser a server of its own
     with serving(web_build) as started:
         yield started

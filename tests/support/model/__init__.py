@@ -1,8 +1,7 @@
-"""The rules of docs/FORMATS.md and of the standards that it names, read a second time.
+"""A model of docs/FORMATS.md and of the standards that it names, independent of the product.
 
-They are not read out of the code: settings and their refusals, the work and the cost of a hash,
-hashes, what an audit finds, lines and their answers. Hashes are libxcrypt's, and those that it
-doesn't make are made by hashlib.
+It covers settings and why they are refused, the work and the cost of a hash, hashes, audits, and
+lines with their answers. Hashes come from libxcrypt, or from hashlib where libxcrypt refuses.
 
-Texts are bytes throughout.
+All texts are bytes.
 """

@@ -1,4 +1,4 @@
-"""Lines: what the program has to answer to each, and in what a run differs from that."""
+"""What the program must answer to each line, and how a run differs from that."""
 from __future__ import annotations
 
 import enum
@@ -8,7 +8,7 @@ from collections import deque
 from dataclasses import dataclass, replace
 from typing import Iterator
 
-from ..process import Result, Word, shown
+from ..process import Result, Word, printable
 from .audits import AuditPolicy, Finding, audit_policy, finding_of, is_locked, is_whole
 from .hashes import hash_of
 from .methods import BY_NAME, DIGIT, SHA512CRYPT, Method
@@ -30,7 +30,7 @@ LINE_REFUSALS = (
 
 
 class Mode(enum.Enum):
-    """The modes that read lines; the option is the value."""
+    """The modes that read lines. A value is the mode's option."""
 
     BATCH = "--batch"
     CHECK = "--check"
@@ -39,7 +39,7 @@ class Mode(enum.Enum):
 
 @dataclass(frozen=True)
 class NewHash:
-    """The options for new hashes; None where one isn't given."""
+    """The options for new hashes. None means that an option isn't given."""
 
     method_name: str | None = None  # -m
     cost: int | None = None  # -R
@@ -52,7 +52,7 @@ class NewHash:
 
     @property
     def words(self) -> list[Word]:
-        """The options as words of a command."""
+        """The options as arguments of a command."""
         words: list[Word] = []
         if self.method_name is not None:
             words += ["-m", self.method_name]
@@ -65,18 +65,18 @@ class NewHash:
 
 @dataclass(frozen=True)
 class Job:
-    """What a command has to do with its lines."""
+    """What a command does with the lines that it reads."""
 
     mode: Mode
     new_hash: NewHash = NewHash()
     is_rehash: bool = False
     shows_work: bool = False
-    budget: int | None = None  # 0 stands for none
+    budget: int | None = None  # 0 means unlimited, None that the option isn't given
     first_line: int | None = None
 
     @property
     def words(self) -> list[Word]:
-        """The options as words of a command."""
+        """The options as arguments of a command."""
         words: list[Word] = [self.mode.value]
         if self.is_rehash:
             words.append("--rehash")
@@ -91,28 +91,28 @@ class Job:
 
     @functools.cached_property
     def setting(self) -> Setting:
-        """The setting of new hashes, which has another salt where the program draws one."""
+        """The setting of new hashes, with a made-up salt if the program draws one."""
         new = self.new_hash
         return setting_of_options(new.method, new.cost, new.salt)
 
     @functools.cached_property
     def policy(self) -> AuditPolicy:
-        """What an audit compares with."""
+        """The policy that an audit compares hashes with."""
         return audit_policy(self.new_hash.method, self.new_hash.cost, self.budget)
 
 
 @dataclass(frozen=True)
 class StoredHash:
-    """The field of a line to check, where it begins with a setting."""
+    """A field to check that begins with a setting."""
 
     text: bytes
     setting: Setting
-    is_replaced: bool  # by a new hash, where the password matches
+    is_replaced: bool  # whether a matching password gets a new hash
 
 
 @dataclass(frozen=True)
 class Parsed:
-    """A line that isn't refused; its answer is made from this. Nothing is hashed yet."""
+    """A line that isn't refused, with what its answer needs. Nothing is hashed yet."""
 
     name: bytes
     password: bytes = b""
@@ -123,28 +123,28 @@ class Parsed:
 
 
 def parsed(job: Job, line: bytes) -> Parsed:
-    """A line by its parts, or the reason for which it is refused."""
-    fields_wanted = 3 if job.mode is Mode.CHECK else 2
+    """Parses a line, or raises Refused with the reason."""
+    field_count = 3 if job.mode is Mode.CHECK else 2
     if len(line) > LONGEST_LINE:
         raise Refused("line too long")
-    name, *fields = line.split(b":", fields_wanted - 1)
+    name, *fields = line.split(b":", field_count - 1)
     if name == b"":
         raise Refused("no name")
     if len(name) > LONGEST_NAME:
         raise Refused("name too long")
-    if len(fields) < fields_wanted - 1:
+    if len(fields) < field_count - 1:
         raise Refused("no password field")
     if job.mode is Mode.AUDIT:
         finding = finding_of(job.policy, fields[0].split(b":")[0])
         return Parsed(name, cost=finding.cost, finding=finding)
-    line_parts = parsed_password(job, name, fields)
-    if job.budget and line_parts.cost > job.budget:
+    result = parse_password(job, name, fields)
+    if job.budget and result.cost > job.budget:
         raise Refused("over budget")
-    return line_parts
+    return result
 
 
-def parsed_password(job: Job, name: bytes, fields: list[bytes]) -> Parsed:
-    """The parts of a line that has a password."""
+def parse_password(job: Job, name: bytes, fields: list[bytes]) -> Parsed:
+    """Parses the fields of a line that has a password."""
     password = fields[-1]
     if len(password) > LONGEST_PASSWORD:
         raise Refused("password too long")
@@ -152,11 +152,11 @@ def parsed_password(job: Job, name: bytes, fields: list[bytes]) -> Parsed:
         raise Refused("password has a zero byte")
     if job.mode is Mode.BATCH:
         return Parsed(name, password, cost(job.setting, len(password)))
-    return parsed_check(job, name, fields[0], password)
+    return parse_check(job, name, fields[0], password)
 
 
-def parsed_check(job: Job, name: bytes, field: bytes, password: bytes) -> Parsed:
-    """The parts of a line to check."""
+def parse_check(job: Job, name: bytes, field: bytes, password: bytes) -> Parsed:
+    """Parses a line of --check."""
     if field == b"":
         return Parsed(name, password, verdict="none")
     if is_locked(field):
@@ -172,8 +172,8 @@ def parsed_check(job: Job, name: bytes, field: bytes, password: bytes) -> Parsed
 class Answerer:
     """Answers the lines of one run.
 
-    A salt that the program draws, and what scrypt makes of some passwords, are known only from the
-    answer that came. A salt that was drawn twice is wrong.
+    A salt that the program draws, and scrypt's digest of some passwords, are taken from the answer
+    that came. A salt that is drawn twice is wrong.
     """
 
     def __init__(self, job: Job) -> None:
@@ -181,7 +181,7 @@ class Answerer:
         self.drawn_salts: set[bytes] = set()
 
     def answer(self, line: Parsed, received: bytes) -> tuple[bytes, bool]:
-        """The answer that a line has to get, and whether the status is 1 for it."""
+        """Returns the answer that a line must get, and whether it makes the status 1."""
         start = line.name + b":"
         if line.finding is not None:
             return start + line.finding.text.encode() + b"\n", line.finding.is_bad
@@ -198,16 +198,16 @@ class Answerer:
                 return start + self.work_text(work) + b"\n", False
             start += b":"
         setting = self.setting_of_new(received[len(start) :])
-        new = hash_of(setting, line.password) or b"(a hash that is not known)"
+        new = hash_of(setting, line.password) or b"(an unknown hash)"
         work += work_of(setting, line.password)
         return start + new + self.work_text(work) + b"\n", False
 
     def work_text(self, work: Work) -> bytes:
-        """What --work adds to an answer."""
+        """Returns what --work adds to an answer."""
         return work.text if self.job.shows_work else b""
 
     def setting_of_new(self, received_hash: bytes) -> Setting:
-        """The setting of a new hash: where the salt is drawn, with a good one that came."""
+        """Returns the setting of a new hash, with the salt that came if the program draws one."""
         setting = self.job.setting
         if self.job.new_hash.salt is not None:
             return setting
@@ -219,30 +219,30 @@ class Answerer:
         return replace(setting, salt=match[1])
 
 
-def matches(stored: StoredHash, password: bytes, is_said: bool) -> bool:
-    """Whether a password matches; what the program said where no hash is known."""
+def matches(stored: StoredHash, password: bytes, is_accepted: bool) -> bool:
+    """Returns whether a password matches, or the program's verdict if no hash is known."""
     if not is_whole(stored.setting, stored.text):
         return False
     text = hash_of(stored.setting, password)
-    return is_said if text is None else text == stored.text
+    return is_accepted if text is None else text == stored.text
 
 
 def lines_of(text: bytes) -> list[bytes]:
-    """Lines with their line feeds; the last may have none."""
+    """Splits a text into lines with their line feeds, which the last line may lack."""
     return re.findall(rb"[^\n]*\n|[^\n]+\Z", text)
 
 
 @dataclass(frozen=True)
 class Expected:
-    """What the program has to print for a line."""
+    """What the program must print for a line."""
 
     stream: str
     text: bytes
-    is_bad: bool  # so that the status is 1
+    is_bad: bool  # whether it makes the status 1
 
 
 def expected_of_lines(job: Job, given: bytes, answers: deque[bytes]) -> Iterator[Expected]:
-    """What the program has to print for each line; its answers are taken away as they are read."""
+    """Yields what the program must print for each line, while the caller removes its answers."""
     answerer = Answerer(job)
     for number, line in enumerate(lines_of(given), job.first_line or 1):
         try:
@@ -257,7 +257,7 @@ def expected_of_lines(job: Job, given: bytes, answers: deque[bytes]) -> Iterator
 
 
 def differences(job: Job, given: bytes, result: Result) -> list[str]:
-    """In what a run differs from the rules: the first line of each stream, and the status."""
+    """Returns how a run differs from the model: the first line of each stream, and the status."""
     left = {"stdout": deque(lines_of(result.stdout)), "stderr": deque(lines_of(result.stderr))}
     first_differences: dict[str, str] = {}
     status = 0
@@ -268,14 +268,14 @@ def differences(job: Job, given: bytes, result: Result) -> list[str]:
         status = max(status, int(expected.is_bad))
         if received != expected.text and expected.stream not in first_differences:
             first_differences[expected.stream] = (
-                f"of the line {shown(line)}\n"
-                f"expected {expected.stream}: {shown(expected.text)}\n"
-                f"its {expected.stream}: {shown(received)}"
+                f"the line: {printable(line)}\n"
+                f"expected {expected.stream}: {printable(expected.text)}\n"
+                f"its {expected.stream}: {printable(received)}"
             )
     found = list(first_differences.values())
     for name, stream in left.items():
         if stream and not first_differences:
-            found.append(f"expected {name}: no more lines\nits {name}: {shown(stream[0])}")
+            found.append(f"expected {name}: no more lines\nits {name}: {printable(stream[0])}")
     if result.status != status:
         found.append(f"expected status: {status}\nits status: {result.status}")
     return found

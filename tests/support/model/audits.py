@@ -1,4 +1,4 @@
-"""What an audit finds in the field of a password file."""
+"""What an audit reports for a field of a password file."""
 from __future__ import annotations
 
 import re
@@ -23,24 +23,24 @@ OTHER_SCHEMES = {
 
 @dataclass(frozen=True)
 class AuditPolicy:
-    """What an audit compares hashes with."""
+    """The policy that an audit compares hashes with."""
 
     setting: Setting  # of new hashes
-    budget: int  # for the longest password
-    login_limit: int | None  # for the empty password
+    budget: int  # for a login with the longest password
+    login_limit: int | None  # for a login with the empty password
 
 
 @dataclass(frozen=True)
 class Finding:
-    """What an audit prints of a field."""
+    """What an audit prints for a field."""
 
     text: str
-    is_bad: bool = False  # so that the status is 1
+    is_bad: bool = False  # whether it makes the status 1
     cost: int = 0  # of a login with the longest password
 
 
 def audit_policy(method: Method, rounds: int | None, budget: int | None) -> AuditPolicy:
-    """The policy by options. Where they say no budget, a login has one, and so has the hash."""
+    """Returns the policy that options describe. Without a budget, it has default limits."""
     setting = recommended_setting(method, rounds, b"a" * method.longest_salt)
     if budget:
         return AuditPolicy(setting, budget, None)
@@ -50,19 +50,19 @@ def audit_policy(method: Method, rounds: int | None, budget: int | None) -> Audi
 
 
 def is_locked(stored: bytes) -> bool:
-    """Whether a field lets nobody in."""
+    """Returns whether a field is locked, so that no password matches it."""
     return stored[:1] in (b"!", b"*")
 
 
 def is_whole(setting: Setting, stored: bytes) -> bool:
-    """Whether a field with this setting can be the hash of a password."""
+    """Returns whether a field with this setting can be the hash of a password."""
     method = setting.method
     digits = rb"%b{%d}[%b]" % (DIGIT, method.hash_length - 1, method.last_digits)
     return re.fullmatch(re.escape(setting.text) + rb"\$" + digits, stored) is not None
 
 
 def other_scheme(stored: bytes) -> str | None:
-    """The name of another scheme of crypt(5) whose hash a field looks like."""
+    """Returns the name of another scheme of crypt(5) whose hash a field looks like."""
     for prefix, name in OTHER_SCHEMES.items():
         if stored.startswith(prefix):
             return name
@@ -70,14 +70,14 @@ def other_scheme(stored: bytes) -> str | None:
 
 
 def rounds_text(setting: Setting) -> str:
-    """The rounds of a setting, as an audit prints them."""
+    """Returns the rounds of a setting as an audit prints them."""
     if setting.scrypt is not None:
         return f"{1 << setting.scrypt.log_n}/{setting.scrypt.r}/{setting.scrypt.p}"
     return "1000" if setting.method is MD5CRYPT else str(setting.rounds)
 
 
 def state_of(policy: AuditPolicy, setting: Setting, stored: bytes) -> str:
-    """What is to say of a hash with this setting."""
+    """Returns an audit's word for a hash with this setting."""
     if cost(setting, LONGEST_PASSWORD) > policy.budget:
         return "over budget"
     if policy.login_limit is not None and cost(setting, 0) > policy.login_limit:
@@ -88,7 +88,7 @@ def state_of(policy: AuditPolicy, setting: Setting, stored: bytes) -> str:
 
 
 def finding_of(policy: AuditPolicy, stored: bytes) -> Finding:
-    """What an audit finds in a field."""
+    """Returns what an audit reports for a field."""
     if stored == b"":
         return Finding("none", is_bad=True)
     if is_locked(stored):
@@ -104,7 +104,7 @@ def finding_of(policy: AuditPolicy, stored: bytes) -> Finding:
 
 
 def finding_of_refused(stored: bytes, refusal: str) -> Finding:
-    """What an audit finds in a field that begins with no setting."""
+    """Returns what an audit reports for a field that begins with no setting."""
     has_dollar = stored.startswith(b"$")
     if has_dollar and refusal != "unknown scheme":
         return Finding(f"malformed:{refusal}", is_bad=True)

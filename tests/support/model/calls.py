@@ -1,8 +1,8 @@
-"""The calls for C: what each returns, reports and leaves in `out`, by the rules in mkpasswd.h.
+"""A model of the calls for C: what each returns, reports and leaves in `out`, as mkpasswd.h says.
 
-A call has the arguments of the header by their names, and a policy is its three numbers. None
-stands for a null pointer, which an exported call doesn't take. For the others a null password is
-one with a zero byte, a null field or salt is empty, and a null `out` has no room.
+A call's arguments have the names of the header, and a policy is three numbers. None is a null
+pointer, which an exported call doesn't accept. To the inline calls a null password is one with a
+zero byte, a null field or salt is empty, and a null `out` has no room.
 """
 from __future__ import annotations
 
@@ -47,15 +47,15 @@ from .work import (
 )
 
 TEXT_SIZE = 145  # bytes, for any hash, setting or message
-BUDGET = 150_000_000  # some budget, which admits the hashes of these tests
-GREATEST = 2**64 - 1  # number of 64 bits
+BUDGET = 150_000_000  # enough for the hashes of these tests
+GREATEST = 2**64 - 1  # the greatest number of 64 bits
 DRAWN = 24  # bytes that mkpasswd_new asks the system for
 NUMBER_SIZE = 8  # bytes of a random number
-DIGITS_OF_NUMBER = 10  # of a salt, that a random number makes
+DIGITS_OF_NUMBER = 10  # characters of a salt that a random number gives
 
 
 class Reason(enum.IntEnum):
-    """Why a call failed: its name in the header and its message, numbered from 1 on."""
+    """Why a call fails: the header's name, the message, and the number, counted from 1."""
 
     def __new__(cls, _message: str) -> Reason:
         number = len(cls.__members__) + 1
@@ -92,7 +92,7 @@ class Reason(enum.IntEnum):
 
 
 class Form(enum.Enum):
-    """How a call is made: by the exported function, or by the header's own in one of two ways."""
+    """How a call is made: by the exported function, or by the header's inline one in two ways."""
 
     EXPORTED = "pointers and lengths"
     LENGTHS = "a password and a field made of bytes"
@@ -112,11 +112,11 @@ OF_A_SETTING = {
         Reason.BAD_SALT,
     )
 }
-# A login whose field has one of these reasons hashes the password all the same.
+# A login hashes the password even if it fails for one of these reasons.
 WITHOUT_A_HASH = {*OF_A_SETTING.values(), Reason.OVER_BUDGET, Reason.LOCKED, Reason.NO_HASH}
 ERRORS_OF_AUDITS = {"over budget": Reason.OVER_BUDGET, "dead": Reason.DEAD}
 AnyCall = TypeVar("AnyCall", bound="Call")
-# The numbers in the header of other schemes of crypt(5), by their names.
+# The header's numbers for other schemes of crypt(5).
 NUMBERS_OF_OTHERS: dict[str | None, int] = {
     "yescrypt": 101,
     "gost-yescrypt": 102,
@@ -132,7 +132,7 @@ RECOMMENDED_METHOD = 6
 
 
 class CallRefused(Exception):
-    """A call returns 0 for this reason."""
+    """A call that returns 0, and the reason."""
 
     def __init__(self, reason: Reason) -> None:
         super().__init__(reason.message)
@@ -141,11 +141,11 @@ class CallRefused(Exception):
 
 @dataclass(frozen=True)
 class System:
-    """What the system gives while calls are made."""
+    """What the system provides during calls: memory and random bytes."""
 
-    refused_allocation: int = 0  # of a call, from 1; 0 for none
-    random_bytes: bytes | None = None  # None where it gives none
-    is_real: bool = False  # so that random bytes are not known
+    refused_allocation: int = 0  # which allocation of a call fails, from 1; 0 for none
+    random_bytes: bytes | None = None  # None if the system gives none
+    is_real: bool = False  # whether the random bytes are the real system's, which are unknown
 
     @property
     def numbers(self) -> tuple[int, int, int]:
@@ -162,7 +162,7 @@ class System:
 
 @dataclass(frozen=True)
 class Answer:
-    """What a call returned, reported and left in `out`, and what it asked the system for."""
+    """What a call returns, reports and leaves in `out`, and what it asks the system for."""
 
     result: int
     error: int = 0
@@ -180,14 +180,14 @@ class Answer:
     r: int = 0
     p: int = 0
     allocations: int = 0
-    kept: int = 0  # allocations that were not freed
-    drawn: int = 0  # bytes
+    kept: int = 0  # allocations that aren't freed
+    drawn: int = 0  # random bytes
     out: str = "unchanged"  # otherwise a string in quotes
 
 
 @dataclass
 class Report:
-    """What a call has reported and done so far."""
+    """What a call has reported and done so far in the model."""
 
     system: System
     cost: int = 0
@@ -203,26 +203,26 @@ class Report:
     result_text: bytes = b""  # for `out`
 
     def give(self, text: bytes) -> None:
-        """Reports what `out` gets."""
+        """Reports the text for `out`."""
         self.result_text = text
         self.length = len(text)
 
     def limit_cost(self, setting: Setting, length: int, budget: int) -> None:
-        """Reports the cost of a hash of a password of so many bytes, and compares."""
+        """Reports the cost of hashing a password of this length, and refuses it over the budget."""
         self.cost = cost(setting, length)
         if self.cost > budget:
             raise CallRefused(Reason.OVER_BUDGET)
 
-    def hashed(self, setting: Setting, password: bytes) -> bytes:
-        """The hash of a password, with its work."""
+    def hash(self, setting: Setting, password: bytes) -> bytes:
+        """Hashes a password, reports the work, and returns the hash."""
         self.allocate(setting)
         self.work = work_of(setting, password)
         text = hash_of(setting, password)
-        assert text is not None, "no test has a password whose hash is not known"
+        assert text is not None, "the tests have only passwords whose hashes are known"
         return text
 
     def allocate(self, setting: Setting) -> None:
-        """Scrypt alone allocates: its table, its blocks, and two blocks to mix them in."""
+        """Allocates as scrypt does: its table, its blocks, and two blocks to mix. Others don't."""
         if setting.scrypt is None:
             return
         self.next_allocation()
@@ -233,13 +233,13 @@ class Report:
         self.scratch = scratch_of(setting)
 
     def next_allocation(self) -> None:
-        """Counts an allocation, which the system may refuse."""
+        """Counts an allocation, and fails if the system refuses it."""
         self.allocations += 1
         if self.allocations == self.system.refused_allocation:
             raise CallRefused(Reason.OUT_OF_MEMORY)
 
     def answer(self, result: bool, error: int, out: str) -> Answer:
-        """The answer of a call that returns this result."""
+        """Returns the answer of a call with this result."""
         return Answer(
             result=int(result),
             error=error,
@@ -263,14 +263,14 @@ class Report:
 
 
 def scratch_of(setting: Setting) -> int:
-    """The bytes of scrypt's memory besides its table."""
+    """Returns how many bytes scrypt allocates besides its table."""
     if setting.scrypt is None:
         return 0
     return 128 * setting.scrypt.r * setting.scrypt.p + 256 * setting.scrypt.r
 
 
 def checked_password(password: bytes | None) -> bytes:
-    """A password that calls take."""
+    """Returns the password, or refuses one that no call accepts."""
     if password is None:
         raise CallRefused(Reason.PASSWORD_ZERO_BYTE)
     if len(password) > LONGEST_PASSWORD:
@@ -281,7 +281,7 @@ def checked_password(password: bytes | None) -> bytes:
 
 
 def setting_of(text: bytes | None) -> Setting:
-    """The setting that a text begins with."""
+    """Returns the setting that a text begins with."""
     try:
         return read_setting(text or b"")
     except Refused as refusal:
@@ -289,7 +289,7 @@ def setting_of(text: bytes | None) -> Setting:
 
 
 def setting_of_field(field: bytes | None) -> Setting:
-    """The setting of a stored field, which can be empty or locked."""
+    """Returns the setting of a stored field, or refuses an empty or locked one."""
     if not field:
         raise CallRefused(Reason.NO_HASH)
     if is_locked(field):
@@ -298,7 +298,7 @@ def setting_of_field(field: bytes | None) -> Setting:
 
 
 def method_of(number: int, rounds: int, *, are_clamped: bool) -> Method:
-    """The method of new hashes, if its rounds are valid, or need not be since they are clamped."""
+    """Returns the method of new hashes. Refuses invalid rounds, unless they are clamped."""
     method = METHODS.get(number or RECOMMENDED_METHOD)
     if method is None:
         raise CallRefused(Reason.UNKNOWN_METHOD)
@@ -314,7 +314,7 @@ def method_of(number: int, rounds: int, *, are_clamped: bool) -> Method:
 
 
 def salt_of(numbers: tuple[int, int, int], length: int) -> bytes:
-    """The salt that numbers make: each has its digits in its lowest bits, the lowest first."""
+    """Returns the salt that random numbers give: six bits a character, the lowest bits first."""
     digits = [
         numbers[place // DIGITS_OF_NUMBER] >> BITS_OF_DIGIT * (place % DIGITS_OF_NUMBER) & 63
         for place in range(length)
@@ -323,12 +323,12 @@ def salt_of(numbers: tuple[int, int, int], length: int) -> bytes:
 
 
 def limit_of(method: Method, rounds: int, budget: int, password: bytes) -> int:
-    """What a budget stands for, in a login and for a new hash."""
+    """Returns the limit of a login or a new hash: the budget, or the policy's own if it is 0."""
     return budget or login_limit(method, rounds, len(password))
 
 
 class Call(ABC):
-    """A call with its arguments."""
+    """A call of the library, with its arguments."""
 
     name: ClassVar[str]
     forms: ClassVar[tuple[Form, ...]] = tuple(Form)
@@ -342,7 +342,7 @@ class Call(ABC):
 
     @property
     def row(self) -> str:
-        """The call as tests/c/calls.c reads it."""
+        """The call as a line for tests/c/calls.c."""
         words = [self.name + ("_bytes" if self.form is Form.EXPORTED else "")]
         for name, value in self.values.items():
             shown = "null" if value is None else str(value)
@@ -354,7 +354,7 @@ class Call(ABC):
         return " ".join(words)
 
     def can_have(self, form: Form) -> bool:
-        """Whether a form can pass these arguments."""
+        """Returns whether a form can pass these arguments."""
         values = self.values.values()
         if form is Form.EXPORTED:
             return None not in values
@@ -362,30 +362,30 @@ class Call(ABC):
         return not (form is Form.STRINGS and has_zero_byte)
 
     def expected(self, system: System) -> Answer:
-        """The answer by the rules."""
+        """Returns the answer that the call must give."""
         report = Report(system)
         result, error = False, 0
         try:
-            result = self.judged(report)
+            result = self.evaluate(report)
         except CallRefused as refusal:
             error = refusal.reason
-        return report.answer(result, error, self.left_in_out(result, report.result_text))
+        return report.answer(result, error, self.out_after(result, report.result_text))
 
-    def left_in_out(self, result: bool, text: bytes) -> str:
-        """What the call leaves in `out`, which some calls don't have."""
+    def out_after(self, result: bool, text: bytes) -> str:
+        """Returns what the call leaves in `out`, which some calls don't have."""
         del result, text
         return "unchanged"
 
     @abstractmethod
-    def judged(self, report: Report) -> bool:
-        """What is returned; the report gets what is to be reported."""
+    def evaluate(self, report: Report) -> bool:
+        """Returns the call's result, and fills the report. Raises CallRefused for an error."""
 
 
 NAMES_OF_BYTES = ("password", "field", "stored", "setting", "salt")
 
 
 def in_each_form(*calls: AnyCall) -> list[AnyCall]:
-    """Calls, each in the forms that there are of it and that can pass its arguments."""
+    """Returns each call in every form that it has and that can pass its arguments."""
     return [
         dataclasses.replace(call, form=form)
         for call in calls
@@ -400,29 +400,29 @@ class CallWithOut(Call):
     out_size: int | None
     token: ClassVar[bytes] = b"*0"
 
-    def left_in_out(self, result: bool, text: bytes) -> str:
+    def out_after(self, result: bool, text: bytes) -> str:
         if not self.out_size:
             return "unchanged"
         return quoted(text if result else self.token_for_refusal[: self.out_size - 1])
 
     @property
     def token_for_refusal(self) -> bytes:
-        """What no password matches."""
+        """The string that `out` gets with a refusal, which no password matches."""
         return self.token
 
     def require_room(self, length: int) -> None:
-        """Refuses a text of so many bytes that `out` has no room for."""
+        """Refuses a text of this length if `out` has no room for it."""
         if (self.out_size or 0) <= length:
             raise CallRefused(Reason.TOO_FEW_BYTES)
 
 
 def quoted(text: bytes) -> str:
-    """A string as tests/c/calls.c prints it."""
+    """Returns a string as tests/c/calls.c prints it."""
     return f'"{text.decode("latin-1")}"'
 
 
 def length_of_hash(setting: Setting) -> int:
-    """The characters of a hash with this setting."""
+    """Returns the length of a hash with this setting."""
     return len(setting.text) + 1 + setting.method.hash_length
 
 
@@ -436,11 +436,11 @@ class Verify(Call):
     budget: int = BUDGET
     form: Form = Form.EXPORTED
 
-    def judged(self, report: Report) -> bool:
+    def evaluate(self, report: Report) -> bool:
         password = checked_password(self.password)
         setting = setting_of_field(self.stored)
         report.limit_cost(setting, len(password), self.budget)
-        if report.hashed(setting, password) != self.stored:
+        if report.hash(setting, password) != self.stored:
             raise CallRefused(Reason.WRONG_PASSWORD)
         return True
 
@@ -457,23 +457,23 @@ class Login(Call):
     budget: int = BUDGET
     form: Form = Form.EXPORTED
 
-    def judged(self, report: Report) -> bool:
+    def evaluate(self, report: Report) -> bool:
         password = checked_password(self.password)
         method = method_of(self.method, self.rounds, are_clamped=False)
         policy = recommended_setting(method, self.rounds)
         limit = limit_of(method, self.rounds, self.budget, password)
         try:
-            return self.judged_field(report, password, policy, limit)
+            return self.evaluate_field(report, password, policy, limit)
         except CallRefused as refusal:
             if refusal.reason in WITHOUT_A_HASH and cost(policy, len(password)) <= limit:
                 hash_and_drop(report, policy, password)
             raise
 
-    def judged_field(self, report: Report, password: bytes, policy: Setting, limit: int) -> bool:
-        """The result of mkpasswd_verify, with errors for dead hashes, and whether it's outdated."""
+    def evaluate_field(self, report: Report, password: bytes, policy: Setting, limit: int) -> bool:
+        """Returns mkpasswd_verify's result, refuses dead hashes, and reports outdated ones."""
         setting = setting_of_field(self.field)
         report.limit_cost(setting, len(password), limit)
-        if report.hashed(setting, password) == self.field:
+        if report.hash(setting, password) == self.field:
             report.is_outdated = setting.is_replaced_by(policy)
             return True
         is_dead = not is_whole(setting, self.field or b"")
@@ -481,7 +481,7 @@ class Login(Call):
 
 
 def hash_and_drop(report: Report, policy: Setting, password: bytes) -> None:
-    """Does the work of a new hash, unless there is no memory for it."""
+    """Does the work of a new hash, or as much of it as the memory allows."""
     report.allocate(policy)
     report.work = work_of(policy, password)
 
@@ -498,7 +498,7 @@ class New(CallWithOut):
     out_size: int | None = TEXT_SIZE
     form: Form = Form.EXPORTED
 
-    def judged(self, report: Report) -> bool:
+    def evaluate(self, report: Report) -> bool:
         password = checked_password(self.password)
         method = method_of(self.method, self.rounds, are_clamped=False)
         setting = recommended_setting(method, self.rounds)
@@ -508,13 +508,13 @@ class New(CallWithOut):
         report.drawn = DRAWN
         salt = salt_of(report.system.numbers, method.drawn_salt)
         setting = recommended_setting(method, self.rounds, salt)
-        report.give(report.hashed(setting, password))
+        report.give(report.hash(setting, password))
         return True
 
 
 @dataclass(frozen=True)
 class NewOver(New):
-    """mkpasswd_new with a password that stands in `out`."""
+    """mkpasswd_new, called with the password in `out`, which the hash overwrites."""
 
     name = "new_over"
     forms = ()
@@ -534,7 +534,7 @@ class NeedsRehash(Call):
     rounds: int = 0
     form: Form = Form.EXPORTED
 
-    def judged(self, report: Report) -> bool:
+    def evaluate(self, report: Report) -> bool:
         setting = setting_of(self.stored)
         method = method_of(self.method, self.rounds, are_clamped=True)
         report.is_outdated = setting.is_replaced_by(recommended_setting(method, self.rounds))
@@ -542,7 +542,7 @@ class NeedsRehash(Call):
 
 
 def error_of_audit(stored: bytes, reason: Reason) -> Reason:
-    """The error of an audit of a field that has no setting for this reason."""
+    """Returns the error of an audit of a field whose setting is refused for this reason."""
     if reason in (Reason.NO_HASH, Reason.LOCKED):
         return reason
     if stored.startswith(b"$"):
@@ -561,7 +561,7 @@ class Audit(Call):
     budget: int = 0
     form: Form = Form.EXPORTED
 
-    def judged(self, report: Report) -> bool:
+    def evaluate(self, report: Report) -> bool:
         method = method_of(self.method, self.rounds, are_clamped=False)
         policy = audit_policy(method, self.rounds, self.budget)
         stored = self.stored or b""
@@ -588,12 +588,12 @@ WITHOUT_BYTES = (Form.EXPORTED, Form.LENGTHS)
 
 @functools.cache
 def costs_by_length(setting: Setting) -> list[int]:
-    """The cost of a hash of a password of each length."""
+    """Returns the cost of a hash for each length of the password."""
     return [cost(setting, length) for length in range(LONGEST_PASSWORD + 1)]
 
 
 def rounds_of(setting: Setting) -> int:
-    """The rounds of which a setting of new hashes is made."""
+    """Returns the argument `rounds` that makes this setting of new hashes."""
     if setting.scrypt is not None:
         return setting.scrypt.log_n - 7
     return 0 if setting.method is MD5CRYPT else setting.rounds
@@ -601,7 +601,7 @@ def rounds_of(setting: Setting) -> int:
 
 @dataclass(frozen=True)
 class Limit(Call):
-    """mkpasswd_limit, which has no bytes."""
+    """mkpasswd_limit, which takes no strings."""
 
     name = "limit"
     forms = WITHOUT_BYTES
@@ -610,7 +610,7 @@ class Limit(Call):
     budget: int = 0
     form: Form = Form.EXPORTED
 
-    def judged(self, report: Report) -> bool:
+    def evaluate(self, report: Report) -> bool:
         method = method_of(self.method, self.rounds, are_clamped=False)
         setting = recommended_setting(method, self.rounds)
         report.cost = limit_of(method, self.rounds, self.budget, b"")
@@ -625,7 +625,7 @@ class Limit(Call):
 
 @dataclass(frozen=True)
 class Rounds(Call):
-    """mkpasswd_rounds, which has no bytes."""
+    """mkpasswd_rounds, which takes no strings."""
 
     name = "rounds"
     forms = WITHOUT_BYTES
@@ -635,7 +635,7 @@ class Rounds(Call):
     budget: int = 0
     form: Form = Form.EXPORTED
 
-    def judged(self, report: Report) -> bool:
+    def evaluate(self, report: Report) -> bool:
         if self.password_length > LONGEST_PASSWORD:
             raise CallRefused(Reason.PASSWORD_TOO_LONG)
         method = method_of(self.method, self.rounds, are_clamped=False)
@@ -658,7 +658,7 @@ class Bound(Call):
     password_length: int = 8
     form: Form = Form.EXPORTED
 
-    def judged(self, report: Report) -> bool:
+    def evaluate(self, report: Report) -> bool:
         if self.password_length > LONGEST_PASSWORD:
             raise CallRefused(Reason.PASSWORD_TOO_LONG)
         setting = setting_of(self.setting)
@@ -679,12 +679,12 @@ class Hash(CallWithOut):
     out_size: int | None = TEXT_SIZE
     form: Form = Form.EXPORTED
 
-    def judged(self, report: Report) -> bool:
+    def evaluate(self, report: Report) -> bool:
         password = checked_password(self.password)
         setting = setting_of(self.setting)
         report.limit_cost(setting, len(password), self.budget)
         self.require_room(length_of_hash(setting))
-        report.give(report.hashed(setting, password))
+        report.give(report.hash(setting, password))
         return True
 
     @property
@@ -694,7 +694,7 @@ class Hash(CallWithOut):
 
 @dataclass(frozen=True)
 class MakeSetting(CallWithOut):
-    """mkpasswd_setting, whose salt the header's own call takes as a string."""
+    """mkpasswd_setting. The inline call takes the salt as a string."""
 
     name = "setting"
     forms = (Form.EXPORTED, Form.STRINGS)
@@ -704,7 +704,7 @@ class MakeSetting(CallWithOut):
     out_size: int | None = TEXT_SIZE
     form: Form = Form.EXPORTED
 
-    def judged(self, report: Report) -> bool:
+    def evaluate(self, report: Report) -> bool:
         method = METHODS.get(self.method or RECOMMENDED_METHOD)
         if method is None:
             raise CallRefused(Reason.UNKNOWN_METHOD)
@@ -721,19 +721,19 @@ class MakeSetting(CallWithOut):
 
 
 class Text(Call):
-    """A call without a report, which puts a text into `out`."""
+    """A call without a report, which writes a text to `out`."""
 
     forms = WITHOUT_BYTES
-    texts: ClassVar[dict[int, str]]  # by their numbers
+    texts: ClassVar[dict[int, str]]  # by number
     unknown: ClassVar[str]
     out_size: int | None
 
     @property
     @abstractmethod
     def number(self) -> int:
-        """The number whose text it is."""
+        """The number whose text the call writes."""
 
-    def judged(self, report: Report) -> bool:
+    def evaluate(self, report: Report) -> bool:
         raise NotImplementedError
 
     def expected(self, system: System) -> Answer:
@@ -791,5 +791,5 @@ class Version(Call):
     def row(self) -> str:
         return self.name
 
-    def judged(self, report: Report) -> bool:
+    def evaluate(self, report: Report) -> bool:
         raise NotImplementedError

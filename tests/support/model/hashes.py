@@ -1,4 +1,4 @@
-"""Hashes: libxcrypt's wherever it makes them, otherwise made here over hashlib."""
+"""Hashes from libxcrypt, or, for inputs that it refuses, computed here with hashlib."""
 from __future__ import annotations
 
 import functools
@@ -10,7 +10,7 @@ from .settings import Setting
 
 
 def packed(method: Method, digest: bytes) -> bytes:
-    """A digest in the characters of a hash."""
+    """Returns a digest in the characters of a hash."""
     text = b""
     for group in method.digest_order.split(","):
         places = [int(place) for place in group.split()]
@@ -20,12 +20,12 @@ def packed(method: Method, digest: bytes) -> bytes:
 
 
 def cycled(text: bytes, length: int) -> bytes:
-    """A text again and again, to so many bytes."""
+    """Returns a text repeated up to this length."""
     return (text * (1 + length // len(text)))[:length]
 
 
 def second_digest(method: Method, password: bytes, salt: bytes) -> bytes:
-    """The digest of the second message of md5crypt and SHA-crypt, which their rounds begin with."""
+    """Returns the digest with which the rounds of md5crypt and SHA-crypt begin."""
     first = method.digest(password + salt + password)
     message = password + salt
     of_one, of_zero = first, password
@@ -39,8 +39,8 @@ def second_digest(method: Method, password: bytes, salt: bytes) -> bytes:
     return method.digest(message)
 
 
-def made_here(setting: Setting, password: bytes) -> bytes:
-    """The hash of a password by md5crypt or SHA-crypt."""
+def hash_by_hashlib(setting: Setting, password: bytes) -> bytes:
+    """Computes an md5crypt or SHA-crypt hash with hashlib's digests."""
     method, salt = setting.method, setting.salt
     last = second_digest(method, password, salt)
     repeated_password, repeated_salt, rounds = password, salt, 1000
@@ -58,8 +58,8 @@ def made_here(setting: Setting, password: bytes) -> bytes:
     return setting.text + b"$" + packed(method, last)
 
 
-def by_libxcrypt(setting: Setting, password: bytes) -> bytes | None:
-    """The hash of a password, or None where libxcrypt refuses it or the setting."""
+def hash_by_libxcrypt(setting: Setting, password: bytes) -> bytes | None:
+    """Returns libxcrypt's hash, or None if it refuses the password or the setting."""
     if len(password) > libxcrypt.LONGEST_PASSWORD or b"\0" in password:
         return None
     text = libxcrypt.crypt_or_none(password, setting.text)
@@ -70,11 +70,11 @@ def by_libxcrypt(setting: Setting, password: bytes) -> bytes | None:
 
 @functools.lru_cache(maxsize=4096)
 def hash_of(setting: Setting, password: bytes) -> bytes | None:
-    """The hash of a password; None where only scrypt itself would know it."""
+    """Returns the hash of a password, or None for scrypt hashes that libxcrypt refuses to make."""
     known = password
     if setting.method is SCRYPT and len(password) > libxcrypt.LONGEST_PASSWORD:
-        known = hashlib.sha256(password).digest()  # as HMAC does with a long key
-    text = by_libxcrypt(setting, known)
+        known = hashlib.sha256(password).digest()  # HMAC replaces a long key by its digest
+    text = hash_by_libxcrypt(setting, known)
     if text is None and setting.method is not SCRYPT:
-        text = made_here(setting, password)
+        text = hash_by_hashlib(setting, password)
     return text

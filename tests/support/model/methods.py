@@ -1,4 +1,4 @@
-"""The four methods, and the numerals of crypt(5)."""
+"""The four methods, and numbers in crypt(5)'s alphabet."""
 from __future__ import annotations
 
 import functools
@@ -6,7 +6,7 @@ import hashlib
 from dataclasses import dataclass
 
 ALPHABET = b"./0123456789ABCDEFGHIJKLMNOPQRSTUVWXYZabcdefghijklmnopqrstuvwxyz"
-DIGIT = rb"[./0-9A-Za-z]"  # one character of the alphabet
+DIGIT = rb"[./0-9A-Za-z]"  # matches one character of the alphabet
 BITS_OF_DIGIT = 6
 
 _VALUES = {character: value for value, character in enumerate(ALPHABET)}
@@ -19,29 +19,29 @@ class Method:
     name: str
     prefix: bytes
     longest_salt: int
-    drawn_salt: int  # the characters of a salt that the program draws
-    recommended: int  # rounds, or the cost of scrypt
-    digest_name: str  # hashlib's
-    # Which bytes of the digest make each group of characters, the highest first.
+    drawn_salt: int  # the length of a salt that the program draws
+    recommended: int  # rounds, or scrypt's cost
+    digest_name: str  # hashlib's name of it
+    # The indexes of the digest's bytes in each group of characters, the highest byte first.
     digest_order: str = ""
 
     def digest(self, message: bytes) -> bytes:
-        """The digest of a message."""
+        """Returns the digest of a message."""
         return hashlib.new(self.digest_name, message).digest()
 
     @functools.cached_property
     def digest_size(self) -> int:
-        """The bytes of a digest, and of what scrypt makes."""
+        """How many bytes a digest has, or scrypt's output."""
         return hashlib.new(self.digest_name).digest_size
 
     @functools.cached_property
     def hash_length(self) -> int:
-        """The characters of a hash behind its last dollar sign."""
+        """How many characters follow the last dollar sign of a hash."""
         return -(-8 * self.digest_size // BITS_OF_DIGIT)
 
     @functools.cached_property
     def last_digits(self) -> bytes:
-        """The characters that a hash can end with: two bits of the digest are left, or four."""
+        """The characters that a hash can end with: two or four bits of the digest are left."""
         bits = 8 * self.digest_size % BITS_OF_DIGIT
         return ALPHABET[: 1 << bits]
 
@@ -86,7 +86,7 @@ SCRYPT = Method(
 )
 METHODS = (MD5CRYPT, SHA256CRYPT, SHA512CRYPT, SCRYPT)
 BY_PREFIX = {method.prefix: method for method in METHODS}
-# The names that the option -m takes.
+# The names that the option -m accepts.
 BY_NAME = {
     **{method.name: method for method in METHODS},
     "md5": MD5CRYPT,
@@ -96,11 +96,11 @@ BY_NAME = {
 
 
 def numeral(number: int, places: int) -> bytes:
-    """A number in so many characters of six bits, the lowest first."""
+    """Encodes a number in characters of six bits, the lowest bits first."""
     digits = [number >> BITS_OF_DIGIT * place & 63 for place in range(places)]
     return bytes(ALPHABET[digit] for digit in digits)
 
 
 def number_of(text: bytes) -> int:
-    """The number that a numeral writes."""
+    """Decodes a number whose characters have six bits each, the lowest bits first."""
     return sum(_VALUES[digit] << BITS_OF_DIGIT * place for place, digit in enumerate(text))

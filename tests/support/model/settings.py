@@ -1,4 +1,4 @@
-"""Settings: how a hash begins, what it says, and why a text is none."""
+"""Settings, with which hashes begin: reads and writes them, and says why one is refused."""
 from __future__ import annotations
 
 import re
@@ -20,7 +20,7 @@ LONGEST_SETTING = 384
 LEAST_ROUNDS = 1000
 MOST_ROUNDS = 999_999_999
 UNWRITTEN_ROUNDS = 5000
-SCRYPT_CEILING = 8_388_608  # of N r p
+SCRYPT_CEILING = 8_388_608  # the greatest N * r * p
 SHA_CRYPT = (SHA256CRYPT, SHA512CRYPT)
 
 SETTING_REFUSALS = (
@@ -36,12 +36,12 @@ SETTING_REFUSALS = (
 
 
 class Refused(Exception):
-    """A setting or a line is refused; the text is the reason that the program prints."""
+    """A setting or a line is refused. The text is the reason that the program prints."""
 
 
 @dataclass(frozen=True)
 class ScryptCost:
-    """The three numbers of scrypt, N as its logarithm."""
+    """Scrypt's N (as its logarithm), r and p."""
 
     log_n: int
     r: int
@@ -49,38 +49,38 @@ class ScryptCost:
 
     @property
     def text(self) -> bytes:
-        """The eleven characters that a setting has."""
+        """Returns the eleven characters that encode these numbers in a setting."""
         return numeral(self.log_n, 1) + numeral(self.r, 5) + numeral(self.p, 5)
 
     @property
     def product(self) -> int:
-        """N r p, by which two costs compare."""
+        """N * r * p, by which two costs are compared."""
         return (self.r * self.p) << self.log_n
 
 
 @dataclass(frozen=True)
 class Setting:
-    """A method with its cost and its salt."""
+    """A method with a cost and a salt."""
 
     method: Method
     salt: bytes
-    written_rounds: int | None = None  # of SHA-crypt, where the text says them
+    written_rounds: int | None = None  # SHA-crypt's rounds, if the text has them
     scrypt: ScryptCost | None = None
 
     @property
     def rounds(self) -> int:
-        """The rounds of SHA-crypt."""
+        """SHA-crypt's rounds."""
         return UNWRITTEN_ROUNDS if self.written_rounds is None else self.written_rounds
 
     @property
     def scrypt_cost(self) -> ScryptCost:
-        """The numbers of a setting of scrypt."""
+        """The numbers of a scrypt setting."""
         assert self.scrypt is not None
         return self.scrypt
 
     @property
     def before_salt(self) -> bytes:
-        """The canonical text before the salt."""
+        """The part of the canonical text before the salt."""
         if self.scrypt is not None:
             return self.method.prefix + self.scrypt.text
         if self.written_rounds is not None:
@@ -89,28 +89,28 @@ class Setting:
 
     @property
     def text(self) -> bytes:
-        """The canonical text, with which a hash begins."""
+        """The canonical text, with which the hash begins."""
         return self.before_salt + self.salt
 
     @property
     def strength(self) -> int:
-        """The number by which two settings of one method compare."""
+        """The number by which two settings of a method are compared."""
         if self.scrypt is not None:
             return self.scrypt.product
         return 0 if self.method is MD5CRYPT else self.rounds
 
     def is_replaced_by(self, new: Setting) -> bool:
-        """Whether a hash by this setting is outdated where new ones are by the other."""
+        """Returns whether a hash with this setting is outdated if new hashes have the other."""
         return self.method is not new.method or self.strength < new.strength
 
 
 def clamped_rounds(rounds: int) -> int:
-    """The rounds that SHA-crypt makes for a number of rounds."""
+    """Returns how many rounds SHA-crypt does if it is asked for a number of rounds."""
     return min(max(rounds, LEAST_ROUNDS), MOST_ROUNDS)
 
 
 def read_setting(text: bytes) -> Setting:
-    """The setting that a text begins with."""
+    """Returns the setting that a text begins with."""
     if len(text) > LONGEST_SETTING:
         raise Refused("setting too long")
     if re.search(rb"[^\x21-\x7e]|[:;*!\\]", text):
@@ -128,7 +128,7 @@ def read_setting(text: bytes) -> Setting:
 
 
 def read_rounds(text: bytes) -> tuple[int, bytes]:
-    """The rounds that a text begins with, and what follows them."""
+    """Returns the rounds that a text begins with, and the rest of the text."""
     match = re.match(rb"rounds=([1-9][0-9]*)\$", text)
     if match is None:
         raise Refused("bad rounds")
@@ -136,7 +136,7 @@ def read_rounds(text: bytes) -> tuple[int, bytes]:
 
 
 def read_scrypt(text: bytes) -> Setting:
-    """The setting of scrypt, of what follows the prefix."""
+    """Reads a scrypt setting from what follows the prefix."""
     match = re.match(rb"(%b)(%b{5})(%b{5})([^$]*)" % (DIGIT, DIGIT, DIGIT), text)
     if match is None:
         raise Refused("bad cost")
@@ -152,9 +152,9 @@ def read_scrypt(text: bytes) -> Setting:
 
 
 def setting_of_options(method: Method, cost: int | None, salt: bytes | None) -> Setting:
-    """The setting of a new hash by the options -m, -R and -S.
+    """Returns the setting of a new hash by the options -m, -R and -S.
 
-    Where the program draws the salt, another one of its length stands for that.
+    If the program draws the salt, the setting has a made-up salt of the same length.
     """
     if salt is None:
         salt = b"." * method.drawn_salt
@@ -167,5 +167,5 @@ def setting_of_options(method: Method, cost: int | None, salt: bytes | None) -> 
 
 
 def recommended_setting(method: Method, cost: int | None, salt: bytes | None = None) -> Setting:
-    """The same where a cost of 0 or None stands for the recommended one, as audits and calls do."""
+    """Returns the same setting, but with the recommended cost for 0 or None, as calls have it."""
     return setting_of_options(method, cost or method.recommended, salt)

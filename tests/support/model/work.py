@@ -1,4 +1,4 @@
-"""What a hash costs: the four numbers of --work, and the bound that a budget is compared with."""
+"""The work of a hash, which --work prints, and the cost, which is compared with a budget."""
 from __future__ import annotations
 
 from dataclasses import dataclass, replace
@@ -9,18 +9,18 @@ from .settings import SHA_CRYPT, Setting, clamped_rounds, recommended_setting
 
 LONGEST_PASSWORD = 1024
 LEAST_LOGIN_LIMIT = 150_000_000
-USUAL_LONGEST_PASSWORD = 64  # a limit allows twice what a hash of this length costs
+USUAL_LONGEST_PASSWORD = 64  # a limit is twice the cost of a password of this length
 HIGHEST_BYTE = 255
 
 
 @dataclass(frozen=True)
 class Work:
-    """The work of hashes."""
+    """The work of one or more hashes."""
 
     digests: int = 0
-    hashed: int = 0  # bytes
+    hashed: int = 0  # bytes that are digested
     mixings: int = 0  # of scrypt's blocks
-    memory: int = 0  # bytes
+    memory: int = 0  # bytes of scrypt's table
 
     def __add__(self, other: Work) -> Work:
         return Work(
@@ -37,21 +37,21 @@ class Work:
 
 
 def binary_digits(length: int) -> str:
-    """The binary digits of a length, none of 0."""
+    """Returns the binary digits of a length, and none for 0."""
     return f"{length:b}" if length else ""
 
 
 def md5crypt_work(salt: int, password: int) -> Work:
-    """The work of md5crypt with a salt and a password of so many bytes."""
+    """Returns the work of md5crypt with a salt and a password of these lengths."""
     two_messages = 2 * (2 * password + salt) + 3 + len(binary_digits(password))
     rounds = 1000 * (16 + password) + 666 * salt + 857 * password
     return Work(1002, two_messages + rounds)
 
 
 def sha_crypt_work(setting: Setting, password: int, first_byte: int) -> Work:
-    """The work of SHA-crypt with a password of so many bytes.
+    """Returns the work of SHA-crypt with a password of this length.
 
-    The salt is repeated as often as the first byte of the second message's digest says.
+    `first_byte` is the first byte of the digest that says how often the salt is repeated.
     """
     salt, rounds, width = len(setting.salt), setting.rounds, setting.method.digest_size
     digits = binary_digits(password)
@@ -65,7 +65,7 @@ def sha_crypt_work(setting: Setting, password: int, first_byte: int) -> Work:
 
 
 def scrypt_work(setting: Setting, password: int) -> Work:
-    """The work of scrypt with a password of so many bytes; of a long one HMAC takes the digest."""
+    """Returns scrypt's work with a password of this length. HMAC first digests a long one."""
     numbers = setting.scrypt_cost
     salt, blocks = len(setting.salt), numbers.r * numbers.p
     is_long = password > 64
@@ -79,7 +79,7 @@ def scrypt_work(setting: Setting, password: int) -> Work:
 
 
 def work_of_length(setting: Setting, password: int, first_byte: int) -> Work:
-    """The work of a hash of a password of so many bytes."""
+    """Returns the work of a hash of a password of this length."""
     if setting.scrypt is not None:
         return scrypt_work(setting, password)
     if setting.method is MD5CRYPT:
@@ -88,7 +88,7 @@ def work_of_length(setting: Setting, password: int, first_byte: int) -> Work:
 
 
 def work_of(setting: Setting, password: bytes) -> Work:
-    """The exact work of the hash of a password."""
+    """Returns the exact work of hashing a password."""
     first_byte = 0
     if setting.method in SHA_CRYPT:
         first_byte = second_digest(setting.method, password, setting.salt)[0]
@@ -96,17 +96,17 @@ def work_of(setting: Setting, password: bytes) -> Work:
 
 
 def cost(setting: Setting, password: int) -> int:
-    """The most that a hash of a password of so many bytes can cost."""
+    """Returns the most that hashing a password of this length can cost."""
     work = work_of_length(setting, password, HIGHEST_BYTE)
     mixed = 0 if setting.scrypt is None else 128 * setting.scrypt.r * work.mixings
     return work.hashed + mixed
 
 
 def fitted_setting(setting: Setting, limit: int, password: int) -> Setting | None:
-    """The setting of a new hash within a limit, of a password of so many bytes.
+    """Returns the setting of a new hash within a limit, for a password of this length.
 
-    It is the given one, or the same of SHA-crypt with fewer rounds; None where even the fewest cost
-    more.
+    That is the given setting, or a SHA-crypt setting with fewer rounds, or None if even the fewest
+    rounds cost more.
     """
     if cost(setting, password) <= limit:
         return setting
@@ -119,9 +119,9 @@ def fitted_setting(setting: Setting, limit: int, password: int) -> Setting | Non
 
 
 def login_limit(method: Method, rounds: int | None, password: int) -> int:
-    """What a login and a new hash by this policy may cost where no budget is given.
+    """Returns what a login and a new hash by this policy may cost if no budget is given.
 
-    It is nothing for a password of so many bytes whose new hash would cost more than the limit.
+    That is 0 if a new hash of a password of this length would cost more than the limit.
     """
     setting = recommended_setting(method, rounds)
     limit = max(LEAST_LOGIN_LIMIT, 2 * cost(setting, USUAL_LONGEST_PASSWORD))

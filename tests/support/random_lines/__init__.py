@@ -1,11 +1,11 @@
 """Random lines for --batch, --check and --audit, in chunks.
 
-A seed, a kind and a number give the same chunk again, wherever it is made.
+The same seed, kind and number always give the same chunk.
 
-- Hash lines go through --batch, by a method with a given salt, with passwords of 0 to 511 bytes and
-  a few longer ones. The hashes that it has to give become lines of --check, with right passwords,
-  wrong ones, and hashes in which one character is another. Scrypt's cheap costs have no options, so
-  its hashes come from libxcrypt, and are only checked.
-- Hostile lines are put together from pieces of the grammar, stand at the limits, or are good lines
-  that were changed; for any mode with any options and a budget, and for audits without one too.
+- Hash lines go through --batch with a method and a given salt. Their passwords have 0 to 511 bytes,
+  and a few are longer. The expected hashes then become lines of --check: with the right password,
+  with a wrong one, or with one character of the hash changed. No option gives scrypt a cheap cost,
+  so its hashes come from libxcrypt, and are only checked.
+- Hostile lines are built from pieces of the grammar, are at a limit, or are good lines with some
+  changes. They are for any mode, with any options and a budget; audits also run without one.
 """

@@ -1,4 +1,4 @@
-"""Chunks of random lines, each with the jobs that read them."""
+"""Chunks of random lines, with the jobs that read them."""
 from __future__ import annotations
 
 import itertools
@@ -17,16 +17,16 @@ from .source import LOWER, Source
 
 Kind = Literal["hash", "hostile"]
 
-# How many lines the chunks of a kind have, by turns.
+# How many lines the chunks of each kind have, in rotation.
 SIZES: dict[Kind, list[int]] = {"hash": [100], "hostile": [40] * 20 + [800]}
-HIGHEST_COST = 500_000  # a hostile line that costs more is not hashed
+HIGHEST_COST = 500_000  # hostile lines that cost more are not hashed
 HIGHEST_AUDIT_BUDGET = 10**13
 GOOD_HASHES = 16
 
 
 @dataclass(frozen=True)
 class Chunk:
-    """Lines that a seed gives again."""
+    """The kind and the number of some lines, which a seed determines."""
 
     kind: Kind
     number: int
@@ -45,7 +45,7 @@ class Task:
 
 
 def chunks(kind: Kind, lines: int) -> list[Chunk]:
-    """The chunks of so many lines."""
+    """Returns the chunks that have this many lines together."""
     made: list[Chunk] = []
     for size in itertools.cycle(SIZES[kind]):
         if lines <= 0:
@@ -56,7 +56,7 @@ def chunks(kind: Kind, lines: int) -> list[Chunk]:
 
 
 def tasks(seed: int, chunk: Chunk) -> list[Task]:
-    """What the program has to do in a chunk."""
+    """Returns the jobs of a chunk with their lines."""
     hash_of.cache_clear()
     source = Source(f"{seed} {chunk.kind} {chunk.number}")
     if chunk.kind == "hash":
@@ -65,7 +65,7 @@ def tasks(seed: int, chunk: Chunk) -> list[Task]:
 
 
 def joined(source: Source, lines: Sequence[bytes], without_line_feed: float) -> bytes:
-    """Lines, where the last can have no line feed; an empty one has."""
+    """Joins lines. The last one may lack its line feed, unless it is empty."""
     text = b"".join(line + b"\n" for line in lines)
     if lines and lines[-1] != b"" and source.chance(without_line_feed):
         return text[:-1]
@@ -76,7 +76,7 @@ def joined(source: Source, lines: Sequence[bytes], without_line_feed: float) -> 
 
 
 def hash_tasks(source: Source, method: Method, count: int) -> Iterator[Task]:
-    """Passwords to hash with one setting, and the hashes to check."""
+    """Yields a task that hashes passwords with one setting, and one that checks the hashes."""
     shows_work = source.chance(0.25)
     batch = None if method is SCRYPT else batch_job(source, method, shows_work)
     named_hashes = []
@@ -96,7 +96,7 @@ def hash_tasks(source: Source, method: Method, count: int) -> Iterator[Task]:
 
 
 def batch_job(source: Source, method: Method, shows_work: bool) -> Job:
-    """A job that hashes by a method with one salt."""
+    """Returns a job that hashes with one method and one salt."""
     rounds: int | None = source.one_of(
         1000, 1000, source.between(1, 999), source.between(1001, 1200)
     )
@@ -107,7 +107,7 @@ def batch_job(source: Source, method: Method, shows_work: bool) -> Job:
 
 
 def length_to_hash(source: Source) -> int:
-    """The bytes of a password to hash."""
+    """Returns the length of a password to hash."""
     return source.by_weight(
         (1, lambda: source.between(512, LONGEST_PASSWORD)),
         (25, lambda: source.between(0, 511)),
@@ -116,13 +116,13 @@ def length_to_hash(source: Source) -> int:
 
 
 def cheap_scrypt(source: Source) -> Setting:
-    """A setting of scrypt whose hash is made at once."""
+    """Returns a scrypt setting that takes almost no time."""
     numbers = ScryptCost(source.between(2, 6), source.between(1, 6), source.between(1, 4))
     return Setting(SCRYPT, fields.salt(source, source.between(0, 86)), scrypt=numbers)
 
 
 def line_to_check(source: Source, name: bytes, known: KnownHash) -> bytes:
-    """A line to check: as it is, with another password, or with another digit of the hash."""
+    """Returns a line to check: right, with a wrong password, or with another digit of the hash."""
     text, password = known.text, known.password
     parts = source.by_weight(
         (50, lambda: (text, password)),
@@ -136,7 +136,7 @@ def line_to_check(source: Source, name: bytes, known: KnownHash) -> bytes:
 
 
 def hostile_task(source: Source, count: int) -> Task:
-    """Hostile lines for a job of any kind."""
+    """Returns a task of any kind with hostile lines."""
     mode = source.by_weight(
         (2, lambda: Mode.BATCH), (3, lambda: Mode.CHECK), (2, lambda: Mode.AUDIT)
     )
@@ -152,7 +152,7 @@ def hostile_task(source: Source, count: int) -> Task:
 
 
 def options_of_new_hash(source: Source) -> NewHash:
-    """The options -m, -R and -S."""
+    """Returns options -m, -R and -S."""
     usual = [name for name, method in BY_NAME.items() if method is not SCRYPT]
     name = source.one_of(None, *usual, *usual, SCRYPT.name)
     method = SHA512CRYPT if name is None else BY_NAME[name]
@@ -161,7 +161,7 @@ def options_of_new_hash(source: Source) -> NewHash:
 
 
 def cost_option(source: Source, method: Method) -> int | None:
-    """The option -R, or None."""
+    """Returns a value for the option -R, or None."""
     if method is SCRYPT:
         return source.one_of(None, 0, 6, 7, 8, 9, 10, 11)
     if source.chance(0.8):
@@ -170,7 +170,7 @@ def cost_option(source: Source, method: Method) -> int | None:
 
 
 def good_hashes(source: Source) -> list[KnownHash]:
-    """Hashes of all methods with their passwords."""
+    """Returns hashes of all methods with their passwords."""
     hashes: list[KnownHash] = []
     while not hashes:
         made = [good_hash(source) for _ in range(GOOD_HASHES)]
@@ -179,7 +179,7 @@ def good_hashes(source: Source) -> list[KnownHash]:
 
 
 def good_hash(source: Source) -> KnownHash | None:
-    """A hash with its password, or None where it costs too much or isn't known."""
+    """Returns a hash with its password, or None if it costs too much or isn't known."""
     setting = good_setting(source)
     password = source.by_weight(
         (1, lambda: source.characters(source.between(0, 12), LOWER)),
@@ -193,7 +193,7 @@ def good_hash(source: Source) -> KnownHash | None:
 
 
 def good_setting(source: Source) -> Setting:
-    """A setting whose hash is made at once."""
+    """Returns a setting that takes almost no time."""
     md5crypt, sha256crypt, sha512crypt, scrypt = METHODS
     method = source.one_of(md5crypt, *[sha256crypt, sha512crypt, scrypt] * 2)
     if method is SCRYPT:
@@ -208,7 +208,7 @@ def good_setting(source: Source) -> Setting:
 
 
 def budget(source: Source, job: Job, lines: Sequence[bytes]) -> int | None:
-    """A budget: the cost of one of the lines, just below it, or anything. Audits can have none."""
+    """Returns a budget: a line's cost, just below it, or any number. For audits also None."""
     highest = HIGHEST_COST
     if job.mode is Mode.AUDIT:
         highest = HIGHEST_AUDIT_BUDGET
@@ -224,7 +224,7 @@ def budget(source: Source, job: Job, lines: Sequence[bytes]) -> int | None:
 
 
 def cost_of_line(job: Job, line: bytes) -> int:
-    """What the hashes of a line cost, or 0 where it has none."""
+    """Returns the cost of a line's hashes, or 0 if it has none."""
     try:
         return parsed(job, line).cost
     except Refused:

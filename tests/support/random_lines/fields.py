@@ -1,4 +1,4 @@
-"""Random fields of password files: by the grammar, by other schemes, and changed hashes."""
+"""Random fields of password files: from the grammar, of other schemes, and changed hashes."""
 from __future__ import annotations
 
 import re
@@ -24,23 +24,23 @@ EDGE_ROUNDS = [
     *("999999998", "999999999", "1000000000", "1000000001", str(2**31 + 1000), str(2**32 - 1)),
     *(str(2**32), str(2**32 + 1000), str(2**64 - 1), str(2**64)),
 ]
-# How rounds can be written wrongly, with N for the digits.
+# Wrong and right ways to write rounds, with N for the digits.
 WRONG_ROUNDS = [
     *(b"rounds=N", b"rounds=+N$", b"rounds=-N$", b"rounds= N$", b"rounds=N $", b"rounds=Nx$"),
     *(b"Rounds=N$", b"roundsN$", b"round=N$", b"rounds==N$", b"rounds=N,", b"$rounds=N$"),
     *(b"rounds=0x3e8$", b"rounds=1e3$", b"rounds=1000$rounds=N$"),
 ]
 LOG_OF_CEILING = 23
-LENGTH_OF_COST = 11  # characters of scrypt's numbers
+LENGTH_OF_COST = 11  # the length of scrypt's N, r and p in a setting
 
 
 def salt(source: Source, length: int) -> bytes:
-    """A salt of so many characters."""
+    """Returns a salt of this length."""
     return source.characters(length, ALPHABET)
 
 
 def with_another_digit(source: Source, text: bytes, start: int) -> bytes:
-    """A text with another digit in one place from the start on; often in the last one."""
+    """Changes one character of a text, not before `start` and often the last one."""
     last = len(text) - 1
     place = last if source.chance(0.3) else source.between(min(start, last), last)
     others = ALPHABET.replace(text[place : place + 1], b"")
@@ -51,7 +51,7 @@ def with_another_digit(source: Source, text: bytes, start: int) -> bytes:
 
 
 def edge_rounds(source: Source) -> bytes:
-    """The digits of rounds, at a limit or anywhere."""
+    """Returns the digits of rounds, at a limit or anywhere."""
     drawn = [
         str(source.between(1, 999)),
         str(source.between(1000, 20000)),
@@ -63,12 +63,12 @@ def edge_rounds(source: Source) -> bytes:
 
 
 def few_rounds(source: Source) -> int:
-    """Rounds that make a cheap hash."""
+    """Returns rounds for a cheap hash."""
     return source.one_of(1000, 1000, 1000, 1001, source.between(1000, 1100))
 
 
 def rounds(source: Source) -> bytes:
-    """What stands where a setting can say its rounds."""
+    """Returns the rounds in a setting, `rounds=N$`: none, valid ones, or something malformed."""
     return source.by_weight(
         (10, lambda: b""),
         (40, lambda: b"rounds=%d$" % few_rounds(source)),
@@ -81,7 +81,7 @@ def rounds(source: Source) -> bytes:
 
 
 def scrypt_cost(source: Source) -> ScryptCost:
-    """Scrypt's numbers: cheap, zero, or at the limits of range and ceiling."""
+    """Returns N, r and p that are cheap, zero, or at the limit of the range or the ceiling."""
     return source.by_weight(
         (45, lambda: cheap_cost(source)),
         (10, lambda: cost_with_zeros(source)),
@@ -93,26 +93,26 @@ def scrypt_cost(source: Source) -> ScryptCost:
 
 
 def cheap_cost(source: Source) -> ScryptCost:
-    """Numbers of a hash that is made at once."""
+    """Returns numbers for a hash that takes almost no time."""
     return ScryptCost(source.between(1, 5), source.between(1, 3), source.between(1, 2))
 
 
 def cost_with_zeros(source: Source) -> ScryptCost:
-    """Numbers of which some are 0."""
+    """Returns numbers of which some are 0."""
     return ScryptCost(
         source.one_of(source.between(1, 8), 0), source.one_of(1, 0), source.one_of(1, 0)
     )
 
 
 def cost_at_the_range(source: Source) -> ScryptCost:
-    """Numbers where N is the greatest that is allowed with r, or next to it."""
+    """Returns numbers in which N is the greatest that r allows, or next to it."""
     r = source.between(1, 4)
     log_n = min(63, source.between(16 * r - 1, 16 * r + 1))
     return ScryptCost(log_n, r, source.one_of(1, 1, 2, 2**30 - 1))
 
 
 def cost_at_the_ceiling(source: Source) -> ScryptCost:
-    """Numbers whose product is the ceiling, or next to it."""
+    """Returns numbers whose product is the ceiling, or next to it."""
     log_n = source.between(1, LOG_OF_CEILING)
     log_r = source.between(0, LOG_OF_CEILING - log_n)
     r, p = 1 << log_r, 1 << (LOG_OF_CEILING - log_n - log_r)
@@ -123,7 +123,7 @@ def cost_at_the_ceiling(source: Source) -> ScryptCost:
 
 
 def cost_below_the_ceiling(source: Source) -> ScryptCost:
-    """Numbers with the greatest p that is allowed, or one more."""
+    """Returns numbers with the greatest p that is allowed, or one more."""
     log_n = source.between(1, 20)
     most = 1 << (LOG_OF_CEILING - log_n)
     r = source.between(1, most)
@@ -131,7 +131,7 @@ def cost_below_the_ceiling(source: Source) -> ScryptCost:
 
 
 def any_cost(source: Source) -> ScryptCost:
-    """Numbers of any size."""
+    """Returns numbers of any size."""
     r, p = (source.between(0, (1 << source.one_of(1, 6, 12, 24, 29, 30)) - 1) for _ in range(2))
     return ScryptCost(source.between(0, 63), r, p)
 
@@ -140,7 +140,7 @@ def any_cost(source: Source) -> ScryptCost:
 
 
 def scrypt_field(source: Source) -> bytes:
-    """What follows scrypt's prefix: numbers, which can be cut or damaged, and a salt."""
+    """Returns what follows scrypt's prefix: numbers, perhaps cut or damaged, and a salt."""
     text = scrypt_cost(source).text
     if source.chance(0.06):
         text = text[: source.between(0, LENGTH_OF_COST)]
@@ -155,7 +155,7 @@ def scrypt_field(source: Source) -> bytes:
 
 
 def field(source: Source) -> bytes:
-    """A field by the grammar, whose hash is nobody's."""
+    """Returns a field from the grammar, with a hash that matches no password."""
     text = prefix = source.one_of(*PREFIXES)
     if prefix == b"$7$":
         text += scrypt_field(source)
@@ -175,7 +175,7 @@ def field(source: Source) -> bytes:
 
 
 def field_of_other_scheme(source: Source) -> bytes:
-    """A field that begins with the prefix of another scheme, or of none."""
+    """Returns a field that begins with the prefix of another scheme, or of none."""
     return source.by_weight(
         (35, lambda: salt(source, source.one_of(12, 13, 13, 13, 14, source.between(1, 30)))),
         (20, lambda: source.characters(source.between(1, 20), ALPHABET + b" \t\xe9_$;\0")),
@@ -184,14 +184,14 @@ def field_of_other_scheme(source: Source) -> bytes:
 
 
 def hash_of_other_scheme(source: Source) -> bytes:
-    """A text behind the prefix of another scheme."""
+    """Returns the prefix of another scheme with a text after it."""
     length = source.one_of(0, source.between(1, 60), source.between(370, 390))
     between = source.one_of(b"", b"", b" ", b"$", b",", b"\xe9")
     return source.one_of(*PREFIXES_OF_OTHER_SCHEMES) + between + salt(source, length)
 
 
 def changed_hash(source: Source, text: bytes) -> bytes:
-    """A good hash that became another one, or none."""
+    """Returns a good hash with a change, after which it may be no hash."""
     setting, digits = text.rsplit(b"$", 1)
     return source.by_weight(
         (20, lambda: with_another_digit(source, text, 3)),
@@ -210,6 +210,6 @@ def changed_hash(source: Source, text: bytes) -> bytes:
 
 
 def changed_rounds(source: Source) -> bytes:
-    """The digits of other rounds."""
+    """Returns the digits of other rounds."""
     many = b"9" * source.between(9, 99)
     return source.one_of(b"01000", b"00", b"1", b"999", b"1001", b"5000", b"999999999", many)

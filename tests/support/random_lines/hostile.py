@@ -1,4 +1,4 @@
-"""Hostile lines: by the grammar, at the limits, and good lines that were changed."""
+"""Hostile lines: from the grammar, at the limits, and good lines with changes."""
 from __future__ import annotations
 
 import re
@@ -14,7 +14,7 @@ FRAGMENTS = [
     *(b"rounds=1000$", b"$1$", b"$5$", b"$6$", b"$7$", b"0", b"00", b"9", b"999999999", b" "),
     *(b"\t", b"\x7f", b"\\", b";", b".", b"/"),
 ]
-# Fields that a long salt can follow, and those whose rest is not looked at.
+# Prefixes that a long salt can follow, and beginnings of fields whose rest is ignored.
 LONG_STARTS = [b"$1$", b"$5$", b"$5$rounds=1$", b"$9$", b"$7$2/..../....ab$"]
 REPEATED_STARTS = [b"$1$ab$", b"$6$rounds=1000$ab$", b"$6$rounds=0$", b"$7$", b"*"]
 SCRYPT_STARTS = [b"$7$0/..../...."] * 4 + [b"$7$./..../....", b"$7$J6..../...."]
@@ -33,7 +33,7 @@ class KnownHash:
 
 
 def hostile_line(source: Source, job: Job, hashes: Sequence[KnownHash]) -> bytes:
-    """A line for a job; what it has of good hashes is one of these."""
+    """Returns a line for a job. Its good hash, if it has one, is one of these."""
     make = new_line if job.mode is Mode.BATCH else stored_line
     line = source.by_weight(
         (13, lambda: line_at_a_limit(source, job)),
@@ -46,13 +46,13 @@ def hostile_line(source: Source, job: Job, hashes: Sequence[KnownHash]) -> bytes
 
 
 def new_line(source: Source, _job: Job, _hashes: Sequence[KnownHash]) -> bytes:
-    """A name and a password."""
+    """Returns a line with a name and a password."""
     line = names.name(source) + b":" + names.password(source)
     return mutated(source, line) if source.chance(0.24) else line
 
 
 def stored_line(source: Source, job: Job, hashes: Sequence[KnownHash]) -> bytes:
-    """A name, a stored field and a password."""
+    """Returns a line with a name, a stored field and a password."""
     known = source.one_of(*hashes)
     text, password = known.text, known.password
     changed = 24 if job.mode is Mode.AUDIT else 10
@@ -66,18 +66,18 @@ def stored_line(source: Source, job: Job, hashes: Sequence[KnownHash]) -> bytes:
 
 
 def joined(source: Source, field: bytes, password: bytes) -> bytes:
-    """A line of three parts."""
+    """Returns a line of three parts, with a random name."""
     return b":".join([names.name(source), field, password])
 
 
 def mutated_known(source: Source, known: KnownHash) -> bytes:
-    """A good line with a few changes."""
+    """Returns a good line with a few changes."""
     name = source.characters(source.between(1, 9), LOWER)
     return mutated(source, b":".join([name, known.text, known.password]))
 
 
 def any_field(source: Source, text: bytes) -> bytes:
-    """A field that is no good hash."""
+    """Returns a field that isn't a good hash."""
     locked = (b"", b"!", b"*", b"!!", b"!" + text, b"*" + text, b"!\0")
     return source.by_weight(
         (13, lambda: source.one_of(*locked)),
@@ -90,7 +90,7 @@ def any_field(source: Source, text: bytes) -> bytes:
 
 
 def line_at_a_limit(source: Source, job: Job) -> bytes:
-    """A line at a limit: of any job, or of those with a field."""
+    """Returns a line at a limit, of any job or of those that have a field."""
     if job.mode is Mode.BATCH:
         return any_line_at_a_limit(source, b"")
     if source.chance(0.5):
@@ -99,7 +99,7 @@ def line_at_a_limit(source: Source, job: Job) -> bytes:
 
 
 def any_line_at_a_limit(source: Source, field: bytes) -> bytes:
-    """A line whose name, password or length is at a limit, with this field."""
+    """Returns a line whose name, password or length is at a limit, with this field."""
     ways: list[Callable[[], bytes]] = [
         lambda: source.characters(source.between(63, 66), b"n\xc3") + b":" + field + b"x",
         lambda: source.characters(source.between(63, 66), b"n") + source.one_of(b"", b":"),
@@ -112,13 +112,13 @@ def any_line_at_a_limit(source: Source, field: bytes) -> bytes:
 
 
 def long_line(source: Source, field: bytes, piece: bytes, count: int) -> bytes:
-    """A line of so many equal pieces behind the field."""
+    """Returns a line in which a piece is repeated after the field."""
     name = source.one_of(b"n", b"", b"n" * 65)
     return name + b":" + field + piece * count
 
 
 def field_at_a_limit(source: Source) -> bytes:
-    """A line whose field is at a limit."""
+    """Returns a line whose field is at a limit."""
     ways: list[Callable[[], bytes]] = [
         lambda: b"!" + b"x" * source.between(2035, 2039) + b":password",
         lambda: long_salt(source) + b":p",
@@ -131,30 +131,30 @@ def field_at_a_limit(source: Source) -> bytes:
 
 
 def long_salt(source: Source) -> bytes:
-    """A setting with a long salt, which can have characters that aren't allowed."""
+    """Returns a setting with a long salt, perhaps with characters that aren't allowed."""
     characters = b"a" + source.one_of(b"b", b" ", b"!")
     return source.one_of(*LONG_STARTS) + source.characters(source.between(367, 385), characters)
 
 
 def repeated_to_the_limit(source: Source) -> bytes:
-    """A field of the most bytes that a setting may have, or nearly so many."""
+    """Returns a field as long as the longest setting, or nearly."""
     return (source.one_of(*REPEATED_STARTS) + b"ab" * 192)[: source.between(382, 387)]
 
 
 def scrypt_at_the_ceiling(source: Source) -> bytes:
-    """A setting of scrypt whose product is the ceiling, or next to it."""
+    """Returns a scrypt setting whose product is the ceiling, or next to it."""
     cost = fields.cost_at_the_ceiling(source)
     return b"$7$" + cost.text + fields.salt(source, source.between(0, 9))
 
 
 def scrypt_with_a_long_salt(source: Source) -> bytes:
-    """A setting of scrypt with the longest salt, or nearly."""
+    """Returns a scrypt setting with the longest salt, or nearly."""
     salt = fields.salt(source, source.between(85, 88))
     return source.one_of(*SCRYPT_STARTS) + salt + source.one_of(b"", b"$", b"$x", b"_")
 
 
 def junk(source: Source) -> bytes:
-    """A line that no rule of lines or settings is meant for."""
+    """Returns a line of bytes that have nothing to do with the grammar."""
     return source.one_of(
         *SHORT_LINES,
         b"\xff" * source.between(1, 99),
@@ -167,14 +167,14 @@ def junk(source: Source) -> bytes:
 
 
 def mutated(source: Source, line: bytes) -> bytes:
-    """A line with one to three changes in any place."""
+    """Returns a line with one to three random changes."""
     for _ in range(source.between(1, 3)):
         line = mutated_once(source, line)
     return line
 
 
 def mutated_once(source: Source, line: bytes) -> bytes:
-    """A line with one change."""
+    """Returns a line with one change."""
     place = source.between(0, len(line))
     length = source.between(1, source.one_of(1, 4, 40))
     before, after = line[:place], line[place:]
@@ -191,10 +191,10 @@ def mutated_once(source: Source, line: bytes) -> bytes:
 
 
 def with_another_bit(source: Source, byte: bytes) -> bytes:
-    """A byte, if there is one, with one bit that is another."""
+    """Flips a bit of a byte, if there is one."""
     return bytes(value ^ 1 << source.between(0, 7) for value in byte)
 
 
 def many(source: Source) -> int:
-    """How often a fragment is repeated."""
+    """Returns how often a fragment is repeated."""
     return source.between(1, source.one_of(8, 400, 2048))

@@ -4,7 +4,7 @@ from __future__ import annotations
 from ..model.work import LONGEST_PASSWORD
 from .source import DECIMAL, LOWER, Source
 
-# Lengths where a block of a digest ends, or a limit is.
+# Lengths at the end of a digest's block, or at a limit.
 EDGE_LENGTHS = [
     *(0, 1, 2, 3, 7, 8, 9, 15, 16, 17, 31, 32, 33, 55, 56, 63, 64, 65, 111, 112),
     *(127, 128, 129, 255, 256, 511, 512, 513, 1022, 1023, 1024, 1025, 1026),
@@ -18,7 +18,7 @@ ZERO, LINE_FEED = 0, 10
 
 
 def name(source: Source) -> bytes:
-    """A name, or what stands where one should be."""
+    """Returns a name, or something in its place."""
     return source.by_weight(
         (45, lambda: source.characters(source.between(1, 9), LOWER)),
         (30, lambda: source.bytes_except(source.between(1, 64), b":\n")),
@@ -29,7 +29,7 @@ def name(source: Source) -> bytes:
 
 
 def password(source: Source) -> bytes:
-    """A password, some of which are refused."""
+    """Returns a password, sometimes one that is refused."""
     return source.by_weight(
         (45, lambda: source.characters(source.between(0, 12), LOWER + DECIMAL)),
         (20, lambda: source.bytes_except(source.between(0, 80), b"\0\n")),
@@ -41,7 +41,7 @@ def password(source: Source) -> bytes:
 
 
 def wrong_password(source: Source, right: bytes) -> bytes:
-    """A password that differs from the right one in one place."""
+    """Returns a password that differs from the right one in one place."""
     if right == b"":
         return source.one_of(b"a", b"\r", b" ")
     last = len(right) - 1

@@ -11,48 +11,48 @@ DECIMAL = b"0123456789"
 
 
 class Source:
-    """Random choices that a seed gives again."""
+    """Random choices, which a seed determines."""
 
     def __init__(self, seed: str) -> None:
         self.random = random.Random(seed)
 
     def chance(self, probability: float) -> bool:
-        """Whether something happens that has this probability."""
+        """Returns True with this probability."""
         return self.random.random() < probability
 
     def between(self, least: int, most: int) -> int:
-        """A number from the least to the most."""
+        """Returns a number from `least` to `most`."""
         return self.random.randint(least, most)
 
     def one_of(self, *choices: T) -> T:
-        """One of these, all as probable."""
+        """Returns one of these, all with the same probability."""
         return self.random.choice(choices)
 
     def by_weight(self, *ways: tuple[float, Callable[[], T]]) -> T:
-        """What one of these ways makes, as probable as its weight says."""
+        """Calls one of these functions, chosen by their weights, and returns its result."""
         weights = [weight for weight, _ in ways]
         makers = [make for _, make in ways]
         chosen: Callable[[], T] = self.random.choices(makers, weights)[0]
         return chosen()
 
     def shuffled(self, items: Sequence[T]) -> list[T]:
-        """The same items in another order."""
+        """Returns the same items in another order."""
         return self.random.sample(items, len(items))
 
     def characters(self, length: int, choices: bytes) -> bytes:
-        """So many of these characters."""
+        """Returns a string of this length from these characters."""
         return bytes(self.random.choices(choices, k=max(0, length)))
 
     def pieces(self, count: int, choices: Sequence[bytes]) -> bytes:
-        """So many of these pieces, joined."""
+        """Returns `count` of these pieces, joined."""
         return b"".join(self.random.choices(choices, k=count))
 
     def bytes_except(self, length: int, excluded: bytes) -> bytes:
-        """So many bytes, any except these."""
+        """Returns a string of this length from all bytes but these."""
         return self.characters(length, bytes(set(range(256)) - set(excluded)))
 
     def changed_byte(self, old: int, excluded: Sequence[int]) -> int:
-        """Another byte, which often differs in one bit, and is none of these."""
+        """Returns another byte, often with one bit flipped, that is none of these."""
         new = old
         while new == old or new in excluded:
             one_bit = old ^ 1 << self.random.randrange(8)
