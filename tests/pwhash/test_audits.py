@@ -17,7 +17,7 @@ from support.pwhash_runs import MD5, pwhash, save, shell
 )
 @pytest.mark.parametrize("source", ["pipe", "file", "nothing"])
 def test_an_audit_needs_a_file(words: tuple[str, ...], source: str) -> None:
-    """Cron's, ssh's and Ansible's standard input is a pipe, so nothing can be told from it."""
+    """Cron, ssh and Ansible make standard input a pipe, so a pipe doesn't mean that lines come."""
     save("fields", b"eve:secret\n")
     redirected = {"pipe": 'cat fields | "$@"', "file": '"$@" < fields', "nothing": '"$@" <&-'}
     done = shell(redirected[source], "audit", *words)
@@ -25,24 +25,24 @@ def test_an_audit_needs_a_file(words: tuple[str, ...], source: str) -> None:
     assert b"pwhash audit /etc/shadow" in done.err and b"pwhash audit -" in done.err, done
 
 
-def test_an_audit_of_standard_input_is_asked_for() -> None:
+def test_a_dash_audits_standard_input() -> None:
     done = pwhash("audit", "-", stdin=b"eve:secret\n")
     assert done.status == 1 and b"1 line of standard input" in done.out, done
 
 
-# ---- What is found
+# ---- Findings
 
 
 @dataclass(frozen=True)
 class Account:
-    """A line of a shadow file, and how an audit shows it."""
+    """A line of a shadow file, and its row in the audit."""
 
     line: bytes
     row: str
 
     @property
     def name(self) -> str:
-        """The name as it is shown, or what stands in its place."""
+        """The name in the row, or what replaces it there."""
         return self.row.split()[0]
 
 
@@ -67,7 +67,7 @@ ANN = ACCOUNTS[0]
 
 
 def audited(*words: str) -> list[str]:
-    """The rows of an audit of all accounts, with one blank for several."""
+    """Returns the rows of an audit of all accounts, with single blanks between columns."""
     save("shadow", b"".join(account.line + b"\n" for account in ACCOUNTS))
     done = pwhash("audit", *words, "shadow")
     assert (done.status, done.err) == (1, b""), done
@@ -90,7 +90,7 @@ def test_no_password_is_shown() -> None:
     assert not any("secret" in row for row in audited())
 
 
-def test_problems_stand_in_the_order_of_what_they_are() -> None:
+def test_problems_are_sorted_by_kind() -> None:
     rows = audited("--only-problems")
     names = [row.split()[0] for row in rows[: rows.index("")]]
     assert names == ["NAME", "open", "eve", "mal", "bob", "bare", "line", "des", "odd", "old"]
@@ -99,8 +99,8 @@ def test_problems_stand_in_the_order_of_what_they_are() -> None:
 JSON = ("--json", "--only-problems", "--locked")
 
 
-def test_problems_are_objects_of_json() -> None:
-    """With --locked also the accounts that have a hash behind a lock."""
+def test_problems_are_printed_as_json_objects() -> None:
+    """With --locked these include the accounts that have a hash after the lock."""
     names = [json.loads(row)["name"] for row in audited(*JSON)]
     assert names == ["bob", "old", "eve", "open", "shut2", "mal", "bare", "line 12", "des", "odd"]
 
@@ -114,13 +114,13 @@ def test_problems_are_objects_of_json() -> None:
         pytest.param("odd", "method", None, id="no method"),
     ],
 )
-def test_an_object_of_json_has(name: str, member: str, value: object) -> None:
+def test_a_json_object_has(name: str, member: str, value: object) -> None:
     found = [json.loads(row) for row in audited(*JSON)]
     assert [each[member] for each in found if each["name"] == name] == [value], found
 
 
 @pytest.mark.parametrize("lock", ["!", "!!", "*", "*!"])
-def test_a_hash_behind_a_lock_is_judged_if_that_is_asked_for(lock: str) -> None:
+def test_the_option_locked_audits_the_hash_after_a_lock(lock: str) -> None:
     save("locked", f"ann:{lock}{MD5}:1:::\n".encode())
     done = pwhash("audit", "--locked", "--json", "locked")
     assert done.status == 1 and json.loads(done.out)["finding"] == "outdated", done
@@ -137,7 +137,7 @@ def test_a_file_without_lines_is_named() -> None:
     assert (done.status, done.out, done.err) == (2, b"", message), done
 
 
-def test_only_problems_says_nothing_where_there_is_none() -> None:
+def test_only_problems_prints_nothing_if_there_is_none() -> None:
     done = pwhash("audit", "--only-problems", save("fine", ANN.line + b"\n"))
     assert (done.status, done.out, done.err) == (0, b"", b""), done
 

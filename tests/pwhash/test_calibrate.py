@@ -1,7 +1,7 @@
-"""pwhash calibrate: the rounds and the budget for a time, on a machine whose speed is given.
+"""pwhash calibrate: the rounds and the budget for a time, on a machine of known speed.
 
-The numbers are computed by the formulas of docs/FORMATS.md. A real machine is measured only where
-its speed makes no difference to what is expected.
+The expected numbers follow from the formulas of docs/FORMATS.md. A real machine is measured only
+if its speed doesn't change what is expected.
 """
 from __future__ import annotations
 
@@ -15,13 +15,13 @@ import pytest
 from support import ROOT
 from support.library import COMPILER
 from support.needs import built, needed
-from support.package import tried_package
+from support.package import tested_package
 from support.policy_limits import SCRYPT, SHA256CRYPT, SHA512CRYPT, Policy, new_cost
 from support.process import Result, run
 from support.pwhash_copies import Copy
 from support.pwhash_runs import PWHASH, ended, pwhash, shell, started, wait_for, working_threads
 
-with tried_package():
+with tested_package():
     import mkpasswd
 with needed("python3-pexpect"):
     import pexpect
@@ -37,31 +37,31 @@ def seconds_of_cost(*_):
     return 10 / 1_000_000_000
 '''
 COST_OF_SECOND = 100_000_000
-FLOOR = 150_000_000  # of the library's own limit
+FLOOR = 150_000_000  # the lowest limit that the library sets by itself
 EVER = "999999s"
 
 
 @pytest.fixture(name="calibrate")
 def fixture_calibrate(copy: Copy) -> Copy:
-    """A pwhash on such a machine."""
+    """A copy of pwhash that runs on such a machine."""
     (copy.modules / "pwhash/speed.py").write_text(SPEED, encoding="ascii")
     return copy
 
 
 def answer(calibrate: Copy, *words: str) -> Result:
-    """What is printed and said, with status 0."""
+    """Runs pwhash calibrate, which must succeed."""
     done = calibrate.run("calibrate", *words)
     assert done.status == 0, done
     return done
 
 
 def policies_in(out: bytes) -> list[Policy]:
-    """The policies that were printed, which are all that was printed."""
+    """Reads the printed policies. Nothing else may be printed."""
     return [policy_in(line) for line in out.decode().splitlines()]
 
 
 def policy_in(line: str) -> Policy:
-    """The policy in a line that was printed."""
+    """Reads the policy in a printed line."""
     found = LINE.fullmatch(line)
     assert found, line
     return Policy(NUMBERS[found[1]], int(found[2]), int(found[3]))
@@ -73,14 +73,14 @@ def policy_in(line: str) -> Policy:
 @pytest.mark.parametrize(
     ("given", "expected"),
     [
-        # 30,000,000, half of which a new hash of 64 bytes may cost. With 1000 rounds more it costs
-        # 15,104,016 and 15,030,832. Scrypt's least costs 67,136,932.
+        # The time allows a cost of 30,000,000, of which a new hash of 64 bytes may have half. With
+        # 1000 more rounds it costs 15,104,016 or 15,030,832. Scrypt's lowest cost is 67,136,932.
         pytest.param(
             "300ms",
             [Policy(SHA512CRYPT, 77_000, 29_820_992), Policy(SHA256CRYPT, 92_000, 29_738_624)],
             id="far below the floor of the library's limit",
         ),
-        # 140,000,000, which is more than twice what scrypt's least costs.
+        # The time allows 140,000,000, more than twice scrypt's lowest cost.
         pytest.param(
             "1.4s",
             [
@@ -90,7 +90,8 @@ def policy_in(line: str) -> Policy:
             ],
             id="a little below it",
         ),
-        # 200,000,000. These are the library's limits for these rounds, scrypt's is the floor.
+        # The time allows 200,000,000. The budgets are the library's limits for these rounds, and
+        # for scrypt the floor.
         pytest.param(
             "2s",
             [
@@ -111,7 +112,7 @@ def policy_in(line: str) -> Policy:
         ),
     ],
 )
-def test_the_rounds_are_the_most_by_which_a_login_has_time(
+def test_the_rounds_are_the_most_that_a_login_has_time_for(
     calibrate: Copy, given: str, expected: list[Policy]
 ) -> None:
     assert policies_in(answer(calibrate, given).stdout) == expected
@@ -129,10 +130,8 @@ def test_more_time_never_gives_fewer_rounds_or_a_lower_budget(calibrate: Copy, m
 
 
 @pytest.mark.parametrize("given", ["50ms", "300ms", "1.4s", "1.5s", "3s", EVER])
-def test_a_budget_is_the_limit_that_the_library_has_for_the_policy(
-    calibrate: Copy, given: str
-) -> None:
-    """From the floor on also where no budget is given. A new hash of 64 bytes is within it."""
+def test_a_budget_is_the_librarys_limit_for_the_policy(calibrate: Copy, given: str) -> None:
+    """It admits a new hash of 64 bytes. From the floor on, it needn't be given."""
     for policy in policies_in(answer(calibrate, given).stdout):
         name = next(name for name, number in NUMBERS.items() if number == policy.method)
         limit = mkpasswd.Policy(name, policy.rounds, policy.budget).limit()
@@ -146,17 +145,16 @@ def test_a_budget_is_the_limit_that_the_library_has_for_the_policy(
     ("given", "method"),
     [("3ms", "sha256crypt"), ("4ms", "sha512crypt"), ("1.3s", "scrypt"), ("0ms", "scrypt")],
 )
-def test_too_little_time_for_the_least_rounds_is_a_sentence(
+def test_too_little_time_for_the_fewest_rounds_is_reported(
     calibrate: Copy, given: str, method: str
 ) -> None:
-    """They have budgets of 341,280, of 405,344 and of 134,273,864, which take ten times as many
-    nanoseconds."""
+    """The fewest rounds need budgets of 341,280, 405,344 and 134,273,864: ten nanoseconds each."""
     done = calibrate.run("calibrate", given, "-m", method)
     assert (done.status, done.stdout) == (1, b"") and done.stderr.count(b"\n") == 1, done
     assert method.encode() in done.stderr and b"even with -R" in done.stderr, done
 
 
-def test_with_a_method_for_the_time_the_others_are_named(calibrate: Copy) -> None:
+def test_methods_that_take_longer_are_named_beside_the_others(calibrate: Copy) -> None:
     done = answer(calibrate, "300ms")
     assert b"scrypt takes longer: even with -R 6" in done.stderr, done
     assert b"134,273,864" in done.stderr and b"1.4 s" in done.stderr, done
@@ -173,17 +171,17 @@ def measure(costly):
 """
 
 
-def test_the_slowest_hash_counts_but_no_moment_in_which_something_else_ran(copy: Copy) -> None:
+def test_the_slowest_hash_counts_but_a_single_slow_measurement_does_not(copy: Copy) -> None:
     with open(copy.modules / "pwhash/speed.py", "a", encoding="ascii") as module:
         module.write(NOISY)
     done = answer(copy, "300ms", "-m", "sha512crypt")
     assert done.stdout == b"-m sha512crypt -R 77000 --budget 29820992\n", done
 
 
-# ---- What can be pasted
+# ---- Lines to paste
 
 
-def test_a_line_is_taken_as_options(calibrate: Copy) -> None:
+def test_a_printed_line_works_as_options(calibrate: Copy) -> None:
     for line in answer(calibrate, "1.4s").stdout.decode().splitlines():
         done = pwhash(*line.split(), stdin=b"x" * 64 + b"\n")
         assert done.status == 0, done
@@ -227,14 +225,14 @@ def test_the_forms_for_c_and_python_have_the_same_limit(
         assert (limit.rounds, limit.cost) == (policy.rounds, policy.budget), done
 
 
-def test_a_budget_below_the_floor_has_to_be_given(calibrate: Copy) -> None:
+def test_a_budget_below_the_floor_must_be_given(calibrate: Copy) -> None:
     done = answer(calibrate, "300ms")
     assert b"give the budget, too" in done.stderr and b"150,000,000" in done.stderr, done
     done = answer(calibrate, "2s")
     assert b"give the budget" not in done.stderr, done
 
 
-def test_a_login_that_renews_a_hash_is_said_to_take_longer(calibrate: Copy) -> None:
+def test_the_advice_says_that_renewing_a_hash_takes_longer(calibrate: Copy) -> None:
     assert b"twice as long" in answer(calibrate, "300ms").stderr
 
 
@@ -259,10 +257,10 @@ def test_a_time_has_several_forms(calibrate: Copy, given: str) -> None:
         pytest.param("0.3", id="a fraction without a unit"),
         pytest.param("ms", id="a unit alone"),
         pytest.param("", id="nothing"),
-        pytest.param("300 ms", id="a blank inside"),
+        pytest.param("300 ms", id="a blank within"),
         pytest.param("0,3s", id="a comma"),
         pytest.param(".3s", id="no digit before the point"),
-        pytest.param("3.s", id="no digit behind it"),
+        pytest.param("3.s", id="no digit after the point"),
         pytest.param("1e3ms", id="an exponent"),
         pytest.param("+3s", id="a sign"),
         pytest.param("300MS", id="capitals"),
@@ -275,7 +273,7 @@ def test_a_time_has_several_forms(calibrate: Copy, given: str) -> None:
         pytest.param("hunter2", id="a password"),
     ],
 )
-def test_what_is_no_time_is_refused_with_a_right_form(given: str) -> None:
+def test_an_invalid_time_is_refused_with_an_example(given: str) -> None:
     done = pwhash("calibrate", given)
     assert (done.status, done.out) == (2, b"") and b"300ms, 0.3s or 2s" in done.err, done
     assert b"hunter2" not in done.err and len(done.err) < 200, done
@@ -292,7 +290,7 @@ def test_what_is_no_time_is_refused_with_a_right_form(given: str) -> None:
         pytest.param(["-300ms"], b"calibrate --help", id="a minus"),
     ],
 )
-def test_words_by_which_nothing_can_be_measured(words: list[str], reason: bytes) -> None:
+def test_invalid_arguments_are_refused(words: list[str], reason: bytes) -> None:
     done = pwhash("calibrate", *words)
     assert (done.status, done.out) == (2, b"") and reason in done.err, done
 
@@ -306,7 +304,7 @@ def test_the_help_shows_how_a_time_is_written() -> None:
 
 
 def test_a_machine_is_measured() -> None:
-    """None is so slow, and none so fast."""
+    """No machine is too slow for the longest time, or fast enough for the shortest."""
     done = pwhash("calibrate", EVER)
     assert done.status == 0 and [each.rounds for each in policies_in(done.out)] == [
         990_000_000,
@@ -327,7 +325,7 @@ def test_a_signal_ends_it_at_once() -> None:
         assert time.monotonic() - begun < 5, done
 
 
-def test_what_cannot_be_written_is_a_failure() -> None:
+def test_a_result_that_cannot_be_written_is_a_failure() -> None:
     assert shell('exec "$@" > /dev/full', "calibrate", EVER).status == 3
 
 
@@ -339,9 +337,9 @@ def test_with_little_memory_there_is_a_result_or_a_message(kibibytes: int) -> No
 
 
 @pytest.mark.parametrize("words", [["300ms"], ["300ms", "--quiet"]])
-def test_the_terminal_shows_progress_unless_it_shall_not(words: list[str]) -> None:
+def test_the_terminal_shows_progress_unless_quiet_is_given(words: list[str]) -> None:
     child = pexpect.spawn(PWHASH, ["calibrate", *words], timeout=60)
     child.expect(pexpect.EOF)
     child.close()
-    is_shown = re.search(rb"measuring: \d+ %", child.before) is not None
-    assert is_shown is ("--quiet" not in words), child.before
+    shows_progress = re.search(rb"measuring: \d+ %", child.before) is not None
+    assert shows_progress is ("--quiet" not in words), child.before

@@ -1,4 +1,4 @@
-"""A list that changes during a run: nobody gets an old password, or another's."""
+"""A list that changes during a run: no user gets an old password, or another user's."""
 from __future__ import annotations
 
 import contextlib
@@ -43,7 +43,7 @@ def link_file() -> None:
         pytest.param(lambda: read("passwords"), id="reading"),
     ],
 )
-def test_a_file_whose_lines_did_not_change_is_hashed(change: Callable[[], object]) -> None:
+def test_a_file_whose_lines_stay_the_same_is_hashed(change: Callable[[], object]) -> None:
     with slow_run() as process:
         change()
         done = ended(process)
@@ -53,7 +53,7 @@ def test_a_file_whose_lines_did_not_change_is_hashed(change: Callable[[], object
 @pytest.mark.parametrize(
     "change", [touch_access, lambda: os.chmod("passwords", 0o600)], ids=["touch -a", "chmod"]
 )
-def test_a_run_goes_on_though_the_file_was_touched(change: Callable[[], object]) -> None:
+def test_a_run_resumes_after_the_file_was_touched(change: Callable[[], object]) -> None:
     with slow_run() as process:
         process.send_signal(signal.SIGTERM)
         first = ended(process)
@@ -83,19 +83,19 @@ def replace_by_an_old_file() -> None:
 @pytest.mark.parametrize(
     "change",
     [
-        pytest.param(add_a_line, id="a line more"),
+        pytest.param(add_a_line, id="one more line"),
         pytest.param(change_a_line, id="another password"),
         pytest.param(replace_by_an_old_file, id="another file of the same size and time"),
         pytest.param(lambda: os.remove("passwords"), id="removed"),
     ],
 )
-def test_a_file_that_changed_makes_no_out(change: Callable[[], None]) -> None:
+def test_a_changed_file_makes_no_out(change: Callable[[], None]) -> None:
     with slow_run() as process:
         change()
         done = ended(process)
     assert done.status == 2 and not os.path.exists("hashes"), done
     assert b"passwords was changed" in done.err and b"remove hashes.part" in done.err, done
-    if b"--resume" in done.err:  # it is offered, so it has to work
+    if b"--resume" in done.err:  # the advice must work
         touch = re.search(rb"touch -r \S+ \S+", done.err)
         assert touch, done
         subprocess.run(["/bin/sh", "-c", touch[0].decode().rstrip(":;")], check=True)
@@ -104,8 +104,8 @@ def test_a_file_that_changed_makes_no_out(change: Callable[[], None]) -> None:
 
 
 @pytest.mark.parametrize("number", [signal.SIGINT, signal.SIGTERM], ids=["Ctrl-C", "SIGTERM"])
-def test_old_passwords_are_not_gone_on_with(number: int) -> None:
-    """A line is changed after it was hashed, and the run is ended later than that."""
+def test_a_run_does_not_resume_with_old_passwords(number: int) -> None:
+    """A line changes after it was hashed, and then the run is interrupted."""
     with slow_run() as process:
         size = os.path.getsize("hashes.part")
         change_a_line()
@@ -117,8 +117,8 @@ def test_old_passwords_are_not_gone_on_with(number: int) -> None:
 
 
 @pytest.mark.parametrize("redirected", [False, True], ids=["named", "redirected"])
-def test_a_file_that_changed_is_named_without_out_too(redirected: bool) -> None:
-    """Lines were taken for others, or for passwords that nobody gave."""
+def test_a_changed_file_is_named_even_without_out(redirected: bool) -> None:
+    """pwhash once read lines that no version of the file had."""
     save("list", users(1500))
     before = os.stat("list").st_mtime
     with contextlib.ExitStack() as stack:
@@ -133,11 +133,11 @@ def test_a_file_that_changed_is_named_without_out_too(redirected: bool) -> None:
         done = ended(process)
     assert os.stat("list").st_mtime > before
     assert done.status == 2 and b"changed" in done.err and b"out.part" not in done.err, done
-    made = read("out").splitlines()
-    assert 0 < len(made) < 1500
-    for number in 0, len(made) - 1:
+    lines = read("out").splitlines()
+    assert 0 < len(lines) < 1500
+    for number in 0, len(lines) - 1:
         expected = hashed(b"password%d" % number, "$6$rounds=20000$saltsalt")
-        assert made[number] == b"user%d:%b" % (number, expected)
+        assert lines[number] == b"user%d:%b" % (number, expected)
 
 
 @pytest.mark.parametrize(
@@ -148,8 +148,8 @@ def test_a_file_that_changed_is_named_without_out_too(redirected: bool) -> None:
         pytest.param(lambda: os.rename(save("new", b""), "passwords"), id="an empty list instead"),
     ],
 )
-def test_a_part_or_a_list_that_is_replaced_makes_no_out(change: Callable[[], None]) -> None:
-    """Nobody takes a part for the whole."""
+def test_a_replaced_part_or_list_makes_no_out(change: Callable[[], None]) -> None:
+    """OUT would have only some of the users."""
     with slow_run() as process:
         change()
         done = ended(process)

@@ -1,4 +1,4 @@
-"""Which columns of a table are the name and the password, and what is between columns."""
+"""Which columns of a table are the name and the password, and how columns are separated."""
 from __future__ import annotations
 
 import pytest
@@ -12,7 +12,7 @@ from support.pwhash_runs import ANN, BOB, BY_NUMBER, MD5, MD5CRYPT, lines_named_
         pytest.param("IDENTITÀ,PAROLA", "identità,parola", id="in capitals"),
         pytest.param("имя,пароль", "Имя,ПАРОЛЬ", id="Cyrillic"),
         pytest.param("straße,x", "STRASSE,x", id="folded"),
-        pytest.param("nàme , x", " nàme,x ", id="blanks around"),
+        pytest.param("nàme , x", " nàme,x ", id="blanks around the names"),
     ],
 )
 def test_a_column_is_found_by_its_name(columns: str, heading: str) -> None:
@@ -21,7 +21,7 @@ def test_a_column_is_found_by_its_name(columns: str, heading: str) -> None:
     assert (done.status, done.out) == (0, b"ann:" + MD5.encode() + b"\n"), done
 
 
-def test_a_zero_byte_in_a_heading_is_no_end() -> None:
+def test_a_zero_byte_does_not_end_a_heading() -> None:
     done = pwhash("file", "--csv", *MD5CRYPT, stdin=b"name,password\0x\nann,pw1\n")
     assert (done.status, done.out) == (2, b"") and b"--columns" in done.err, done
 
@@ -33,7 +33,7 @@ def test_one_column_is_not_both_name_and_password(columns: str) -> None:
     assert (done.status, done.out) == (2, b"") and b"--columns" in done.err, done
 
 
-def test_a_separator_that_may_be_another_is_not_guessed() -> None:
+def test_an_ambiguous_separator_is_not_guessed() -> None:
     for row in b"smith,j;pw1\n", b"smith\tj,pw1\n", b"\nann;pa,ss\n":
         done = pwhash("file", "--csv", *MD5CRYPT, *BY_NUMBER, stdin=row)
         assert (done.status, done.out) == (2, b"") and b"between columns" in done.err, done
@@ -41,7 +41,7 @@ def test_a_separator_that_may_be_another_is_not_guessed() -> None:
     assert (done.status, done.out) == (0, ANN + BOB), done
 
 
-def test_the_separator_is_that_of_the_columns() -> None:
+def test_the_separator_is_the_one_between_name_and_password() -> None:
     for heading in b"last,first;name;password", b"last;first\tname\tpassword":
         between = heading[-9:-8]
         row = between.join([b"x", b"ann", b"pw1"])
@@ -84,7 +84,7 @@ def test_a_column_is_found_by_its_number(number: int) -> None:
     assert (done.status, done.out) == (0, f"ann:{MD5}\n".encode()), done
 
 
-def test_a_heading_is_no_user_where_columns_are_numbers() -> None:
+def test_a_heading_is_no_user_if_columns_are_numbers() -> None:
     table = save("table", b"user,password\nann,x\n")
     done = pwhash("file", *MD5CRYPT, table, "--csv", *BY_NUMBER)
     assert (done.status, done.out) == (1, b""), done
@@ -98,17 +98,17 @@ def test_a_heading_is_no_user_where_columns_are_numbers() -> None:
         pytest.param("name,password\nann,x\n".encode("utf-16"), ("--csv",), id="UTF-16"),
     ],
 )
-def test_columns_that_can_not_be_read_are_named(table: bytes, words: tuple[str, ...]) -> None:
+def test_columns_that_cannot_be_found_are_named(table: bytes, words: tuple[str, ...]) -> None:
     done = pwhash("file", *MD5CRYPT, save("table", table), *words)
     assert done.status == 2 and b"--columns" in done.err and b"line 1" not in done.err, done
 
 
-def test_a_first_row_that_is_not_csv_is_named_by_its_line() -> None:
+def test_a_first_row_that_is_not_csv_is_named_by_line() -> None:
     table = save("table", b"\n\nname\rpassword\rann,x\n")
     done = pwhash("file", *MD5CRYPT, "--csv", table)
     assert done.status == 3 and lines_named_in(done.err) == [3], done
 
 
-def test_a_quote_that_does_not_end_ends_the_run() -> None:
+def test_an_unclosed_quote_ends_the_run() -> None:
     done = pwhash("file", *MD5CRYPT, "--csv", save("table", b'name,password\n"a,x\n'))
     assert done.status == 3, done

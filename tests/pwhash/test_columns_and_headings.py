@@ -1,7 +1,4 @@
-"""pwhash and the columns of tables: which are names, which are passwords, and what a row can't be.
-
-Each test sees only what a user sees: the command, its outputs, files and status.
-"""
+"""Tables whose columns are swapped, headings inside tables, and cells that spreadsheets damaged."""
 
 from __future__ import annotations
 
@@ -14,7 +11,7 @@ ANN = b"ann:" + hashed(b"pw1") + b"\n"
 BOB = b"bob:" + hashed(b"pw2") + b"\n"
 
 
-# Columns that were exchanged.
+# Swapped columns.
 
 EXCHANGED = [
     pytest.param("password,name", "name,password", id="both"),
@@ -65,7 +62,7 @@ def test_columns_that_fit_their_headings_are_hashed(columns: str, table: bytes) 
     assert (done.status, done.out) == (0, ANN), done
 
 
-# Headings of tables and lists that were joined.
+# Headings of joined tables and lists.
 
 
 @pytest.mark.parametrize(
@@ -80,7 +77,7 @@ def test_columns_that_fit_their_headings_are_hashed(columns: str, table: bytes) 
     ids=os.fsdecode,
 )
 @pytest.mark.parametrize("is_table", [False, True], ids=["list", "table"])
-def test_a_heading_of_other_words_is_no_user(heading: bytes, is_table: bool) -> None:
+def test_a_heading_in_another_language_is_no_user(heading: bytes, is_table: bool) -> None:
     lines = b"ann:pw1\n" + heading + b"\nbob:pw2\n"
     words: tuple[str, ...] = ()
     if is_table:
@@ -91,15 +88,15 @@ def test_a_heading_of_other_words_is_no_user(heading: bytes, is_table: bool) -> 
 
 
 @pytest.mark.parametrize("words", [(), ("--csv", "--columns", "1,2")], ids=["list", "table"])
-def test_the_first_line_again_is_no_user(words: tuple[str, ...]) -> None:
-    """Whatever words it has."""
+def test_the_first_line_repeated_is_no_user(words: tuple[str, ...]) -> None:
+    """It is a heading even if pwhash doesn't know its words."""
     lines = b"konto:geheim\nann:pw1\nkonto:geheim\nbob:pw2\n"
     save("list", lines.replace(b":", b",") if words else lines)
     done = pwhash("file", *MD5CRYPT, *words, "list")
     assert (done.status, done.out) == (1, b"") and lines_named_in(done.err) == [3, 1], done
 
 
-# What spreadsheets make of passwords.
+# Passwords that spreadsheets damaged.
 
 DAMAGED = [
     *("#NAME?", "#REF!", "#VALUE!", "#DIV/0!", "#N/A", "#NULL!", "#NUM!"),
@@ -144,12 +141,12 @@ def test_a_password_that_only_looks_damaged_is_hashed(password: str) -> None:
 
 
 @pytest.mark.parametrize("password", ["####", "1.23E+15", "TRUE", "FALSCH"])
-def test_of_a_list_that_is_no_table_it_is_hashed(password: str) -> None:
+def test_a_password_in_a_list_that_only_looks_damaged_is_hashed(password: str) -> None:
     done = pwhash("file", *MD5CRYPT, stdin=f"eve:{password}\n".encode())
     assert (done.status, done.out) == (0, b"eve:" + hashed(password.encode()) + b"\n"), done
 
 
 @pytest.mark.parametrize("password", ["#NAME?", "#BEZUG!"])
-def test_an_error_of_a_spreadsheet_is_doubtful_in_a_list_too(password: str) -> None:
+def test_a_spreadsheets_error_is_doubtful_in_a_list_too(password: str) -> None:
     done = pwhash("file", *MD5CRYPT, stdin=f"eve:{password}\nbob:pw2\n".encode())
     assert (done.status, done.out, lines_named_in(done.err)) == (1, BOB, [1]), done

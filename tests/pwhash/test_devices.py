@@ -1,4 +1,4 @@
-"""pwhash where /dev has no terminal: none is made, and no file is taken for it."""
+"""pwhash where /dev has no terminal: it creates none, and takes no file for one."""
 from __future__ import annotations
 
 import shlex
@@ -18,8 +18,8 @@ EMPTY_DEV = """
 """
 
 
-def test_a_dev_without_tty_gets_none() -> None:
-    """A file /dev/tty would be taken for the terminal by whoever comes next."""
+def test_pwhash_creates_no_dev_tty() -> None:
+    """The next program would take a file /dev/tty for the terminal."""
     script = f"""
         {EMPTY_DEV}
         "$@" || echo status $?
@@ -41,7 +41,7 @@ def test_a_file_with_the_name_of_the_terminal_gets_no_password() -> None:
 
 
 @pytest.mark.needs("namespaces")
-def test_a_prompt_without_dev_tty_hides_what_is_typed() -> None:
+def test_a_prompt_without_dev_tty_hides_the_password() -> None:
     """Standard input is the terminal, whatever is in /dev."""
     script = f"""
         {EMPTY_DEV}
@@ -51,5 +51,5 @@ def test_a_prompt_without_dev_tty_hides_what_is_typed() -> None:
     child = pexpect.spawn("unshare", ["--mount", "/bin/sh", "-c", script], timeout=60)
     child.expect(rb"Password: ")
     is_shown = shows_keys(child.child_fd)
-    shown = type_secret(child)
-    assert not is_shown and b"secret" not in shown and hashed(b"secret") in shown, shown
+    screen = type_secret(child)
+    assert not is_shown and b"secret" not in screen and hashed(b"secret") in screen, screen

@@ -1,7 +1,4 @@
-"""pwhash and fields that a spreadsheet damaged, quoted or headed: lines that are no account.
-
-Each test sees only what a user sees: the command, its outputs, files and status.
-"""
+"""Lines that aren't accounts: fields that a spreadsheet damaged or quoted, headings, rows."""
 from __future__ import annotations
 
 
@@ -12,7 +9,7 @@ BOB = b"bob:" + hashed(b"pw2") + b"\n"
 
 
 def hash_first_of_two(line: str, *options: str) -> None:
-    """Expects that this line is doubtful, and the one behind it isn't."""
+    """Fails the test unless this line is doubtful, and the next one isn't."""
     lines = line.encode() + (b"\nbob,pw2\n" if options else b"\nbob:pw2\n")
     words = ("file", *MD5CRYPT, *options, save("list", lines), "-o", "hashes", "--skip-doubtful")
     done = pwhash(*words)
@@ -26,7 +23,7 @@ ERRORS = [
 
 
 @pytest.mark.parametrize("error", ERRORS)
-def test_an_error_of_a_spreadsheet_is_no_password_in_any_language(error: str) -> None:
+def test_a_spreadsheets_error_is_no_password_in_any_language(error: str) -> None:
     hash_first_of_two(f"ann:{error}")
 
 
@@ -37,12 +34,12 @@ TRUTHS = [
 
 
 @pytest.mark.parametrize("truth", TRUTHS)
-def test_true_and_false_are_no_passwords_of_a_table_in_any_language(truth: str) -> None:
+def test_true_and_false_are_no_passwords_in_a_table_in_any_language(truth: str) -> None:
     hash_first_of_two(f"ann,{truth}", "--csv", "--columns", "1,2")
 
 
 @pytest.mark.parametrize("password", ["#Fan!", "#2024!", "#ERROR", "ERROR!", "VRAI", "#NAAM?x"])
-def test_a_password_that_is_like_an_error_is_hashed(password: str) -> None:
+def test_a_password_that_resembles_an_error_is_hashed(password: str) -> None:
     done = pwhash("file", *MD5CRYPT, stdin=f"ann:{password}\n".encode())
     assert (done.status, done.out) == (0, b"ann:" + hashed(password.encode()) + b"\n"), done
 
@@ -66,7 +63,7 @@ def test_quotes_that_enclose_nothing_are_hashed(password: str) -> None:
     assert (done.status, done.out) == (0, b"ann:" + hashed(password.encode()) + b"\n"), done
 
 
-def test_quotes_in_the_value_of_a_table_are_part_of_the_password() -> None:
+def test_quotes_in_a_tables_field_are_part_of_the_password() -> None:
     table = b'name,password\nann,"""secret"""\n'
     done = pwhash("file", *MD5CRYPT, "--csv", save("table", table))
     assert (done.status, done.out) == (0, b"ann:" + hashed(b'"secret"') + b"\n"), done
@@ -84,13 +81,13 @@ def test_a_heading_in_a_list_is_no_account(heading: str) -> None:
 
 
 @pytest.mark.parametrize("name", ["ann", "ann.lee-2", "zoë", "Яна"])
-def test_a_login_name_with_the_password_of_every_example_is_hashed(name: str) -> None:
+def test_a_login_name_with_the_password_password_is_hashed(name: str) -> None:
     done = pwhash("file", *MD5CRYPT, stdin=f"{name}:password\n".encode())
     assert (done.status, done.out) == (0, name.encode() + b":" + hashed(b"password") + b"\n"), done
 
 
 @pytest.mark.parametrize("heading", ["E-Mail,Password", "Mitarbeiter,Kennwort"])
-def test_a_heading_of_a_table_with_numbered_columns_is_no_account(heading: str) -> None:
+def test_a_heading_is_no_account_if_columns_are_numbers(heading: str) -> None:
     hash_first_of_two(heading, "--csv", "--columns", "1,2")
 
 
@@ -102,7 +99,7 @@ def test_a_heading_of_a_table_with_numbered_columns_is_no_account(heading: str) 
         pytest.param("ann\tsecret\thttps://x.org/a", id="tabs"),
     ],
 )
-def test_a_row_of_a_table_is_no_line_of_a_list(row: str) -> None:
+def test_a_tables_row_is_doubtful_in_a_list(row: str) -> None:
     hash_first_of_two(row)
     done = pwhash("file", *MD5CRYPT, save("rows", row.encode()))
     assert done.status == 1 and b"--csv" in done.err, done

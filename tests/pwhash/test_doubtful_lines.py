@@ -1,29 +1,29 @@
-"""Lines that hardly anybody means as they are: none is hashed unasked."""
+"""Doubtful lines, which hardly anybody means as they are: none is hashed without a decision."""
 from __future__ import annotations
 
 import os
 import re
 
 import pytest
-from support.pwhash_runs import BOB, MARK, MD5, MD5CRYPT, hashed, lines_named_in, pwhash, save
+from support.pwhash_runs import BOB, BOM, MD5, MD5CRYPT, hashed, lines_named_in, pwhash, save
 
 
 @pytest.mark.parametrize(
     "line",
     [
-        pytest.param(MARK + b"ann:hunter2", id="a mark that begins a later line"),
-        pytest.param(b"an" + MARK + b"n:hunter2", id="a mark in a name"),
-        pytest.param(b"ann" + MARK + b":hunter2", id="a mark that ends a name"),
-        pytest.param(b"ann:" + MARK + b"hunter2", id="a mark that begins a password"),
-        pytest.param(b"ann:hun" + MARK + b"ter2", id="a mark in a password"),
-        pytest.param(b"ann:hunter2" + MARK, id="a mark that ends a password"),
+        pytest.param(BOM + b"ann:hunter2", id="a mark that begins a later line"),
+        pytest.param(b"an" + BOM + b"n:hunter2", id="a mark in a name"),
+        pytest.param(b"ann" + BOM + b":hunter2", id="a mark that ends a name"),
+        pytest.param(b"ann:" + BOM + b"hunter2", id="a mark that begins a password"),
+        pytest.param(b"ann:hun" + BOM + b"ter2", id="a mark in a password"),
+        pytest.param(b"ann:hunter2" + BOM, id="a mark that ends a password"),
         pytest.param(b"\rann:hunter2", id="a carriage return that begins a line"),
         pytest.param(b"an\rn:hunter2", id="a carriage return in a name"),
         pytest.param(b"ann\r:hunter2", id="a carriage return that ends a name"),
         pytest.param(b"ann:\rhunter2", id="a carriage return that begins a password"),
         pytest.param(b"ann:hun\rter2", id="a carriage return in a password"),
         pytest.param(b"ann:hunter2\r", id="a carriage return that ends a password"),
-        pytest.param(b"ann:hunter2\r" + MARK, id="both at the end"),
+        pytest.param(b"ann:hunter2\r" + BOM, id="both at the end"),
     ],
 )
 def test_a_mark_or_carriage_return_makes_a_line_doubtful(line: bytes) -> None:
@@ -40,7 +40,7 @@ def test_a_mark_or_carriage_return_makes_a_line_doubtful(line: bytes) -> None:
 
 
 @pytest.mark.parametrize("character", ["\u3164", "\u2800", "\ufe0f", "\u034f", "\uffa0"], ids=ascii)
-def test_a_line_with_a_character_that_shows_nothing_is_doubtful(character: str) -> None:
+def test_a_line_with_an_invisible_character_is_doubtful(character: str) -> None:
     done = pwhash("file", *MD5CRYPT, stdin=f"ann:pass{character}word\n".encode())
     assert (done.status, done.out) == (1, b"") and b"invisible" in done.err, done
 
@@ -57,13 +57,13 @@ def test_a_line_with_a_character_that_shows_nothing_is_doubtful(character: str) 
         pytest.param(b"scrypt:32768:8:1$abcdefgh$5f4dcc3b5aa765d61d83", id="of Werkzeug"),
         pytest.param(b"pbkdf2:sha256:600000$abcdefgh$5f4dcc3b5aa7", id="PBKDF2 of Werkzeug"),
         pytest.param(b"SCRAM-SHA-256$4096:W22ZaJ0SNY7soEsUEjb6gQ==$WG5d=:wf=", id="of PostgreSQL"),
-        pytest.param(b"md5" + b"5f4dcc3b5aa765d61d8327deb882cf99", id="old, of PostgreSQL"),
+        pytest.param(b"md5" + b"5f4dcc3b5aa765d61d8327deb882cf99", id="PostgreSQL's old md5"),
         pytest.param(b"*2470C0C06DEE42FD1618BB99005ADCA2EC9D1E19", id="of MySQL"),
         pytest.param(b"!", id="locked"),
-        pytest.param(b"!:1::", id="fields behind a lock"),
-        pytest.param(b"*:19000:0:99999:7:::", id="fields of a service"),
-        pytest.param(hashed(b"secret") + b":19000:0:99999:7:::", id="fields behind a hash"),
-        pytest.param(b":19000:0:99999:7:::", id="fields behind no hash"),
+        pytest.param(b"!:1::", id="fields after a lock"),
+        pytest.param(b"*:19000:0:99999:7:::", id="fields of a service's account"),
+        pytest.param(hashed(b"secret") + b":19000:0:99999:7:::", id="fields after a hash"),
+        pytest.param(b":19000:0:99999:7:::", id="fields after no hash"),
         pytest.param(b"x:0:0:root:/root:/bin/bash", id="a line of passwd"),
     ],
 )
@@ -86,7 +86,7 @@ def test_a_stored_field_is_no_password(field: bytes) -> None:
         b"scrypt:secret",
     ],
 )
-def test_a_password_with_signs_of_hashes_is_hashed(password: bytes) -> None:
+def test_a_password_that_resembles_a_hash_is_hashed(password: bytes) -> None:
     done = pwhash("file", *MD5CRYPT, stdin=b"ann:%b\n" % password)
     assert (done.status, done.out) == (0, b"ann:" + hashed(password) + b"\n"), done
 
@@ -111,19 +111,19 @@ def doubts() -> bytes:
     return b"\n".join(DOUBTS) + b"\n"
 
 
-def test_a_doubtful_line_of_a_pipe_is_not_hashed() -> None:
+def test_a_doubtful_line_from_a_pipe_is_not_hashed() -> None:
     done = pwhash("file", *MD5CRYPT, stdin=doubts())
     assert (done.status, done.out) == (1, b"ann:" + MD5.encode() + b"\n"), done
 
 
-def test_each_doubtful_line_of_a_pipe_is_named() -> None:
-    """The seventh with the second, whose name it has."""
+def test_each_doubtful_line_from_a_pipe_is_named() -> None:
+    """Line 7 is named with line 2, which has the same name."""
     done = pwhash("file", *MD5CRYPT, stdin=doubts())
     named = [int(number) for number in re.findall(rb"line (\d)", done.err)]
     assert named == [1, 3, 4, 5, 6, 7, 2, 8, 9], done
 
 
-def test_each_doubtful_line_of_a_file_is_named() -> None:
+def test_each_doubtful_line_in_a_file_is_named() -> None:
     done = pwhash("file", *MD5CRYPT, save("lines", doubts()), "--look")
     named = {int(number) for number in re.findall(rb"line (\d) ", done.err)}
     assert done.status == 1 and named == set(DOUBTFUL), done
@@ -132,20 +132,20 @@ def test_each_doubtful_line_of_a_file_is_named() -> None:
 @pytest.mark.parametrize(
     ("reason", "numbers"), [("blank", [5, 6, 9]), ("invisible", [8, 9])], ids=["blank", "invisible"]
 )
-def test_the_reason_of_a_doubt_is_named(reason: str, numbers: list[int]) -> None:
+def test_the_reason_for_a_doubt_is_named(reason: str, numbers: list[int]) -> None:
     done = pwhash("file", *MD5CRYPT, save("lines", doubts()), "--look")
     named = re.findall(rf"line (\d) .*{reason}".encode(), done.err)
     assert [int(number) for number in named] == numbers, done
 
 
-def test_windows_leaves_out_a_mark_and_carriage_returns() -> None:
-    lines = save("windows", MARK + b"ann:password\r\nbob:password\r\n")
+def test_the_option_windows_drops_marks_and_carriage_returns() -> None:
+    lines = save("windows", BOM + b"ann:password\r\nbob:password\r\n")
     done = pwhash("file", *MD5CRYPT, lines, "--windows")
     expected = b"".join(name + b":" + MD5.encode() + b"\n" for name in (b"ann", b"bob"))
     assert (done.status, done.out, done.err) == (0, expected, b""), done
 
 
-def test_a_list_of_windows_is_doubtful_without_the_option() -> None:
-    lines = save("windows", MARK + b"ann:password\r\nbob:password\r\n")
+def test_a_list_from_windows_is_doubtful_without_the_option() -> None:
+    lines = save("windows", BOM + b"ann:password\r\nbob:password\r\n")
     done = pwhash("file", *MD5CRYPT, lines)
     assert (done.status, done.out) == (1, b""), done

@@ -1,41 +1,41 @@
 """One doubtful password, typed or piped, hashed or set in a file: refused, or hashed if accepted.
 
-What a typed password may be besides is in test_terminals.py, and a piped one in
-test_one_password_of_a_pipe.py.
+test_terminals.py has more about typed passwords, and test_one_password_of_a_pipe.py about piped
+ones.
 """
 from __future__ import annotations
 
 import pytest
-from support.pwhash_runs import MARK, MD5, MD5CRYPT, at_terminal, hashed, pwhash, read, save
+from support.pwhash_runs import BOM, MD5, MD5CRYPT, at_terminal, hashed, pwhash, read, save
 
 SET = ("set", *MD5CRYPT, "passwords", "ann")
 BEFORE = b"ann:x\n"
-LONGEST_OF_CRYPT = 511  # bytes; libxcrypt's CRYPT_MAX_PASSPHRASE_SIZE is 512, with the zero byte
+LONGEST_OF_CRYPT = 511  # bytes: libxcrypt's CRYPT_MAX_PASSPHRASE_SIZE without the zero byte
 YESCRYPT = b"$y$j9T$abcdefghijklmnopqrstu.$abc"
-# Each has "secret" in it, which no message shows.
+# Each contains "secret", which no message may show.
 TYPED = [
-    pytest.param(b"secret ", b"blank", id="a blank behind"),
-    pytest.param(b" secret", b"blank", id="a blank in front"),
+    pytest.param(b"secret ", b"blank", id="a trailing blank"),
+    pytest.param(b" secret", b"blank", id="a leading blank"),
     pytest.param("secret\u3000".encode(), b"invisible", id="a wide blank"),
     pytest.param(b"$6$rounds=1000$secretsalt$" + b"x" * 86, b"stored hash", id="sha512crypt"),
     pytest.param(b"$2y$05$secret" + b"x" * 47, b"stored hash", id="bcrypt"),
     pytest.param(YESCRYPT + b"secret", b"stored hash", id="yescrypt"),
-    pytest.param(b"{SSHA}secretsecretsecret", b"stored hash", id="a scheme of LDAP"),
-    pytest.param(b"secret:$1$x$y:19000:0:9:7:::", b"stored hash", id="a line of shadow"),
+    pytest.param(b"{SSHA}secretsecretsecret", b"stored hash", id="an LDAP scheme"),
+    pytest.param(b"secret:$1$x$y:19000:0:9:7:::", b"stored hash", id="a line from shadow"),
     pytest.param(b"secret" + b"x" * (LONGEST_OF_CRYPT - 5), b"511 bytes", id="too long for crypt"),
 ]
 PIPED = [
     *TYPED,
     pytest.param(b"secret\r", b"carriage return", id="a carriage return"),
-    pytest.param(MARK + b"secret", b"byte order mark", id="a mark"),
+    pytest.param(BOM + b"secret", b"byte order mark", id="a mark"),
     pytest.param(b"secret\t", b"control character", id="a tab"),
     pytest.param(b"secret\xe4", b"UTF-8", id="Latin-1"),
-    pytest.param("secreta\u0308".encode(), b"NFC", id="letters and accents apart"),
+    pytest.param("secreta\u0308".encode(), b"NFC", id="decomposed accents"),
 ]
 
 
 @pytest.mark.parametrize(("password", "reason"), PIPED)
-def test_a_doubtful_password_of_a_pipe_is_refused_or_accepted(
+def test_a_doubtful_password_from_a_pipe_is_refused_or_accepted(
     password: bytes, reason: bytes
 ) -> None:
     save("passwords", BEFORE)
@@ -54,19 +54,19 @@ def test_a_doubtful_password_of_a_pipe_is_refused_or_accepted(
 
 
 @pytest.mark.parametrize(("password", "reason"), TYPED)
-def test_a_doubtful_password_that_is_typed_is_refused(password: bytes, reason: bytes) -> None:
+def test_a_doubtful_typed_password_is_refused(password: bytes, reason: bytes) -> None:
     save("passwords", BEFORE)
     for words in MD5CRYPT, SET:
         terminal = at_terminal(words, [password + b"\r"] * 2)
-        assert terminal.status == 2 and reason in terminal.shown, terminal
-        assert b"$1$" not in terminal.shown and b"secret" not in terminal.shown, terminal
+        assert terminal.status == 2 and reason in terminal.screen, terminal
+        assert b"$1$" not in terminal.screen and b"secret" not in terminal.screen, terminal
     assert read("passwords") == BEFORE
 
 
-def test_a_doubtful_password_that_is_typed_is_accepted() -> None:
+def test_a_doubtful_typed_password_can_be_accepted() -> None:
     save("passwords", BEFORE)
     terminal = at_terminal((*MD5CRYPT, "--accept-doubtful"), [b"secret \r"] * 2)
-    assert terminal.status == 0 and terminal.shown.split()[-1] == hashed(b"secret "), terminal
+    assert terminal.status == 0 and terminal.screen.split()[-1] == hashed(b"secret "), terminal
     terminal = at_terminal((*SET, "--accept-doubtful"), [MD5.encode() + b"\r"] * 2)
     expected = b"ann:" + hashed(MD5.encode()) + b"\n"
     assert (terminal.status, read("passwords")) == (0, expected), terminal
@@ -81,21 +81,21 @@ def test_an_empty_password_is_never_accepted(data: bytes) -> None:
 @pytest.mark.parametrize(
     "password",
     [
-        pytest.param(b"x" * LONGEST_OF_CRYPT, id="the longest of crypt"),
+        pytest.param(b"x" * LONGEST_OF_CRYPT, id="the longest for crypt"),
         pytest.param(b"sec ret", id="a blank inside"),
         pytest.param(b"note: secret", id="a colon and a blank"),
         pytest.param(b"$ecret", id="a dollar"),
-        pytest.param(b"password", id="what also heads a column"),
+        pytest.param(b"password", id="a word that heads columns"),
         pytest.param(b"NULL", id="what databases export"),
     ],
 )
-def test_other_passwords_are_hashed_without_a_word(password: bytes) -> None:
+def test_other_passwords_are_hashed_without_a_message(password: bytes) -> None:
     done = pwhash(*MD5CRYPT, stdin=password + b"\n")
     assert (done.status, done.out, done.err) == (0, hashed(password) + b"\n", b""), done
 
 
 @pytest.mark.parametrize("words", [(), ("-m", "sha256crypt")], ids=["sha512crypt", "sha256crypt"])
-def test_what_is_over_the_budget_is_named_so_at_once(words: tuple[str, ...]) -> None:
+def test_a_password_over_the_budget_is_refused_at_once(words: tuple[str, ...]) -> None:
     done = pwhash(*words, stdin=b"x" * (LONGEST_OF_CRYPT + 1))
     assert done.status == 2 and b"over budget" in done.err, done
 
@@ -103,7 +103,7 @@ def test_what_is_over_the_budget_is_named_so_at_once(words: tuple[str, ...]) -> 
 # ---- Passwords in a file
 
 
-def test_a_password_that_crypt_does_not_take_is_doubtful_in_a_file() -> None:
+def test_a_password_too_long_for_crypt_is_doubtful_in_a_file() -> None:
     longest = b"ann:" + b"x" * LONGEST_OF_CRYPT + b"\n"
     save("list", longest + b"eve:" + b"y" * (LONGEST_OF_CRYPT + 1) + b"\n")
     done = pwhash("file", *MD5CRYPT, "list", "-o", "hashes")
@@ -114,7 +114,7 @@ def test_a_password_that_crypt_does_not_take_is_doubtful_in_a_file() -> None:
     assert (done.status, read("hashes")) == (1, expected), done
 
 
-def test_of_many_doubtful_lines_the_way_out_is_said_once() -> None:
+def test_the_advice_for_many_doubtful_lines_is_printed_once() -> None:
     save("list", b"".join(b"user%d:p\xe4ss\n" % number for number in range(30)))
     done = pwhash("file", *MD5CRYPT, "list", "-o", "hashes")
     assert done.status == 1 and done.err.count(b"not UTF-8") == 20, done

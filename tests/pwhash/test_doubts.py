@@ -1,7 +1,4 @@
-"""pwhash and lines that hardly anybody wants: accents apart, and names that come again.
-
-Each test sees only what a user sees: the command, its outputs, files and status.
-"""
+"""Lines that hardly anybody means: decomposed accents, lost characters, repeated names."""
 
 from __future__ import annotations
 
@@ -24,59 +21,60 @@ BOB = b"bob:" + hashed(b"pw2") + b"\n"
 
 
 def test_a_lost_character_is_doubtful_and_no_other_encoding_is_guessed() -> None:
-    """Programs save U+FFFD for bytes that they can't read. The file is UTF-8 all the same."""
+    """Programs save U+FFFD for bytes that they can't decode. The file is still valid UTF-8."""
     done = pwhash("file", *MD5CRYPT, save("list", "ann:Gr\ufffdn\n".encode()))
     assert (done.status, done.out) == (1, b"") and lines_named_in(done.err) == [1], done
     assert b"FFFD" in done.err and b"iconv" not in done.err, done
 
 
-# Letters and accents apart.
+# Decomposed accents: letter and accent are two characters.
 
-APART = unicodedata.normalize("NFD", "Grüße").encode()
+DECOMPOSED = unicodedata.normalize("NFD", "Grüße").encode()
 
 
 @pytest.mark.parametrize(
     "line",
     [
-        pytest.param(b"ann:" + APART, id="a password"),
+        pytest.param(b"ann:" + DECOMPOSED, id="a password"),
         pytest.param(unicodedata.normalize("NFD", "zoë").encode() + b":x", id="a name"),
-        pytest.param("ann:5 k\u2126".encode(), id="a sign that has another one"),
+        pytest.param("ann:5 k\u2126".encode(), id="a sign that NFC replaces"),
         pytest.param(unicodedata.normalize("NFD", "ann:한국").encode(), id="Korean"),
     ],
 )
-def test_a_line_with_accents_apart_is_doubtful(line: bytes) -> None:
+def test_a_line_with_decomposed_accents_is_doubtful(line: bytes) -> None:
     by_pipe = pwhash("file", *MD5CRYPT, stdin=line + b"\nbob:pw2\n")
     assert (by_pipe.status, by_pipe.out, lines_named_in(by_pipe.err)) == (1, BOB, [1]), by_pipe
     from_file = pwhash("file", *MD5CRYPT, save("list", line + b"\nbob:pw2\n"))
     assert (from_file.status, from_file.out) == (1, b"") and b"NFC" in from_file.err, from_file
 
 
-def test_a_line_with_accents_apart_can_be_accepted() -> None:
-    done = pwhash("file", *MD5CRYPT, "--accept-doubtful", stdin=b"ann:" + APART + b"\n")
-    assert (done.status, done.out) == (0, b"ann:" + hashed(APART) + b"\n"), done
+def test_a_line_with_decomposed_accents_can_be_accepted() -> None:
+    done = pwhash("file", *MD5CRYPT, "--accept-doubtful", stdin=b"ann:" + DECOMPOSED + b"\n")
+    assert (done.status, done.out) == (0, b"ann:" + hashed(DECOMPOSED) + b"\n"), done
 
 
 @pytest.mark.parametrize("password", ["Grüße", "한국", "日本語", "\u0e01\u0e33"])
-def test_a_line_as_keyboards_send_it_is_hashed(password: str) -> None:
+def test_a_line_with_composed_accents_is_hashed(password: str) -> None:
     data = unicodedata.normalize("NFC", password).encode()
     done = pwhash("file", *MD5CRYPT, stdin=b"ann:" + data + b"\n")
     assert (done.status, done.out) == (0, b"ann:" + hashed(data) + b"\n"), done
 
 
-def test_one_password_of_a_pipe_with_accents_apart_is_refused() -> None:
-    done = pwhash(*MD5CRYPT, stdin=APART + b"\n")
+def test_a_piped_password_with_decomposed_accents_is_refused() -> None:
+    done = pwhash(*MD5CRYPT, stdin=DECOMPOSED + b"\n")
     assert (done.status, done.out) == (2, b"") and b"NFC" in done.err, done
     assert b"Gru" not in done.err, done
 
 
-def test_a_typed_password_with_accents_apart_is_named_and_hashed() -> None:
-    """Some keyboards send it so, as at every later login."""
-    terminal = at_terminal(MD5CRYPT, [APART + b"\r"] * 2)
-    assert terminal.status == 0 and b"NFC" in terminal.shown, terminal
-    assert terminal.shown.split()[-1] == hashed(APART) and b"Gru" not in terminal.shown, terminal
+def test_a_typed_password_with_decomposed_accents_is_reported_and_hashed() -> None:
+    """The keyboard that sends it will send the same at every login."""
+    terminal = at_terminal(MD5CRYPT, [DECOMPOSED + b"\r"] * 2)
+    assert terminal.status == 0 and b"NFC" in terminal.screen, terminal
+    assert terminal.screen.split()[-1] == hashed(DECOMPOSED), terminal
+    assert b"Gru" not in terminal.screen, terminal
 
 
-# A name that comes again.
+# Repeated names.
 
 
 def skipped(lines: bytes) -> Ended:
@@ -90,8 +88,8 @@ def test_the_first_line_of_a_repeated_name_stays() -> None:
 
 
 @pytest.mark.parametrize("first", [b"", b"pw1 ", b"pw\t1"], ids=["empty", "a blank", "a tab"])
-def test_no_line_of_a_name_stays_whose_first_is_doubtful(first: bytes) -> None:
-    """Nobody can tell which is right, so the messages name both lines, and say so."""
+def test_a_name_whose_first_line_is_doubtful_gets_no_hash(first: bytes) -> None:
+    """pwhash can't know which line is right, so its messages name both."""
     done = skipped(b"ann:" + first + b"\nbob:pw2\nann:other\n")
     assert done.status == 1 and read("hashes") == BOB, done
     assert re.search(rb"line 1 \(ann\)", done.err), done

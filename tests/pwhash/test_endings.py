@@ -1,4 +1,4 @@
-"""Endings of pwhash: whoever reads its messages or not, the status says what is on disk."""
+"""How pwhash ends: its status is right even if nobody reads its messages."""
 from __future__ import annotations
 
 import os
@@ -41,7 +41,7 @@ EACH_SIGNAL = pytest.mark.parametrize(
 
 
 def is_asleep(process: int) -> bool:
-    """Whether it does nothing for a tenth of a second, as where it waits for a reader."""
+    """Returns whether a process sleeps for a tenth of a second, as while it waits for a reader."""
     for _ in range(5):
         if state_of(process) != "S":
             return False
@@ -65,7 +65,7 @@ def test_a_signal_ends_a_run_whose_messages_nobody_reads(number: signal.Signals)
 @pytest.mark.needs("strace")
 @EACH_SIGNAL
 def test_a_signal_after_out_has_its_name_does_not_change_the_status(number: signal.Signals) -> None:
-    """strace holds the calls that remove the other names for three seconds."""
+    """strace delays the calls that remove the other names by three seconds."""
     save("list", users(3) + b"no colon\n")
     inject = "inject=unlink,unlinkat:delay_enter=3000000"
     command = ["strace", "-f", "-qq", "-o", "/dev/null", "-e", inject, PWHASH, "file", *MD5CRYPT]
@@ -79,7 +79,7 @@ def test_a_signal_after_out_has_its_name_does_not_change_the_status(number: sign
 
 
 @pytest.mark.needs("strace")
-def test_a_full_standard_error_does_not_change_it_either() -> None:
+def test_a_full_standard_error_does_not_change_the_status_either() -> None:
     save("list", users(3))
     inject = "inject=unlink,unlinkat:delay_enter=3000000"
     command = ["strace", "-f", "-qq", "-o", "/dev/null", "-e", inject, PWHASH, "file", *MD5CRYPT]
@@ -91,13 +91,13 @@ def test_a_full_standard_error_does_not_change_it_either() -> None:
     assert done.status == 0 and sorted(os.listdir()) == ["hashes", "list"], done
 
 
-def test_no_password_is_shown_that_costs_too_much() -> None:
+def test_a_generated_password_over_the_budget_is_not_shown() -> None:
     child = pexpect.spawn(PWHASH, ["--generate", "--budget", "100"], timeout=60)
     child.expect(pexpect.EOF)
-    shown = bytes(child.before)
+    screen = bytes(child.before)
     child.close()
-    assert child.exitstatus == 2 and b"over budget" in shown, shown
-    assert b"shown only here" not in shown, shown
+    assert child.exitstatus == 2 and b"over budget" in screen, screen
+    assert b"shown only here" not in screen, screen
 
 
 @pytest.mark.parametrize(
@@ -131,7 +131,7 @@ def test_a_library_that_is_missing_is_named(copy: Copy) -> None:
 NOBODY_READS_ERRORS = pytest.mark.parametrize(
     "redirected",
     [
-        pytest.param("2> /dev/full", id="errors into a full device"),
+        pytest.param("2> /dev/full", id="errors to a full device"),
         pytest.param("2>&-", id="errors closed"),
     ],
 )
@@ -160,7 +160,7 @@ def test_a_library_that_was_cut_short_is_named(copy: Copy) -> None:
 
 
 def test_a_library_of_another_version_is_named(copy: Copy, folder: Path) -> None:
-    """One with the name but without the calls."""
+    """The library has the right name, but not the calls."""
     save("other.c", b"int other;\n")
     library = folder / copy.library.name
     soname = f"-Wl,-soname,{copy.library.name}"
@@ -187,7 +187,7 @@ def test_the_module_of_a_command_that_is_missing_is_named(copy: Copy) -> None:
     assert b"Error" not in done.stderr, done
 
 
-def test_a_starter_without_its_modules_says_so(copy: Copy) -> None:
+def test_a_command_without_its_modules_says_so(copy: Copy) -> None:
     shutil.rmtree(copy.modules)
     done = copy.run(*MD5CRYPT, stdin=b"x")
     assert done.status == 3 and str(copy.modules).encode() in done.stderr, done
@@ -203,7 +203,7 @@ def test_a_starter_without_its_modules_says_so(copy: Copy) -> None:
     ],
 )
 def test_a_python_without_all_its_modules_is_named(module: str, words: tuple[str, ...]) -> None:
-    """As Debian's python3-minimal is."""
+    """Debian's python3-minimal is such a Python."""
     name = module.removesuffix(".py").removesuffix("/__init__")
     save("none.py", b"raise ModuleNotFoundError(name='%s')\n" % name.encode())
     script = f"""
@@ -231,7 +231,7 @@ def test_a_module_that_is_damaged_is_named(copy: Copy) -> None:
         pytest.param(b"def watch(", id="its beginning"),
     ],
 )
-def test_damage_of_the_module_that_tells_of_damage_is_named(copy: Copy, left: bytes) -> None:
+def test_damage_to_the_module_that_reports_damage_is_named(copy: Copy, left: bytes) -> None:
     (copy.modules / "pwhash/unforeseen.py").write_bytes(left)
     done = copy.run(*MD5CRYPT, stdin=b"x")
     assert done.status == 3 and b"pwhash.unforeseen can't be loaded" in done.stderr, done
@@ -254,19 +254,19 @@ def test_a_module_that_the_user_cant_read_is_named(copy: Copy) -> None:
         pytest.param(b'"""Starts pwhash."""\n\nimport sys\n', id="its beginning"),
     ],
 )
-def test_what_a_full_disk_left_of_the_first_module_answers_nothing(copy: Copy, left: bytes) -> None:
-    """Python ends such a module with status 0, which would say that the password is right."""
+def test_a_truncated_first_module_never_ends_with_status_0(copy: Copy, left: bytes) -> None:
+    """Python itself would end with status 0, which means that the password is right."""
     (copy.modules / "pwhash/start.py").write_bytes(left)
     done = copy.run("check", stdin=b"ann:!:wrong\n")
     assert done.status == 3 and b"start.py is damaged" in done.stderr, done
 
 
-def test_nothing_planted_is_loaded(folder: Path) -> None:
-    """Neither modules nor libraries of the current folder, nor by the environment."""
+def test_planted_modules_and_libraries_are_not_loaded(folder: Path) -> None:
+    """Neither the current folder nor the environment names any."""
     save("json.py", b"raise SystemExit(0)\n")
     save("mkpasswd.py", b"raise SystemExit(0)\n")
     save("libmkpasswd.so.3", b"no library")
-    save("libffi.so.8", b"no library")  # which Python's ctypes needs
+    save("libffi.so.8", b"no library")  # Python's ctypes needs it
     save("sitecustomize.py", b"raise SystemExit(0)\n")
     script = 'LD_LIBRARY_PATH=. PYTHONPATH=. PYTHONHOME=. exec "$@"'
     done = shell(script, "audit", "--json", "-", stdin=b"ann:!\n")

@@ -1,4 +1,4 @@
-"""pwhash and what other programs export: values that no account has, and lines that are no list."""
+"""Lists that other programs exported: rows of tables, stored hashes, and changed cells."""
 from __future__ import annotations
 
 import os
@@ -10,7 +10,7 @@ REFUSED = 1
 
 
 def assert_doubtful(lines: bytes, line: int, *words: str) -> None:
-    """This line alone is doubtful, no password is shown, and nothing is hashed."""
+    """Fails unless only this line is doubtful, no password is shown, and nothing is hashed."""
     done = pwhash("file", *MD5CRYPT, *words, save("list", lines), "-o", "hashes")
     assert (done.status, {*lines_named_in(done.err)}) == (REFUSED, {line}), done
     assert b"secret" not in done.err and not os.path.exists("hashes"), done
@@ -39,7 +39,7 @@ def test_a_row_of_a_table_in_a_list_shows_no_password(line: bytes) -> None:
         pytest.param(b"secret:::::", id="empty"),
     ],
 )
-def test_a_line_of_newusers_is_no_password(field: bytes) -> None:
+def test_a_line_for_newusers_is_no_password(field: bytes) -> None:
     assert_doubtful(b"ann:pw\nbob:" + field + b"\n", 2)
 
 
@@ -61,10 +61,10 @@ def test_a_stored_hash_of_any_program_is_no_password(stored: bytes) -> None:
     "cell",
     [
         pytest.param(b'"=""00123"""', id="a formula that keeps zeros"),
-        pytest.param(b"'=secret", id="a formula behind an apostrophe"),
+        pytest.param(b"'=secret", id="a formula after an apostrophe"),
         pytest.param(b"NULL", id="NULL"),
         pytest.param(b"null", id="null"),
-        pytest.param(rb"\N", id="nothing of PostgreSQL and MySQL"),
+        pytest.param(rb"\N", id="NULL in PostgreSQL and MySQL"),
         pytest.param("Grün".encode().decode("cp1252").encode(), id="UTF-8 read as Windows-1252"),
     ],
 )
@@ -75,13 +75,13 @@ def test_a_cell_that_an_export_changed_is_doubtful(cell: bytes) -> None:
 @pytest.mark.parametrize(
     "password", ["null", "Grün", "a b:c", "a:b:c:d:e:f", "'=x", "Ã", "x|y", "$a$123"]
 )
-def test_such_a_password_of_a_list_is_one(password: str) -> None:
+def test_a_password_in_a_list_that_resembles_an_export_is_hashed(password: str) -> None:
     lines = f"ann:{password}\n".encode()
     done = pwhash("file", *MD5CRYPT, save("list", lines), "-o", "hashes")
     assert (done.status, read("hashes").count(b"\n")) == (0, 1), done
 
 
-def test_rows_that_two_stray_quotes_join_are_named_by_the_first_line_too() -> None:
+def test_rows_joined_by_two_stray_quotes_are_named_by_both_lines() -> None:
     table = b'name,password\nann,"abc\nbob,x1\ncarl,x2\neve,def"\nfay,x3\n'
     done = pwhash("file", "--csv", *MD5CRYPT, save("table", table), "-o", "hashes")
     assert done.status == REFUSED and b"line 5: " in done.err, done

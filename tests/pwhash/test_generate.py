@@ -1,6 +1,6 @@
 """pwhash file --generate: a new password for each name, in lists for people.
 
-Hashes are compared with libxcrypt's. Each test sees only what a user sees.
+Hashes are compared with libxcrypt's.
 """
 from __future__ import annotations
 
@@ -11,7 +11,7 @@ import re
 import stat
 
 import pytest
-from support.pwhash_runs import MARK, Ended, hashed, lines_named_in, pwhash, read, save, shell
+from support.pwhash_runs import BOM, Ended, hashed, lines_named_in, pwhash, read, save, shell
 
 FAST = ("-R", "1000")
 WORDS = ("file", "--generate", *FAST, "-o", "hashes")
@@ -22,7 +22,7 @@ LETTERS = re.compile(
 
 
 def rows_of(path: str, separator: str = ",") -> dict[bytes, bytes]:
-    """The passwords of a list, as a program reads it that knows CSV."""
+    """Returns the passwords in a list by name, read as CSV."""
     text = read(path).decode("utf-8-sig")
     heading, *rows = csv.reader(io.StringIO(text), delimiter=separator)
     assert heading == ["name", "password"], text
@@ -30,7 +30,7 @@ def rows_of(path: str, separator: str = ",") -> dict[bytes, bytes]:
 
 
 def assert_hashes_of(passwords: dict[bytes, bytes], path: str = "hashes") -> None:
-    """Fails unless a file has a right hash for each name, and no others."""
+    """Fails unless a file has the right hash of each name, and no other line."""
     lines = [line.partition(b":") for line in read(path).splitlines()]
     assert {name for name, _, _ in lines} == set(passwords), lines
     for name, _, stored in lines:
@@ -62,7 +62,7 @@ def test_each_name_gets_a_password_of_its_own() -> None:
 
 
 @pytest.mark.parametrize("umask", [0o000, 0o022, 0o777], ids="{:03o}".format)
-def test_only_the_owner_can_read_a_list(umask: int) -> None:
+def test_only_its_owner_can_read_a_list(umask: int) -> None:
     save("names", b"ann\n")
     save("table", b"name,class\nann,5a\n")
     script = f'umask {umask:03o}; exec "$@"'
@@ -84,8 +84,8 @@ def test_a_length_can_be_chosen(length: int) -> None:
     assert_hashes_of(passwords)
 
 
-def test_the_files_of_windows_have_names_too() -> None:
-    save("names", MARK + b"ann\r\nbob\r\n")
+def test_names_can_come_from_a_file_of_windows() -> None:
+    save("names", BOM + b"ann\r\nbob\r\n")
     done = pwhash(*WORDS, "names", "--windows", "--passwords", "list")
     assert done.status == 0 and list(rows_of("list")) == [b"ann", b"bob"], done
 
@@ -99,7 +99,7 @@ def test_locked_names_get_no_password() -> None:
     assert_hashes_of(rows_of("list"))
 
 
-def test_a_name_that_stands_twice_has_one_password() -> None:
+def test_a_repeated_name_has_one_password() -> None:
     save("table", b"name,class\nann,5a\nbob,5a\nann,5b\n")
     done = pwhash(*BY_CLASS, "table")
     assert done.status == 1 and b"the name again" in done.err and not os.path.exists("lists"), done
@@ -108,21 +108,21 @@ def test_a_name_that_stands_twice_has_one_password() -> None:
     assert_hashes_of({**rows_of("lists/5a.csv"), **rows_of("lists/5b.csv")})
 
 
-# ---- What a spreadsheet does with a list
+# ---- Names that spreadsheets would compute
 
 FORMULAS = [
     pytest.param(b"=1+1", id="equals"),
     pytest.param(b"+1", id="plus"),
     pytest.param(b"-1", id="minus"),
     pytest.param(b"@SUM(A1)", id="at"),
-    pytest.param("＝1".encode(), id="a wide equals"),
-    pytest.param(b"\t=1", id="behind a tab"),
-    pytest.param(b" =1", id="behind a blank"),
-    pytest.param("\u200b=1".encode(), id="behind a space of no width"),
-    pytest.param(b"a,=1", id="behind a comma"),
-    pytest.param(b"a;=1", id="behind a semicolon"),
-    pytest.param(b"a\t=1", id="behind a tab and a letter"),
-    pytest.param(b"a\r=1", id="behind a carriage return"),
+    pytest.param("＝1".encode(), id="a full-width equals sign"),
+    pytest.param(b"\t=1", id="after a tab"),
+    pytest.param(b" =1", id="after a blank"),
+    pytest.param("\u200b=1".encode(), id="after a zero-width space"),
+    pytest.param(b"a,=1", id="after a comma"),
+    pytest.param(b"a;=1", id="after a semicolon"),
+    pytest.param(b"a\t=1", id="after a letter and a tab"),
+    pytest.param(b"a\r=1", id="after a carriage return"),
     pytest.param(b'"=1"', id="in quotes"),
     pytest.param(b'a"', id="a quote"),
 ]
@@ -145,20 +145,20 @@ def test_a_list_has_the_separator_of_its_table(separator: str) -> None:
     table = "name,class\nann,5a\nmüller,5a\n".replace(",", separator)
     save("table", table.encode())
     done = pwhash(*BY_CLASS, "table")
-    assert done.status == 0 and read("lists/5a.csv").startswith(MARK), done
+    assert done.status == 0 and read("lists/5a.csv").startswith(BOM), done
     passwords = rows_of("lists/5a.csv", separator)
     assert list(passwords) == [b"ann", "müller".encode()]
     assert_hashes_of(passwords)
 
 
-def test_pwhash_reads_its_lists() -> None:
+def test_pwhash_can_read_its_own_lists() -> None:
     save("table", "name;class\nann;5a\nmüller;5a\n".encode())
     assert pwhash(*BY_CLASS, "table").status == 0
     done = pwhash("check", "--csv", "--shadow", "hashes", "lists/5a.csv")
     assert (done.status, done.out) == (0, "ann:ok\nmüller:ok\n".encode()), done
 
 
-# ---- Tables, and a list for each class
+# ---- A list for each class of a table
 
 
 def test_a_table_gives_a_list_for_each_class() -> None:
@@ -171,7 +171,7 @@ def test_a_table_gives_a_list_for_each_class() -> None:
     assert_hashes_of({**first, **second})
 
 
-def test_columns_can_have_numbers() -> None:
+def test_columns_can_be_given_by_number() -> None:
     save("table", b"A,ann,5a\nB,bob,5b\n")
     done = pwhash(*WORDS, "--csv", "table", "--columns", "2", "--by", "3", "--passwords", "lists")
     assert done.status == 0 and sorted(os.listdir("lists")) == ["5a.csv", "5b.csv"], done
@@ -190,7 +190,7 @@ def test_a_table_without_classes_gives_one_list() -> None:
 CLASSES = [
     pytest.param(b"", b"nothing", id="nothing"),
     pytest.param(b" ", b"nothing", id="a blank"),
-    pytest.param(b"../5a", b"slash", id="a way out"),
+    pytest.param(b"../5a", b"slash", id="a parent folder"),
     pytest.param(b"/etc/5a", b"slash", id="a path"),
     pytest.param(b"5/a", b"slash", id="a slash"),
     pytest.param(b".", b"first dot", id="a dot"),
@@ -198,7 +198,7 @@ CLASSES = [
     pytest.param(b".5a", b"first dot", id="a hidden file"),
     pytest.param(b"5\x1b[2Ja", b"invisible", id="an escape"),
     pytest.param(b"5\x00a", b"invisible", id="a zero byte"),
-    pytest.param("5\u200ba".encode(), b"invisible", id="a space of no width"),
+    pytest.param("5\u200ba".encode(), b"invisible", id="a zero-width space"),
     pytest.param(b"K\xe4fer", b"WINDOWS-1252", id="Windows-1252"),
     pytest.param(b"x" * 252, b"too long", id="too long"),
     pytest.param(b"#NAME?", b"an error of a spreadsheet", id="an error of a spreadsheet"),
@@ -206,7 +206,7 @@ CLASSES = [
 
 
 @pytest.mark.parametrize(("value", "reason"), CLASSES)
-def test_a_class_that_names_no_file_is_refused(value: bytes, reason: bytes) -> None:
+def test_a_class_that_cannot_name_a_file_is_refused(value: bytes, reason: bytes) -> None:
     save("table", b"name,class\nann,5a\neve," + value + b"\n")
     done = pwhash(*BY_CLASS, "table", "--accept-doubtful")
     assert done.status == 1 and reason in done.err and lines_named_in(done.err) == [3], done
@@ -233,7 +233,7 @@ ROWS = [
 
 
 @pytest.mark.parametrize(("row", "reason"), ROWS)
-def test_a_row_that_is_none_of_an_account_is_refused(row: bytes, reason: str) -> None:
+def test_a_row_that_is_no_account_is_refused(row: bytes, reason: str) -> None:
     save("table", b"name,class\nann,5a\n" + row + b"bob,5a\n")
     done = pwhash(*BY_CLASS, "table")
     assert done.status == 1 and reason.encode() in done.err, done
@@ -242,28 +242,28 @@ def test_a_row_that_is_none_of_an_account_is_refused(row: bytes, reason: str) ->
     assert_hashes_of(rows_of("lists/5a.csv"))
 
 
-def test_a_row_that_ends_before_the_column_of_names_is_refused_for_that() -> None:
+def test_a_row_without_the_column_of_names_is_refused_for_that() -> None:
     save("table", b"class;surname;name\n5a;M\xfcller;ann\n5a;eve\n")
     done = pwhash(*BY_CLASS, "table")
     assert done.status == 1 and b"no field in the column of names" in done.err, done
     assert lines_named_in(done.err) == [3] and sorted(os.listdir()) == ["table"], done
 
 
-def test_lines_with_passwords_get_no_other_ones() -> None:
+def test_lines_that_have_passwords_are_refused() -> None:
     save("names", b"ann:secret\nbob\n")
     done = pwhash(*WORDS, "names", "--passwords", "list")
     assert done.status == 1 and b"names alone" in done.err and b"secret" not in done.err, done
     assert sorted(os.listdir()) == ["names"], done
 
 
-def test_a_look_makes_no_list() -> None:
+def test_the_option_look_makes_no_list() -> None:
     save("names", b"ann\nname\n")
     done = pwhash("file", "--generate", "--look", "names")
     assert done.status == 1 and b"heading" in done.err, done
     assert sorted(os.listdir()) == ["names"], done
 
 
-# ---- Arguments that don't fit
+# ---- Invalid arguments
 
 
 @pytest.mark.parametrize(
@@ -303,7 +303,7 @@ def test_a_look_makes_no_list() -> None:
         ),
     ],
 )
-def test_words_that_do_not_fit_are_refused(words: str, reason: bytes) -> None:
+def test_invalid_arguments_are_refused(words: str, reason: bytes) -> None:
     save("names", b"ann\n")
     save("table", b"name,class,password\nann,5a,secret\n")
     done = pwhash("file", *words.split(), stdin=b"ann\n")
@@ -312,7 +312,7 @@ def test_words_that_do_not_fit_are_refused(words: str, reason: bytes) -> None:
 
 @pytest.mark.parametrize("kind", ["file", "folder", "link", "pipe"])
 @pytest.mark.parametrize("by_class", [False, True], ids=["one list", "a list for each class"])
-def test_nothing_that_exists_becomes_a_list(kind: str, by_class: bool) -> None:
+def test_a_list_overwrites_nothing(kind: str, by_class: bool) -> None:
     save("names", b"name,class\nann,5a\n")
     if kind == "file":
         save("lists", b"old")
@@ -329,7 +329,7 @@ def test_nothing_that_exists_becomes_a_list(kind: str, by_class: bool) -> None:
     assert_refused(done, b"lists already exists", "names", "lists")
 
 
-def test_no_list_is_put_where_anybody_can_remove_it() -> None:
+def test_no_list_is_written_where_anybody_could_remove_it() -> None:
     save("names", b"ann\n")
     os.mkdir("open")
     os.chmod("open", 0o777)

@@ -1,4 +1,4 @@
-"""pwhash file --generate that ends early: no hash is there whose password isn't in a list.
+"""pwhash file --generate that ends early: no hash remains without its password in a list.
 
 Hashes are compared with libxcrypt's.
 """
@@ -40,13 +40,13 @@ STARTED = ("/usr/bin/python3", "-I", "-S", str(PACKAGE / "pwhash/start.py"), str
 @pytest.fixture(autouse=True, name="table")
 def fixture_table(folder: pathlib.Path) -> None:
     """A table in the scratch folder."""
-    del folder  # the current one
+    del folder  # it is the current folder
     save("table", TABLE)
     os.utime("table", (1e9, 1e9))
 
 
 def passwords_in(lists: str = "lists") -> dict[bytes, bytes]:
-    """The passwords in all lists. A list may be cut only while there are no hashes."""
+    """Returns the passwords in all lists. A list may be cut only while there are no hashes."""
     path = pathlib.Path(lists)
     files = sorted(path.iterdir()) if path.is_dir() else [path]
     rows = [line.partition(b";") for file in files for line in file.read_bytes().splitlines()]
@@ -54,7 +54,7 @@ def passwords_in(lists: str = "lists") -> dict[bytes, bytes]:
 
 
 def hashes_in(name: str) -> dict[bytes, bytes]:
-    """The whole lines of a file of hashes, if it is there."""
+    """Returns the hashes in the whole lines of a file, which may not exist."""
     if not os.path.exists(name):
         return {}
     lines = [line.partition(b":") for line in read(name).split(b"\n")[:-1]]
@@ -62,7 +62,7 @@ def hashes_in(name: str) -> dict[bytes, bytes]:
 
 
 def assert_passwords_of(hashes: dict[bytes, bytes], most: int) -> None:
-    """Fails unless each hash is of a password in a list. `most` hashes are made again."""
+    """Fails unless each hash has a password in a list. Computes at most `most` hashes again."""
     passwords = passwords_in() if hashes else {}
     assert set(hashes) <= set(passwords), set(hashes) - set(passwords)
     for name in random.sample(sorted(hashes), min(most, len(hashes))):
@@ -70,7 +70,7 @@ def assert_passwords_of(hashes: dict[bytes, bytes], most: int) -> None:
 
 
 def assert_whole(done: Ended) -> None:
-    """Fails unless all names have a hash of their password."""
+    """Fails unless the run has made the hash of each name's password."""
     assert done.status == 0, done
     hashes = hashes_in("hashes")
     assert len(hashes) == COUNT and set(os.listdir()) == {"table", "hashes", "lists"}, done
@@ -86,7 +86,7 @@ def remove_all() -> None:
 
 
 def seconds_of_run() -> float:
-    """How long a run takes here."""
+    """Returns how long a run takes here."""
     begun = time.monotonic()
     assert_whole(pwhash(*WORDS))
     remove_all()
@@ -94,7 +94,7 @@ def seconds_of_run() -> float:
 
 
 def stopped(number: signal.Signals, seconds: float) -> Ended:
-    """A run to which a signal is sent after some time, if it hasn't ended by then."""
+    """Runs pwhash, and sends it a signal after some time, if it hasn't ended by then."""
     with started(*WORDS) as process:
         time.sleep(seconds)
         process.send_signal(number)
@@ -110,9 +110,9 @@ def test_a_kill_at_any_moment_leaves_no_hash_without_its_password(number: signal
         assert_passwords_of(made, 3)
         if not os.path.exists("hashes"):
             done = pwhash(*WORDS, "--resume")
-        if done.status == 2 and number is signal.SIGKILL:  # the lists may be cut
+        if done.status == 2 and number is signal.SIGKILL:  # it was writing the lists
             assert b"lists already exists" in done.err and not made, done
-        elif done.status != -number:  # it may be whole when the signal comes
+        elif done.status != -number:  # the run may have ended before the signal
             assert_whole(done)
             later = hashes_in("hashes")
             assert all(later[name] == stored for name, stored in made.items()), done
@@ -121,7 +121,7 @@ def test_a_kill_at_any_moment_leaves_no_hash_without_its_password(number: signal
 
 @pytest.fixture(name="interrupted")
 def fixture_interrupted(table: None) -> None:
-    """A run that was killed in its midst."""
+    """Starts a run and kills it halfway."""
     del table
     with started(*WORDS) as process:
         wait_for(lambda: has_begun(PART))
@@ -129,7 +129,7 @@ def fixture_interrupted(table: None) -> None:
     assert os.path.exists(PART) and len(passwords_in()) == COUNT
 
 
-def refused_to_go_on(*words: str, reason: bytes) -> None:
+def assert_does_not_resume(*words: str, reason: bytes) -> None:
     before = read(PART)
     done = pwhash(*words, "--resume")
     assert done.status == 2 and reason in done.err and done.out == b"", done
@@ -138,7 +138,7 @@ def refused_to_go_on(*words: str, reason: bytes) -> None:
 
 @pytest.mark.usefixtures("interrupted")
 class TestResuming:
-    """A run that goes on, or doesn't."""
+    """A killed run, which goes on with --resume unless something has changed."""
 
     def test_a_run_goes_on_with_the_same_passwords(self) -> None:
         before, made = passwords_in(), hashes_in(PART)
@@ -146,17 +146,17 @@ class TestResuming:
         assert passwords_in() == before
         assert all(hashes_in("hashes")[name] == stored for name, stored in made.items())
 
-    def test_without_resume_nothing_goes_on(self) -> None:
+    def test_a_run_does_not_go_on_without_resume(self) -> None:
         done = pwhash(*WORDS)
         assert done.status == 2 and b"lists already exists" in done.err, done
 
-    def test_a_list_that_is_gone_is_named(self) -> None:
+    def test_a_missing_list_is_named(self) -> None:
         os.rename("lists/c1.csv", "c1.csv")
-        refused_to_go_on(*WORDS, reason=b"has no password in the lists")
+        assert_does_not_resume(*WORDS, reason=b"has no password in the lists")
 
-    def test_lists_that_are_gone_are_named(self) -> None:
+    def test_missing_lists_are_named(self) -> None:
         os.rename("lists", "elsewhere")
-        refused_to_go_on(*WORDS, reason=b"lists, which is gone")
+        assert_does_not_resume(*WORDS, reason=b"lists, which is gone")
         assert not os.path.exists("lists")
 
     @pytest.mark.parametrize(
@@ -165,44 +165,44 @@ class TestResuming:
             pytest.param(b"\n", b";\n", id="another column"),
             pytest.param(b"name;password\n", b"", id="no heading"),
             pytest.param(b"user0;", b"user0;x;", id="another field"),
-            pytest.param(b"\n", b"\r", id="other ends of lines"),
+            pytest.param(b"\n", b"\r", id="other line ends"),
         ],
     )
-    def test_a_list_that_was_changed_is_named(self, old: bytes, new: bytes) -> None:
+    def test_a_changed_list_is_named(self, old: bytes, new: bytes) -> None:
         save("lists/c0.csv", read("lists/c0.csv").replace(old, new))
-        refused_to_go_on(*WORDS, reason=b"lists/c0.csv isn't as the run that began left it")
+        assert_does_not_resume(*WORDS, reason=b"lists/c0.csv isn't as the run that began left it")
 
     @pytest.mark.parametrize("size", [0, 4, len(b"name;password"), 30])
-    def test_a_list_that_was_cut_is_named(self, size: int) -> None:
+    def test_a_truncated_list_is_named(self, size: int) -> None:
         os.truncate("lists/c0.csv", size)
-        refused_to_go_on(*WORDS, reason=b"lists/c0.csv isn't as the run that began left it")
+        assert_does_not_resume(*WORDS, reason=b"lists/c0.csv isn't as the run that began left it")
 
     def test_another_first_password_is_noticed(self) -> None:
         lines = read("lists/c0.csv").splitlines(keepends=True)
         save("lists/c0.csv", b"".join([lines[0], b"user0;AAAAAAAAAAAAAAAAAAAA\n", *lines[2:]]))
-        refused_to_go_on(*WORDS, reason=b"line 1: not of line 2")
+        assert_does_not_resume(*WORDS, reason=b"line 1: not of line 2")
 
     def test_a_list_that_others_can_read_is_refused(self) -> None:
         os.chmod("lists/c0.csv", 0o644)
-        refused_to_go_on(*WORDS, reason=b"its mode is 0644")
+        assert_does_not_resume(*WORDS, reason=b"its mode is 0644")
 
     def test_a_folder_that_others_can_write_is_refused(self) -> None:
         os.chmod("lists", 0o777)
-        refused_to_go_on(*WORDS, reason=b"no folder that a run of yours has made")
+        assert_does_not_resume(*WORDS, reason=b"no folder that a run of yours has made")
 
-    def test_a_link_is_no_list(self) -> None:
+    def test_a_link_to_the_lists_is_refused(self) -> None:
         os.rename("lists", "elsewhere")
         os.symlink("elsewhere", "lists")
-        refused_to_go_on(*WORDS, reason=b"no folder that a run of yours has made")
+        assert_does_not_resume(*WORDS, reason=b"no folder that a run of yours has made")
 
-    def test_other_options_do_not_go_on(self) -> None:
-        refused_to_go_on(*ONE, reason=b"--by")
+    def test_a_run_does_not_go_on_with_other_options(self) -> None:
+        assert_does_not_resume(*ONE, reason=b"--by")
         words = [word for word in WORDS if word not in ("--generate", "--passwords", "lists")]
-        refused_to_go_on(*words[: words.index("--by")], reason=b"")
+        assert_does_not_resume(*words[: words.index("--by")], reason=b"")
 
-    def test_a_table_that_was_changed_does_not_go_on(self) -> None:
+    def test_a_run_does_not_go_on_with_a_changed_table(self) -> None:
         save("table", TABLE + b"eve;c0\n")
-        refused_to_go_on(*WORDS, reason=b"changed or touched")
+        assert_does_not_resume(*WORDS, reason=b"changed or touched")
 
 
 @pytest.mark.needs("strace")
@@ -211,10 +211,10 @@ class TestResuming:
     [
         pytest.param("lists/c0.csv", id="before the first list"),
         pytest.param("lists/c3.csv", id="before the last list"),
-        pytest.param("hashes.part.options", id="behind the last list"),
+        pytest.param("hashes.part.options", id="after the last list"),
     ],
 )
-def test_a_run_that_was_killed_while_it_wrote_the_lists_says_what_to_do(file: str) -> None:
+def test_the_run_after_one_killed_while_writing_lists_says_what_to_do(file: str) -> None:
     command = ["strace", "-qq", "-o", "/dev/null", "-P", file, "-e", "inject=openat:signal=KILL"]
     ended(started_program(*command, *STARTED, *WORDS))
     assert set(os.listdir()) == {"table", "lists", PART} and not hashes_in(PART)
@@ -228,7 +228,7 @@ def test_a_run_that_was_killed_while_it_wrote_the_lists_says_what_to_do(file: st
     assert_whole(pwhash(*WORDS, "--resume"))
 
 
-def test_whoever_forgets_to_resume_is_not_told_to_remove_the_passwords_alone() -> None:
+def test_without_resume_nobody_is_advised_to_remove_only_the_passwords() -> None:
     with started(*WORDS) as process:
         wait_for(lambda: has_begun(PART))
         process.kill()
@@ -236,7 +236,7 @@ def test_whoever_forgets_to_resume_is_not_told_to_remove_the_passwords_alone() -
     assert done.status == 2 and b"add --resume, or remove both" in done.err, done
 
 
-def test_one_list_goes_on_too() -> None:
+def test_a_run_with_one_list_goes_on_too() -> None:
     with started(*ONE) as process:
         wait_for(lambda: has_begun(PART))
         process.kill()
@@ -263,7 +263,7 @@ def test_who_was_locked_meanwhile_is_named_and_stands_in_a_list_without_a_hash()
     assert set(passwords_in()) - set(hashes_in("hashes")) == {last}
 
 
-def test_of_two_runs_at_once_one_makes_all() -> None:
+def test_of_three_simultaneous_runs_one_makes_everything() -> None:
     processes = [started(*WORDS) for _ in range(3)]
     results = [ended(process) for process in processes]
     whole = [done for done in results if done.status == 0]
@@ -272,7 +272,7 @@ def test_of_two_runs_at_once_one_makes_all() -> None:
     assert_whole(whole[0])
 
 
-def test_of_two_runs_with_the_same_lists_one_makes_all() -> None:
+def test_of_two_simultaneous_runs_with_the_same_lists_one_makes_everything() -> None:
     others = [word if word != "hashes" else "others" for word in WORDS]
     processes = [started(*words) for words in (WORDS, others)]
     results = [ended(process) for process in processes]
@@ -283,7 +283,7 @@ def test_of_two_runs_with_the_same_lists_one_makes_all() -> None:
     assert not os.path.exists(PART) and not os.path.exists("others.part"), results
 
 
-# The first run may fail, since the disk is small. What it leaves is copied; then there is room.
+# The first run may fail on the small disk, and what it leaves is copied. The next one has room.
 SMALL_THEN_LARGE = """
 mkdir full left && mount -t tmpfs -o size=PAGESk,mode=700 none full && cd full
 status=0; "$@" || status=$?

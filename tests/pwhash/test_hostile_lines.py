@@ -1,4 +1,4 @@
-"""Lines that may be anything: pwhash prints the very bytes that one mkpasswd prints."""
+"""Hostile lines: pwhash prints exactly the bytes that a single mkpasswd prints."""
 from __future__ import annotations
 
 import random
@@ -35,7 +35,7 @@ FIELDS = [
 
 
 def lines_of_passwords(seed: int) -> list[bytes]:
-    """Lines of a batch: passwords, each kind of refusal, long lines, what looks like an answer."""
+    """Returns lines of --batch: passwords, refusals of each kind, long lines, imitated answers."""
     source = random.Random(seed)
     return [
         source.choice(ODD_LINES) if source.random() < 0.3 else b"user%d:password%d" % (n, n)
@@ -44,7 +44,7 @@ def lines_of_passwords(seed: int) -> list[bytes]:
 
 
 def lines_of_fields(seed: int) -> list[bytes]:
-    """Lines to be checked: stored fields of each kind, and among them what is no such line."""
+    """Returns lines of --check: stored fields of each kind, and malformed lines among them."""
     source = random.Random(seed)
     return [
         line if source.random() < 0.1 else b"u%d:%b:password" % (n, source.choice(FIELDS))
@@ -54,29 +54,29 @@ def lines_of_fields(seed: int) -> list[bytes]:
 
 @dataclass(frozen=True)
 class Job:
-    """A command of pwhash, and the mode of mkpasswd that does the same."""
+    """A command of pwhash, and mkpasswd's mode that does the same."""
 
     title: str
     command: str
     mode: str
     words: tuple[str, ...]
-    more: tuple[str, ...] = ()  # for pwhash, which asks before it hashes a doubtful line
-    more_of_file: tuple[str, ...] = ()  # likewise for lines in a file
+    more: tuple[str, ...] = ()  # options by which pwhash hashes doubtful lines
+    more_of_file: tuple[str, ...] = ()  # such options for a file
 
     def __str__(self) -> str:
         return self.title
 
     def lines(self) -> bytes:
-        """The lines, the last of which has no line feed."""
+        """Returns the lines. The last one has no line feed."""
         lines = lines_of_passwords(1) if self.mode == "--batch" else lines_of_fields(2)
         return b"\n".join(lines)
 
     def by_mkpasswd(self, program: Path) -> Result:
-        """What one mkpasswd prints."""
+        """Runs a single mkpasswd."""
         return run(program, self.mode, *self.words, BUDGET, stdin=self.lines())
 
     def by_pwhash(self, *words: str, stdin: bytes = b"") -> Result:
-        """What pwhash prints."""
+        """Runs pwhash."""
         return run(PWHASH, self.command, *self.words, BUDGET, *self.more, *words, stdin=stdin)
 
 
@@ -90,7 +90,7 @@ JOBS = [
 
 @pytest.mark.slow
 @pytest.mark.parametrize("job", JOBS, ids=str)
-def test_a_pipe_is_answered_as_by_one_mkpasswd(program: Path, job: Job) -> None:
+def test_lines_of_a_pipe_get_the_answers_of_mkpasswd(program: Path, job: Job) -> None:
     expected, done = job.by_mkpasswd(program), job.by_pwhash(stdin=job.lines())
     assert done.status == expected.status, done
     is_same = (done.stdout, done.stderr) == (expected.stdout, expected.stderr)
@@ -99,7 +99,7 @@ def test_a_pipe_is_answered_as_by_one_mkpasswd(program: Path, job: Job) -> None:
 
 @pytest.mark.slow
 @pytest.mark.parametrize("job", JOBS, ids=str)
-def test_a_file_is_answered_as_by_one_mkpasswd(program: Path, job: Job) -> None:
+def test_lines_of_a_file_get_the_answers_of_mkpasswd(program: Path, job: Job) -> None:
     expected = job.by_mkpasswd(program)
     done = job.by_pwhash(*job.more_of_file, save("lines", job.lines()))
     assert done.status == expected.status, done
@@ -108,7 +108,7 @@ def test_a_file_is_answered_as_by_one_mkpasswd(program: Path, job: Job) -> None:
 
 
 def first_difference(expected: Result, done: Result) -> str:
-    """The first line that differs, on either output; pytest would compare megabytes."""
+    """Describes the first line that differs in an output. pytest would compare megabytes."""
     for name, wanted, came in (
         ("stdout", expected.stdout, done.stdout),
         ("stderr", expected.stderr, done.stderr),
@@ -117,4 +117,4 @@ def first_difference(expected: Result, done: Result) -> str:
         for number, (line, other) in enumerate(pairs, start=1):
             if line != other:
                 return f"{name}, line {number}: expected {line[:200]!r}, got {other[:200]!r}"
-    return f"the same lines, with other ends\n{done}"
+    return f"the lines are the same, but one output ends earlier\n{done}"

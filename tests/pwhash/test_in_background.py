@@ -1,7 +1,4 @@
-"""pwhash asks for a password in the background of a terminal, where the system stops it.
-
-Each test sees only what a user sees: the command, its outputs, files and status.
-"""
+"""pwhash in the background of a terminal, where the system stops it when it asks for a password."""
 from __future__ import annotations
 
 import os
@@ -16,7 +13,7 @@ with needed("python3-pexpect"):
     import pexpect
 
 
-# Runs pwhash as a job, until the system has stopped it.
+# Runs pwhash as a job, and waits until the system has stopped it.
 JOB = """
 set -m
 until_stopped() {
@@ -38,34 +35,34 @@ end_of_job() {
 """
 
 
-def number_behind(child: Any, words: bytes) -> int:
-    """Waits for these words of a script."""
+def number_after(child: Any, words: bytes) -> int:
+    """Waits for these words of a script, and returns the number after them."""
     child.expect(words + rb" ([0-9]+)")
     return int(child.match[1])
 
 
 def in_background(script: str) -> Any:
-    """Runs a script of bash on a terminal, once pwhash is stopped in its background."""
+    """Runs a bash script at a terminal, once pwhash is stopped in the background."""
     words = ["-c", JOB + script, "bash", PWHASH, *MD5CRYPT]
     return pexpect.spawn("/bin/bash", words, timeout=60, echo=False)
 
 
 @pytest.mark.parametrize("name", ["TERM", "HUP", "INT", "USR1"])
-def test_a_signal_ends_it_before_it_asks(name: str) -> None:
-    """As `timeout` sends it, which then lets the stopped process go on."""
+def test_a_signal_ends_pwhash_before_it_asks(name: str) -> None:
+    """`timeout` sends such a signal, and then continues the stopped process."""
     child = in_background(f"kill -{name} $job; kill -CONT $job; end_of_job")
-    assert number_behind(child, b"status") == 128 + getattr(signal, f"SIG{name}")
+    assert number_after(child, b"status") == 128 + getattr(signal, f"SIG{name}")
 
 
-def test_in_the_foreground_again_it_asks() -> None:
+def test_pwhash_asks_once_it_is_in_the_foreground() -> None:
     child = in_background("fg > /dev/null")
     child.expect(rb"Password: ")
-    shown = type_secret(child)
-    assert shown.split() == [hashed(b"secret")] and child.exitstatus == 0, shown
+    screen = type_secret(child)
+    assert screen.split() == [hashed(b"secret")] and child.exitstatus == 0, screen
 
 
-def test_a_signal_ends_it_in_the_background_after_it_has_asked() -> None:
-    """It is stopped while it asks, and goes on in the background, where it asks for nothing."""
+def test_a_signal_ends_pwhash_in_the_background_after_it_has_asked() -> None:
+    """It is stopped at its prompt, and continued in the background, where it must not ask."""
     script = """
         echo "job $job"
         fg %1 > /dev/null
@@ -74,7 +71,7 @@ def test_a_signal_ends_it_in_the_background_after_it_has_asked() -> None:
         kill -TERM $job; end_of_job
     """
     child = in_background(script)
-    job = number_behind(child, b"job")
+    job = number_after(child, b"job")
     child.expect(rb"Password: ")
     os.kill(job, signal.SIGSTOP)
-    assert number_behind(child, b"status") == 128 + signal.SIGTERM
+    assert number_after(child, b"status") == 128 + signal.SIGTERM

@@ -1,4 +1,4 @@
-"""pwhash install: which files of hashes become a password file, and what that keeps."""
+"""pwhash install: which files of hashes it installs, and what it keeps of the password file."""
 from __future__ import annotations
 
 import grp
@@ -38,7 +38,7 @@ STARTED = ("/usr/bin/python3", "-I", "-S", str(PACKAGE / "pwhash/start.py"), str
 
 
 def beside() -> list[str]:
-    """The files of the current folder."""
+    """Returns the files in the current folder."""
     return sorted(path.name for path in Path().iterdir())
 
 
@@ -47,11 +47,11 @@ def rights_of(path: str) -> tuple[int, int, int]:
     return stat.S_IMODE(status.st_mode), status.st_uid, status.st_gid
 
 
-# ---- A file that is there
+# ---- An existing file
 
 
 @pytest.mark.needs("root")
-def test_target_has_the_lines_and_keeps_its_owner_and_mode() -> None:
+def test_an_existing_target_gets_the_lines_and_keeps_owner_and_mode() -> None:
     save("hashes", HASHES)
     save("target", OLD)
     os.chown("target", OWNER, GROUP)
@@ -65,7 +65,7 @@ def test_target_has_the_lines_and_keeps_its_owner_and_mode() -> None:
 
 
 @pytest.mark.parametrize("mark", [b"!", b"!!", b"*"])
-def test_who_is_locked_in_target_stays_locked(mark: bytes) -> None:
+def test_names_that_are_locked_in_target_stay_locked(mark: bytes) -> None:
     save("hashes", HASHES)
     save("target", b"cid:x\nbob:" + mark + b"old:7\n")
     done = pwhash(*INSTALL)
@@ -74,7 +74,7 @@ def test_who_is_locked_in_target_stays_locked(mark: bytes) -> None:
     assert b"stay locked, as they were: bob." in done.err, done
 
 
-def test_names_that_are_removed_are_named() -> None:
+def test_names_that_disappear_are_reported() -> None:
     save("hashes", HASHES)
     save("target", b"".join(b"old%d:x\n" % number for number in range(25)) + OLD)
     done = pwhash(*INSTALL)
@@ -86,7 +86,7 @@ def test_names_that_are_removed_are_named() -> None:
     ("option", "value", "command"),
     [("--owner", "1", b"chown"), ("--group", "1", b"chgrp"), ("--mode", "600", b"chmod")],
 )
-def test_another_owner_group_or_mode_of_a_file_that_is_there_is_refused(
+def test_another_owner_group_or_mode_for_an_existing_file_is_refused(
     option: str, value: str, command: bytes
 ) -> None:
     save("hashes", HASHES)
@@ -96,7 +96,7 @@ def test_another_owner_group_or_mode_of_a_file_that_is_there_is_refused(
     assert (done.status, read("target")) == (2, OLD) and command in done.err, done
 
 
-def test_its_own_owner_group_and_mode_are_taken() -> None:
+def test_the_files_own_owner_group_and_mode_are_accepted() -> None:
     save("hashes", HASHES)
     save("target", OLD)
     os.chmod("target", MODE)
@@ -117,7 +117,7 @@ def test_a_new_target_is_readable_by_its_owner_alone() -> None:
 
 @pytest.mark.needs("root")
 @pytest.mark.parametrize("is_named", [True, False], ids=["names", "numbers"])
-def test_a_new_target_has_the_owner_group_and_mode_that_are_asked_for(is_named: bool) -> None:
+def test_a_new_target_has_the_given_owner_group_and_mode(is_named: bool) -> None:
     save("hashes", HASHES)
     user, group = pwd.getpwnam("daemon").pw_uid, grp.getgrnam("games").gr_gid
     given = ("daemon", "games") if is_named else (str(user), str(group))
@@ -127,7 +127,7 @@ def test_a_new_target_has_the_owner_group_and_mode_that_are_asked_for(is_named: 
     assert rights_of("target.mkpasswd.lock") == (0o600, user, group)
 
 
-def test_a_last_line_without_its_end_gets_one() -> None:
+def test_a_last_line_without_a_line_feed_gets_one() -> None:
     save("hashes", HASHES[:-1])
     done = pwhash(*INSTALL)
     assert (done.status, read("target")) == (0, HASHES), done
@@ -138,54 +138,54 @@ def test_a_last_line_without_its_end_gets_one() -> None:
     [
         pytest.param(("--owner", "nobody-of-this-name"), id="an unknown user"),
         pytest.param(("--group", "nobody-of-this-name"), id="an unknown group"),
-        pytest.param(("--owner", "99999999999"), id="a number that is too great"),
-        pytest.param(("--mode", "666"), id="a file that others write"),
+        pytest.param(("--owner", "99999999999"), id="a number that is too large"),
+        pytest.param(("--mode", "666"), id="a mode by which others can write"),
         pytest.param(("--mode", "755"), id="a program"),
         pytest.param(("--mode", "u=rw"), id="a mode in letters"),
-        pytest.param(("--mode", "4600"), id="a bit for other users' rights"),
+        pytest.param(("--mode", "4600"), id="the setuid bit"),
     ],
 )
-def test_an_owner_group_or_mode_that_does_not_fit_is_refused(words: tuple[str, ...]) -> None:
+def test_an_invalid_owner_group_or_mode_is_refused(words: tuple[str, ...]) -> None:
     save("hashes", HASHES)
     done = pwhash(*INSTALL, *words)
     assert (done.status, beside()) == (2, ["hashes"]), done
 
 
-# ---- Lines that are refused
+# ---- Refused lines
 
 
 @pytest.mark.parametrize(
     ("line", "reason", "words"),
     [
         pytest.param(b"eva:" + HOSTILE, b"over budget", "", id="a hash that stalls a login"),
-        pytest.param(b"eva:" + SIX[:-1], b"dead", "", id="a hash that was cut"),
-        pytest.param(b"eva:secret", b"no scheme", "", id="a password as it is"),
+        pytest.param(b"eva:" + SIX[:-1], b"dead", "", id="a truncated hash"),
+        pytest.param(b"eva:secret", b"no scheme", "", id="a plain password"),
         pytest.param(b"eva:", b"empty field", "", id="an empty field"),
         pytest.param(b"eva:" + BCRYPT, b"--accept-other-schemes", "", id="another scheme"),
-        pytest.param(b"eva:{SSHA}" + BASE64, b"--accept-other-schemes", "", id="one of LDAP"),
-        pytest.param(b"eva:{PLAIN}secret", b"prefix", "", id="a prefix of passwords"),
-        pytest.param(b"eva:{PLAIN}secret", b"prefix", OTHERS, id="a password, with others"),
-        pytest.param(b"eva:{CLEARTEXT}secret", b"prefix", OTHERS, id="one of LDAP, with others"),
+        pytest.param(b"eva:{SSHA}" + BASE64, b"--accept-other-schemes", "", id="an LDAP hash"),
+        pytest.param(b"eva:{PLAIN}secret", b"prefix", "", id="a prefix for plain passwords"),
+        pytest.param(b"eva:{PLAIN}secret", b"prefix", OTHERS, id="a plain one, with others"),
+        pytest.param(b"eva:{CLEARTEXT}secret", b"prefix", OTHERS, id="LDAP's, with others"),
         pytest.param(b"eva:secret", b"no scheme", OTHERS, id="a bare one, with others"),
         pytest.param(b"eva:{SSHA}", b"empty", OTHERS, id="a prefix alone, with others"),
         pytest.param(b"eva:" + HOSTILE, b"over budget", OTHERS, id="a costly one, with others"),
-        pytest.param(b"eva:" + SIX[:-1], b"dead", OTHERS, id="a cut one, with others"),
+        pytest.param(b"eva:" + SIX[:-1], b"dead", OTHERS, id="a truncated one, with others"),
         pytest.param(
             b"eva:{SSHA}" + BASE64, b"prefix", f"{OTHERS} --for apache", id="{SSHA} for Apache"
         ),
         pytest.param(b"eva:{CRYPT}" + BCRYPT, b"prefix", f"{OTHERS} --for nginx", id="for nginx"),
         pytest.param(b"eva:{MD5-CRYPT}" + BCRYPT, b"another method", OTHERS, id="unfit, bcrypt"),
         pytest.param(b"eva:{CRYPT}" + ONE, b"prefix", "--for nginx", id="a prefix for nginx"),
-        pytest.param(b"eva:{MD5-CRYPT}" + SIX, b"another method", "", id="an unfit prefix"),
-        pytest.param(b"eva:{CRYPT}" + HOSTILE, b"over budget", "", id="behind a prefix"),
-        pytest.param(b"eva:" + ONE + b"\r", b"carriage return", "", id="a line of Windows"),
-        pytest.param(b"ann:" + ONE, b"after line 1", "", id="a name again"),
+        pytest.param(b"eva:{MD5-CRYPT}" + SIX, b"another method", "", id="the wrong prefix"),
+        pytest.param(b"eva:{CRYPT}" + HOSTILE, b"over budget", "", id="after a prefix"),
+        pytest.param(b"eva:" + ONE + b"\r", b"carriage return", "", id="a line from Windows"),
+        pytest.param(b"ann:" + ONE, b"after line 1", "", id="a repeated name"),
         pytest.param(b":" + ONE, b"no name", "", id="no name"),
         pytest.param(b"", b"no name", "", id="an empty line"),
         pytest.param(b"secret", b"no colon", "", id="no colon"),
         pytest.param(b"#eva:" + ONE, b"begins with #", "", id="a comment"),
         pytest.param(b"eva\x01:" + ONE, b"invisible", "", id="a control character"),
-        pytest.param(b" eva:" + ONE, b"blank", "", id="a blank in front"),
+        pytest.param(b" eva:" + ONE, b"blank", "", id="a leading blank"),
         pytest.param(b"Eva:" + ONE, b"another, or skips", "--for dovecot", id="for Dovecot"),
         pytest.param(b"e va:" + ONE, b"another, or skips", "--for ldap", id="for LDAP"),
         pytest.param(b"eva:" + ONE + b":" * 2048, b"too long", "", id="a line that is too long"),
@@ -204,7 +204,7 @@ def test_a_wrong_line_is_named_and_nothing_is_installed(
 
 
 @pytest.mark.parametrize("words", ["", "--for dovecot"])
-def test_a_hash_behind_a_prefix_is_installed(words: str) -> None:
+def test_a_hash_after_a_prefix_is_installed(words: str) -> None:
     content = b"ann:{CRYPT}" + ONE + b"\nbob:{SHA512-CRYPT}" + SIX + b"\n"
     save("hashes", content)
     done = pwhash(*INSTALL, *words.split())
@@ -218,11 +218,11 @@ def test_a_hash_behind_a_prefix_is_installed(words: str) -> None:
         pytest.param(BCRYPT.replace(b"$2b$", b"$2y$"), "--for nginx", id="bcrypt of htpasswd"),
         pytest.param(b"$apr1$saltsalt$" + b"x" * 22, "--for apache", id="Apache's"),
         pytest.param(b"$y$j9T$abcdefghijklmnopqrstu.$abc", "", id="yescrypt"),
-        pytest.param(b"{CRYPT}" + BCRYPT, "--for dovecot", id="bcrypt behind a prefix"),
+        pytest.param(b"{CRYPT}" + BCRYPT, "--for dovecot", id="bcrypt after a prefix"),
         pytest.param(b"{SHA}fEqNCco3Yq9h5ZUglD3CZJT4lBs=", "--for apache", id="{SHA} for Apache"),
         pytest.param(b"{SSHA}" + BASE64, "--for nginx", id="{SSHA} for nginx"),
         pytest.param(b"{ssha512}" + BASE64, "--for dovecot", id="{ssha512} for Dovecot"),
-        pytest.param(b"{BLF-CRYPT}" + BCRYPT, "--for dovecot", id="Dovecot's prefix of bcrypt"),
+        pytest.param(b"{BLF-CRYPT}" + BCRYPT, "--for dovecot", id="Dovecot's prefix for bcrypt"),
         pytest.param(b"{ARGON2ID}$argon2id$v=19$x", "--for dovecot", id="argon2 for Dovecot"),
     ],
 )
@@ -238,13 +238,13 @@ def test_a_hash_of_another_scheme_is_installed_if_others_are_accepted(
     assert (done.status, read("target")) == (0, content), done
 
 
-def test_other_faults_do_not_advise_to_accept_other_schemes() -> None:
+def test_other_problems_give_no_advice_to_accept_other_schemes() -> None:
     save("hashes", HASHES + b"eva:secret\n")
     done = pwhash(*INSTALL)
     assert done.status == 1 and b"--accept-other-schemes" not in done.err, done
 
 
-def test_of_many_wrong_lines_some_are_shown() -> None:
+def test_only_some_of_many_wrong_lines_are_shown() -> None:
     save("hashes", b"".join(b"user%d:x\n" % number for number in range(1000)))
     done = pwhash(*INSTALL)
     assert done.status == 1 and b"1,000 of 1,000 lines" in done.err, done
@@ -259,7 +259,7 @@ def test_of_many_wrong_lines_some_are_shown() -> None:
         pytest.param(b"ann:" + SIX + b":19000:0:99999:7:::\n", 2, id="of shadow"),
     ],
 )
-def test_what_is_no_file_of_hashes_is_refused(content: bytes | None, status: int) -> None:
+def test_a_file_without_hashes_is_refused(content: bytes | None, status: int) -> None:
     if content is not None:
         save("hashes", content)
     save("target", OLD)
@@ -267,7 +267,7 @@ def test_what_is_no_file_of_hashes_is_refused(content: bytes | None, status: int
     assert (done.status, read("target")) == (status, OLD), done
 
 
-# ---- Targets that are refused
+# ---- Refused targets
 
 
 def test_a_link_is_refused_and_its_target_is_named() -> None:
@@ -286,7 +286,7 @@ def test_a_link_to_nothing_is_refused() -> None:
     assert (done.status, beside()) == (2, ["hashes", "target"]), done
 
 
-def test_the_file_itself_is_refused_as_target() -> None:
+def test_the_input_file_is_refused_as_target() -> None:
     save("hashes", HASHES)
     done = pwhash("install", "hashes", "./hashes")
     assert (done.status, beside()) == (2, ["hashes"]), done
@@ -337,7 +337,7 @@ def test_a_copy_of_shadow_is_refused_by_its_nine_fields() -> None:
 
 
 @pytest.mark.parametrize("name", ["passwd", "shadow", "gshadow-", "group", "subuid", "subgid-"])
-def test_a_file_of_the_system_is_not_made_in_any_root(name: str) -> None:
+def test_a_file_of_the_system_is_not_created_in_any_root(name: str) -> None:
     os.makedirs("root/etc")
     save("hashes", HASHES)
     done = pwhash("install", "hashes", f"root/etc/{name}")
@@ -360,10 +360,10 @@ def test_the_systems_own_file_is_refused() -> None:
     assert done.status == 0 and b"chpasswd(8)" in done.err, done
 
 
-# ---- Several runs at once, kills and failures
+# ---- Simultaneous runs, kills and failures
 
 
-def test_of_runs_at_once_one_file_stays_and_is_whole() -> None:
+def test_after_simultaneous_runs_one_whole_file_remains() -> None:
     contents = []
     for number in range(8):
         contents.append(b"".join(b"user%d:%b\n" % (each + number, ONE) for each in range(5000)))
@@ -371,13 +371,13 @@ def test_of_runs_at_once_one_file_stays_and_is_whole() -> None:
     with ThreadPoolExecutor(4) as pool:
         runs = [pool.submit(pwhash, "install", f"hashes{number}", "target") for number in range(8)]
     ends = [run.result() for run in runs]
-    # Of two that both met no file, one makes it.
+    # Of two runs that both find no file, one creates it.
     assert all(done.status in (0, 3) for done in ends), "\n".join(map(str, ends))
     assert any(done.status == 0 for done in ends) and read("target") in contents
 
 
 def traced(inject: str) -> Ended:
-    """Installs the hashes, while strace does something at a system call."""
+    """Installs the hashes while strace injects a failure or a signal at a system call."""
     command = ["strace", "-qq", "-o", "/dev/null", "-e", f"inject={inject}", *STARTED, *INSTALL]
     return ended(started_program(*command))
 
@@ -387,9 +387,7 @@ def traced(inject: str) -> Ended:
     "call", ["flock", "fchown", "fchmod", "fsync", "linkat", "symlinkat", "renameat2", "unlinkat"]
 )
 @pytest.mark.parametrize("has_target", [True, False], ids=["a file", "a new file"])
-def test_an_installation_that_is_killed_leaves_the_old_or_the_new_file(
-    call: str, has_target: bool
-) -> None:
+def test_a_killed_installation_leaves_the_old_or_the_new_file(call: str, has_target: bool) -> None:
     save("hashes", HASHES)
     if has_target:
         save("target", OLD)
@@ -418,7 +416,7 @@ def test_a_system_call_that_fails_installs_nothing(call: str, error: str, has_ta
 
 @pytest.mark.needs("strace")
 @pytest.mark.parametrize("has_target", [True, False], ids=["a file", "a new file"])
-def test_a_signal_that_comes_while_the_file_is_made_undoes_nothing(has_target: bool) -> None:
+def test_a_signal_while_the_file_is_written_undoes_nothing(has_target: bool) -> None:
     save("hashes", HASHES)
     if has_target:
         save("target", OLD)
@@ -429,7 +427,7 @@ def test_a_signal_that_comes_while_the_file_is_made_undoes_nothing(has_target: b
 
 @pytest.mark.needs("cc")
 @pytest.mark.parametrize("has_target", [True, False], ids=["a file", "a new file"])
-def test_a_file_system_without_nameless_files_is_enough(has_target: bool, folder: Path) -> None:
+def test_a_file_system_without_o_tmpfile_is_enough(has_target: bool, folder: Path) -> None:
     library = preload_library("between", folder)
     save("hashes", HASHES)
     if has_target:

@@ -1,4 +1,4 @@
-"""Runs that are ended at any moment: what is made is right, and the printed command goes on."""
+"""Runs interrupted at any moment: they write only right lines, and can be resumed."""
 from __future__ import annotations
 
 import glob
@@ -36,7 +36,7 @@ def size_of_part() -> int:
 
 @dataclass
 class Interrupted:
-    """A run, gone on with after each signal, and begun anew whenever it was whole."""
+    """A run that is resumed after each signal, and started again once it is complete."""
 
     source: random.Random
     expected: bytes
@@ -45,7 +45,7 @@ class Interrupted:
     finished: int = 0
 
     def run_once(self) -> None:
-        """Runs the command until a signal at some moment, or to its end."""
+        """Runs the command until a signal at a random moment, or to its end."""
         number = self.source.choice(NUMBERS)
         goal = size_of_part() + self.source.randrange(6000)
         with started_program("/bin/sh", "-c", f"exec {self.command}") as process:
@@ -59,7 +59,7 @@ class Interrupted:
         if os.path.exists("out"):
             assert read("out") == self.expected, done
             os.remove("out")
-            if number == signal.SIGKILL:  # it can come before the part has lost its name
+            if number == signal.SIGKILL:  # it can come before the part's name is removed
                 for left in glob.glob(f"{PART}*"):
                     os.remove(left)
             self.command = FIRST
@@ -73,8 +73,8 @@ class Interrupted:
 
 
 @pytest.mark.slow
-def test_an_interrupted_run_is_gone_on_with_by_the_printed_command(program: Path) -> None:
-    """Forty signals, at moments by a fixed seed."""
+def test_the_printed_command_resumes_an_interrupted_run(program: Path) -> None:
+    """Sends forty signals, at moments from a fixed seed."""
     save("my lines", LINES)
     expected = run(program, "--batch", *WORDS, stdin=LINES).stdout
     interrupted = Interrupted(random.Random(5), expected)
@@ -82,8 +82,8 @@ def test_an_interrupted_run_is_gone_on_with_by_the_printed_command(program: Path
         interrupted.run_once()
 
 
-def test_ctrl_c_while_its_modules_load_ends_it_without_a_message(copy: Copy) -> None:
-    """Before its own handler is there, a message would be python's."""
+def test_ctrl_c_while_modules_load_ends_pwhash_without_a_message(copy: Copy) -> None:
+    """Until pwhash has set its handler, Python would print a traceback."""
     script = "\nimport os, signal\nos.kill(os.getpid(), signal.SIGINT)\n"
     with open(copy.modules / "pwhash/lines.py", "a", encoding="utf-8") as module:
         module.write(script)
@@ -91,8 +91,8 @@ def test_ctrl_c_while_its_modules_load_ends_it_without_a_message(copy: Copy) -> 
     assert (done.status, done.out, done.err) == (-signal.SIGINT, b"", b""), done
 
 
-def test_ctrl_c_at_any_moment_of_the_start_ends_it_by_the_signal() -> None:
-    """While the shell, python or its modules begin, or when it asks for lines."""
+def test_ctrl_c_at_any_moment_of_the_start_ends_pwhash_by_the_signal() -> None:
+    """It may come while the shell, Python or the modules start, or when pwhash asks for lines."""
     for milliseconds in range(0, 400, 5):
         process = started("file")
         time.sleep(milliseconds / 1000)

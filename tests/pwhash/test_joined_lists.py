@@ -1,9 +1,9 @@
-"""Lists that were joined: headings and marks inside them are no users."""
+"""Joined lists: headings and byte order marks inside them are no users."""
 from __future__ import annotations
 
 
 import pytest
-from support.pwhash_runs import ANN, BOB, BY_NUMBER, MARK, MD5, MD5CRYPT, lines_named_in, pwhash
+from support.pwhash_runs import ANN, BOB, BY_NUMBER, BOM, MD5, MD5CRYPT, lines_named_in, pwhash
 
 
 @pytest.mark.parametrize(
@@ -45,9 +45,9 @@ def test_a_heading_on_any_line_is_doubtful(heading: bytes) -> None:
     assert (done.status, done.out, lines_named_in(done.err)) == (1, ANN + BOB, [2]), done
 
 
-def test_windows_leaves_out_marks_of_joined_lists() -> None:
-    """As `cat` joins two lists of Notepad."""
-    lists = MARK + b"ann:password\r\n" + MARK + b"bob:password\r\neve:password\n"
+def test_the_option_windows_drops_marks_of_joined_lists() -> None:
+    """`cat` joins two of Notepad's lists like that."""
+    lists = BOM + b"ann:password\r\n" + BOM + b"bob:password\r\neve:password\n"
     expected = b"".join(name + b":" + MD5.encode() + b"\n" for name in (b"ann", b"bob", b"eve"))
     done = pwhash("file", *MD5CRYPT, "--windows", stdin=lists)
     assert (done.status, done.out, done.err) == (0, expected, b""), done

@@ -1,10 +1,10 @@
-"""Lists of known passwords, tried against stored hashes."""
+"""pwhash check --shadow: lists of known passwords, tried against stored hashes."""
 from __future__ import annotations
 
 import re
 
 import pytest
-from support.pwhash_runs import MARK, MD5, hashed, pwhash, read, save
+from support.pwhash_runs import BOM, MD5, hashed, pwhash, read, save
 
 
 @pytest.mark.parametrize(
@@ -17,9 +17,7 @@ from support.pwhash_runs import MARK, MD5, hashed, pwhash, read, save
     ],
 )
 @pytest.mark.parametrize("name", [b"", b"ann:"], ids=["for all", "for one"])
-def test_a_word_that_is_refused_is_named_by_its_line(
-    name: bytes, word: bytes, reason: bytes
-) -> None:
+def test_a_refused_password_is_named_by_its_line(name: bytes, word: bytes, reason: bytes) -> None:
     costly = hashed(b"password", "$6$rounds=400000$saltsaltsaltsalt")
     save("shadow", b"ann:%b:1:::\nbob:%b:1:::\n" % (costly, costly))
     words = b"first\n" + name + word + b"\n" + b"ann:password\n"
@@ -32,10 +30,10 @@ def test_a_word_that_is_refused_is_named_by_its_line(
 @pytest.mark.parametrize(
     ("line", "is_left_out"),
     [
-        pytest.param(MARK + b"ann:password", True, id="a mark before a name"),
-        pytest.param(MARK + b"password", True, id="a mark before a lone password"),
-        pytest.param(b"password\r", True, id="a carriage return behind a password"),
-        pytest.param(b"ann:pass" + MARK + b"word", False, id="a mark in a password"),
+        pytest.param(BOM + b"ann:password", True, id="a mark before a name"),
+        pytest.param(BOM + b"password", True, id="a mark before a lone password"),
+        pytest.param(b"password\r", True, id="a carriage return after a password"),
+        pytest.param(b"ann:pass" + BOM + b"word", False, id="a mark in a password"),
     ],
 )
 def test_a_list_of_known_passwords_reports_marks_and_carriage_returns(
@@ -51,7 +49,7 @@ def test_a_list_of_known_passwords_reports_marks_and_carriage_returns(
     assert (b"[2]" in done.err) != is_left_out, done
 
 
-# ---- What is found
+# ---- Findings
 
 HASH = MD5.encode()
 SHADOW = b"ann:%b:1:::\nbob:%b:1:::\neve:!:1:::\nann:*:1\n" % (HASH, HASH)
@@ -76,7 +74,7 @@ def test_the_first_20_names_without_a_stored_hash_are_named_by_their_lines() -> 
     assert done.err.endswith(f" (the first 20): {[*range(1, 21)]}.\n".encode()), done
 
 
-def test_a_password_that_fits_gets_a_new_hash() -> None:
+def test_a_password_that_matches_gets_a_new_hash() -> None:
     save("shadow", SHADOW)
     words = ("--rehash", "-m", "sha256crypt", "-R", "2000", "-S", "ab")
     done = pwhash("check", "--shadow", "shadow", *words, save("list", LIST), "-o", "new")
@@ -100,13 +98,13 @@ def test_a_name_without_a_stored_hash_fails_the_check() -> None:
     assert (done.status, done.out) == (1, b"ann:ok\n"), done
 
 
-def test_a_word_that_is_not_utf8_is_named_by_its_line() -> None:
+def test_a_password_that_is_not_utf8_is_named_by_its_line() -> None:
     save("shadow", ANN_AND_ANOTHER_METHOD)
     done = pwhash("check", "--shadow", "shadow", stdin=b"\xff\n")
     assert done.err.endswith(b"a zero byte: 1.\n"), done
 
 
-def test_a_word_with_a_lost_character_is_utf8() -> None:
+def test_a_password_with_a_lost_character_is_utf8() -> None:
     save("shadow", b"ann:" + HASH + b":1:::\n")
     done = pwhash("check", "--shadow", "shadow", stdin="Gr\ufffdn\npassword\n".encode())
     assert (done.status, done.out, done.err) == (1, b"ann:no\nann:ok\n", b""), done
@@ -125,8 +123,8 @@ def test_a_file_without_stored_hashes_is_named() -> None:
     assert (done.status, done.out, done.err) == (2, b"", message), done
 
 
-def test_words_without_a_name_are_tried_for_all() -> None:
-    """Those whose method can be checked; the others are named."""
+def test_passwords_without_a_name_are_tried_for_all_names() -> None:
+    """Names whose method can't be checked are reported."""
     save("shadow", ANN_AND_ANOTHER_METHOD)
     done = pwhash("check", "--shadow", "shadow", stdin=b"a\npassword\nb\n")
     assert (done.status, done.out) == (1, b"ann:no\nann:ok\nann:no\n"), done

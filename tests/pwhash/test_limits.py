@@ -1,4 +1,4 @@
-"""How long a password may be by a method and rounds: the numbers of docs/FORMATS.md."""
+"""The longest password that a method and rounds allow, by the formulas of docs/FORMATS.md."""
 from __future__ import annotations
 
 import pytest
@@ -6,12 +6,12 @@ from support.policy_limits import LONGEST_PASSWORD, SHA256CRYPT, SHA512CRYPT, Po
 from support.pwhash_runs import pwhash
 
 NAMES = {SHA256CRYPT: "sha256crypt", SHA512CRYPT: "sha512crypt"}
-# Rounds of which a password of 1,024 bytes is above the limit, and which are no round numbers.
+# Odd numbers of rounds for which a password of 1,024 bytes is above the limit.
 ROUNDS = (656_000, 656_001, 300_007, 1_234_567, 98_765_432, 999_999_999)
 
 
 def longest_within(policy: Policy) -> int:
-    """The length of the longest password whose new hash is within the limit."""
+    """Returns the length of the longest password whose new hash is within the limit."""
     lengths = range(LONGEST_PASSWORD + 1)
     return max(
         length
@@ -22,7 +22,9 @@ def longest_within(policy: Policy) -> int:
 
 @pytest.mark.parametrize("rounds", ROUNDS)
 @pytest.mark.parametrize("method", NAMES, ids=NAMES.get)
-def test_a_password_that_is_too_long_is_told_how_long_one_may_be(method: int, rounds: int) -> None:
+def test_the_message_for_too_long_a_password_names_the_longest_length(
+    method: int, rounds: int
+) -> None:
     longest = longest_within(Policy(method, rounds, 0))
     done = pwhash("-m", NAMES[method], "-R", str(rounds), stdin=b"x" * LONGEST_PASSWORD + b"\n")
     assert done.status == 2, done

@@ -1,4 +1,4 @@
-"""What the system lacks: Python, open files, memory."""
+"""Systems that lack something: Python, open files, memory, processes."""
 from __future__ import annotations
 
 import os
@@ -57,7 +57,7 @@ def test_with_little_memory_no_message_has_python_in_it(kibibytes: int) -> None:
 
 
 def seen_under(limit: str, limits: range, expected: bytes) -> set[int]:
-    """The statuses under limits; whatever they are, no line counts as refused, and none is lost."""
+    """Returns the statuses under these limits. Fails if a line is lost, or counts as refused."""
     lines = users(50)
     statuses = set()
     for most in limits:
@@ -77,14 +77,14 @@ def seen_under(limit: str, limits: range, expected: bytes) -> set[int]:
         pytest.param("nofile", range(1, 40), id="open files"),
     ],
 )
-def test_a_run_is_whole_or_a_failure(limit: str, limits: range) -> None:
+def test_a_run_is_complete_or_fails(limit: str, limits: range) -> None:
     expected = b"".join(b"user%d:%b\n" % (n, hashed(b"password%d" % n)) for n in range(50))
     statuses = seen_under(limit, limits, expected)
     assert 0 in statuses and len(statuses) > 1, statuses
 
 
 def run_as_somebody(copy: Copy, most: int) -> Result:
-    """As a user whom no other process is counted for, with so many processes."""
+    """Runs pwhash as a user without other processes, under a limit of processes."""
     user = 60000 + os.getpid() % 5000
     limit = ("prlimit", f"--nproc={most}", "setpriv", f"--reuid={user}", "--regid=65534")
     before = (*limit, "--clear-groups", "--")
@@ -92,17 +92,17 @@ def run_as_somebody(copy: Copy, most: int) -> Result:
 
 
 @pytest.mark.needs("root")
-def test_a_limit_of_processes_is_met(copy: Copy) -> None:
-    """It doesn't wait for ever where no process can be begun."""
+def test_a_limit_of_processes_does_not_hang_a_run(copy: Copy) -> None:
+    """It must not wait forever for a process that can't be started."""
     statuses = [run_as_somebody(copy, most).status for most in range(1, 9)]
     assert set(statuses) == {0, 3} and statuses[0] == 3, statuses
 
 
-# ---- What a process inherits
+# ---- Inherited state
 
 
-def test_nothing_hostile_that_it_inherits_changes_a_run() -> None:
-    """Modules in the current folder, ignored and blocked signals, and python's variables."""
+def test_hostile_inherited_state_does_not_change_a_run() -> None:
+    """Modules in the current folder, ignored and blocked signals, and Python's variables."""
     for name in "os.py", "csv.py", "command.py", "json.py":
         save(name, b"raise SystemExit(0)\n")
     variables = {

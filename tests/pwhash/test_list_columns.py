@@ -1,6 +1,6 @@
-"""pwhash file --generate --list-columns A,B: lists have people's names beside user names.
+"""pwhash file --generate --list-columns A,B: lists with people's names beside user names.
 
-Lists are read as a program reads them that knows CSV, and hashes are compared with libxcrypt's.
+Lists are read as CSV, and hashes are compared with libxcrypt's.
 """
 from __future__ import annotations
 
@@ -10,7 +10,7 @@ import os
 
 import pytest
 from support.pwhash_runs import (
-    MARK,
+    BOM,
     has_begun,
     hashed,
     lines_named_in,
@@ -32,7 +32,7 @@ def rows_of(path: str, separator: str = ";") -> list[list[str]]:
 
 
 def assert_passwords_fit(rows: list[list[str]]) -> None:
-    """Fails unless the last two fields of each row are a name and the password of its hash."""
+    """Fails unless each row ends with a name and the password of its hash."""
     lines = [line.partition(b":") for line in read("hashes").splitlines()]
     fields = {name: field for name, _, field in lines}
     for *_, name, password in rows:
@@ -40,7 +40,7 @@ def assert_passwords_fit(rows: list[list[str]]) -> None:
         assert hashed(password.encode(), field.decode()) == field, name
 
 
-def test_a_list_has_the_columns_in_front_of_name_and_password() -> None:
+def test_a_list_has_the_columns_before_name_and_password() -> None:
     save("table", TABLE.encode())
     done = pwhash(*BY_CLASS, *NAMES)
     assert (done.status, done.out, done.err) == (0, b"", b""), done
@@ -49,10 +49,10 @@ def test_a_list_has_the_columns_in_front_of_name_and_password() -> None:
     assert [row[:3] for row in rows] == [["Müller", "Ann", "ann"], ["O'Neil", "", "cyd"]]
     assert [row[:3] for row in rows_of("lists/5b.csv")[1:]] == [["Xu", "Bob", "bob"]]
     assert_passwords_fit([*rows, *rows_of("lists/5b.csv")[1:]])
-    assert read("lists/5a.csv").startswith(MARK) and not read("lists/5b.csv").startswith(MARK)
+    assert read("lists/5a.csv").startswith(BOM) and not read("lists/5b.csv").startswith(BOM)
 
 
-def test_one_list_has_the_columns_too() -> None:
+def test_a_single_list_has_the_columns_too() -> None:
     save("table", TABLE.encode())
     done = pwhash(*MAKE, "--passwords", "list", "--list-columns", "First,class")
     heading, *rows = rows_of("list")
@@ -65,7 +65,7 @@ def test_one_list_has_the_columns_too() -> None:
     assert_passwords_fit(rows)
 
 
-def test_columns_can_have_numbers() -> None:
+def test_columns_can_be_given_by_number() -> None:
     save("table", b"M,Ann,ann,5a\nX,Bob,bob,5a\n")
     words = [word if word != "login" else "3" for word in MAKE]
     done = pwhash(*words, "--by", "4", "--list-columns", "2", "--passwords", "lists")
@@ -80,11 +80,11 @@ def test_columns_can_have_numbers() -> None:
         pytest.param(b'"Meyer; Jr."', "Meyer; Jr.", id="the separator"),
         pytest.param(b'"Meyer ""Max"""', 'Meyer "Max"', id="quotes"),
         pytest.param(b"Meyer, Max", "Meyer, Max", id="another separator"),
-        pytest.param(b"Meyer-Lang", "Meyer-Lang", id="a hyphen inside"),
+        pytest.param(b"Meyer-Lang", "Meyer-Lang", id="a hyphen within"),
         pytest.param(b"x" * 1000, "x" * 1000, id="a long one"),
     ],
 )
-def test_a_value_is_in_the_list_as_it_is(field: bytes, value: str) -> None:
+def test_a_value_is_unchanged_in_the_list(field: bytes, value: str) -> None:
     save("table", b"last;login\n" + field + b";ann\n")
     words = (*MAKE, "--passwords", "list", "--list-columns", "last")
     done = pwhash(*words)
@@ -98,14 +98,14 @@ def test_a_value_is_in_the_list_as_it_is(field: bytes, value: str) -> None:
         pytest.param(b"=1+1", b"formula", id="a formula"),
         pytest.param(b"#WERT!", b"an error of a spreadsheet", id="an error of a spreadsheet"),
         pytest.param(b"+49 123", b"formula", id="a number that begins with plus"),
-        pytest.param(b"a,=1", b"formula", id="one behind a comma"),
-        pytest.param(b'"a;=1"', b"formula", id="one behind a semicolon"),
-        pytest.param("＝1".encode(), b"formula", id="a wide equals"),
+        pytest.param(b"a,=1", b"formula", id="a formula after a comma"),
+        pytest.param(b'"a;=1"', b"formula", id="a formula after a semicolon"),
+        pytest.param("＝1".encode(), b"formula", id="a full-width equals sign"),
         pytest.param(b"a\x1b[2Jb", b"invisible", id="an escape"),
-        pytest.param("a\u200bb".encode(), b"invisible", id="a space of no width"),
+        pytest.param("a\u200bb".encode(), b"invisible", id="a zero-width space"),
     ],
 )
-def test_a_value_that_no_list_should_have_is_refused(field: bytes, reason: bytes) -> None:
+def test_a_dangerous_value_is_refused(field: bytes, reason: bytes) -> None:
     save("table", b"last;login\nXu;ann\n" + field + b";eve\n")
     words = (*MAKE, "--passwords", "list", "--list-columns", "last")
     done = pwhash(*words)
@@ -136,7 +136,7 @@ def test_names_that_are_not_utf8_are_doubtful() -> None:
         pytest.param(["--list-columns", "1"], b"--list-columns", id="a number among names"),
     ],
 )
-def test_columns_that_do_not_fit_are_refused(words: list[str], reason: bytes) -> None:
+def test_invalid_columns_are_refused(words: list[str], reason: bytes) -> None:
     save("table", b"last;login;password\nXu;ann;x\n")
     done = pwhash(*MAKE, "--passwords", "list", *words)
     assert done.status == 2 and reason in done.err and os.listdir() == ["table"], done
@@ -159,13 +159,13 @@ def test_other_options_are_needed(words: str, reason: bytes) -> None:
     assert done.status == 2 and reason in done.err and os.listdir() == ["table"], done
 
 
-# A run of some seconds.
+# A run that takes some seconds.
 COSTLY = ["20000" if word == "1000" else word for word in (*BY_CLASS, *NAMES)]
 
 
 @pytest.fixture(name="interrupted")
 def fixture_interrupted() -> None:
-    """A run that was killed in its midst."""
+    """Starts a run and kills it halfway."""
     rows = [b'"Xu; %d";F;user%d;c%d\n' % (number, number, number % 3) for number in range(120)]
     save("table", b"last;first;login;class\n" + b"".join(rows))
     os.utime("table", (1e9, 1e9))
@@ -175,7 +175,7 @@ def fixture_interrupted() -> None:
 
 
 @pytest.mark.usefixtures("interrupted")
-def test_a_run_goes_on_with_the_passwords_of_such_lists() -> None:
+def test_a_run_resumes_with_the_passwords_in_such_lists() -> None:
     before = {name: read(f"lists/{name}") for name in os.listdir("lists")}
     done = pwhash(*COSTLY, "--resume")
     assert done.status == 0, done
@@ -187,7 +187,7 @@ def test_a_run_goes_on_with_the_passwords_of_such_lists() -> None:
 
 @pytest.mark.usefixtures("interrupted")
 @pytest.mark.parametrize("columns", [[], ["--list-columns", "last"]], ids=["none", "another"])
-def test_a_run_does_not_go_on_with_other_columns(columns: list[str]) -> None:
+def test_a_run_does_not_resume_with_other_columns(columns: list[str]) -> None:
     part = read("hashes.part")
     done = pwhash(*COSTLY[:-2], *columns, "--resume")
     assert done.status == 2 and b"--list-columns" in done.err, done

@@ -1,4 +1,4 @@
-"""Rows of a table that are too long: the run ends, and no part of one is hashed."""
+"""Rows of a table that are too long: they end the run, and no part of one is hashed."""
 from __future__ import annotations
 
 import contextlib
@@ -29,7 +29,7 @@ def test_a_row_above_128_kib_ends_the_run_and_is_named(
 ) -> None:
     table = b"name,password,third\n" + before + row + b"eve,password,\n"
     words = ("file", "--csv", *MD5CRYPT)
-    done = pwhash(*words, "--budget", "1", stdin=table)  # nothing is hashed, so it is quick
+    done = pwhash(*words, "--budget", "1", stdin=table)  # hashes nothing, so the test is fast
     assert done.status == 3 and lines_named_in(done.err)[-1] == number, done.err[-300:]
     assert done.out == b"", done.out[-300:]
     from_file = pwhash(*words, "--budget", "1", save("table", table), "-o", "hashes")
@@ -47,11 +47,11 @@ def test_a_row_of_128_kib_is_hashed() -> None:
 
 @pytest.mark.parametrize("kept", [131070, 131071, 131072])
 def test_the_middle_of_a_long_row_is_never_lost_in_a_pipe(kept: int) -> None:
-    """The end of such a row once came behind its first 128 KiB, as the end of the password."""
+    """The end of such a row once followed its first 128 KiB, as the end of the password."""
     begin = b"ann," + b"x" * (kept - len(b"ann,,real")) + b",real"
     process = started("file", "--csv", *MD5CRYPT)
     assert process.stdin
-    with contextlib.suppress(BrokenPipeError):  # the run may end before it has read the whole row
+    with contextlib.suppress(BrokenPipeError):  # the run may end before it has read the row
         process.stdin.write(b"name,third,password,fourth\n" + begin + b"password," + b"y" * 70000)
         process.stdin.flush()
     time.sleep(1)
@@ -59,8 +59,8 @@ def test_the_middle_of_a_long_row_is_never_lost_in_a_pipe(kept: int) -> None:
     assert done.status == 3 and done.out == b"" and lines_named_in(done.err) == [2], done
 
 
-def test_no_row_is_cut_where_only_its_end_is_missing_in_a_piece() -> None:
-    """pwhash reads 256 KiB at once. Of such a piece it once kept just 128 KiB, a whole row."""
+def test_a_row_whose_line_feed_is_in_the_next_block_is_not_cut() -> None:
+    """pwhash reads blocks of 256 KiB, of which it once kept only 128 KiB, a whole row."""
     heading = b"third,name,password\n"
     begin = b"x" * 131050 + b",ann,password"
     row = begin + b"y" * ((1 << 18) - len(heading) - len(begin))
@@ -70,7 +70,7 @@ def test_no_row_is_cut_where_only_its_end_is_missing_in_a_piece() -> None:
 
 
 def test_a_row_of_many_lines_has_a_limit() -> None:
-    """It was kept whole: 30 MB took 480 MiB."""
+    """pwhash once held all of it: a row of 30 MB took 480 MiB."""
     row = b'ann,pw1,"x' + b'\nx",",' * 400000 + b'"\n'
     save("table", b"name,password\n" + row)
     done = shell('ulimit -v 400000; exec "$@"', "file", "--csv", *MD5CRYPT, "table")

@@ -1,4 +1,4 @@
-"""Lines of a file are looked at before one is hashed, and the user decides about each kind."""
+"""pwhash looks at all lines of a file before it hashes any. The user decides about problems."""
 from __future__ import annotations
 
 import os
@@ -22,7 +22,7 @@ LINES = [
 
 
 def looked_at() -> Ended:
-    """What pwhash says of the lines."""
+    """Runs pwhash file --look over the lines."""
     save("lines", b"\n".join(LINES) + b"\n")
     return pwhash(*TO_OUT)
 
@@ -43,7 +43,7 @@ def test_a_file_with_refused_or_doubtful_lines_is_not_hashed() -> None:
         pytest.param(3, "", "no name", id="no name"),
         pytest.param(4, "", "no password field", id="no colon"),
         pytest.param(5, "carl", "carriage return", id="a carriage return"),
-        pytest.param(6, "ann", "after line 1", id="a name for the second time"),
+        pytest.param(6, "ann", "after line 1", id="a repeated name"),
         pytest.param(7, "\\xff", "UTF-8", id="a name that is not UTF-8"),
         pytest.param(8, "long", "over budget", id="a password that costs too much"),
     ],
@@ -73,7 +73,7 @@ def test_one_decision_is_not_enough_for_both_kinds_of_lines(option: str) -> None
     assert done.status == 1 and not os.path.exists("out"), done
 
 
-def test_accepted_lines_are_hashed_without_the_refused_ones() -> None:
+def test_accepted_lines_are_hashed_and_refused_ones_skipped() -> None:
     looked_at()
     done = pwhash(*TO_OUT, "--skip-refused", "--accept-doubtful")
     assert done.status == 1, done
@@ -81,13 +81,13 @@ def test_accepted_lines_are_hashed_without_the_refused_ones() -> None:
     assert stat.S_IMODE(os.stat("out").st_mode) == 0o600
 
 
-def test_doubtful_lines_are_left_out() -> None:
+def test_doubtful_lines_can_be_skipped() -> None:
     looked_at()
     done = pwhash(*TO_OUT, "--skip-refused", "--skip-doubtful")
     assert done.status == 1 and names_in_out() == [b"ann"], done
 
 
-def test_an_out_that_is_there_stays() -> None:
+def test_an_existing_out_stays() -> None:
     looked_at()
     save("out", b"somebody's\n")
     done = pwhash(*TO_OUT)
@@ -95,49 +95,49 @@ def test_an_out_that_is_there_stays() -> None:
     assert read("out") == b"somebody's\n"
 
 
-def test_look_has_the_status_of_a_run_and_hashes_nothing() -> None:
+def test_the_option_look_has_the_status_of_a_run_and_hashes_nothing() -> None:
     looked_at()
     done = pwhash(*TO_OUT, "--look")
     assert done.status == 1 and not os.path.exists("out"), done
 
 
-def test_look_says_nothing_of_good_lines() -> None:
+def test_the_option_look_prints_nothing_about_good_lines() -> None:
     done = pwhash("file", "--look", save("good", b"ann:x\n"), "-o", "out")
     assert (done.status, done.out, done.err) == (0, b"", b""), done
     assert not os.path.exists("out")
 
 
-def test_a_pipe_can_not_be_looked_at_first() -> None:
+def test_a_pipe_cannot_be_looked_at_first() -> None:
     done = pwhash("file", "--look", stdin=b"ann:x\n")
     assert done.status == 2, done
 
 
-# ---- Names that a service reads as somebody else's
+# ---- Names that a service would take for others
 
 SERVICES = [
-    pytest.param("apache", " ann", id="a blank in front for Apache"),
-    pytest.param("apache", "\tann", id="a tab in front for Apache"),
+    pytest.param("apache", " ann", id="a leading blank for Apache"),
+    pytest.param("apache", "\tann", id="a leading tab for Apache"),
     pytest.param("apache", "#ann", id="a comment for Apache"),
     pytest.param("apache", "ann\0b", id="a zero byte for Apache"),
     pytest.param("nginx", "#ann", id="a comment for nginx"),
     pytest.param("dovecot", "Ann", id="a capital for Dovecot"),
     pytest.param("dovecot", "#a", id="a comment for Dovecot"),
     pytest.param("ldap", "Ann", id="a capital for LDAP"),
-    pytest.param("ldap", " ann", id="a blank in front for LDAP"),
+    pytest.param("ldap", " ann", id="a leading blank for LDAP"),
     pytest.param("ldap", "a,b", id="a comma for LDAP"),
-    pytest.param("ldap", "ann ", id="a blank at the end for LDAP"),
+    pytest.param("ldap", "ann ", id="a trailing blank for LDAP"),
 ]
 
 
 @pytest.mark.parametrize(("service", "name"), SERVICES)
-def test_a_name_that_a_service_reads_otherwise_is_not_hashed(service: str, name: str) -> None:
+def test_a_name_that_a_service_would_misread_is_not_hashed(service: str, name: str) -> None:
     save("lines", name.encode() + b":x\n")
     done = pwhash("file", *MD5CRYPT, "--for", service, "lines", "-o", "out")
     assert done.status == 1 and b"service" in done.err and not os.path.exists("out"), done
 
 
 @pytest.mark.parametrize("service", ["apache", "nginx", "dovecot", "ldap"])
-def test_a_name_that_a_service_reads_as_it_is_gets_a_hash(service: str) -> None:
+def test_a_name_that_a_service_reads_right_gets_a_hash(service: str) -> None:
     save("lines", b"ann-1:x\n")
     done = pwhash("file", *MD5CRYPT, "--for", service, "lines", "-o", "out")
     assert done.status == 0 and names_in_out() == [b"ann-1"], done

@@ -1,4 +1,4 @@
-"""Names in messages never command the terminal."""
+"""Control sequences of a terminal in a name never reach the terminal."""
 from __future__ import annotations
 
 import os
@@ -8,7 +8,7 @@ from support.pwhash_runs import ESCAPE, pwhash, save
 
 
 def name_commands() -> list[tuple[str, ...]]:
-    """Command lines whose messages have a name in them."""
+    """Returns commands whose messages contain a name."""
     name = f"a{ESCAPE}\nroot:ok"
     return [
         ("file", name),
@@ -36,7 +36,7 @@ def name_commands() -> list[tuple[str, ...]]:
 @pytest.mark.parametrize(
     "words", name_commands(), ids=lambda words: ascii(" ".join(words)).replace("\\", "/")
 )
-def test_no_name_commands_the_terminal(words: tuple[str, ...]) -> None:
+def test_no_name_in_a_message_controls_the_terminal(words: tuple[str, ...]) -> None:
     save("passwords", b"ann:password\n")
     save(f"there{ESCAPE}", b"ann\nbob\n")
     save(f"doubtful{ESCAPE}", b"ann:\n")

@@ -1,4 +1,4 @@
-"""One password from standard input: its hash, the lines for other programs, and what is refused."""
+"""One password from standard input: its hash, lines for other programs, and refusals."""
 from __future__ import annotations
 
 import re
@@ -11,7 +11,7 @@ LONGEST = 1024
 SECONDS_OF_DAY = 86_400
 
 
-def test_the_first_line_gets_a_hash_by_the_recommended_rounds() -> None:
+def test_the_first_line_is_hashed_with_the_recommended_rounds() -> None:
     done = pwhash(stdin=b"correct horse\nmore\n")
     made = done.out.decode().rstrip("\n")
     assert done.status == 0 and made.startswith("$6$rounds=656000$"), done
@@ -23,7 +23,7 @@ def test_a_password_without_a_line_feed_is_hashed() -> None:
     assert pwhash(*MD5CRYPT, stdin=b"password").out == MD5.encode() + b"\n"
 
 
-def test_scrypt_takes_the_cost_that_is_asked_for() -> None:
+def test_scrypt_uses_the_given_cost() -> None:
     done = pwhash("-m", "scrypt", "-R", "6", stdin=b"x")
     made = done.out.decode().rstrip("\n")
     assert made.startswith("$7$BU..../....") and done.out == hashed(b"x", made) + b"\n", done
@@ -77,20 +77,20 @@ def test_a_target_with_a_user_needs_a_name(target: str) -> None:
 
 
 @pytest.mark.parametrize("target", NAMELESS_TARGETS)
-def test_a_target_without_a_user_takes_no_name(target: str) -> None:
+def test_a_target_without_a_user_accepts_no_name(target: str) -> None:
     done = pwhash(*MD5CRYPT, "--for", target, "--name", "ann", stdin=b"x\n")
     assert (done.status, done.out) == (2, b""), done
 
 
 @pytest.mark.parametrize("target", [*NAMED_TARGETS, *NAMELESS_TARGETS])
-def test_no_target_takes_a_name_with_a_colon(target: str) -> None:
+def test_no_target_accepts_a_name_with_a_colon(target: str) -> None:
     done = pwhash(*MD5CRYPT, "--for", target, "--name", "a:b", stdin=b"x\n")
     assert (done.status, done.out) == (2, b""), done
 
 
 @pytest.mark.needs("python3-yaml")
 @pytest.mark.parametrize("name", "ann no yes null on y true _ A@b.c-d".split())
-def test_a_name_for_cloud_init_is_a_string_of_yaml(name: str) -> None:
+def test_a_name_for_cloud_init_is_a_yaml_string(name: str) -> None:
     import yaml
 
     done = pwhash(*MD5CRYPT, "--for", "cloud-init", "--name", name, stdin=b"password\n")
@@ -98,17 +98,19 @@ def test_a_name_for_cloud_init_is_a_string_of_yaml(name: str) -> None:
     assert yaml.safe_load(done.out) == {"users": [user]}, done
 
 
-# ---- What a login would refuse
+# ---- Passwords that a login would refuse
 
 LIMITS = [
     pytest.param((), 168, id="sha512crypt"),
     pytest.param(("-m", "sha256crypt"), 150, id="sha256crypt"),
-    pytest.param(("-R", "400000"), 168, id="sha512crypt of fewer rounds"),
+    pytest.param(("-R", "400000"), 168, id="sha512crypt with fewer rounds"),
 ]
 
 
 @pytest.mark.parametrize(("words", "longest"), LIMITS)
-def test_the_longest_password_of_a_login_is_hashed(words: tuple[str, ...], longest: int) -> None:
+def test_the_longest_password_that_a_login_accepts_is_hashed(
+    words: tuple[str, ...], longest: int
+) -> None:
     done = pwhash(*words, stdin=b"x" * longest)
     assert done.status == 0, done
 
@@ -128,7 +130,7 @@ def test_a_password_too_long_for_a_login_is_refused(words: tuple[str, ...], long
         pytest.param(("-S", "x", "--budget", "45M"), id="a budget that only a short salt admits"),
     ],
 )
-def test_the_length_that_a_refusal_names_is_the_greatest(words: tuple[str, ...]) -> None:
+def test_a_refusal_names_the_longest_length(words: tuple[str, ...]) -> None:
     refused = pwhash(*words, stdin=b"x" * LONGEST)
     length = re.search(rb"at most (\d+) bytes", refused.err)
     assert (refused.status, refused.out) == (2, b"") and length, refused
@@ -140,7 +142,7 @@ def test_the_length_that_a_refusal_names_is_the_greatest(words: tuple[str, ...])
 
 @pytest.mark.parametrize("password", [b"x" * (LONGEST + 1), b"a\0b"], ids=["too long", "zero byte"])
 @pytest.mark.parametrize("words", [(), ("-m", "sha256crypt")], ids=["sha512crypt", "sha256crypt"])
-def test_no_budget_is_named_for_a_password_that_none_admits(
+def test_the_message_names_no_budget_if_none_admits_the_password(
     words: tuple[str, ...], password: bytes
 ) -> None:
     done = pwhash(*words, stdin=password)
@@ -156,10 +158,10 @@ def test_no_budget_is_named_for_a_password_that_none_admits(
         pytest.param("", b"x" * 1025, "1,024", id="1025 bytes"),
         pytest.param("", b"a\0b", "zero", id="a zero byte"),
         pytest.param("-m yescrypt", b"x", "sha512crypt", id="another method"),
-        pytest.param("-m scrypt -R 12", b"x", "-R 12", id="a cost that scrypt doesn't take"),
+        pytest.param("-m scrypt -R 12", b"x", "-R 12", id="a cost that scrypt doesn't have"),
         pytest.param("-R 10", b"x", "1000", id="too few rounds"),
         pytest.param("-m scrypt -R 9999999999", b"x", "11", id="a cost of ten digits"),
-        pytest.param("-R 65x", b"x", "'65x'", id="rounds that are no number"),
+        pytest.param("-R 65x", b"x", "'65x'", id="rounds that aren't a number"),
         pytest.param("-m md5crypt -S 123456789", b"x", "salt length", id="a salt that is too long"),
         pytest.param("--for grub", b"x", "preseed-root", id="an unknown target"),
         pytest.param("-S a-b", b"x", "salt character", id="a character that no salt has"),

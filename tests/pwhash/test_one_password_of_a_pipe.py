@@ -1,9 +1,9 @@
-"""One password from a pipe that nobody means as it is: it is refused, and its reason named."""
+"""One password from a pipe that nobody can mean: pwhash refuses it and names the reason."""
 from __future__ import annotations
 
 
 import pytest
-from support.pwhash_runs import MARK, MD5CRYPT, pwhash
+from support.pwhash_runs import BOM, MD5CRYPT, pwhash
 
 
 @pytest.mark.parametrize(
@@ -13,11 +13,11 @@ from support.pwhash_runs import MARK, MD5CRYPT, pwhash
         pytest.param("password\n".encode("utf-16"), b"UTF-8", id="UTF-16"),
         pytest.param("password\n".encode("utf-16-le"), b"zero", id="UTF-16 without a mark"),
         pytest.param(b"pass\tword\n", b"control character", id="a tab"),
-        pytest.param(b"\x1b[200~password\n", b"control character", id="what pasting adds"),
-        pytest.param("pass\u2800word\n".encode(), b"invisible", id="an empty pattern of Braille"),
+        pytest.param(b"\x1b[200~password\n", b"control character", id="bracketed paste"),
+        pytest.param("pass\u2800word\n".encode(), b"invisible", id="a blank Braille pattern"),
     ],
 )
-def test_one_doubtful_password_of_a_pipe_is_not_hashed(data: bytes, reason: bytes) -> None:
+def test_one_doubtful_password_from_a_pipe_is_not_hashed(data: bytes, reason: bytes) -> None:
     done = pwhash(*MD5CRYPT, stdin=data)
     assert (done.status, done.out) == (2, b"") and reason in done.err, done
     assert b"word" not in done.err.replace(b"password ", b"").replace(b":password", b""), done
@@ -26,12 +26,12 @@ def test_one_doubtful_password_of_a_pipe_is_not_hashed(data: bytes, reason: byte
 @pytest.mark.parametrize(
     ("password", "reason"),
     [
-        pytest.param(MARK + b"hunter2", b"byte order mark", id="a mark"),
-        pytest.param(MARK + b"hunter2\n", b"byte order mark", id="a mark, and a line feed"),
-        pytest.param(MARK, b"byte order mark", id="a mark alone"),
+        pytest.param(BOM + b"hunter2", b"byte order mark", id="a mark"),
+        pytest.param(BOM + b"hunter2\n", b"byte order mark", id="a mark, and a line feed"),
+        pytest.param(BOM, b"byte order mark", id="a mark alone"),
         pytest.param(b"hunter2\r\n", b"carriage return", id="a carriage return at the end"),
-        pytest.param(b"hun\rter2\n", b"carriage return", id="a carriage return inside"),
-        pytest.param(MARK + b"hunter2\r\n", b"carriage return", id="both"),
+        pytest.param(b"hun\rter2\n", b"carriage return", id="a carriage return within"),
+        pytest.param(BOM + b"hunter2\r\n", b"carriage return", id="both"),
     ],
 )
 def test_one_password_with_a_mark_or_carriage_return_is_refused(

@@ -1,4 +1,4 @@
-"""Options: numbers, empty values, and words that may be passwords."""
+"""Options: numbers, empty values, and arguments that may be passwords."""
 from __future__ import annotations
 
 import pytest
@@ -8,7 +8,7 @@ from support.pwhash_runs import MD5, MD5CRYPT, hashed, pwhash, read, save
 @pytest.mark.parametrize(
     "words",
     [
-        pytest.param(("-R", "6k5"), id="a k inside"),
+        pytest.param(("-R", "6k5"), id="a k within"),
         pytest.param(("-R", "kkk"), id="no digits"),
         pytest.param(("-R", "2kk"), id="two k"),
         pytest.param(("-R", "1kM"), id="k and M"),
@@ -20,14 +20,16 @@ from support.pwhash_runs import MD5, MD5CRYPT, hashed, pwhash, read, save
         pytest.param(("-R", "٢٠٠٠"), id="other digits"),
         pytest.param(("-R", "1e4"), id="an exponent"),
         pytest.param(("--budget", "-1"), id="a minus"),
-        pytest.param(("--budget=-1",), id="a minus behind an equals sign"),
+        pytest.param(("--budget=-1",), id="a minus after an equals sign"),
         pytest.param(("--budget", "1.5M"), id="a point"),
     ],
 )
 @pytest.mark.parametrize(
     "command", [(), ("file",), ("check",), ("audit", "-")], ids=["one", "file", "check", "audit"]
 )
-def test_what_is_no_number_is_refused(words: tuple[str, ...], command: tuple[str, ...]) -> None:
+def test_a_value_that_is_not_a_number_is_refused(
+    words: tuple[str, ...], command: tuple[str, ...]
+) -> None:
     done = pwhash(*command, "-m", "sha512crypt", *words, stdin=b"x\n")
     option = words[0].partition("=")[0]
     assert (done.status, done.out) == (2, b"") and option.encode() in done.err, done
@@ -35,7 +37,7 @@ def test_what_is_no_number_is_refused(words: tuple[str, ...], command: tuple[str
 
 
 @pytest.mark.parametrize("number", ["9" * 25, "9" * 5000], ids=["25 digits", "5000 digits"])
-def test_a_budget_beyond_all_numbers_is_named(number: str) -> None:
+def test_a_budget_above_the_greatest_number_is_refused(number: str) -> None:
     done = pwhash("--budget", number, stdin=b"x\n")
     assert (done.status, done.out) == (2, b"") and b"budget" in done.err, done
     assert b"ended" not in done.err, done
@@ -46,14 +48,14 @@ def test_thousands_and_millions_are_multiplied() -> None:
     assert done.out == hashed(b"x", "$5$rounds=2000$ab") + b"\n", done
 
 
-def test_no_rounds_are_not_the_usual_ones() -> None:
+def test_zero_rounds_do_not_mean_the_recommended_ones() -> None:
     done = pwhash("-R", "0", stdin=b"x\n")
     assert (done.status, done.out) == (2, b"") and b"1000" in done.err, done
 
 
 @pytest.mark.parametrize("option", ["-o", "--columns", "--shadow"])
 def test_an_option_without_a_value_is_refused(option: str) -> None:
-    """As of a shell's variable that isn't set."""
+    """A shell's unset variable gives such a value."""
     save("passwords", b"ann:$1$x$x:password\n")
     command = ("check",) if option == "--shadow" else ("file", *MD5CRYPT)
     done = pwhash(*command, "passwords", option, "")
@@ -62,7 +64,7 @@ def test_an_option_without_a_value_is_refused(option: str) -> None:
 
 @pytest.mark.parametrize("command", ["file", "check", "audit"])
 def test_a_file_without_a_name_is_refused(command: str) -> None:
-    """As of a shell's variable that isn't set."""
+    """A shell's unset variable gives such a value."""
     done = pwhash(command, "")
     assert (done.status, done.out) == (2, b"") and b"FILE is empty" in done.err, done
 
@@ -77,13 +79,13 @@ def test_a_file_without_a_name_is_refused(command: str) -> None:
     ],
     ids=" ".join,
 )
-def test_no_message_repeats_a_word_that_may_be_a_password(words: tuple[str, ...]) -> None:
+def test_no_message_repeats_an_argument_that_may_be_a_password(words: tuple[str, ...]) -> None:
     done = pwhash(*words, stdin=b"x\n")
     assert (done.status, done.out) == (2, b"") and b"hunter2" not in done.err, done
 
 
-def test_a_word_behind_h_is_not_repeated() -> None:
-    """Since Python 3.13, argparse shows the help first."""
+def test_an_argument_after_h_is_not_repeated() -> None:
+    """Since Python 3.13, argparse prints the help first."""
     done = pwhash("-hhunter2", stdin=b"x\n")
     assert b"hunter2" not in done.out + done.err, done
 
@@ -93,7 +95,7 @@ def test_an_unknown_option_is_named() -> None:
     assert done.status == 2 and b"--rouns" in done.err and b"hunter2" not in done.err, done
 
 
-def test_a_budget_of_nothing_checks_nothing() -> None:
+def test_a_budget_of_0_checks_no_cost() -> None:
     done = pwhash("check", "--budget", "0", stdin=b"ann:" + MD5.encode() + b":password\n")
     assert (done.status, done.out) == (1, b""), done
 

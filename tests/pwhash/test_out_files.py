@@ -1,4 +1,4 @@
-"""OUT: it is whole, its owner's alone, and never another file's end."""
+"""OUT: it is complete, private, and replaces no other file."""
 from __future__ import annotations
 
 import os
@@ -37,7 +37,7 @@ def test_only_its_owner_can_read_out(umask: int) -> None:
     assert status.st_nlink == 1 and sorted(os.listdir()) == ["hashes", "passwords"], done
 
 
-def test_an_out_that_was_made_meanwhile_stays() -> None:
+def test_an_out_that_appears_during_a_run_stays() -> None:
     with slow_run() as process:
         save("hashes", b"somebody's\n")
         done = ended(process)
@@ -50,7 +50,7 @@ def test_an_out_that_was_made_meanwhile_stays() -> None:
     assert not os.path.exists("hashes.part"), again
 
 
-def test_an_out_that_check_finds_made_meanwhile_stays() -> None:
+def test_an_out_that_appears_during_a_check_stays() -> None:
     save("shadow", b"".join(b"user%d:%b:1\n" % (n, hashed(b"password%d" % n)) for n in range(200)))
     save("list", users(200))
     words = ("check", "--shadow", "shadow", "--rehash", *SLOW, "list", "-o", "hashes")
@@ -81,18 +81,18 @@ def test_out_on_a_file_system_without_links_replaces_nothing() -> None:
     assert done.out == b"500\nhashes\nstatus 3\nother\n" + left, done
 
 
-def test_no_file_is_written_by_the_name_of_standard_output() -> None:
+def test_no_file_with_the_name_of_standard_output_is_written() -> None:
     done = pwhash("file", *MD5CRYPT, save("list", users(2)), "-o", "-")
     assert done.status == 2 and sorted(os.listdir()) == ["list"], done
 
 
-def test_a_folder_that_is_not_there_leaves_nothing_to_go_on_with() -> None:
+def test_a_missing_folder_leaves_nothing_to_resume() -> None:
     done = pwhash("file", *MD5CRYPT, save("lines", b"ann:x\n"), "-o", "nowhere/out")
     assert done.status == 3 and b"nowhere/out.part" in done.err, done
     assert b"--resume" not in done.err, done
 
 
-def test_a_name_too_long_to_go_on_with_leaves_nothing() -> None:
+def test_a_name_too_long_to_resume_leaves_nothing() -> None:
     longest = os.pathconf(".", "PC_NAME_MAX")
     out = "o" * (longest - len(".part"))
     done = pwhash("file", *MD5CRYPT, save("lines", b"ann:x\n"), "-o", out)

@@ -1,4 +1,4 @@
-"""Outputs that are closed, full, or read by nobody."""
+"""Outputs that are closed or full, or that nobody reads."""
 from __future__ import annotations
 
 import os
@@ -19,7 +19,7 @@ from support.pwhash_runs import MD5CRYPT, hashed, in_namespace, read, save, shel
         pytest.param(MD5CRYPT, b"password\n", id="one"),
     ],
 )
-def test_a_reader_that_ends_ends_the_run_quietly(words: tuple[str, ...], lines: bytes) -> None:
+def test_a_reader_that_stops_ends_the_run_quietly(words: tuple[str, ...], lines: bytes) -> None:
     save("lines", lines)
     with open("lines", "rb") as source, started(*words, stdin=source) as process:
         assert process.stdout and process.stderr
@@ -38,11 +38,11 @@ def test_a_reader_that_ends_ends_the_run_quietly(words: tuple[str, ...], lines: 
             '{ "$@" 2>&1 >&3 3>&-; echo $? > status; } 3>&1 | :', id="errors into a pipe that ends"
         ),
         pytest.param('"$@" 2>&-; echo $? > status', id="errors closed"),
-        pytest.param('"$@" 2> /dev/full; echo $? > status', id="errors into a full device"),
+        pytest.param('"$@" 2> /dev/full; echo $? > status', id="errors to a full device"),
     ],
 )
-def test_no_out_is_lost_by_standard_error(redirected: str) -> None:
-    """Messages that nobody reads end no run whose result is a file."""
+def test_no_out_is_lost_because_of_standard_error(redirected: str) -> None:
+    """A run whose result is a file goes on if nobody reads its messages."""
     save("passwords", users(50) + b"no colon\n" + users(50).replace(b"user", b"other"))
     script = redirected.replace('"$@"', 'sleep 0.2; "$@"')
     done = shell(script, "file", *MD5CRYPT, "passwords", "-o", "hashes", "--skip-refused")
@@ -73,7 +73,7 @@ COMMANDS = pytest.mark.parametrize(
         pytest.param("< .", b"standard input is a folder", id="a folder as input"),
     ],
 )
-def test_an_input_or_output_that_is_none_is_a_failure(
+def test_an_unusable_input_or_output_is_a_failure(
     words: tuple[str, ...], redirected: str, message: bytes
 ) -> None:
     done = shell(f'exec "$@" {redirected}', *words, stdin=b"ann:!:x\n" * 3)
@@ -85,16 +85,18 @@ def test_an_input_or_output_that_is_none_is_a_failure(
     [
         pytest.param(("file", "--look"), 2, id="wrong use"),
         pytest.param(("file", "gone"), 3, id="a file that is gone"),
-        pytest.param(("file",), 1, id="a refused line, of which the message is lost"),
+        pytest.param(("file",), 1, id="a refused line whose message is lost"),
     ],
 )
-def test_a_full_standard_error_leaves_the_status(words: tuple[str, ...], status: int) -> None:
+def test_a_full_standard_error_does_not_change_the_status(
+    words: tuple[str, ...], status: int
+) -> None:
     done = shell('exec "$@" 2> /dev/full', *words, stdin=b"no colon\n")
     assert done.status == status, done
 
 
 @pytest.mark.needs("namespaces")
-def test_a_run_on_a_full_disk_goes_on_once_there_is_room() -> None:
+def test_a_run_on_a_full_disk_resumes_once_there_is_room() -> None:
     lines = save("lines", users(1000))
     script = """
         mkdir full

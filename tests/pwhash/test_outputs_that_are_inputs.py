@@ -1,7 +1,4 @@
-"""Where pwhash prints: never into the file that it reads, and so that no name commands a terminal.
-
-Each test sees only what a user sees: the command, its outputs, files and status.
-"""
+"""pwhash never prints into the file that it reads, nor control sequences of a terminal."""
 
 from __future__ import annotations
 
@@ -15,11 +12,11 @@ with needed("python3-pexpect"):
     import pexpect
 
 ESCAPE = b"\x1b[2J"
-# An output of a megabyte ends the run, so that it doesn't fill the disk where it goes on for ever.
+# The limit stops a run after a megabyte of output, so that an endless one doesn't fill the disk.
 LIMIT = "ulimit -f 2048; exec "
 
 
-# The file that is read.
+# The file that pwhash reads.
 
 COMMANDS = [
     pytest.param(("audit",), id="audit"),
@@ -56,7 +53,7 @@ def test_nothing_is_printed_into_the_file_that_is_read(
 def test_no_message_is_added_to_the_file_that_is_read(
     words: tuple[str, ...], redirected: str
 ) -> None:
-    """Each would be a line more, and make one more message."""
+    """Each message would add a line, which would cause the next message."""
     save("shadow", b"ann:!:1:::\n")
     lines = b"x" * 3000 + b"\n"
     save("list", lines)
@@ -64,15 +61,15 @@ def test_no_message_is_added_to_the_file_that_is_read(
     assert done.status == 2 and read("list") == lines, done
 
 
-def test_why_nothing_is_added_is_on_the_terminal() -> None:
+def test_the_terminal_shows_why_nothing_is_added() -> None:
     save("list", users(9))
     script = f"{LIMIT} {PWHASH} check list 2>> list"
     child = pexpect.spawn("/bin/sh", ["-c", script], timeout=60)
     child.expect(pexpect.EOF)
     child.close()
-    shown = bytes(child.before)
-    assert child.exitstatus == 2 and read("list") == users(9), shown
-    assert b"list is standard error too" in shown, shown
+    screen = bytes(child.before)
+    assert child.exitstatus == 2 and read("list") == users(9), screen
+    assert b"list is standard error too" in screen, screen
 
 
 def test_another_file_is_added_to() -> None:
@@ -89,7 +86,7 @@ SHOWN = b"an\\x1b[2J\\xffn:"
 
 
 def at_terminal(*words: str) -> tuple[int, bytes]:
-    """The status, and what a terminal shows of a run."""
+    """Returns the status of a run at a terminal, and what the terminal shows."""
     child = pexpect.spawn(PWHASH, list(words), timeout=60)
     child.expect(pexpect.EOF)
     child.close()
@@ -106,23 +103,23 @@ def at_terminal(*words: str) -> tuple[int, bytes]:
         pytest.param(("audit", "--json", "shadow"), id="audit in JSON"),
     ],
 )
-def test_no_name_of_a_line_commands_the_terminal(words: tuple[str, ...]) -> None:
+def test_no_name_in_a_line_controls_the_terminal(words: tuple[str, ...]) -> None:
     save("list", NAME + b":password\n")
     save("shadow", NAME + b":" + MD5.encode() + b":1:::\n")
     save("stored", NAME + b":" + MD5.encode() + b":password\n")
-    status, shown = at_terminal(*words)
-    assert b"\x1b[2J" not in shown, (status, shown)
+    status, screen = at_terminal(*words)
+    assert b"\x1b[2J" not in screen, (status, screen)
     name = SHOWN[:-1].replace(b"\\", b"\\\\") if "--json" in words else SHOWN[:-1]
-    assert name in shown, (status, shown)
+    assert name in screen, (status, screen)
 
 
-def test_a_name_is_printed_as_it_is_where_no_terminal_shows_it() -> None:
+def test_a_name_is_printed_unchanged_without_a_terminal() -> None:
     done = pwhash("file", *MD5CRYPT, "--accept-doubtful", stdin=NAME + b":password\n")
     assert (done.status, done.out) == (0, NAME + b":" + MD5.encode() + b"\n"), done
 
 
-def test_names_of_any_script_are_shown_as_they_are() -> None:
+def test_names_in_any_script_are_printed_unchanged() -> None:
     save("list", "zoë:password\nЯна:password\n".encode())
-    status, shown = at_terminal("file", *MD5CRYPT, "list")
-    assert status == 0 and "zoë:".encode() in shown and "Яна:".encode() in shown, shown
-    assert shown.count(hashed(b"password")) == 2, shown
+    status, screen = at_terminal("file", *MD5CRYPT, "list")
+    assert status == 0 and "zoë:".encode() in screen and "Яна:".encode() in screen, screen
+    assert screen.count(hashed(b"password")) == 2, screen

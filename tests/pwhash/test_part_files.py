@@ -1,4 +1,4 @@
-"""OUT.part: only the user's own is written, and no other file is touched."""
+"""OUT.part: pwhash writes only the user's own, and touches no other file."""
 from __future__ import annotations
 
 import os
@@ -27,7 +27,7 @@ from support.pwhash_runs import (
 
 
 def run_in_the_open_folder(*words: str) -> Ended:
-    """As root in a folder in which everybody can write."""
+    """Runs pwhash as root in a folder that everybody can write."""
     os.chmod(".", 0o777)
     return pwhash("file", *MD5CRYPT, "passwords", "-o", "hashes", *words)
 
@@ -68,10 +68,10 @@ def part_for_all() -> None:
         pytest.param(lambda: os.mkdir("hashes.part"), id="a folder"),
     ],
 )
-def test_a_part_that_is_not_the_users_own_is_never_written(
+def test_a_part_that_is_not_only_the_users_is_never_written(
     put: Callable[[], None], words: tuple[str, ...]
 ) -> None:
-    """Its owner could add lines before chpasswd loads them."""
+    """Its owner could add lines before chpasswd reads them."""
     save("passwords", b"ann:password\n")
     put()
     before = os.lstat("hashes.part")
@@ -84,7 +84,7 @@ def test_a_part_that_is_not_the_users_own_is_never_written(
     assert not os.path.exists("elsewhere") or read("elsewhere") == b"", done
 
 
-def test_an_empty_part_of_the_users_own_is_not_taken_without_resume() -> None:
+def test_the_users_own_empty_part_is_not_used_without_resume() -> None:
     save("passwords", b"ann:password\n")
     save_part("hashes.part", b"")
     done = pwhash("file", *MD5CRYPT, "passwords", "-o", "hashes")
@@ -93,7 +93,7 @@ def test_an_empty_part_of_the_users_own_is_not_taken_without_resume() -> None:
     assert done.status == 0 and read("hashes") == b"ann:" + MD5.encode() + b"\n", done
 
 
-def test_the_file_that_is_read_is_not_removed() -> None:
+def test_the_input_file_is_not_removed() -> None:
     save("hashes.part", users(3))
     done = pwhash("file", *MD5CRYPT, "hashes.part", "-o", "hashes")
     assert done.status == 2 and b"remove it" not in done.err and b"read" in done.err, done
@@ -101,8 +101,8 @@ def test_the_file_that_is_read_is_not_removed() -> None:
 
 
 @pytest.mark.needs("strace")
-def test_a_strangers_file_is_not_taken_for_out() -> None:
-    """Where there are no hard links, a name is renamed; strace holds that for a second."""
+def test_another_users_file_is_not_mistaken_for_out() -> None:
+    """Without hard links pwhash renames the part. strace delays that by a second."""
     save("list", users(3))
     command = ["strace", "-f", "-qq", "-o", "log", "-e", "trace=linkat,renameat2"]
     command += ["-e", "inject=linkat:error=EPERM", "-e", "inject=renameat2:delay_enter=2000000"]
@@ -117,8 +117,8 @@ def test_a_strangers_file_is_not_taken_for_out() -> None:
 
 
 @pytest.mark.needs("strace")
-def test_a_part_that_became_out_meanwhile_is_left_alone() -> None:
-    """Another run may end before this one has locked the part; strace holds that for a second."""
+def test_a_part_that_another_run_made_out_is_left_alone() -> None:
+    """Another run may end before this one locks the part. strace delays that by a second."""
     save("list", b"ann:password\n")
     os.utime("list", (1e9, 1e9))
     save_part("hashes.part", b"ann:" + MD5.encode() + b"\n")
@@ -147,7 +147,7 @@ def link_options() -> None:
         pytest.param(lambda: os.mkdir("hashes.part.options"), id="a folder"),
     ],
 )
-def test_a_file_with_the_name_of_the_kept_options_stays(put: Callable[[], object]) -> None:
+def test_a_file_with_the_name_of_the_saved_options_stays(put: Callable[[], object]) -> None:
     save("list", b"name,password\nann,pw1\n")
     put()
     before = os.lstat("hashes.part.options")

@@ -1,4 +1,4 @@
-"""pwhash runs with each Python from 3.8 on, and says of older ones that they are too old."""
+"""pwhash runs with each Python from 3.8 on, and says that older ones are too old."""
 from __future__ import annotations
 
 import pytest
@@ -12,7 +12,7 @@ ANN = f"ann:{MD5}\n".encode()
 
 
 def run_with(python: Interpreter, copy: Copy, *words: Word, stdin: bytes = b"") -> Result:
-    """Runs a copy whose script has this Python in place of the system's."""
+    """Runs a copy of pwhash whose script names this Python instead of the system's."""
     text = copy.pwhash.read_text(encoding="utf-8")
     assert "/usr/bin/python3" in text
     copy.pwhash.write_text(text.replace("/usr/bin/python3", python.path), encoding="utf-8")
@@ -34,7 +34,7 @@ def run_with(python: Interpreter, copy: Copy, *words: Word, stdin: bytes = b"") 
         pytest.param(("install", "--quiet", "shadow", "new"), b"", b"", id="install"),
     ],
 )
-def test_each_python_runs_it(
+def test_each_python_runs_pwhash(
     python: Interpreter, words: tuple[str, ...], stdin: bytes, printed: bytes, copy: Copy
 ) -> None:
     save("shadow", ANN)

@@ -1,7 +1,4 @@
-"""pwhash and a name whose first line is refused: a later line of it may be an old one.
-
-Each test sees only what a user sees: the command, its outputs, files and status.
-"""
+"""Names whose first line is refused: a later line of the name may be an old one."""
 from __future__ import annotations
 
 import re
@@ -29,7 +26,7 @@ LISTS = [
 
 
 @pytest.mark.parametrize(("lines", "options"), LISTS)
-def test_no_line_of_a_name_is_hashed_whose_first_is_refused(
+def test_a_file_gives_no_hash_of_a_name_whose_first_line_is_refused(
     lines: bytes, options: tuple[str, ...]
 ) -> None:
     words = ("-o", "hashes", "--skip-refused", "--skip-doubtful")
@@ -40,20 +37,20 @@ def test_no_line_of_a_name_is_hashed_whose_first_is_refused(
 
 
 @pytest.mark.parametrize(("lines", "options"), LISTS)
-def test_a_pipe_gives_no_line_of_a_name_whose_first_is_refused(
+def test_a_pipe_gives_no_hash_of_a_name_whose_first_line_is_refused(
     lines: bytes, options: tuple[str, ...]
 ) -> None:
     done = pwhash("file", *MD5CRYPT, *options, stdin=lines)
     assert (done.status, done.out) == (1, BOB), done
 
 
-def test_leaving_out_refused_lines_alone_hashes_nothing_of_an_unsure_name() -> None:
+def test_skipping_only_refused_lines_hashes_no_ambiguous_name() -> None:
     lines = save("list", b"ann:x\0y\nbob:pw2\nann:old\n")
     done = pwhash("file", *MD5CRYPT, lines, "--skip-refused")
     assert (done.status, done.out) == (1, b""), done
 
 
-def test_a_line_without_a_name_makes_no_name_unsure() -> None:
+def test_a_line_without_a_name_makes_no_name_ambiguous() -> None:
     lines = save("list", b"ann\n:x\nbob:pw2\n")
     done = pwhash("file", *MD5CRYPT, lines, "--skip-refused")
     assert (done.status, done.out) == (1, BOB), done

@@ -1,7 +1,4 @@
-"""pwhash goes on with a part only with the options by which its run left lines out.
-
-Each test sees only what a user sees: the command, its outputs, files and status.
-"""
+"""pwhash resumes a part only with the options by which its run skipped lines."""
 from __future__ import annotations
 
 import os
@@ -29,20 +26,20 @@ WORDS = ("file", *SLOW, "list", "-o", "hashes")
 
 @pytest.fixture(autouse=True, name="saved_list")
 def fixture_saved_list(folder: Path) -> None:
-    """A list in the scratch folder that has two lines to leave out."""
-    del folder  # the current one
+    """A list in the scratch folder that has two lines to skip."""
+    del folder  # it is the current folder
     save("list", users(COUNT) + b"no colon\ndan: x\n")
 
 
 def terminated(process: subprocess.Popen[bytes]) -> Ended:
-    """Ends a run by a signal once its part has lines, unless it has ended by then."""
+    """Sends a signal to a run once its part has lines, unless it has ended by then."""
     wait_for(lambda: process.poll() is not None or has_begun())
     process.send_signal(signal.SIGTERM)
     return ended(process)
 
 
 def interrupt(*choice: str) -> None:
-    """A run that a signal ends in its midst. One that was quicker is repeated."""
+    """Runs pwhash until a signal ends it halfway. Repeats a run that is faster than the signal."""
     for _ in range(20):
         done = terminated(started(*WORDS, *choice, stdin=subprocess.DEVNULL))
         if os.path.exists("hashes.part"):
@@ -62,7 +59,7 @@ SKIPPED = ("--skip-refused", "--skip-doubtful")
         pytest.param((*SKIPPED, "--for", "dovecot"), id="a service"),
     ],
 )
-def test_other_options_do_not_go_on_with_a_part(choice: tuple[str, ...]) -> None:
+def test_other_options_do_not_resume_a_part(choice: tuple[str, ...]) -> None:
     interrupt(*SKIPPED)
     part = read("hashes.part")
     done = pwhash(*WORDS, *choice, "--resume")
@@ -71,13 +68,13 @@ def test_other_options_do_not_go_on_with_a_part(choice: tuple[str, ...]) -> None
 
 
 def test_forgotten_rounds_are_named() -> None:
-    """The budget follows from -m and -R, and nobody has given one."""
+    """The message doesn't name the budget, which follows from -m and -R."""
     interrupt(*SKIPPED)
     done = pwhash("file", "-S", "saltsalt", "list", "-o", "hashes", *SKIPPED, "--resume")
     assert done.status == 2 and b"-R" in done.err, done
 
 
-def test_the_same_options_go_on_with_a_part() -> None:
+def test_the_same_options_resume_a_part() -> None:
     interrupt(*SKIPPED)
     done = pwhash(*WORDS, *reversed(SKIPPED), "--resume")
     assert done.status == 1 and read("hashes").count(b"\n") == COUNT, done

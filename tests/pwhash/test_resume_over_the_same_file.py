@@ -1,7 +1,4 @@
-"""pwhash file --resume: it goes on only over the very file that a part was begun with.
-
-Each test sees only what a user sees: the command, its outputs, files and status.
-"""
+"""pwhash file --resume continues only with the same file that the part was begun with."""
 
 from __future__ import annotations
 
@@ -49,8 +46,10 @@ def fixture_passwords(folder: Path) -> None:
 def interrupted(
     *words: str, part: str = "hashes.part", source: str = os.devnull, begun: bytes = b""
 ) -> Ended:
-    """A run that a signal ends in its midst, begun by others or not. One that was quicker is
-    repeated."""
+    """Runs pwhash until a signal ends it halfway, perhaps over a part that already has lines.
+
+    Repeats a run that is faster than the signal.
+    """
     for _ in range(20):
         if begun:
             save_part(part, begun)
@@ -65,7 +64,7 @@ def interrupted(
 
 
 def terminated(process: subprocess.Popen[bytes], part: str, size: int) -> Ended:
-    """Ends a run by a signal once its part is larger, unless it has ended by then."""
+    """Sends a signal to a run once its part has grown, unless it has ended by then."""
     wait_for(lambda: process.poll() is not None or size_of(part) > size)
     process.send_signal(signal.SIGTERM)
     return ended(process)
@@ -82,7 +81,7 @@ def lines_in(name: str) -> int:
 
 
 def printed_command(done: Ended) -> str:
-    """What the run says to type."""
+    """Returns the command that the run prints for going on."""
     return done.err.decode().split("To go on:\n")[1].strip()
 
 
@@ -90,16 +89,16 @@ def by_shell(command: str) -> Ended:
     return ended(started_program("/bin/sh", "-c", command))
 
 
-# Another FILE.
+# Another file.
 
 
 def other_passwords() -> bytes:
-    """Of the same size; what differs is behind the first line, which is hashed again."""
+    """Returns a list of the same size with the same first line, which --resume hashes again."""
     return users(COUNT).replace(b":password1\n", b":PASSWORD1\n")
 
 
 def copy_over() -> None:
-    """As `cp -p` of an older list does."""
+    """Overwrites the list as `cp -p` of an older list does."""
     save("backup", other_passwords())
     os.utime("backup", OLDER)
     with open("backup", "rb") as backup, open("passwords", "r+b") as passwords:
@@ -108,7 +107,7 @@ def copy_over() -> None:
 
 
 def rename_over() -> None:
-    """As a backup of the same size and time that takes FILE's place."""
+    """Replaces the list by a backup of the same size and time."""
     save("backup", other_passwords())
     os.utime("backup", OLD)
     os.rename("backup", "passwords")
@@ -121,19 +120,17 @@ def lengthen() -> None:
 
 
 CHANGES = [
-    pytest.param(copy_over, id="copied over by cp -p"),
+    pytest.param(copy_over, id="overwritten by cp -p"),
     pytest.param(rename_over, id="replaced by a backup"),
     pytest.param(lengthen, id="longer"),
-    pytest.param(lambda: os.utime("passwords", OLDER), id="with an older time alone"),
+    pytest.param(lambda: os.utime("passwords", OLDER), id="only an older time"),
     pytest.param(lambda: os.utime("passwords"), id="touched"),
 ]
 
 
 @pytest.mark.parametrize("change", CHANGES)
 @pytest.mark.parametrize("source", ["/dev/null", "passwords"], ids=["named", "standard input"])
-def test_a_part_of_another_file_is_not_gone_on_with(
-    change: Callable[[], object], source: str
-) -> None:
+def test_a_part_of_another_file_is_not_resumed(change: Callable[[], object], source: str) -> None:
     words = [word for word in WORDS if word != source]
     interrupted(*words, source=source)
     part = read("hashes.part")
@@ -144,7 +141,7 @@ def test_a_part_of_another_file_is_not_gone_on_with(
     assert b"--resume" not in done.err and read("hashes.part") == part, done
 
 
-def test_what_the_refusal_says_makes_new_hashes() -> None:
+def test_the_commands_of_the_refusal_make_new_hashes() -> None:
     interrupted(*WORDS)
     copy_over()
     assert pwhash(*WORDS, "--resume").status == 2
@@ -154,15 +151,15 @@ def test_what_the_refusal_says_makes_new_hashes() -> None:
     assert read("hashes").splitlines()[1] == b"user1:" + hashed(b"PASSWORD1", SETTING)
 
 
-def test_the_same_file_on_standard_input_is_gone_on_with() -> None:
+def test_a_run_resumes_with_the_same_file_on_standard_input() -> None:
     first = interrupted("file", *SLOW, "-o", "hashes", source="passwords")
     second = by_shell(printed_command(first))
     assert second.status == 0 and lines_in("hashes") == COUNT, second
     assert sorted(os.listdir()) == ["hashes", "passwords"], second
 
 
-def test_a_part_is_gone_on_with_more_than_once() -> None:
-    """Each time for some lines more, and over the same file only."""
+def test_a_part_can_be_resumed_more_than_once() -> None:
+    """Each run adds some lines, and needs the same file."""
     interrupted(*WORDS)
     first = read("hashes.part").splitlines(keepends=True)[0]
     interrupted(*WORDS, "--resume", begun=first)
@@ -171,8 +168,8 @@ def test_a_part_is_gone_on_with_more_than_once() -> None:
     assert done.status == 2 and not os.path.exists("hashes"), done
 
 
-def test_a_part_that_others_made_is_bound_to_the_file_once_it_was_gone_on_with() -> None:
-    """As GNU parallel makes one, beside which nothing tells what it is of."""
+def test_a_part_from_another_program_is_bound_to_the_file_once_it_is_resumed() -> None:
+    """GNU parallel makes such a part, without saved options beside it."""
     made = b"".join(b"user%d:%b\n" % (n, hashed(b"password%d" % n, SETTING)) for n in range(3))
     interrupted(*WORDS, "--resume", begun=made)
     copy_over()
@@ -180,7 +177,7 @@ def test_a_part_that_others_made_is_bound_to_the_file_once_it_was_gone_on_with()
     assert done.status == 2 and b"another file" in done.err, done
 
 
-# What is kept beside the part.
+# The options that are saved beside the part.
 
 KEPT = "hashes.part.options"
 
@@ -199,7 +196,7 @@ CUTS = [
 
 @pytest.mark.parametrize("words", [(), ("--windows",)], ids=["alone", "with --windows"])
 @pytest.mark.parametrize("cut", CUTS)
-def test_a_part_is_not_gone_on_with_by_what_was_cut(
+def test_a_part_with_truncated_options_is_not_resumed(
     cut: Callable[[], None], words: tuple[str, ...]
 ) -> None:
     interrupted(*WORDS, *words)
@@ -210,8 +207,8 @@ def test_a_part_is_not_gone_on_with_by_what_was_cut(
 
 
 @pytest.mark.parametrize("cut", CUTS)
-def test_nothing_is_lost_where_the_part_is_empty(cut: Callable[[], None]) -> None:
-    """As after a power cut at the very beginning."""
+def test_an_empty_part_with_truncated_options_loses_nothing(cut: Callable[[], None]) -> None:
+    """A power cut at the very beginning leaves such files."""
     interrupted(*WORDS)
     cut()
     save("hashes.part", b"")
@@ -222,7 +219,7 @@ def test_nothing_is_lost_where_the_part_is_empty(cut: Callable[[], None]) -> Non
 
 @pytest.mark.parametrize("words", [(), ("--windows",)], ids=["alone", "with --windows"])
 @pytest.mark.parametrize("blocks", [0, 1], ids=["nothing fits", "a block fits"])
-def test_the_printed_command_goes_on_after_a_full_disk(words: tuple[str, ...], blocks: int) -> None:
+def test_the_printed_command_resumes_after_a_full_disk(words: tuple[str, ...], blocks: int) -> None:
     script = f"""
         mkdir full
         mount -t tmpfs -o size=64k none full
@@ -239,27 +236,27 @@ def test_the_printed_command_goes_on_after_a_full_disk(words: tuple[str, ...], b
     assert done.out == b"status 3\n200\nhashes\n" and b"To go on" in done.err, done
 
 
-# The command that a run prints.
+# The command that a run prints for going on.
 
 
 @pytest.mark.parametrize(
     ("name", "words"),
     [
-        pytest.param("passwords", ("-o", "hashes", "--", "passwords"), id="behind --"),
+        pytest.param("passwords", ("-o", "hashes", "--", "passwords"), id="after --"),
         pytest.param("-my list", ("-o", "hashes", "--", "-my list"), id="a dash and a blank"),
         pytest.param("--resume", ("-o", "hashes", "--", "--resume"), id="the option's own name"),
         pytest.param("it's", ("it's", "--out=hashes"), id="a quote"),
-        pytest.param("$HOME;#", ("-ohashes", "$HOME;#"), id="signs of the shell"),
+        pytest.param("$HOME;#", ("-ohashes", "$HOME;#"), id="special characters of the shell"),
     ],
 )
-def test_the_printed_command_goes_on_whatever_its_words(name: str, words: tuple[str, ...]) -> None:
+def test_the_printed_command_works_with_any_name(name: str, words: tuple[str, ...]) -> None:
     os.rename("passwords", name)
     first = interrupted("file", *SLOW, *words)
     second = by_shell(printed_command(first))
     assert second.status == 0 and lines_in("hashes") == COUNT, second
 
 
-def test_the_printed_command_goes_on_where_out_begins_with_a_dash() -> None:
+def test_the_printed_command_works_if_out_begins_with_a_dash() -> None:
     first = interrupted("file", *SLOW, "--out=-h", "--", "passwords", part="-h.part")
     second = by_shell(printed_command(first))
     assert second.status == 0 and lines_in("-h") == COUNT, second

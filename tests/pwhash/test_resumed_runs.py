@@ -1,4 +1,4 @@
-"""--resume: a part that another command made, or that somebody changed, is not gone on with."""
+"""--resume: pwhash doesn't resume a part that another command made or somebody changed."""
 from __future__ import annotations
 
 import os
@@ -35,7 +35,7 @@ OTHER_MIDDLES = [
     pytest.param(hashed(b"b", "$5$rounds=1001$saltsaltsaltsalt"), id="other rounds"),
     pytest.param(hashed(b"b", "$5$saltsaltsaltsalt"), id="no rounds"),
     pytest.param(hashed(b"b", SHA256 + "salt"), id="a shorter salt"),
-    pytest.param(hashed(b"b", SHA256 + "saltsaltsaltsalt")[:-1], id="a hash that was cut"),
+    pytest.param(hashed(b"b", SHA256 + "saltsaltsaltsalt")[:-1], id="a truncated hash"),
     pytest.param(hashed(b"b", SHA256 + "saltsaltsaltsalt") + b":0:", id="more fields"),
     pytest.param(SHA256.encode() + b"$" + b"x" * 43, id="no salt"),
     pytest.param(b"!", id="no hash"),
@@ -58,7 +58,7 @@ def test_resume_refuses_a_forged_line_in_the_middle(middle: bytes) -> None:
     assert done.status == 0 and read("hashes").startswith(b"\n".join(kept) + b"\nzoe:$5$"), done
 
 
-def test_resume_refuses_another_salt_in_the_middle_where_one_was_given() -> None:
+def test_resume_refuses_another_salt_in_the_middle_than_the_given_one() -> None:
     save("passwords", b"ann:a\nbob:b\neve:c\nzoe:d\n")
     salts = ["$1$xxxxxxxx", "$1$yyyyyyyy", "$1$xxxxxxxx"]
     kept = [
@@ -74,16 +74,16 @@ OTHER_LINES = [
     pytest.param(("--accept-doubtful",), ("--windows",), id="with --windows"),
     pytest.param(("--windows",), ("--accept-doubtful",), id="without --windows"),
     pytest.param(("--csv",), ("--csv", "--columns", "name,old"), id="other columns"),
-    pytest.param(("--csv", "--columns", "name,old"), ("--csv",), id="the usual columns"),
+    pytest.param(("--csv", "--columns", "name,old"), ("--csv",), id="the default columns"),
     pytest.param(("--csv",), ("--accept-doubtful",), id="without --csv"),
 ]
 
 
 @pytest.mark.parametrize(("first", "second"), OTHER_LINES)
-def test_a_part_is_not_gone_on_with_by_options_that_change_lines(
+def test_options_that_change_lines_do_not_resume_a_part(
     first: tuple[str, ...], second: tuple[str, ...]
 ) -> None:
-    """The first and last lines, which are hashed again, are the same either way."""
+    """The first and last lines, which --resume hashes again, are the same with both."""
     text = b"".join(b"user%d:password%d%b\n" % (n, n, b"\r" * (n % 2)) for n in range(1500))
     if "--csv" in first:
         rows = (b"user%d,password%d,other%d\n" % (n, n, n * (n % 2)) for n in range(1500))
@@ -106,7 +106,7 @@ def test_a_part_is_not_gone_on_with_by_options_that_change_lines(
     assert sorted(os.listdir()) == ["hashes", "list"], done
 
 
-def test_options_of_another_are_not_gone_on_with() -> None:
+def test_options_saved_by_another_program_are_not_used() -> None:
     save("list", b"ann,pw1\nbob,pw2\n")
     save_part("hashes.part", ANN)
     os.utime("list", (1e9, 1e9))
@@ -120,12 +120,12 @@ def test_options_of_another_are_not_gone_on_with() -> None:
         done = pwhash(*words)
         assert done.status == 2 and b"hashes.part.options" in done.err, done
         os.remove("hashes.part.options")
-    save_part("hashes.part.options", b"--csv --columns=1,2")  # which tells nothing of the list
+    save_part("hashes.part.options", b"--csv --columns=1,2")  # says nothing about the list
     done = pwhash(*words)
     assert done.status == 2 and not os.path.exists("hashes"), done
 
 
-def test_the_command_that_goes_on_is_readable_and_works() -> None:
+def test_the_command_for_going_on_is_readable_and_works() -> None:
     name = f"pass{ESCAPE}'\nwörds\\"
     save(name, users(1500))
     out = f"o{ESCAPE}ut"
@@ -140,7 +140,7 @@ def test_the_command_that_goes_on_is_readable_and_works() -> None:
     assert second.status == 0 and read(out).count(b"\n") == 1500, second
 
 
-# ---- What was kept
+# ---- The part's lines
 
 LINES = b"ann:x\nno colon\nbob:y\ncarl:z\n"
 RESUMED = ("file", *MD5CRYPT, "lines", "-o", "out", "--resume", "--skip-refused")
@@ -161,7 +161,7 @@ FIRST, SECOND, THIRD = WHOLE.splitlines(keepends=True)
         pytest.param(WHOLE, id="all"),
     ],
 )
-def test_a_part_of_the_same_run_is_gone_on_with(part: bytes) -> None:
+def test_a_part_of_the_same_run_is_resumed(part: bytes) -> None:
     save("lines", LINES)
     save_part("out.part", part)
     done = pwhash(*RESUMED)
@@ -174,11 +174,11 @@ def test_a_part_of_the_same_run_is_gone_on_with(part: bytes) -> None:
         pytest.param(SECOND, id="another line first"),
         pytest.param(b"ann:$1$xxxxxxxx$wrong\n", id="another hash"),
         pytest.param(FIRST + b"bob:" + hashed(b"other") + b"\n", id="another password last"),
-        pytest.param(WHOLE + b"\nx", id="more than the run makes"),
+        pytest.param(WHOLE + b"\nx", id="more lines than the run makes"),
         pytest.param(b"Welcome!\n", id="no hash"),
     ],
 )
-def test_a_part_of_no_such_run_is_not_gone_on_with(part: bytes) -> None:
+def test_a_part_of_another_run_is_not_resumed(part: bytes) -> None:
     save("lines", LINES)
     save_part("out.part", part)
     done = pwhash(*RESUMED)
@@ -193,21 +193,21 @@ def test_a_part_of_no_such_run_is_not_gone_on_with(part: bytes) -> None:
         pytest.param(("-m", "md5crypt", "-S", "yyyyyyyy"), id="another salt"),
     ],
 )
-def test_a_part_of_other_hashes_is_not_gone_on_with(words: tuple[str, ...]) -> None:
+def test_a_part_with_other_hashes_is_not_resumed(words: tuple[str, ...]) -> None:
     save("lines", LINES)
     save_part("out.part", FIRST)
     done = pwhash("file", *words, "lines", "-o", "out", "--resume", "--skip-refused")
     assert done.status == 2 and not os.path.exists("out"), done
 
 
-def test_a_part_is_not_taken_without_resume() -> None:
+def test_a_part_is_not_used_without_resume() -> None:
     save("lines", LINES)
     save_part("out.part", FIRST)
     done = pwhash("file", *MD5CRYPT, "lines", "-o", "out", "--skip-refused")
     assert done.status == 2 and not os.path.exists("out"), done
 
 
-def test_a_list_that_is_newer_than_the_part_is_not_gone_on_with() -> None:
+def test_a_list_newer_than_the_part_is_not_resumed() -> None:
     save_part("out.part", FIRST)
     save("lines", LINES)
     later = os.stat("out.part").st_mtime + 1
@@ -229,23 +229,23 @@ def test_resume_of_a_whole_run_is_refused() -> None:
     assert done.status == 2 and read("out") == WHOLE, done
 
 
-# ---- Checks, which go on with nothing
+# ---- Checks, which can't be resumed
 
 
-def test_a_check_names_the_part_that_is_to_be_removed() -> None:
+def test_a_check_names_the_part_to_remove() -> None:
     save("out.part", b"ann:locked\n")
     done = pwhash("check", save("lines", b"ann:!:x\n"), "-o", "out")
     assert done.status == 2 and b"out.part already exists: remove it" in done.err, done
     assert b"--resume" not in done.err, done
 
 
-def test_a_check_that_failed_says_how_to_start_again() -> None:
+def test_a_failed_check_says_how_to_start_again() -> None:
     save("lines", b"ann:!:x\n" * 200)
     done = shell('ulimit -f 1; exec "$@"', "check", "lines", "-o", "out")
     assert done.status == 3 and done.err.endswith(b" To start again, remove out.part.\n"), done
 
 
-def test_a_run_that_failed_says_how_to_go_on() -> None:
+def test_a_failed_run_says_how_to_go_on() -> None:
     save("lines", users(200))
     save_part("out.part", b"")
     words = ("file", *MD5CRYPT, "lines", "-o", "out", "--resume")
@@ -254,7 +254,7 @@ def test_a_run_that_failed_says_how_to_go_on() -> None:
     assert done.status == 3 and done.err.endswith(f" To go on:\n{command}".encode()), done
 
 
-def test_nobody_is_told_to_remove_what_is_no_file() -> None:
+def test_the_advice_never_removes_what_is_no_file() -> None:
     done = pwhash("file", save("lines", b"ann:x\n"), "-o", "/dev/null")
     assert done.status == 2 and b"/dev/null already exists" in done.err, done
     assert b"remove" not in done.err, done

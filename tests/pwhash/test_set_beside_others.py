@@ -1,4 +1,4 @@
-"""pwhash set while somebody else changes the file, which stays, and on other file systems."""
+"""pwhash set keeps changes that others make meanwhile, and works on other file systems."""
 from __future__ import annotations
 
 import os
@@ -21,12 +21,12 @@ STARTED = ("/usr/bin/python3", "-I", "-S", str(PACKAGE / "pwhash/start.py"), str
 
 @pytest.fixture(scope="module", name="between")
 def fixture_between(tmp_path_factory: pytest.TempPathFactory) -> str:
-    """A library between pwhash and the system, by which a run meets somebody else."""
+    """A library between pwhash and the system that changes the file during a run."""
     return str(preload_library("between", tmp_path_factory.mktemp("between")))
 
 
 def met(between: str, *variables: str) -> Ended:
-    """Gives Ann a password, while somebody does what the variables say."""
+    """Sets Ann's password while somebody else does what the variables say."""
     command = ("env", f"LD_PRELOAD={between}", *variables, *STARTED, *SET)
     return ended(started_program(*command), b"password\n")
 
@@ -36,13 +36,13 @@ def beside() -> list[str]:
 
 
 def version(number: int) -> bytes:
-    """A version of somebody else, of which each locks another name."""
+    """Returns another user's version of the file. Each version locks another name."""
     locked = b"".join(b"other%d:!\n" % each for each in range(number))
     return locked + b"ann:x\n"
 
 
 @pytest.mark.parametrize("changes", range(6))
-def test_the_newest_change_of_somebody_else_stays(between: str, changes: int) -> None:
+def test_the_newest_change_by_somebody_else_stays(between: str, changes: int) -> None:
     save("passwords", version(0))
     for number in range(1, changes + 1):
         save(f"passwords.{number}", version(number))
@@ -51,7 +51,7 @@ def test_the_newest_change_of_somebody_else_stays(between: str, changes: int) ->
     assert (done.status, read("passwords"), beside()) == (0, expected, LEFT), done
 
 
-def test_a_mode_that_somebody_gives_the_file_stays(between: str) -> None:
+def test_a_mode_set_by_somebody_else_stays(between: str) -> None:
     save("passwords", version(1))
     os.chmod("passwords", 0o640)
     done = met(between, "CHMOD=1")
@@ -59,7 +59,7 @@ def test_a_mode_that_somebody_gives_the_file_stays(between: str) -> None:
     assert stat.S_IMODE(os.stat("passwords").st_mode) == 0o604
 
 
-def test_a_file_that_somebody_removes_is_not_made_again(between: str) -> None:
+def test_a_file_that_somebody_removes_is_not_created_again(between: str) -> None:
     save("passwords", version(1))
     done = met(between, f"REMOVED={os.path.abspath('passwords')}")
     assert (done.status, beside()) == (3, ["passwords.mkpasswd.lock"]), done
@@ -72,16 +72,14 @@ def test_a_file_that_somebody_removes_is_not_made_again(between: str) -> None:
         pytest.param("NO_LOCKS=1", b"passwords.mkpasswd.lock", id="no locks"),
     ],
 )
-def test_a_file_system_that_can_not_do_it_is_named(
-    between: str, variable: str, reason: bytes
-) -> None:
+def test_an_unsuitable_file_system_is_named(between: str, variable: str, reason: bytes) -> None:
     save("passwords", version(1))
     done = met(between, variable)
     assert (done.status, read("passwords")) == (3, version(1)) and reason in done.err, done
     assert beside() == LEFT, done
 
 
-def test_a_file_system_without_nameless_files_is_enough(between: str) -> None:
+def test_a_file_system_without_o_tmpfile_is_enough(between: str) -> None:
     save("passwords", version(1))
     done = met(between, "NO_TMPFILE=1")
     expected = version(1).replace(b"ann:x\n", ANN)
@@ -90,7 +88,7 @@ def test_a_file_system_without_nameless_files_is_enough(between: str) -> None:
 
 @pytest.mark.parametrize("variables", [(), ("NO_TMPFILE=1",)], ids=["without a name", "named"])
 @pytest.mark.parametrize("moment", ["fsync", "exchange", "unlinkat"])
-def test_the_next_run_ends_what_one_began_that_was_killed(
+def test_the_next_run_finishes_what_a_killed_one_began(
     between: str, moment: str, variables: tuple[str, ...]
 ) -> None:
     save("passwords", version(2))
@@ -102,7 +100,7 @@ def test_the_next_run_ends_what_one_began_that_was_killed(
     assert (done.status, read("passwords"), beside()) == (0, expected, LEFT), done
 
 
-def test_the_next_run_puts_back_what_one_took_out_that_was_killed(between: str) -> None:
+def test_the_next_run_puts_back_the_file_that_a_killed_one_took_out(between: str) -> None:
     save("passwords", version(0))
     save("passwords.1", version(1))
     killed = met(between, "KILL=exchange")
@@ -112,7 +110,7 @@ def test_the_next_run_puts_back_what_one_took_out_that_was_killed(between: str) 
     assert (done.status, read("passwords"), beside()) == (0, expected, LEFT), done
 
 
-def test_a_note_that_can_not_be_read_is_named(between: str) -> None:
+def test_a_note_that_cannot_be_read_is_named(between: str) -> None:
     save("passwords", version(0))
     save("passwords.1", version(1))
     met(between, "KILL=exchange")

@@ -1,4 +1,4 @@
-"""pwhash set: what a file keeps besides its lines, and which files are refused."""
+"""pwhash set: which attributes a file keeps, and which files are refused."""
 from __future__ import annotations
 
 import os
@@ -27,27 +27,27 @@ SET = ("set", *MD5CRYPT, "passwords", "ann")
 BEFORE, AFTER = b"ann:x:1\n", b"ann:" + hashed(b"password") + b":1\n"
 LOCK = "passwords.mkpasswd.lock"
 OWNER, GROUP, MODE = 65534, 4242, 0o640
-# A line as shadow(5) has it, and one of passwd(5).
+# A line of shadow(5), and one of passwd(5).
 SHADOW = b"ann:" + hashed(b"old") + b":19000:0:99999:7:::\n"
 PASSWD = b"ann:x:1000:1000:Ann,,,:/home/ann:/bin/sh\n"
-# As bin/pwhash begins it. A shell between would give up the rights of another user.
+# The command that bin/pwhash runs. A shell in between would drop the rights of another user.
 STARTED = ("/usr/bin/python3", "-I", "-S", str(PACKAGE / "pwhash/start.py"), str(LIBRARY), "pwhash")
 OTHER_USER = ("setpriv", "--reuid=65534", "--regid=65534", "--clear-groups")
 
 
 def set_ann(*words: str) -> Ended:
-    """Gives Ann the password of AFTER."""
+    """Sets Ann's password, after which the file is AFTER."""
     return pwhash(*(words or SET), stdin=b"password\n")
 
 
 def beside() -> list[str]:
-    """The files of the current folder."""
+    """Returns the files in the current folder."""
     return sorted(path.name for path in pathlib.Path().iterdir())
 
 
 @pytest.fixture(name="reachable")
 def fixture_reachable(monkeypatch: pytest.MonkeyPatch) -> Iterator[None]:
-    """A current folder that all users can reach."""
+    """A scratch folder that all users can reach. It becomes the current one."""
     with tempfile.TemporaryDirectory() as folder:
         os.chmod(folder, 0o755)
         monkeypatch.chdir(folder)
@@ -55,7 +55,7 @@ def fixture_reachable(monkeypatch: pytest.MonkeyPatch) -> Iterator[None]:
         monkeypatch.undo()
 
 
-# ---- What stays
+# ---- Attributes that stay
 
 
 @pytest.mark.needs("root")
@@ -71,7 +71,7 @@ def test_the_owner_and_the_mode_stay() -> None:
 
 
 @pytest.mark.needs("root", "setfacl", "setfattr")
-def test_acls_and_attributes_stay_and_no_others_come() -> None:
+def test_acls_and_attributes_stay_and_none_are_added() -> None:
     save("passwords", BEFORE)
     os.chmod("passwords", MODE)
     subprocess.run(["setfacl", "-d", "-m", "u:games:rwx", "."], check=True)
@@ -79,7 +79,7 @@ def test_acls_and_attributes_stay_and_no_others_come() -> None:
     os.setxattr("passwords", "trusted.other", b"value")
     before = {name: os.getxattr("passwords", name) for name in os.listxattr("passwords")}
     assert {"system.posix_acl_access", "trusted.other"} <= set(before), before
-    os.chmod(".", 0o700)  # the ACL for new files has added rights of a group
+    os.chmod(".", 0o700)  # the default ACL has added rights for a group
     done = set_ann()
     assert (done.status, read("passwords")) == (0, AFTER), done
     after = {name: os.getxattr("passwords", name) for name in os.listxattr("passwords")}
@@ -100,7 +100,7 @@ def test_the_lock_belongs_to_the_owner_of_the_file_and_nothing_else_is_left() ->
 
 @pytest.mark.needs("root")
 @pytest.mark.usefixtures("reachable")
-def test_a_service_changes_its_own_file(copy: Copy) -> None:
+def test_a_service_can_change_its_own_file(copy: Copy) -> None:
     os.chown(".", OWNER, OWNER)
     save("passwords", BEFORE)
     os.chown("passwords", OWNER, OWNER)
@@ -110,7 +110,7 @@ def test_a_service_changes_its_own_file(copy: Copy) -> None:
 
 
 @pytest.mark.needs("root")
-def test_the_superuser_changes_the_file_of_a_service() -> None:
+def test_root_can_change_the_file_of_a_service() -> None:
     os.chown(".", OWNER, OWNER)
     save("passwords", BEFORE)
     os.chown("passwords", OWNER, OWNER)
@@ -118,16 +118,16 @@ def test_the_superuser_changes_the_file_of_a_service() -> None:
     assert (done.status, read("passwords")) == (0, AFTER), done
 
 
-# ---- What is refused
+# ---- Refused files
 
 
 def assert_refused(done: Ended, reason: bytes) -> None:
-    """Nothing was changed, and the sentence says why. No password was asked for."""
+    """Fails unless nothing has changed, the message says why, and no password was asked for."""
     assert done.status == 2 and reason in done.err, done
     assert not os.path.exists(LOCK), done
 
 
-def test_a_file_that_is_not_there_is_named_and_made_by_the_command_that_is_shown() -> None:
+def test_a_missing_file_is_named_and_the_printed_command_creates_it() -> None:
     done = set_ann()
     assert_refused(done, b"there is no passwords")
     command = done.err.decode().split("read: ")[1].replace("GROUP", str(os.getgid()))
@@ -209,7 +209,9 @@ def test_a_folder_of_another_user_is_refused() -> None:
         pytest.param(0o666, b"aren't allowed to make files", id="the folder"),
     ],
 )
-def test_who_may_not_write_the_file_gets_a_sentence(copy: Copy, mode: int, reason: bytes) -> None:
+def test_a_user_who_may_not_write_the_file_gets_a_message(
+    copy: Copy, mode: int, reason: bytes
+) -> None:
     save("passwords", BEFORE)
     os.chmod("passwords", mode)
     done = ended(started_program(*OTHER_USER, str(copy.pwhash), *SET), b"password\n")
@@ -228,7 +230,7 @@ def test_a_process_with_the_rights_of_another_user_is_refused(kind: str) -> None
 
 # ---- Files of the system
 
-# The namespace has an /etc of its own, so that a fault can't change the system's.
+# The namespace has its own /etc, so that a failing test can't change the system's.
 OWN_ETC = """
     mkdir etc other
     mount -t tmpfs none etc
@@ -250,7 +252,7 @@ def test_a_file_of_the_system_is_refused(path: str, monkeypatch: pytest.MonkeyPa
     assert done.status == 0 and b"chpasswd(8)" in done.err and b"passwd(1)" in done.err, done
 
 
-def test_a_file_of_the_system_is_refused_by_another_name() -> None:
+def test_a_file_of_the_system_is_refused_under_another_name() -> None:
     save("passwords", PASSWD)
     script = f'{OWN_ETC}\nmount --bind passwords /etc/passwd; "$@"'
     done = in_namespace(script, *SET, stdin=b"password\n")
@@ -286,11 +288,13 @@ def test_a_copy_of_shadow_is_refused_by_its_nine_fields(other: bytes) -> None:
     "line",
     [
         pytest.param(b"ann:x:1000:1000::/home/ann::user=ann", id="eight fields"),
-        pytest.param(b"ann:x:1000:1000::/home/ann::mail=maildir:~/Maildir", id="a colon in them"),
+        pytest.param(
+            b"ann:x:1000:1000::/home/ann::mail=maildir:~/Maildir", id="a colon in the extra fields"
+        ),
         pytest.param(b"ann:x", id="two fields"),
     ],
 )
-def test_a_file_of_dovecot_is_not_taken_for_one(line: bytes) -> None:
+def test_a_file_of_dovecot_is_not_mistaken_for_a_file_of_the_system(line: bytes) -> None:
     save("passwords", line + b"\n")
     done = set_ann()
     new = line.replace(b":x", b":" + hashed(b"password"))

@@ -1,4 +1,4 @@
-"""pwhash set: kills at each moment, failures of the system, and several runs at once."""
+"""pwhash set: kills at each moment, failing system calls, and simultaneous runs."""
 from __future__ import annotations
 
 import os
@@ -29,18 +29,18 @@ SET = ("set", *MD5CRYPT, "passwords", "ann")
 BEFORE = b"bob:!y\nann:x:1\nlast:z\n"
 AFTER = BEFORE.replace(b"ann:x", b"ann:" + hashed(b"password"))
 LEFT = ["passwords", "passwords.mkpasswd.lock"]
-# As bin/pwhash begins it; strace counts calls from here on.
+# The command that bin/pwhash runs, so that strace counts only the calls from here on.
 STARTED = ("/usr/bin/python3", "-I", "-S", str(PACKAGE / "pwhash/start.py"), str(LIBRARY), "pwhash")
 
 
 def traced(inject: str) -> Ended:
-    """Gives Ann a password, while strace does something at a system call."""
+    """Sets Ann's password while strace injects a failure or a signal at a system call."""
     command = ["strace", "-qq", "-o", "/dev/null", "-e", f"inject={inject}", *STARTED, *SET]
     return ended(started_program(*command), b"password\n")
 
 
 def beside() -> list[str]:
-    """The files of the current folder."""
+    """Returns the files in the current folder."""
     return sorted(path.name for path in pathlib.Path().iterdir())
 
 
@@ -62,7 +62,7 @@ def beside() -> list[str]:
         pytest.param("fsync:when=2", AFTER, id="before the folder is on the disk"),
     ],
 )
-def test_a_run_that_is_killed_leaves_the_old_or_the_new_file(call: str, expected: bytes) -> None:
+def test_a_killed_run_leaves_the_old_or_the_new_file(call: str, expected: bytes) -> None:
     save("passwords", BEFORE)
     killed = traced(f"{call.replace(':', ':signal=KILL:')}")
     assert killed.status == -signal.SIGKILL, killed
@@ -76,7 +76,7 @@ def test_a_run_that_is_killed_leaves_the_old_or_the_new_file(call: str, expected
 @pytest.mark.needs("strace")
 @pytest.mark.parametrize("number", [signal.SIGTERM, signal.SIGINT, signal.SIGHUP])
 @pytest.mark.parametrize("call", ["fsync", "renameat2"])
-def test_a_signal_that_comes_while_the_file_is_replaced_undoes_nothing(
+def test_a_signal_while_the_file_is_replaced_undoes_nothing(
     call: str, number: signal.Signals
 ) -> None:
     save("passwords", BEFORE)
@@ -85,7 +85,7 @@ def test_a_signal_that_comes_while_the_file_is_replaced_undoes_nothing(
     assert number.name.encode() in done.err, done
 
 
-def test_runs_that_are_killed_at_random_lose_nothing() -> None:
+def test_runs_killed_at_random_lose_nothing() -> None:
     randoms = random.Random(1)
     save("passwords", BEFORE)
     for _ in range(60):
@@ -108,11 +108,11 @@ def test_runs_that_are_killed_at_random_lose_nothing() -> None:
     ("call", "error"),
     [
         pytest.param("flock", "ENOLCK", id="no lock"),
-        pytest.param("fchown", "EPERM", id="no right to the owner"),
-        pytest.param("fchmod", "EPERM", id="no right to the mode"),
-        pytest.param("fsync", "EIO", id="a disk that fails"),
-        pytest.param("fsync", "ENOSPC", id="a disk that is full"),
-        pytest.param("linkat", "EACCES", id="no right to a name"),
+        pytest.param("fchown", "EPERM", id="no permission to set the owner"),
+        pytest.param("fchmod", "EPERM", id="no permission to set the mode"),
+        pytest.param("fsync", "EIO", id="a failing disk"),
+        pytest.param("fsync", "ENOSPC", id="a full disk"),
+        pytest.param("linkat", "EACCES", id="no permission to create a name"),
         pytest.param("symlinkat", "ENOSPC", id="no room for the note"),
         pytest.param("renameat2", "EINVAL", id="no exchange"),
         pytest.param("renameat2", "EIO", id="an exchange that fails"),
@@ -133,7 +133,7 @@ def test_a_system_call_that_fails_leaves_the_old_file(call: str, error: str) -> 
         pytest.param("fsync:error=EINVAL:when=2", id="the folder"),
     ],
 )
-def test_what_fails_behind_the_exchange_is_no_failure(inject: str) -> None:
+def test_an_error_after_the_exchange_is_no_failure(inject: str) -> None:
     save("passwords", BEFORE)
     done = traced(inject)
     assert (done.status, read("passwords")) == (0, AFTER), done
@@ -164,10 +164,10 @@ def test_a_limit_of_files_leaves_the_old_file() -> None:
     assert read("passwords") == BEFORE
 
 
-# ---- Others
+# ---- Simultaneous runs
 
 
-def test_a_lock_that_another_holds_is_named() -> None:
+def test_a_lock_that_another_process_holds_is_named() -> None:
     save("passwords", BEFORE)
     script = 'exec 9> passwords.mkpasswd.lock; flock 9; exec "$@"'
     done = shell(script, *SET, stdin=b"password\n")
@@ -175,7 +175,7 @@ def test_a_lock_that_another_holds_is_named() -> None:
     assert b"passwords.mkpasswd.lock" in done.err, done
 
 
-def test_a_lock_that_becomes_free_is_waited_for() -> None:
+def test_a_run_waits_for_the_lock() -> None:
     save("passwords", BEFORE)
     script = 'flock passwords.mkpasswd.lock sleep 2 & sleep 0.3; "$@"'
     done = shell(script, *SET, stdin=b"password\n")
@@ -192,7 +192,7 @@ def test_somebodys_version_stays_and_is_named() -> None:
     assert b"passwords.mkpasswd.new" in done.err, done
 
 
-def test_runs_at_once_lose_no_line() -> None:
+def test_simultaneous_runs_lose_no_line() -> None:
     save("passwords", BEFORE)
     names = [f"user{number}" for number in range(30)]
     with ThreadPoolExecutor(6) as pool:
@@ -207,7 +207,7 @@ def test_runs_at_once_lose_no_line() -> None:
     assert content.startswith(BEFORE) and sorted(added) == sorted(n.encode() for n in names)
 
 
-def test_runs_at_once_add_a_name_once() -> None:
+def test_simultaneous_runs_add_a_name_once() -> None:
     save("passwords", BEFORE)
     words = ("set", *MD5CRYPT, "passwords", "new")
     with ThreadPoolExecutor(4) as pool:

@@ -1,4 +1,4 @@
-"""pwhash set: what becomes of the line of a name, and that all others stay."""
+"""pwhash set: how the line of a name changes, while all others stay."""
 from __future__ import annotations
 
 import re
@@ -14,7 +14,7 @@ OTHERS_AFTER = b"ann2:!\nxann:y\nlast:z"
 
 
 def in_file(line: bytes) -> bytes:
-    """A password file with a line among others."""
+    """Returns a password file with this line among others."""
     return OTHERS_BEFORE + line + b"\n" + OTHERS_AFTER
 
 
@@ -26,16 +26,16 @@ def in_file(line: bytes) -> bytes:
     [
         pytest.param(b"ann:OLD", b"ann:NEW", id="a hash"),
         pytest.param(b"ann:OLD:1000:1000::/home/ann::x=y:z", b"ann:NEW:1000:1000::/home/ann::x=y:z",
-                     id="fields behind it"),
+                     id="fields after it"),
         pytest.param(b"ann:", b"ann:NEW", id="an empty field"),
-        pytest.param(b"ann::5", b"ann:NEW:5", id="an empty field in front of others"),
-        pytest.param(b"ann:a password", b"ann:NEW", id="a password as it is"),
+        pytest.param(b"ann::5", b"ann:NEW:5", id="an empty field before others"),
+        pytest.param(b"ann:a password", b"ann:NEW", id="a plain password"),
         pytest.param(b"ann:{CRYPT}OLD:7", b"ann:{CRYPT}NEW:7", id="a prefix"),
-        pytest.param(b"ann:{crypt}OLD", b"ann:{crypt}NEW", id="a prefix in small letters"),
-        pytest.param(b"ann:{MD5-CRYPT}OLD", b"ann:{MD5-CRYPT}NEW", id="a prefix of the method"),
+        pytest.param(b"ann:{crypt}OLD", b"ann:{crypt}NEW", id="a lower-case prefix"),
+        pytest.param(b"ann:{MD5-CRYPT}OLD", b"ann:{MD5-CRYPT}NEW", id="the method's prefix"),
     ],
 )  # fmt: skip
-def test_a_new_password_changes_the_hash_alone(before: bytes, after: bytes) -> None:
+def test_a_new_password_changes_only_the_hash(before: bytes, after: bytes) -> None:
     save("passwords", in_file(before.replace(b"OLD", OLD)))
     done = pwhash("set", *MD5CRYPT, "passwords", "ann", stdin=b"password\n")
     assert (done.status, done.out) == (0, b""), done
@@ -49,7 +49,7 @@ def test_a_new_password_changes_the_hash_alone(before: bytes, after: bytes) -> N
         pytest.param(b"ann:!!OLD:1", b"ann:!!NEW:1", id="two marks"),
         pytest.param(b"ann:!", b"ann:!NEW", id="a mark alone"),
         pytest.param(b"ann:*", b"ann:*NEW", id="a star"),
-        pytest.param(b"ann:{CRYPT}!OLD", b"ann:{CRYPT}!NEW", id="a mark behind a prefix"),
+        pytest.param(b"ann:{CRYPT}!OLD", b"ann:{CRYPT}!NEW", id="a mark after a prefix"),
         pytest.param(b"ann:!{CRYPT}OLD", b"ann:!{CRYPT}NEW", id="a mark before a prefix"),
     ],
 )
@@ -65,7 +65,7 @@ def test_a_new_password_unlocks_nobody(before: bytes, after: bytes) -> None:
     [
         pytest.param(b"{SHA256-CRYPT}$5$x", b"md5crypt", b"-m sha256crypt", id="another method"),
         pytest.param(b"{SSHA}x", b"md5crypt", b"--for", id="another scheme"),
-        pytest.param(b"{PLAIN}x", b"md5crypt", b"--for", id="a password as it is"),
+        pytest.param(b"{PLAIN}x", b"md5crypt", b"--for", id="a plain password"),
     ],
 )
 def test_a_prefix_that_does_not_fit_the_new_hash_is_refused(
@@ -82,7 +82,7 @@ def test_a_prefix_that_does_not_fit_the_new_hash_is_refused(
     ("service", "new_prefix"),
     [("apache", b""), ("nginx", b""), ("dovecot", b"{CRYPT}"), ("ldap", b"{CRYPT}")],
 )
-def test_for_a_service_such_a_prefix_is_replaced(
+def test_the_option_for_replaces_a_wrong_prefix(
     prefix: bytes, service: str, new_prefix: bytes
 ) -> None:
     save("passwords", in_file(b"ann:" + prefix + b"x:7"))
@@ -93,7 +93,7 @@ def test_for_a_service_such_a_prefix_is_replaced(
 
 
 @pytest.mark.parametrize("prefix", [b"{CRYPT}", b"{crypt}", b"{MD5-CRYPT}", b""])
-def test_for_a_service_a_prefix_that_fits_stays(prefix: bytes) -> None:
+def test_the_option_for_keeps_a_right_prefix(prefix: bytes) -> None:
     save("passwords", in_file(b"ann:" + prefix + OLD))
     done = pwhash("set", *MD5CRYPT, "--for", "dovecot", "passwords", "ann", stdin=b"password\n")
     assert (done.status, read("passwords")) == (0, in_file(b"ann:" + prefix + MD5.encode())), done
@@ -125,7 +125,7 @@ def test_for_nginx_a_new_name_gets_no_prefix() -> None:
     assert (done.status, read("passwords")) == (0, b"bob:{CRYPT}x\nann:" + MD5.encode() + b"\n")
 
 
-def test_for_a_service_a_locked_name_stays_locked() -> None:
+def test_the_option_for_keeps_a_locked_name_locked() -> None:
     save("passwords", in_file(b"ann:!{SHA}x"))
     done = pwhash("set", *MD5CRYPT, "--for", "nginx", "passwords", "ann", stdin=b"password\n")
     assert (done.status, read("passwords")) == (0, in_file(b"ann:!" + MD5.encode())), done
@@ -134,7 +134,7 @@ def test_for_a_service_a_locked_name_stays_locked() -> None:
 @pytest.mark.parametrize(
     ("service", "name"), [("dovecot", "Ann"), ("ldap", "a nn"), ("dovecot", "ann+x")]
 )
-def test_a_new_name_that_the_service_takes_for_another_is_refused(service: str, name: str) -> None:
+def test_a_new_name_that_the_service_would_misread_is_refused(service: str, name: str) -> None:
     save("passwords", OTHERS_AFTER)
     done = pwhash("set", *MD5CRYPT, "--for", service, "passwords", name, stdin=b"password\n")
     assert (done.status, read("passwords")) == (2, OTHERS_AFTER), done
@@ -146,7 +146,7 @@ def test_a_new_name_that_the_service_takes_for_another_is_refused(service: str, 
     [
         pytest.param(b"", b"ann:NEW\n", id="an empty file"),
         pytest.param(b"bob:x\n", b"bob:x\nann:NEW\n", id="a whole last line"),
-        pytest.param(b"bob:x", b"bob:x\nann:NEW\n", id="a last line without its end"),
+        pytest.param(b"bob:x", b"bob:x\nann:NEW\n", id="a last line without a line feed"),
         pytest.param(b"#ann:x\n", b"#ann:x\nann:NEW\n", id="the name in a comment"),
         pytest.param(b"bob:ann:x\n", b"bob:ann:x\nann:NEW\n", id="the name in a field"),
         pytest.param(
@@ -155,7 +155,9 @@ def test_a_new_name_that_the_service_takes_for_another_is_refused(service: str, 
             id="the prefix of all others",
         ),
         pytest.param(
-            b"bob:{CRYPT}x\neve:x\n", b"bob:{CRYPT}x\neve:x\nann:NEW\n", id="some others' prefix"
+            b"bob:{CRYPT}x\neve:x\n",
+            b"bob:{CRYPT}x\neve:x\nann:NEW\n",
+            id="the prefix of some others",
         ),
         pytest.param(b"bob:{SSHA}x\n", b"bob:{SSHA}x\nann:NEW\n", id="a prefix that doesn't fit"),
     ],
@@ -174,7 +176,7 @@ def test_a_name_in_utf8_gets_a_line() -> None:
     assert read("passwords") == f"jürgen:{MD5}\n".encode()
 
 
-def test_a_new_hash_is_of_the_recommended_cost() -> None:
+def test_a_new_hash_has_the_recommended_cost() -> None:
     save("passwords", b"ann:x\n")
     done = pwhash("set", "passwords", "ann", stdin=b"password\n")
     found = re.fullmatch(rb"ann:(\$6\$rounds=656000\$\S+)\n", read("passwords"))
@@ -189,7 +191,7 @@ def test_a_new_hash_is_of_the_recommended_cost() -> None:
     [
         pytest.param(b"ann:x:1\nbob:y\n", b"bob:y\n", id="first"),
         pytest.param(b"bob:y\nann:x\n", b"bob:y\n", id="last"),
-        pytest.param(b"bob:y\nann:x", b"bob:y\n", id="last, without its end"),
+        pytest.param(b"bob:y\nann:x", b"bob:y\n", id="last, without a line feed"),
         pytest.param(b"ann:!x", b"", id="alone, and locked"),
     ],
 )
@@ -215,7 +217,7 @@ def test_a_name_without_a_line_is_named(option: str) -> None:
     [
         pytest.param(b"ann:OLD:1", b"ann:!OLD:1", id="a hash"),
         pytest.param(b"ann:{CRYPT}OLD", b"ann:{CRYPT}!OLD", id="a prefix"),
-        pytest.param(b"ann:{SSHA}x", b"ann:{SSHA}!x", id="a hash of LDAP"),
+        pytest.param(b"ann:{SSHA}x", b"ann:{SSHA}!x", id="an LDAP hash"),
         pytest.param(b"ann:BCRYPT", b"ann:!BCRYPT", id="bcrypt"),
     ],
 )
@@ -238,7 +240,7 @@ def test_a_lock_is_undone_by_unlocking(unlocked: bytes, locked: bytes) -> None:
         pytest.param("--unlock", OLD, id="unlocked"),
     ],
 )
-def test_what_is_so_already_stays(option: str, field: bytes) -> None:
+def test_locking_or_unlocking_twice_changes_nothing(option: str, field: bytes) -> None:
     content = in_file(b"ann:" + field)
     save("passwords", content)
     done = pwhash("set", option, "passwords", "ann")
@@ -248,7 +250,7 @@ def test_what_is_so_already_stays(option: str, field: bytes) -> None:
 @pytest.mark.parametrize(
     "field", [b"a password", b"{PLAIN}secret", b"{PLAIN}$1$secret"], ids=["bare", "nginx", "like"]
 )
-def test_a_password_as_it_is_is_not_locked_by_a_longer_one(field: bytes) -> None:
+def test_locking_does_not_turn_a_plain_password_into_another(field: bytes) -> None:
     content = in_file(b"ann:" + field)
     save("passwords", content)
     done = pwhash("set", "--lock", "passwords", "ann")
@@ -259,20 +261,20 @@ def test_a_password_as_it_is_is_not_locked_by_a_longer_one(field: bytes) -> None
     "field",
     [
         pytest.param(b"!", id="nothing"),
-        pytest.param(b"*", id="nothing behind a star"),
-        pytest.param(b"!secret", id="a password as it is"),
-        pytest.param(b"!" + OLD[:-1], id="a hash that was cut"),
+        pytest.param(b"*", id="nothing after an asterisk"),
+        pytest.param(b"!secret", id="a plain password"),
+        pytest.param(b"!" + OLD[:-1], id="a truncated hash"),
         pytest.param(b"*LK*", id="a word"),
     ],
 )
-def test_nothing_but_a_whole_hash_is_unlocked(field: bytes) -> None:
+def test_only_a_complete_hash_is_unlocked(field: bytes) -> None:
     content = in_file(b"ann:" + field)
     save("passwords", content)
     done = pwhash("set", "--unlock", "passwords", "ann")
     assert (done.status, read("passwords")) == (2, content) and b"secret" not in done.err, done
 
 
-# ---- What is refused
+# ---- Refusals
 
 
 @pytest.mark.parametrize(
@@ -285,18 +287,18 @@ def test_nothing_but_a_whole_hash_is_unlocked(field: bytes) -> None:
         pytest.param("ann\u0085", b"control character", id="a control character of Unicode"),
         pytest.param("", b"FILE NAME", id="no name"),
         pytest.param("x" * 65, b"too long", id="65 bytes"),
-        pytest.param(" ann", b"blank", id="a blank in front"),
-        pytest.param("ann\u200b", b"invisible", id="a space of no width"),
+        pytest.param(" ann", b"blank", id="a leading blank"),
+        pytest.param("ann\u200b", b"invisible", id="a zero-width space"),
     ],
 )
-def test_a_name_that_no_line_should_have_is_refused(name: str, reason: bytes) -> None:
+def test_an_unsuitable_name_is_refused(name: str, reason: bytes) -> None:
     save("passwords", b"bob:x\n")
     done = pwhash("set", *MD5CRYPT, "passwords", name, stdin=b"password\n")
     assert (done.status, read("passwords")) == (2, b"bob:x\n") and reason in done.err, done
 
 
 @pytest.mark.parametrize("words", [(), ("--delete",), ("--lock",)], ids=["set", "delete", "lock"])
-def test_a_name_that_stands_twice_is_refused(words: tuple[str, ...]) -> None:
+def test_a_repeated_name_is_refused(words: tuple[str, ...]) -> None:
     content = b"ann:x\nbob:y\nann:!z\n"
     save("passwords", content)
     done = pwhash("set", *words, *MD5CRYPT, "passwords", "ann", stdin=b"password\n")
@@ -317,10 +319,10 @@ def test_no_line_is_added_to_another_file() -> None:
         pytest.param(("--lock", "--unlock"), id="two actions"),
         pytest.param(("--generate", "--delete"), id="a password for nobody"),
         pytest.param(("-R", "10"), id="too few rounds"),
-        pytest.param(("ben",), id="a word too many"),
+        pytest.param(("ben",), id="an extra argument"),
     ],
 )
-def test_words_that_contradict_each_other_are_refused(words: tuple[str, ...]) -> None:
+def test_contradictory_arguments_are_refused(words: tuple[str, ...]) -> None:
     save("passwords", b"ann:x\n")
     done = pwhash("set", "passwords", "ann", *words, stdin=b"password\n")
     assert (done.status, read("passwords")) == (2, b"ann:x\n"), done
@@ -349,7 +351,7 @@ def test_a_password_that_is_not_hashed_changes_nothing(password: bytes) -> None:
 def test_a_password_is_asked_for_twice() -> None:
     save("passwords", b"ann:x\n")
     terminal = at_terminal(("set", *MD5CRYPT, "passwords", "ann"), [b"secret\r", b"secret\r"])
-    assert terminal.status == 0 and b"secret" not in terminal.shown, terminal
+    assert terminal.status == 0 and b"secret" not in terminal.screen, terminal
     assert read("passwords") == b"ann:" + hashed(b"secret") + b"\n", terminal
 
 
@@ -362,16 +364,16 @@ def test_two_passwords_that_differ_change_nothing() -> None:
 def test_a_new_name_is_shown_before_its_password_is_asked_for() -> None:
     save("passwords", b"ann:x\n")
     terminal = at_terminal(("set", *MD5CRYPT, "passwords", "anm"), [b"\x03"])
-    assert b"passwords has no anm" in terminal.shown, terminal
+    assert b"passwords has no anm" in terminal.screen, terminal
     assert read("passwords") == b"ann:x\n", terminal
 
 
 def test_a_generated_password_is_shown_and_set() -> None:
     save("passwords", b"ann:x\n")
     terminal = at_terminal(("set", "--generate", *MD5CRYPT, "passwords", "ann"), [])
-    shown = re.search(rb"shown only here: (\w{20})\r", terminal.shown)
-    assert terminal.status == 0 and shown, terminal
-    assert read("passwords") == b"ann:" + hashed(shown[1]) + b"\n", terminal
+    password = re.search(rb"shown only here: (\w{20})\r", terminal.screen)
+    assert terminal.status == 0 and password, terminal
+    assert read("passwords") == b"ann:" + hashed(password[1]) + b"\n", terminal
 
 
 def test_no_password_is_generated_without_a_terminal() -> None:

@@ -1,4 +1,4 @@
-"""GUIDE's recipe for several machines, with this machine as the only one."""
+"""GUIDE's recipe for several machines, followed on this machine alone."""
 from __future__ import annotations
 
 from pathlib import Path
@@ -10,12 +10,12 @@ from support.pwhash_copies import Copy
 from support.pwhash_runs import hashed, users
 
 COUNT = 1500
-# What GNU parallel made is cut in half, so that pwhash has something to complete.
+# Halves what GNU parallel made, so that pwhash has something to complete.
 CUT = "cut=$(wc -c < hashes.part); truncate -s $((cut / 2)) hashes.part; "
 
 
 def quick_recipe() -> str:
-    """The recipe with fewer rounds."""
+    """Returns the recipe with fewer rounds."""
     recipe = marked("several machines", "sh").code
     recipe = recipe.replace("-R 656000", "-R 1000").replace(" -o hashes", " -R 1000 -o hashes")
     assert "pwhash file passwords -R" in recipe, recipe
@@ -23,7 +23,7 @@ def quick_recipe() -> str:
 
 
 @pytest.mark.needs("parallel")
-def test_pwhash_completes_what_gnu_parallel_made(copy: Copy, folder: Path) -> None:
+def test_pwhash_completes_the_hashes_from_gnu_parallel(copy: Copy, folder: Path) -> None:
     (folder / "hosts").write_bytes(b"2/:\n")
     (folder / "passwords").write_bytes(users(COUNT))
     (copy.folder / "bin/mkpasswd.proved").symlink_to("mkpasswd")

@@ -1,7 +1,4 @@
-"""pwhash check --shadow FIELDS, where FIELDS is no ordinary file.
-
-Each test sees only what a user sees: the command, its outputs, files and status.
-"""
+"""pwhash check --shadow FIELDS, where FIELDS isn't an ordinary file."""
 
 from __future__ import annotations
 
@@ -24,7 +21,7 @@ SHADOW = b"ann:" + MD5.encode() + b":1:::\nbob:!:1:::\n"
 
 
 def bash(script: str) -> Ended:
-    """Runs a script of bash, in which "$@" is pwhash, with little memory."""
+    """Runs a bash script, in which "$@" is pwhash, with little memory."""
     command = ["bash", "-c", f"ulimit -v 400000; {script}", "bash", PWHASH]
     return ended(started_program(*command), b"ann:password\n")
 
@@ -44,7 +41,7 @@ def bash(script: str) -> Ended:
         pytest.param('"$@" check --shadow /dev/null', b"/dev/null", id="the null device"),
     ],
 )
-def test_what_holds_no_fields_is_named(script: str, reason: bytes) -> None:
+def test_a_file_without_fields_is_named(script: str, reason: bytes) -> None:
     done = bash(script)
     assert done.status in (2, 3) and done.out == b"" and reason in done.err, done
     assert b"Error" not in done.err, done
@@ -54,15 +51,15 @@ def test_what_holds_no_fields_is_named(script: str, reason: bytes) -> None:
     "script",
     [
         pytest.param('"$@" check --shadow <(cat shadow)', id="a pipe of the shell"),
-        pytest.param('"$@" check --shadow <(sleep 5; cat shadow)', id="one that is slow"),
+        pytest.param('"$@" check --shadow <(sleep 5; cat shadow)', id="a slow pipe"),
         pytest.param(
             'mkfifo pipe; cat shadow > pipe & "$@" check --shadow pipe', id="a pipe with a name"
         ),
         pytest.param('"$@" check --shadow /dev/stdin list < shadow', id="standard input"),
-        pytest.param('"$@" check --shadow <(cat many shadow)', id="many fields of one name"),
+        pytest.param('"$@" check --shadow <(cat many shadow)', id="many fields for one name"),
     ],
 )
-def test_fields_are_read_from_what_somebody_writes(script: str) -> None:
+def test_fields_are_read_from_a_pipe_or_standard_input(script: str) -> None:
     save("shadow", SHADOW)
     save("list", b"ann:password\n")
     save("many", b"eve:!:1:::\n" * 1000000)

@@ -1,4 +1,4 @@
-"""Signals while pwhash runs: no core file, the terminal as before, and no hash goes on."""
+"""Signals to pwhash: they leave no core file, restore the terminal, and stop a hash."""
 from __future__ import annotations
 
 import contextlib
@@ -26,7 +26,7 @@ with needed("python3-pexpect"):
 
 
 def at_again(script: str = "", words: tuple[str, ...] = MD5CRYPT) -> pexpect.spawn[bytes]:
-    """A terminal at which a password was typed once, and is asked for again."""
+    """Returns a terminal at which a password was typed once, at the prompt for the second time."""
     script = f"{script}\nexec {PWHASH} {shlex.join(words)}"
     child = pexpect.spawn("/bin/sh", ["-c", script], timeout=60)
     child.expect(rb"Password: ")
@@ -50,14 +50,14 @@ def test_no_signal_writes_a_typed_password_to_a_file(number: int) -> None:
 
 
 def test_no_limit_writes_a_password_to_a_file() -> None:
-    """The limit of processor time ends it while it hashes."""
+    """The limit on processor time ends pwhash while it hashes."""
     script = 'ulimit -c unlimited || exit; ulimit -S -t 1; exec "$@"'
     done = shell(script, "-R", "50M", stdin=b"secret\n")
     assert done.status != 0 and not list(pathlib.Path().glob("core*")), done
 
 
 def fatal_signals() -> list[int]:
-    """All that end a process, but those that it can't catch or that python ignores."""
+    """Returns the signals that end a process, can be caught, and aren't ignored by Python."""
     harmless = {"KILL", "STOP", "TSTP", "TTIN", "TTOU", "CONT", "CHLD", "URG", "WINCH"}
     harmless |= {"PIPE", "XFSZ"}
     names = {f"SIG{name}" for name in harmless}
@@ -80,7 +80,7 @@ SECONDS_TO_END = 1.0
 
 
 def give(process: subprocess.Popen[bytes], data: bytes) -> None:
-    """All of its standard input."""
+    """Writes and closes a process's standard input."""
     assert process.stdin
     process.stdin.write(data)
     process.stdin.close()
@@ -88,7 +88,7 @@ def give(process: subprocess.Popen[bytes], data: bytes) -> None:
 
 
 def is_hashing(process: int) -> bool:
-    """Whether a thread but the first has taken a tenth of a second of a processor."""
+    """Returns whether another thread than the first has used 0.1 s of processor time."""
     for path in pathlib.Path(f"/proc/{process}/task").glob("*/stat"):
         with contextlib.suppress(OSError):
             text = path.read_text(encoding="latin-1").rpartition(")")[2]
@@ -129,5 +129,5 @@ def test_a_signal_ends_a_run_during_a_costly_hash(
 
 
 def load_of_machine() -> float:
-    """Seconds by which a busy machine may be late."""
+    """Returns by how many seconds a busy machine may be late."""
     return os.getloadavg()[0]

@@ -1,7 +1,4 @@
-"""pwhash and the one password on standard input: what of it may be a mistake is named.
-
-Each test sees only what a user sees: the command, its outputs, files and status.
-"""
+"""One password on standard input: pwhash reports what may be a mistake."""
 from __future__ import annotations
 
 
@@ -23,13 +20,13 @@ def test_one_line_alone_is_hashed_without_a_message(end: bytes) -> None:
     assert (done.status, done.out, done.err) == (0, hashed(b"secret") + b"\n", b""), done
 
 
-def test_nobody_waits_for_further_lines() -> None:
-    """The reader of the hash ends the writer of the password."""
+def test_pwhash_does_not_wait_for_further_lines() -> None:
+    """Here the reader of the hash ends the writer of the password."""
     script = '{ echo secret; read -r end < pipe; } | { "$@"; echo end > pipe; }'
     done = shell(f"mkfifo pipe; {script}", *MD5CRYPT)
     assert (done.status, done.out, done.err) == (0, hashed(b"secret") + b"\n", b""), done
 
 
-def test_a_blank_inside_is_hashed_without_a_message() -> None:
+def test_a_blank_within_a_password_is_hashed_without_a_message() -> None:
     done = pwhash(*MD5CRYPT, stdin=b"sec ret\n")
     assert (done.status, done.out, done.err) == (0, hashed(b"sec ret") + b"\n", b""), done

@@ -1,7 +1,4 @@
-"""pwhash file --skip-locked SHADOW leaves out the names that somebody locked.
-
-Each test sees only what a user sees: the command, its outputs, files and status.
-"""
+"""pwhash file --skip-locked SHADOW skips the names that are locked there."""
 from __future__ import annotations
 
 import os
@@ -30,12 +27,12 @@ WORDS = ("file", *MD5CRYPT, "--skip-locked", "shadow")
 LIST = b"ann:pw1\neve:pw3\nbob:pw2\n"
 LOCKED = [
     pytest.param(b"!" + MD5.encode(), id="usermod -L"),
-    pytest.param(b"!!" + MD5.encode(), id="passwd -l of Red Hat"),
-    pytest.param(b"*", id="an account of the system"),
-    pytest.param(b"!*", id="one of systemd"),
+    pytest.param(b"!!" + MD5.encode(), id="Red Hat's passwd -l"),
+    pytest.param(b"*", id="a system account"),
+    pytest.param(b"!*", id="a system account of systemd"),
     pytest.param(b"*LK*", id="a lock in words"),
-    pytest.param(b"{CRYPT}!" + MD5.encode(), id="a lock behind Dovecot's prefix"),
-    pytest.param(b"!{SHA512-CRYPT}" + MD5.encode(), id="a lock before it"),
+    pytest.param(b"{CRYPT}!" + MD5.encode(), id="a lock after Dovecot's prefix"),
+    pytest.param(b"!{SHA512-CRYPT}" + MD5.encode(), id="a lock before Dovecot's prefix"),
     pytest.param(b"!$y$j9T$abcdefghijklmnopqrstu.$abc", id="yescrypt"),
 ]
 NOT_LOCKED = [
@@ -43,7 +40,7 @@ NOT_LOCKED = [
     pytest.param(b"$y$j9T$abcdefghijklmnopqrstu.$abc", id="yescrypt"),
     pytest.param(b"", id="nothing"),
     pytest.param(b"!", id="useradd"),
-    pytest.param(b"!!", id="useradd of Red Hat"),
+    pytest.param(b"!!", id="Red Hat's useradd"),
 ]
 
 
@@ -54,7 +51,7 @@ def shadow_with_eve(field: bytes) -> None:
 
 
 @pytest.mark.parametrize("field", LOCKED)
-def test_a_locked_name_is_left_out_of_a_file(field: bytes) -> None:
+def test_a_locked_name_of_a_file_is_skipped(field: bytes) -> None:
     shadow_with_eve(field)
     done = pwhash(*WORDS, "list", "-o", "hashes")
     assert (done.status, read("hashes")) == (0, ANN + BOB), done
@@ -62,7 +59,7 @@ def test_a_locked_name_is_left_out_of_a_file(field: bytes) -> None:
 
 
 @pytest.mark.parametrize("field", LOCKED)
-def test_a_locked_name_is_left_out_of_a_pipe(field: bytes) -> None:
+def test_a_locked_name_of_a_pipe_is_skipped(field: bytes) -> None:
     shadow_with_eve(field)
     done = pwhash(*WORDS, stdin=LIST)
     assert (done.status, done.out) == (0, ANN + BOB), done
@@ -70,7 +67,7 @@ def test_a_locked_name_is_left_out_of_a_pipe(field: bytes) -> None:
 
 
 @pytest.mark.parametrize("field", NOT_LOCKED)
-def test_a_name_that_nobody_locked_stays(field: bytes) -> None:
+def test_a_name_that_is_not_locked_stays(field: bytes) -> None:
     shadow_with_eve(field)
     done = pwhash(*WORDS, "list", "-o", "hashes")
     assert (done.status, done.err) == (0, b"") and b"eve:$1$" in read("hashes"), done
@@ -79,17 +76,21 @@ def test_a_name_that_nobody_locked_stays(field: bytes) -> None:
 @pytest.mark.parametrize(
     "lines",
     [
-        pytest.param(b"eve:%b\neve:!%b\n" % (MD5.encode(), MD5.encode()), id="a lock behind"),
-        pytest.param(b"eve:!%b\neve:%b\n" % (MD5.encode(), MD5.encode()), id="a lock before"),
+        pytest.param(
+            b"eve:%b\neve:!%b\n" % (MD5.encode(), MD5.encode()), id="locked in the last line"
+        ),
+        pytest.param(
+            b"eve:!%b\neve:%b\n" % (MD5.encode(), MD5.encode()), id="locked in the first line"
+        ),
     ],
 )
-def test_a_name_that_is_locked_in_one_of_its_lines_is_left_out(lines: bytes) -> None:
+def test_a_name_that_is_locked_in_one_of_its_lines_is_skipped(lines: bytes) -> None:
     save("shadow", lines)
     done = pwhash(*WORDS, stdin=LIST)
     assert (done.status, done.out) == (0, ANN + BOB), done
 
 
-def test_names_of_a_table_are_left_out() -> None:
+def test_locked_names_of_a_table_are_skipped() -> None:
     shadow_with_eve(b"!" + MD5.encode())
     save("table", b"name;password\r\nann;pw1\r\neve;pw3\r\neve;x;y\r\nbob;pw2\r\n")
     done = pwhash(*WORDS, "--csv", "table", "-o", "hashes")
@@ -97,13 +98,13 @@ def test_names_of_a_table_are_left_out() -> None:
     assert b"left out since their names are locked: 2" in done.err, done
 
 
-def test_a_line_that_may_be_a_password_is_refused_as_ever() -> None:
+def test_a_line_that_may_be_a_password_is_still_refused() -> None:
     shadow_with_eve(b"!" + MD5.encode())
     done = pwhash(*WORDS, stdin=b"eve\nann:pw1\n")
     assert (done.status, done.out) == (1, ANN) and b"(eve)" not in done.err, done
 
 
-def test_other_names_that_begin_alike_stay() -> None:
+def test_names_that_begin_like_a_locked_one_stay() -> None:
     save("shadow", b"ann1:!x\nan:!x\nAnn:!x\nann :!x\n")
     done = pwhash(*WORDS, stdin=b"ann:pw1\n")
     assert (done.status, done.out, done.err) == (0, ANN, b""), done
@@ -136,7 +137,7 @@ def test_other_problems_are_shown_beside_locked_names() -> None:
     ],
 )
 @pytest.mark.parametrize("words", [(), ("list", "-o", "hashes")], ids=["a pipe", "a file"])
-def test_nothing_is_hashed_if_nobody_knows_what_is_locked(
+def test_nothing_is_hashed_without_the_locked_names(
     name: str, data: bytes, reason: bytes, words: tuple[str, ...]
 ) -> None:
     save("list", LIST)
@@ -162,7 +163,7 @@ def test_the_names_can_come_from_a_pipe() -> None:
     assert (done.status, read("hashes")) == (0, ANN + BOB), done
 
 
-def test_a_name_that_is_locked_meanwhile_ends_the_run() -> None:
+def test_a_name_that_is_locked_during_a_run_ends_it() -> None:
     save("shadow", b"user1:" + MD5.encode() + b"\nuser2:!x\n")
     save("passwords", users(600))
     words = ("file", *SLOW, "--skip-locked", "shadow", "passwords", "-o", "hashes")
@@ -197,14 +198,14 @@ def interrupted() -> None:
 RESUMED = ("file", *SLOW, "list", "-o", "hashes", "--resume")
 
 
-def test_a_run_goes_on_without_the_locked_names() -> None:
+def test_a_run_resumes_without_the_locked_names() -> None:
     interrupted()
     done = pwhash(*RESUMED, "--skip-locked", "shadow")
     assert done.status == 0 and read("hashes").count(b"\n") == 599, done
     assert not re.search(rb"(?m)^user0:", read("hashes")), done
 
 
-def test_a_run_does_not_go_on_by_other_names() -> None:
+def test_a_run_does_not_resume_with_other_locked_names() -> None:
     interrupted()
     part = read("hashes.part")
     done = pwhash(*RESUMED)

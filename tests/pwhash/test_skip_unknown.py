@@ -1,7 +1,4 @@
-"""pwhash file --skip-unknown PASSWD leaves out the names that have no line there.
-
-Each test sees only what a user sees: the command, its outputs, files and status.
-"""
+"""pwhash file --skip-unknown PASSWD skips the names that have no line there."""
 from __future__ import annotations
 
 import os
@@ -30,26 +27,26 @@ PASSWD = b"root:x:0:0::/root:/bin/sh\nann:x:1:1::/:/bin/sh\nbob:x:2:2::/:/bin/sh
 
 @pytest.fixture(autouse=True, name="files")
 def fixture_files(folder: os.PathLike[str]) -> None:
-    """Two accounts, and passwords for them and for Eve."""
-    del folder  # the current one
+    """A file with two accounts, and one with passwords for them and for Eve."""
+    del folder  # it is the current folder
     save("passwd", PASSWD)
     save("list", LIST)
 
 
-def test_a_name_without_an_account_is_left_out_of_a_file() -> None:
+def test_a_name_of_a_file_without_an_account_is_skipped() -> None:
     done = pwhash(*WORDS, "list", "-o", "hashes")
     assert (done.status, read("hashes")) == (0, ANN + BOB), done
     assert b"list, line 2 (eve): not in passwd\n" in done.err and b"pw3" not in done.err, done
 
 
-def test_a_name_without_an_account_is_left_out_of_a_pipe() -> None:
+def test_a_name_of_a_pipe_without_an_account_is_skipped() -> None:
     done = pwhash(*WORDS, stdin=LIST)
     assert (done.status, done.out) == (0, ANN + BOB), done
     assert b"line 2 (eve): not in passwd\n" in done.err and b"pw3" not in done.err, done
 
 
 @pytest.mark.needs("root", "chpasswd")
-def test_chpasswd_takes_what_is_left() -> None:
+def test_chpasswd_accepts_the_remaining_lines() -> None:
     os.makedirs("root/etc")
     os.rename("passwd", "root/etc/passwd")
     save("root/etc/shadow", b"ann:!:1:0:9:7:::\nbob:!:1:0:9:7:::\n")
@@ -64,13 +61,13 @@ def test_chpasswd_takes_what_is_left() -> None:
 @pytest.mark.parametrize(
     "line", [b"ev:x:3\n", b"evee:x:3\n", b"Eve:x:3\n", b"eve :x:3\n", b"eve\n"]
 )
-def test_a_name_that_is_only_like_another_is_left_out(line: bytes) -> None:
+def test_a_name_that_only_resembles_an_account_is_skipped(line: bytes) -> None:
     save("passwd", PASSWD + line)
     done = pwhash(*WORDS, stdin=LIST)
     assert (done.status, done.out) == (0, ANN + BOB) and b"(eve)" in done.err, done
 
 
-def test_names_of_a_table_are_left_out_and_wrong_rows_are_still_refused() -> None:
+def test_names_of_a_table_are_skipped_and_wrong_rows_are_still_refused() -> None:
     save("table", b"name;password\nann;pw1\neve;pw3\n;x\ndan;x;y\nbob;pw2\n")
     done = pwhash(*WORDS, "--csv", "table", "-o", "hashes")
     assert done.status == 1 and not os.path.exists("hashes"), done
@@ -80,13 +77,13 @@ def test_names_of_a_table_are_left_out_and_wrong_rows_are_still_refused() -> Non
     assert (done.status, read("hashes")) == (1, ANN + BOB), done
 
 
-def test_a_line_that_may_be_a_password_is_refused_as_ever() -> None:
+def test_a_line_that_may_be_a_password_is_still_refused() -> None:
     done = pwhash(*WORDS, stdin=b"secret\nann:pw1\n:x\n")
     assert (done.status, done.out) == (1, ANN) and b"secret" not in done.err, done
     assert b"line 1: no password field" in done.err and b"line 3: no name" in done.err, done
 
 
-def test_a_name_gets_no_password_in_a_list() -> None:
+def test_a_name_without_an_account_gets_no_generated_password() -> None:
     save("names", b"ann\neve\n")
     words = ("file", "--generate", "-R", "1000", "--skip-unknown", "passwd", "names")
     done = pwhash(*words, "-o", "hashes", "--passwords", "made")
@@ -102,7 +99,7 @@ def test_a_look_shows_everybody_without_an_account() -> None:
     assert b"lines left out since their names aren't in passwd: 61." in done.err, done
 
 
-def test_locked_names_are_left_out_too() -> None:
+def test_locked_names_can_be_skipped_too() -> None:
     save("shadow", b"ann:!$1$x$y:1\nbob:!:1\n")
     done = pwhash(*WORDS, "--skip-locked", "shadow", "list", "-o", "hashes")
     assert (done.status, read("hashes")) == (0, BOB), done
@@ -116,7 +113,7 @@ def test_locked_names_are_left_out_too() -> None:
         pytest.param("--skip-locked", b"ann:!x\nbob:!x\neve:*\n", id="locked"),
     ],
 )
-def test_if_nobody_is_left_nothing_is_made(option: str, other: bytes) -> None:
+def test_no_out_is_made_if_all_names_are_skipped(option: str, other: bytes) -> None:
     save("passwd", other)
     done = pwhash("file", *MD5CRYPT, option, "passwd", "list", "-o", "hashes")
     assert done.status == 1 and b"no line is left" in done.err, done
@@ -131,7 +128,7 @@ def test_if_nobody_is_left_nothing_is_made(option: str, other: bytes) -> None:
     ],
 )
 @pytest.mark.parametrize("words", [(), ("list", "-o", "hashes")], ids=["a pipe", "a file"])
-def test_nothing_is_hashed_if_nobody_knows_the_names(
+def test_nothing_is_hashed_without_the_file_of_accounts(
     data: bytes | None, reason: bytes, words: tuple[str, ...]
 ) -> None:
     os.remove("passwd")
@@ -148,7 +145,7 @@ def test_the_names_can_come_from_a_pipe() -> None:
     assert (done.status, read("hashes")) == (0, ANN + BOB), done
 
 
-def test_a_run_does_not_go_on_without_the_option() -> None:
+def test_a_run_does_not_resume_without_the_option() -> None:
     save("passwd", b"".join(b"user%d:x\n" % number for number in range(1, 600)))
     save("list", users(600))
     words = ("file", *SLOW, "list", "-o", "hashes")

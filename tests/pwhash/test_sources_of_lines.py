@@ -1,4 +1,4 @@
-"""Where lines come from: empty files and pipes are named, and a here-document is a file."""
+"""Where lines come from: empty files, empty pipes, here-documents and folders."""
 from __future__ import annotations
 
 import os
@@ -32,13 +32,13 @@ def test_an_empty_pipe_is_named(words: tuple[str, ...]) -> None:
     assert (done.status, done.out) == (2, b"") and b"no lines" in done.err, done
 
 
-def test_a_list_that_the_shell_has_emptied_is_named() -> None:
+def test_a_list_that_the_shell_truncated_is_named() -> None:
     save("list", users(3))
     done = shell('exec "$@" list > list', "file", *MD5CRYPT)
     assert done.status == 2 and b"list has no lines" in done.err, done
 
 
-def test_a_here_document_is_a_file_that_was_never_named() -> None:
+def test_a_here_document_works_like_a_file() -> None:
     with tempfile.TemporaryFile() as document:
         document.write(b"ann:password\n")
         document.seek(0)
@@ -48,7 +48,7 @@ def test_a_here_document_is_a_file_that_was_never_named() -> None:
     assert (done.returncode, done.stdout) == (0, b"ann:" + MD5.encode() + b"\n"), done
 
 
-def test_a_folder_is_no_list() -> None:
+def test_a_folder_is_refused() -> None:
     os.mkdir("folder")
     done = pwhash("file", *MD5CRYPT, "folder")
     assert (done.status, done.out, done.err) == (3, b"", b"pwhash: folder is a folder.\n"), done

@@ -1,4 +1,4 @@
-"""Pipes: answers come as soon as they are there, and nothing is read that can't be answered."""
+"""Pipes: answers come at once, and pwhash reads no further while nobody takes them."""
 from __future__ import annotations
 
 import os
@@ -11,7 +11,7 @@ GREATEST = 1 << 26  # more than pipes and blocks hold
 SECONDS_OF_SILENCE = 2
 
 
-def test_each_answer_comes_as_soon_as_it_is_there() -> None:
+def test_each_answer_is_written_at_once() -> None:
     with started("file", *MD5CRYPT, bufsize=0) as process:
         assert process.stdin and process.stdout
         for name in b"ann", b"bob":
@@ -22,7 +22,7 @@ def test_each_answer_comes_as_soon_as_it_is_there() -> None:
 
 
 def written_until_it_waits(process: subprocess.Popen[bytes]) -> int:
-    """How many bytes a process reads while nobody takes its answers."""
+    """Returns how many bytes a process reads while nobody reads its answers."""
     assert process.stdin
     descriptor = process.stdin.fileno()
     os.set_blocking(descriptor, False)
@@ -37,8 +37,8 @@ def written_until_it_waits(process: subprocess.Popen[bytes]) -> int:
     return written
 
 
-def test_nothing_is_read_while_nobody_takes_answers() -> None:
-    """So its memory doesn't grow."""
+def test_nothing_is_read_while_nobody_reads_the_answers() -> None:
+    """Otherwise the memory of pwhash would grow."""
     with subprocess.Popen([PWHASH, "check"], stdin=-1, stdout=-1, bufsize=0) as process:
         try:
             assert written_until_it_waits(process) < GREATEST
@@ -47,8 +47,8 @@ def test_nothing_is_read_while_nobody_takes_answers() -> None:
             process.communicate()
 
 
-def test_an_output_that_does_not_block_gets_every_answer() -> None:
-    """Another program may have left it so; it is full until somebody reads."""
+def test_a_non_blocking_output_gets_every_answer() -> None:
+    """Another program may have made it non-blocking. It is full until somebody reads."""
     save("lines", b"ann:!:x\n" * 100_000)
     reader, writer = os.pipe()
     os.set_blocking(writer, False)

@@ -1,4 +1,4 @@
-"""System calls that the kernel refuses: status 3, a sentence, and no OUT."""
+"""Failing system calls: status 3, a message, and no OUT."""
 from __future__ import annotations
 
 import os
@@ -7,7 +7,7 @@ import pytest
 from support.package import LIBRARY, PACKAGE
 from support.pwhash_runs import ended, save, started_program, users
 
-# As bin/pwhash begins it; strace counts calls from here on.
+# The command that bin/pwhash runs, so that strace counts only the calls from here on.
 STARTED = ("/usr/bin/python3", "-I", "-S", str(PACKAGE / "pwhash/start.py"), str(LIBRARY))
 WORDS = ("file", "-m", "sha512crypt", "-R", "20k", "-S", "saltsalt", "lines", "-o", "out")
 
@@ -19,15 +19,15 @@ WORDS = ("file", "-m", "sha512crypt", "-R", "20k", "-S", "saltsalt", "lines", "-
         pytest.param("clone,clone3", "EAGAIN", 1, id="no thread"),
         pytest.param("poll", "ENOMEM", 2, id="no memory to wait for lines"),
         pytest.param("flock", "EIO", 1, id="no lock"),
-        pytest.param("fsync", "EIO", 1, id="a disk that fails in the beginning"),
-        pytest.param("fsync", "EIO", 2, id="a disk that fails in the end"),
-        pytest.param("fsync", "ENOSPC", 2, id="a disk that is full in the end"),
+        pytest.param("fsync", "EIO", 1, id="a disk that fails at the beginning"),
+        pytest.param("fsync", "EIO", 2, id="a disk that fails at the end"),
+        pytest.param("fsync", "ENOSPC", 2, id="a disk that is full at the end"),
         pytest.param("linkat", "ENOSPC", 1, id="no room for a name"),
-        pytest.param("linkat", "EACCES", 1, id="no right to a name"),
-        pytest.param("fchmod", "EPERM", 1, id="no right to a mode"),
+        pytest.param("linkat", "EACCES", 1, id="no permission to create a name"),
+        pytest.param("fchmod", "EPERM", 1, id="no permission to set the mode"),
     ],
 )
-def test_a_system_call_that_fails_makes_no_out(call: str, error: str, first: int) -> None:
+def test_a_failing_system_call_makes_no_out(call: str, error: str, first: int) -> None:
     save("lines", users(40))
     inject = f"inject={call}:error={error}:when={first}+"
     command = ["strace", "-qq", "-o", "/dev/null", "-e", inject, *STARTED, "pwhash", *WORDS]

@@ -1,4 +1,4 @@
-"""Rows of a table: which fields are read, and which rows are refused by their lines."""
+"""Rows of a table: which fields pwhash reads, and which rows it refuses by their lines."""
 from __future__ import annotations
 
 import os
@@ -8,7 +8,7 @@ import pytest
 from support.pwhash_runs import (
     BOB,
     BY_NUMBER,
-    MARK,
+    BOM,
     MD5,
     MD5CRYPT,
     hashed,
@@ -25,7 +25,7 @@ TOO_MANY = [
     pytest.param(b"bob,password\nann,pa,ss\n", ("--columns", "1,2"), 2, id="columns by number"),
     pytest.param(b"id,password,name\n1,pa,ss,ann\n2,password,bob\n", (), 2, id="before the name"),
     pytest.param(b"name,password\nann,pa,\nbob,password\n", (), 2, id="an empty third"),
-    pytest.param(b"name,password\n\nbob,password\nann,a,b\n", (), 4, id="behind a blank line"),
+    pytest.param(b"name,password\n\nbob,password\nann,a,b\n", (), 4, id="after a blank line"),
 ]
 
 
@@ -60,10 +60,10 @@ def test_a_row_with_more_fields_is_refused_in_lists_of_known_passwords() -> None
         pytest.param(b'ann,"secret\nsecret"\n', b"line feed", id="a line feed in a password"),
         pytest.param(b"ann\n", b"no password field", id="a row that is too short"),
         pytest.param(b"name,password\n", b"heading", id="the heading of a table joined to it"),
-        pytest.param(MARK + b"name,password\r\n", b"heading", id="the heading of Notepad's table"),
+        pytest.param(BOM + b"name,password\r\n", b"heading", id="the heading of Notepad's table"),
     ],
 )
-def test_a_row_that_is_no_line_is_refused_by_its_number(row: bytes, reason: bytes) -> None:
+def test_a_row_that_is_no_account_is_refused_by_its_number(row: bytes, reason: bytes) -> None:
     table = b"name,password\nbob,password\n" + row + b"eve,password\n"
     done = pwhash("file", "--csv", *MD5CRYPT, stdin=table)
     expected = b"bob:%b\neve:%b\n" % (MD5.encode(), MD5.encode())
@@ -77,7 +77,7 @@ def test_a_row_that_is_no_line_is_refused_by_its_number(row: bytes, reason: byte
     [
         pytest.param(b"ann,password\0more\nbob,pw2\n", BY_NUMBER, id="in a password"),
         pytest.param(b"\0ann,password\nbob,pw2\n", BY_NUMBER, id="before a name"),
-        pytest.param(b"\nann,password\0\nbob,pw2\n", BY_NUMBER, id="behind a blank line"),
+        pytest.param(b"\nann,password\0\nbob,pw2\n", BY_NUMBER, id="after a blank line"),
     ],
 )
 def test_a_zero_byte_in_the_first_row_cuts_nothing(table: bytes, words: tuple[str, ...]) -> None:
@@ -117,7 +117,7 @@ def test_rows_joined_by_a_stray_quote_are_refused() -> None:
 
 
 @pytest.mark.parametrize("separator", [b",", b";", b"\t"], ids=["comma", "semicolon", "tab"])
-@pytest.mark.parametrize("end", [b"\n", b"\r\n"], ids=["a line feed", "an end of Windows"])
+@pytest.mark.parametrize("end", [b"\n", b"\r\n"], ids=["a line feed", "a line end from Windows"])
 def test_a_heading_of_two_lines_is_named_and_its_table_read(separator: bytes, end: bytes) -> None:
     rows = [[b'"last', b'login"', b"name", b"password"], [b"never", b"bob", b"password"]]
     table = end.join(separator.join(row) for row in rows) + end

@@ -1,4 +1,4 @@
-"""pwhash at a terminal: what is typed is hashed as it is, and shown to nobody."""
+"""pwhash at a terminal: a typed password is hashed as it is, and never shown."""
 from __future__ import annotations
 
 import os
@@ -27,7 +27,7 @@ from support.pwhash_runs import (
 with needed("python3-pexpect"):
     import pexpect
 
-HALF_ERASED = b"TopSecret\xc3\xbc\x7f1"  # where the terminal erases one byte
+HALF_ERASED = b"TopSecret\xc3\xbc\x7f1"  # some terminals erase only one byte of the character
 
 
 @pytest.mark.parametrize(
@@ -36,14 +36,14 @@ HALF_ERASED = b"TopSecret\xc3\xbc\x7f1"  # where the terminal erases one byte
         pytest.param(HALF_ERASED, b"TopSecret\xc31", False, id="half of a character erased"),
         pytest.param(HALF_ERASED, b"TopSecret1", True, id="a whole character erased"),
         pytest.param(b"caf\xe9", b"caf\xe9", False, id="a byte of Latin-1"),
-        pytest.param(b"\xfc\xff\xfe", b"\xfc\xff\xfe", True, id="bytes of no encoding"),
+        pytest.param(b"\xfc\xff\xfe", b"\xfc\xff\xfe", True, id="bytes in no encoding"),
         pytest.param("Grüße €".encode(), "Grüße €".encode(), True, id="UTF-8"),
     ],
 )
 def test_a_typed_password_is_hashed_as_its_bytes(typed: bytes, password: bytes, utf8: bool) -> None:
     terminal = at_terminal(MD5CRYPT, [typed + b"\r"] * 2, utf8=utf8)
-    assert terminal.status == 0 and terminal.shown.split()[-1] == hashed(password), terminal
-    assert b"TopSecret" not in terminal.shown and not terminal.shows_keys_at_prompt, terminal
+    assert terminal.status == 0 and terminal.screen.split()[-1] == hashed(password), terminal
+    assert b"TopSecret" not in terminal.screen and not terminal.shows_keys_at_prompt, terminal
 
 
 @pytest.mark.parametrize("locale", ["C", "C.UTF-8", "POSIX", "nonsense"])
@@ -52,21 +52,21 @@ def test_a_typed_password_does_not_depend_on_the_locale(
 ) -> None:
     monkeypatch.setenv("LC_ALL", locale)
     terminal = at_terminal(MD5CRYPT, [b"caf\xe9\r"] * 2)
-    assert terminal.status == 0 and terminal.shown.split()[-1] == hashed(b"caf\xe9"), terminal
+    assert terminal.status == 0 and terminal.screen.split()[-1] == hashed(b"caf\xe9"), terminal
 
 
 def typed_at(words: str, keys: bytes) -> tuple[int, bytes]:
-    """Types a password twice at a terminal after stty. Returns the status and what it shows."""
+    """Types a password twice at a terminal, after stty. Returns the status and the screen."""
     script = f"stty {words} && exec {PWHASH} {shlex.join(MD5CRYPT)}"
     child = pexpect.spawn("/bin/sh", ["-c", script], timeout=60)
-    shown = b""
+    screen = b""
     for prompt in rb"Password: ", rb"Again: ":
         child.expect(prompt)
         child.send(keys)
     child.expect(pexpect.EOF)
-    shown = bytes(child.before)
+    screen = bytes(child.before)
     child.close()
-    return os.waitstatus_to_exitcode(child.status), shown
+    return os.waitstatus_to_exitcode(child.status), screen
 
 
 @pytest.mark.parametrize(
@@ -81,31 +81,31 @@ def typed_at(words: str, keys: bytes) -> tuple[int, bytes]:
     ],
 )
 def test_keys_are_read_as_they_are_typed(words: str, keys: bytes, password: bytes) -> None:
-    status, shown = typed_at(words, keys)
-    assert status == 0 and shown.split()[-1] == hashed(password), (status, shown)
+    status, screen = typed_at(words, keys)
+    assert status == 0 and screen.split()[-1] == hashed(password), (status, screen)
 
 
 @pytest.mark.parametrize(
     ("words", "keys"),
     [
-        pytest.param("erase ^H", b"seccc\x7fret\r", id="another key erases"),
+        pytest.param("erase ^H", b"seccc\x7fret\r", id="an erase key that isn't set"),
         pytest.param("sane", b"secret\x1b[D\r", id="an arrow"),
-        pytest.param("sane", b"\x1b[200~secret\x1b[201~\r", id="pasted, with brackets"),
+        pytest.param("sane", b"\x1b[200~secret\x1b[201~\r", id="bracketed paste"),
         pytest.param("sane", b"secret\x16\x01\r", id="Ctrl-V Ctrl-A"),
         pytest.param("sane", b"sec\tret\r", id="a tab"),
-        pytest.param("sane", "sec\u200bret\r".encode(), id="a space of no width"),
+        pytest.param("sane", "sec\u200bret\r".encode(), id="a zero-width space"),
         pytest.param("sane", "sec\u3164ret\r".encode(), id="a filler"),
     ],
 )
-def test_what_a_terminal_adds_is_not_hashed(words: str, keys: bytes) -> None:
-    status, shown = typed_at(words, keys)
-    assert status == 2 and b"$1$" not in shown and b"sec" not in shown, (status, shown)
-    assert b"invisible" in shown, shown
+def test_characters_that_a_terminal_adds_are_not_hashed(words: str, keys: bytes) -> None:
+    status, screen = typed_at(words, keys)
+    assert status == 2 and b"$1$" not in screen and b"sec" not in screen, (status, screen)
+    assert b"invisible" in screen, screen
 
 
 def test_a_typed_password_that_is_not_utf8_is_named() -> None:
-    status, shown = typed_at("sane", b"caf\xe9\r")
-    assert status == 0 and shown.split()[-1] == hashed(b"caf\xe9") and b"UTF-8" in shown, shown
+    status, screen = typed_at("sane", b"caf\xe9\r")
+    assert status == 0 and screen.split()[-1] == hashed(b"caf\xe9") and b"UTF-8" in screen, screen
 
 
 @pytest.mark.parametrize(
@@ -114,23 +114,23 @@ def test_a_typed_password_that_is_not_utf8_is_named() -> None:
         pytest.param([b"TopSecret\xc3\r", b"TopSecret\xfc\r"], id="two that differ"),
         pytest.param([b"TopSecret\xfc\x00\r"] * 2, id="a zero byte"),
         pytest.param([b"TopSecret\xfc" + b"x" * 1100 + b"\r"] * 2, id="too long"),
-        pytest.param([b"TopSecret\xfc\x04\x04"], id="Ctrl-D behind it"),
-        pytest.param([b"TopSecret\xfc\x03"], id="Ctrl-C behind it"),
+        pytest.param([b"TopSecret\xfc\x04\x04"], id="Ctrl-D after it"),
+        pytest.param([b"TopSecret\xfc\x03"], id="Ctrl-C after it"),
     ],
 )
-def test_no_message_shows_what_was_typed(typed: list[bytes]) -> None:
+def test_no_message_shows_the_typed_password(typed: list[bytes]) -> None:
     script = f"exec {PWHASH} {shlex.join(MD5CRYPT)} 2> log"
     child = pexpect.spawn("/bin/sh", ["-c", script], timeout=60)
-    shown = b""
+    screen = b""
     for keys in typed:
         child.expect(rb": ")
-        shown += child.before
+        screen += child.before
         child.send(keys)
     child.expect(pexpect.EOF)
-    shown += child.before
+    screen += child.before
     child.close()
-    for text in shown, read("log"):
-        assert not re.search(rb"Secret|\\x|Error\(", text), (shown, read("log"))
+    for text in screen, read("log"):
+        assert not re.search(rb"Secret|\\x|Error\(", text), (screen, read("log"))
 
 
 @pytest.mark.parametrize(
@@ -150,7 +150,7 @@ def test_the_terminal_shows_keys_again_after(
 ) -> None:
     terminal = at_terminal(MD5CRYPT, keys, kill)
     assert terminal.status == status and terminal.shows_keys_afterwards, terminal
-    assert not terminal.shows_keys_at_prompt and b"secret" not in terminal.shown, terminal
+    assert not terminal.shows_keys_at_prompt and b"secret" not in terminal.screen, terminal
     assert not list(pathlib.Path().glob("core*"))
 
 
@@ -159,50 +159,50 @@ def test_the_terminal_shows_keys_again_after(
     [
         pytest.param([b"\x04"], id="at the first prompt"),
         pytest.param([b"secret\r", b"\x04"], id="at the second prompt"),
-        pytest.param([b"secret\x04\x04"], id="behind a password"),
+        pytest.param([b"secret\x04\x04"], id="after a password"),
     ],
 )
 def test_ctrl_d_at_a_prompt_is_named(keys: list[bytes]) -> None:
     terminal = at_terminal(MD5CRYPT, keys)
-    assert terminal.status == 2 and b"Ctrl-D" in terminal.shown, terminal
-    assert b"empty" not in terminal.shown and b"$1$" not in terminal.shown, terminal
+    assert terminal.status == 2 and b"Ctrl-D" in terminal.screen, terminal
+    assert b"empty" not in terminal.screen and b"$1$" not in terminal.screen, terminal
 
 
-def test_a_prompt_that_was_stopped_and_continued_hides_what_is_typed() -> None:
+def test_a_prompt_that_was_stopped_and_continued_hides_the_password() -> None:
     child = pexpect.spawn(PWHASH, list(MD5CRYPT), timeout=60)
     child.expect(rb"Password: ")
     child.kill(signal.SIGSTOP)
     wait_for(lambda: state_of(child.pid) == "T")
     flags = termios.tcgetattr(child.child_fd)
-    flags[3] |= termios.ECHO  # as a shell sets it
+    flags[3] |= termios.ECHO  # as a shell does
     termios.tcsetattr(child.child_fd, termios.TCSANOW, flags)
     child.kill(signal.SIGCONT)
     wait_for(lambda: not shows_keys(child.child_fd))
-    shown = type_secret(child)
-    assert b"secret" not in shown and hashed(b"secret") in shown
+    screen = type_secret(child)
+    assert b"secret" not in screen and hashed(b"secret") in screen
 
 
 def test_two_passwords_that_differ_are_refused() -> None:
     terminal = at_terminal(MD5CRYPT, [b"secret\r", b"other\r"])
-    assert terminal.status == 2 and b"$1$" not in terminal.shown, terminal
+    assert terminal.status == 2 and b"$1$" not in terminal.screen, terminal
 
 
 def test_a_wrong_option_is_named_before_anything_is_typed() -> None:
     terminal = at_terminal(("-S", "a-b"), [])
-    assert terminal.status == 2 and b"Password" not in terminal.shown, terminal
+    assert terminal.status == 2 and b"Password" not in terminal.screen, terminal
 
 
-def test_what_is_typed_after_ctrl_z_is_hidden() -> None:
-    """The shell, which doesn't wait for the prompt's end, would show it."""
+def test_a_password_typed_after_ctrl_z_is_hidden() -> None:
+    """The shell, which doesn't wait for the end of the prompt, would show it."""
     save("script", f"{PWHASH} {shlex.join(MD5CRYPT)}\nexit $?\n".encode())
     child = pexpect.spawn("/bin/sh", ["-m", "script"], timeout=60)
     child.expect(rb"Password: ")
     child.send(b"\x1a")
-    shown = type_secret(child)
-    assert b"secret" not in shown and shown.split()[-1] == hashed(b"secret"), shown
+    screen = type_secret(child)
+    assert b"secret" not in screen and screen.split()[-1] == hashed(b"secret"), screen
 
 
-def test_what_is_typed_too_often_is_not_left_for_the_shell() -> None:
+def test_keys_after_the_password_are_not_left_for_the_shell() -> None:
     save("script", f'{PWHASH} {shlex.join(MD5CRYPT)}\nread -r line\necho "[$line]"\n'.encode())
     child = pexpect.spawn("/bin/sh", ["script"], timeout=60)
     child.expect(rb"Password: ")
@@ -217,7 +217,7 @@ def test_what_is_typed_too_often_is_not_left_for_the_shell() -> None:
 
 def test_a_generated_password_is_shown_with_its_hash() -> None:
     terminal = at_terminal(("--generate", *MD5CRYPT), [])
-    password, made = terminal.shown.split()[-2:]
+    password, made = terminal.screen.split()[-2:]
     assert terminal.status == 0 and len(password) == 20, terminal
     assert made == hashed(password), terminal
 

@@ -1,7 +1,4 @@
-"""pwhash and files that hold no table, are pipes, or may not grow: each message says what to do.
-
-Each test sees only what a user sees: the command, its outputs, files and status.
-"""
+"""Files that contain no table, are pipes, or may not grow: each message says what to do."""
 from __future__ import annotations
 
 import os
@@ -22,7 +19,7 @@ def test_a_table_without_rows_is_refused(table: bytes, columns: tuple[str, ...])
 
 @pytest.mark.parametrize("columns", [(), ("--columns", "1,2")], ids=["named", "numbered"])
 @pytest.mark.parametrize("encoding", ["utf-16", "utf-16-le", "utf-16-be"])
-def test_a_table_in_utf16_is_refused_by_the_name_of_its_encoding(
+def test_a_table_in_utf16_is_refused_and_its_encoding_named(
     columns: tuple[str, ...], encoding: str
 ) -> None:
     mark = "" if encoding == "utf-16" else "\ufeff"
@@ -41,7 +38,7 @@ def test_a_table_in_utf16_is_refused_by_the_name_of_its_encoding(
         pytest.param(("audit", "pipe"), id="audit"),
     ],
 )
-def test_no_run_waits_for_ever_for_the_writer_of_a_pipe(words: tuple[str, ...]) -> None:
+def test_no_run_waits_forever_for_the_writer_of_a_pipe(words: tuple[str, ...]) -> None:
     os.mkfifo("pipe")
     done = pwhash(*words)
     assert (done.status, done.out) == (2, b"") and not os.path.exists("hashes"), done
@@ -53,7 +50,7 @@ def test_a_pipe_that_somebody_writes_is_read() -> None:
     assert done.status == 0 and b"ann" in done.out, done
 
 
-def test_no_advice_is_given_that_was_taken() -> None:
+def test_advice_that_was_followed_is_not_repeated() -> None:
     done = pwhash("file", *MD5CRYPT, "--windows", stdin=b"ann:pw\r\r\n")
     assert (done.status, done.out) == (1, b"") and b"carriage return" in done.err, done
     assert b"--windows" not in done.err, done

@@ -1,4 +1,4 @@
-"""pwhash verify: yes and no are said of whole hashes alone, and nothing else has status 0 or 1.
+"""pwhash verify says yes or no only for complete hashes, with status 0 or 1, and else neither.
 
 Hashes and matches are libxcrypt's.
 """
@@ -11,7 +11,7 @@ import time
 import pytest
 from support.pwhash_copies import Copy
 from support.pwhash_runs import (
-    MARK,
+    BOM,
     MD5,
     at_terminal,
     ended,
@@ -36,23 +36,23 @@ SECRET = b"TopSecret"
 HASH = hashed(SECRET)
 COSTLY = b"$6$rounds=999999999$saltsalt$" + b"x" * 85 + b"."
 FIELDS = [
-    pytest.param(MD5[:-1].encode(), b"cut or changed", id="a hash that was cut"),
-    pytest.param(MD5[:-1].encode() + b"z", b"cut or changed", id="one that was changed"),
+    pytest.param(MD5[:-1].encode(), b"cut or changed", id="a truncated hash"),
+    pytest.param(MD5[:-1].encode() + b"z", b"cut or changed", id="a changed hash"),
     pytest.param(b"$1$xxxxxxxx$", b"cut or changed", id="a setting"),
     pytest.param(b"", b"empty", id="nothing"),
     pytest.param(b"!", b"locked", id="a lock"),
     pytest.param(b"!" + MD5.encode(), b"locked", id="a locked hash"),
     pytest.param(b"*", b"locked", id="a star"),
-    pytest.param(b"{CRYPT}!" + MD5.encode(), b"locked", id="a lock behind Dovecot's prefix"),
-    pytest.param(b"!{CRYPT}" + MD5.encode(), b"locked", id="a lock before it"),
-    pytest.param(b"*0", b"locked", id="what crypt returns for a failure"),
+    pytest.param(b"{CRYPT}!" + MD5.encode(), b"locked", id="a lock after Dovecot's prefix"),
+    pytest.param(b"!{CRYPT}" + MD5.encode(), b"locked", id="a lock before Dovecot's prefix"),
+    pytest.param(b"*0", b"locked", id="crypt's token for a failure"),
     pytest.param(b"$y$j9T$abcdefghijklmnopqrstu.$abc", b"yescrypt", id="yescrypt"),
     pytest.param(b"$2y$05$" + b"a" * 53, b"bcrypt", id="bcrypt"),
     pytest.param(b"$apr1$xxxxxxxx$UYCIxa628.9qXjpQCjM4a.", b"another scheme", id="Apache's"),
     pytest.param(b"{SSHA}" + b"a" * 28, b"another scheme", id="LDAP's"),
-    pytest.param(b"TopSecret", b"stored as it is", id="the password as it is"),
-    pytest.param(b"x", b"stored as it is", id="what stands in /etc/passwd"),
-    pytest.param(b"$6$rounds=12x$salt$abc", b"bad rounds", id="rounds that are no number"),
+    pytest.param(b"TopSecret", b"stored as it is", id="the plain password"),
+    pytest.param(b"x", b"stored as it is", id="the field of /etc/passwd"),
+    pytest.param(b"$6$rounds=12x$salt$abc", b"bad rounds", id="rounds that aren't a number"),
     pytest.param(MD5.encode() + b"$", b"cut or changed", id="more than a hash"),
     pytest.param(COSTLY, b"over budget", id="a hostile hash"),
 ]
@@ -91,7 +91,7 @@ def test_a_password_is_compared_with_the_hash_of_a_name(setting: str) -> None:
         pytest.param(b"with\r", id="a carriage return"),
         pytest.param(b"Gr\xfc\xdfe", id="no UTF-8"),
         pytest.param(b"ann:x", id="a colon"),
-        pytest.param(b"x" * 168, id="the longest of a login"),
+        pytest.param(b"x" * 168, id="the longest that a login accepts"),
     ],
 )
 def test_a_password_is_compared_as_it_is(password: bytes) -> None:
@@ -105,7 +105,7 @@ def test_a_password_is_compared_as_it_is(password: bytes) -> None:
 @pytest.mark.parametrize(
     "scheme", [b"{CRYPT}", b"{crypt}", b"{SHA512-CRYPT}", b"{SHA256-CRYPT}", b"{MD5-CRYPT}"]
 )
-def test_a_scheme_may_stand_before_the_hash(scheme: bytes) -> None:
+def test_a_scheme_may_precede_the_hash(scheme: bytes) -> None:
     ann_in_file(scheme + MD5.encode())
     assert pwhash("verify", "file", "ann", stdin=b"password\n").status == 0
     assert pwhash("verify", stdin=b"password\n" + scheme + MD5.encode()).status == 0
@@ -113,19 +113,19 @@ def test_a_scheme_may_stand_before_the_hash(scheme: bytes) -> None:
     assert done.status == 2 and b"another scheme" in done.err, done
 
 
-# What people have pasted, of which FIRST and REST are the parts of a hash.
+# What people paste. FIRST and REST are the two parts of a hash.
 PASTED = [
-    pytest.param(b" FIRSTREST", id="a blank in front"),
-    pytest.param(b"FIRSTREST \t\r", id="blanks behind"),
-    pytest.param("\u00a0FIRSTREST\u200b".encode(), id="what a mail shows as nothing"),
-    pytest.param(b"\n  \nFIRSTREST\n", id="line breaks in front"),
-    pytest.param(b"FIRST\nREST", id="a line break inside"),
-    pytest.param(b"FIRST\r\n    REST\r\n\r\n", id="lines of Windows, and blanks"),
+    pytest.param(b" FIRSTREST", id="a leading blank"),
+    pytest.param(b"FIRSTREST \t\r", id="trailing blanks"),
+    pytest.param("\u00a0FIRSTREST\u200b".encode(), id="invisible characters from a mail"),
+    pytest.param(b"\n  \nFIRSTREST\n", id="leading line breaks"),
+    pytest.param(b"FIRST\nREST", id="a line break within"),
+    pytest.param(b"FIRST\r\n    REST\r\n\r\n", id="lines from Windows, and blanks"),
     pytest.param(b'"FIRSTREST"', id="quotes"),
-    pytest.param(b"ann:FIRSTREST", id="a line of htpasswd"),
-    pytest.param(b"ann:FIRSTREST:19000:0:99999:7:::\n", id="a line of shadow"),
-    pytest.param(b"ann:FIRST\nREST:19000:\n0:99999:7:::", id="one with line breaks"),
-    pytest.param(b'password: "FIRSTREST"', id="a line of Ansible"),
+    pytest.param(b"ann:FIRSTREST", id="a line from htpasswd"),
+    pytest.param(b"ann:FIRSTREST:19000:0:99999:7:::\n", id="a line from shadow"),
+    pytest.param(b"ann:FIRST\nREST:19000:\n0:99999:7:::", id="a line from shadow with line breaks"),
+    pytest.param(b'password: "FIRSTREST"', id="a line from Ansible"),
     pytest.param(b"ann:{CRYPT}FIRST\n REST", id="a prefix"),
 ]
 
@@ -141,8 +141,8 @@ def test_a_pasted_hash_may_have_blanks_and_its_line_around_it(pasted: bytes, set
     assert (done.status, done.out) == (1, NO), done
 
 
-def test_nobody_waits_for_the_rest_of_a_whole_hash() -> None:
-    """The reader of the answer ends the writer of the hash."""
+def test_pwhash_does_not_wait_for_more_after_a_complete_hash() -> None:
+    """Here the reader of the answer ends the writer of the hash."""
     save("input", b"password\n" + MD5.encode() + b"\n")
     script = '{ cat input; read -r end < pipe; } | { "$@" verify; echo end > pipe; }'
     done = shell(f"mkfifo pipe; {script}")
@@ -153,11 +153,11 @@ def test_nobody_waits_for_the_rest_of_a_whole_hash() -> None:
     ("password", "reason"),
     [
         pytest.param(b"password\r", b"carriage return", id="a carriage return"),
-        pytest.param(MARK + b"password", b"byte order mark", id="a mark"),
+        pytest.param(BOM + b"password", b"byte order mark", id="a mark"),
         pytest.param(b"password ", b"blank", id="a blank"),
         pytest.param(b"pass\x1b[Dword", b"control character", id="an arrow"),
         pytest.param(b"p\xe4ssword", b"UTF-8", id="Latin-1"),
-        pytest.param("pa\u0308ssword".encode(), b"NFC", id="letters and accents apart"),
+        pytest.param("pa\u0308ssword".encode(), b"NFC", id="decomposed accents"),
     ],
 )
 def test_a_no_says_what_is_odd_about_the_password(password: bytes, reason: bytes) -> None:
@@ -166,7 +166,7 @@ def test_a_no_says_what_is_odd_about_the_password(password: bytes, reason: bytes
     assert b"word\n" not in done.err and b"ssword" not in done.err.replace(b"password", b""), done
 
 
-def test_lines_that_do_not_count_are_named() -> None:
+def test_ignored_lines_are_reported() -> None:
     done = pwhash("verify", stdin=b"password\n" + MD5.encode() + b"\nmore\n")
     assert (done.status, done.out) == (0, YES) and b"behind the hash" in done.err, done
     ann_in_file(MD5.encode())
@@ -174,7 +174,7 @@ def test_lines_that_do_not_count_are_named() -> None:
     assert (done.status, done.out) == (0, YES) and b"behind the password" in done.err, done
 
 
-# ---- Neither
+# ---- Neither yes nor no
 
 
 def assert_refused(status: int, out: bytes, err: bytes, reason: bytes) -> None:
@@ -183,7 +183,9 @@ def assert_refused(status: int, out: bytes, err: bytes, reason: bytes) -> None:
 
 
 @pytest.mark.parametrize(("field", "reason"), FIELDS)
-def test_what_no_password_can_match_is_neither_yes_nor_no(field: bytes, reason: bytes) -> None:
+def test_a_field_that_no_password_matches_is_neither_yes_nor_no(
+    field: bytes, reason: bytes
+) -> None:
     ann_in_file(field)
     done = pwhash("verify", "file", "ann", stdin=SECRET + b"\n")
     assert_refused(done.status, done.out, done.err, reason)
@@ -192,7 +194,7 @@ def test_what_no_password_can_match_is_neither_yes_nor_no(field: bytes, reason: 
     assert_refused(done.status, done.out, done.err, reason)
 
 
-def test_the_limit_is_that_of_a_login_and_can_be_raised() -> None:
+def test_the_limit_is_a_logins_and_can_be_raised() -> None:
     stored = hashed(SECRET, "$6$rounds=2000000$saltsalt")
     data = SECRET + b"\n" + stored
     assert pwhash("verify", "--budget", "100M", stdin=data).status == 2
@@ -233,7 +235,7 @@ def test_input_without_a_hash_is_refused(data: bytes, reason: bytes) -> None:
     [
         pytest.param(MD5.encode(), id="a hash"),
         pytest.param(b" %b\r" % MD5.encode(), id="a hash with blanks around it"),
-        pytest.param(MD5[:-1].encode(), id="a hash that was cut"),
+        pytest.param(MD5[:-1].encode(), id="a truncated hash"),
         pytest.param(b"$y$j9T$abcdefghijklmnopqrstu.$abc", id="yescrypt"),
     ],
 )
@@ -253,7 +255,7 @@ def test_fields_behind_a_hash_without_a_name_are_left_out() -> None:
     assert (done.status, done.out) == (0, YES), done
 
 
-def test_a_password_that_begins_with_a_dollar_is_no_hash() -> None:
+def test_a_password_that_begins_with_a_dollar_sign_is_no_hash() -> None:
     done = pwhash("verify", stdin=b"$ecret\n" + SECRET + b"\n")
     assert_refused(done.status, done.out, done.err, b"stored as it is")
 
@@ -270,13 +272,13 @@ def test_a_password_may_be_a_hash() -> None:
     [
         pytest.param(["file", "eve"], b"no line of this name", id="an unknown name"),
         pytest.param(["file", "an"], b"cut or changed", id="the beginning of a name"),
-        pytest.param(["file", "bob"], b"(lines 3, 5)", id="a name that stands twice"),
+        pytest.param(["file", "bob"], b"(lines 3, 5)", id="a repeated name"),
         pytest.param(["file", "dan"], b"no line of this name", id="a line without a colon"),
-        pytest.param(["file", "cr"], b"bad character", id="a line of Windows"),
+        pytest.param(["file", "cr"], b"bad character", id="a line from Windows"),
         pytest.param(["file", "TopSecret"], b"no line of this name", id="the password"),
         pytest.param(["file"], b"FILE and NAME", id="no name"),
         pytest.param([MD5], b"FILE and NAME", id="the hash"),
-        pytest.param(["file", "ann", "TopSecret"], b"a word too many", id="the password behind it"),
+        pytest.param(["file", "ann", "TopSecret"], b"a word too many", id="the password after it"),
         pytest.param(["file", "#eve"], b"begins with no #", id="a comment"),
         pytest.param(["file", "ann:"], b"no colon", id="a colon"),
         pytest.param(["file", "a\nb"], b"control character", id="a line feed"),
@@ -290,7 +292,7 @@ def test_a_password_may_be_a_hash() -> None:
         pytest.param(["void", "ann"], b"no line name:field", id="an empty file"),
     ],
 )
-def test_words_by_which_nothing_can_be_compared(words: list[str], reason: bytes) -> None:
+def test_invalid_arguments_are_refused(words: list[str], reason: bytes) -> None:
     save("void", b"")
     os.mkfifo("pipe")
     end = MD5.encode()
@@ -303,7 +305,7 @@ def test_words_by_which_nothing_can_be_compared(words: list[str], reason: bytes)
     assert_refused(done.status, done.out, done.err, reason)
 
 
-def test_a_file_can_be_a_pipe_of_the_shell() -> None:
+def test_the_file_can_be_a_pipe_of_the_shell() -> None:
     ann_in_file(MD5.encode())
     save("password", b"password\n")
     done = shell('cat file | { "$@" verify /dev/fd/3 ann 3<&0 < password; }')
@@ -311,7 +313,7 @@ def test_a_file_can_be_a_pipe_of_the_shell() -> None:
 
 
 @pytest.mark.needs("root")
-def test_a_file_that_nobody_may_read_is_neither_yes_nor_no(copy: Copy) -> None:
+def test_an_unreadable_file_is_neither_yes_nor_no(copy: Copy) -> None:
     ann_in_file(MD5.encode())
     os.chmod("file", 0)
     os.chmod(".", 0o755)
@@ -342,7 +344,7 @@ def test_a_signal_ends_a_comparison_at_once(number: signal.Signals) -> None:
 
 
 @pytest.mark.parametrize("kibibytes", range(4000, 60000, 8000))
-def test_with_little_memory_nothing_is_said_wrongly(kibibytes: int) -> None:
+def test_with_little_memory_no_answer_is_wrong(kibibytes: int) -> None:
     data = b"password\n" + hashed(b"password", "$7$BU..../....saltsalt")
     done = shell(f'ulimit -v {kibibytes}; exec "$@"', "verify", stdin=data)
     assert done.status in (0, 3) and done.out == (YES if done.status == 0 else b""), done
@@ -356,32 +358,32 @@ def test_with_little_memory_nothing_is_said_wrongly(kibibytes: int) -> None:
 def test_a_pasted_hash_is_compared_and_not_shown(typed: bytes, status: int) -> None:
     terminal = at_terminal(["verify"], [typed + b"\r", b" " + MD5.encode() + b" \r"])
     assert terminal.status == status and not terminal.shows_keys_at_prompt, terminal
-    assert MD5.encode() not in terminal.shown and terminal.shows_keys_afterwards, terminal
-    assert terminal.shown.endswith((YES, NO)[status].replace(b"\n", b"\r\n")), terminal
+    assert MD5.encode() not in terminal.screen and terminal.shows_keys_afterwards, terminal
+    assert terminal.screen.endswith((YES, NO)[status].replace(b"\n", b"\r\n")), terminal
 
 
 @pytest.mark.needs("python3-pexpect")
 @pytest.mark.parametrize(
     "keys",
     [
-        pytest.param([b"\r" + MD5.encode() + b"\r"], id="a line break in front"),
+        pytest.param([b"\r" + MD5.encode() + b"\r"], id="a leading line break"),
         pytest.param([MD5[:12].encode() + b"\r" + MD5[12:].encode() + b"\r"], id="one inside"),
         pytest.param([MD5[:12].encode() + b"\r" + MD5[12:].encode(), b"\r"], id="Return later"),
-        pytest.param([b"ann:" + MD5.encode() + b":1:0:9:7:::\r"], id="a line of shadow"),
+        pytest.param([b"ann:" + MD5.encode() + b":1:0:9:7:::\r"], id="a line from shadow"),
     ],
 )
-def test_line_breaks_in_what_is_pasted_end_nothing(keys: list[bytes]) -> None:
+def test_line_breaks_in_a_pasted_hash_do_not_end_it(keys: list[bytes]) -> None:
     terminal = at_terminal(["verify"], [b"password\r", *keys])
     assert terminal.status == 0 and not terminal.shows_keys_at_prompt, terminal
-    assert MD5[12:].encode() not in terminal.shown and terminal.shows_keys_afterwards, terminal
+    assert MD5[12:].encode() not in terminal.screen and terminal.shows_keys_afterwards, terminal
 
 
 @pytest.mark.needs("python3-pexpect")
 @pytest.mark.parametrize(("typed", "status"), [(b"password", 0), (b"", 1), (b"p\xe4ssword", 1)])
-def test_a_name_of_a_file_is_asked_for_a_password_alone(typed: bytes, status: int) -> None:
+def test_a_name_of_a_file_needs_only_a_password(typed: bytes, status: int) -> None:
     ann_in_file(MD5.encode())
     terminal = at_terminal(["verify", "file", "ann"], [typed + b"\r"])
-    assert terminal.status == status and b"Hash" not in terminal.shown, terminal
+    assert terminal.status == status and b"Hash" not in terminal.screen, terminal
     assert not terminal.shows_keys_at_prompt and terminal.shows_keys_afterwards, terminal
 
 
@@ -389,8 +391,8 @@ def test_a_name_of_a_file_is_asked_for_a_password_alone(typed: bytes, status: in
 def test_a_locked_name_is_not_asked_for_a_password() -> None:
     ann_in_file(b"!" + MD5.encode())
     terminal = at_terminal(["verify", "file", "ann"], [])
-    assert terminal.status == 2 and b"locked" in terminal.shown, terminal
-    assert b"Password" not in terminal.shown, terminal
+    assert terminal.status == 2 and b"locked" in terminal.screen, terminal
+    assert b"Password" not in terminal.screen, terminal
 
 
 @pytest.mark.needs("python3-pexpect")
@@ -400,13 +402,13 @@ def test_a_locked_name_is_not_asked_for_a_password() -> None:
         pytest.param([b"password\r", b"\x04"], 2, id="Ctrl-D"),
         pytest.param([b"password\r", b"\x03"], -signal.SIGINT, id="Ctrl-C"),
         pytest.param([b"password\r", b"\r", b"\x04"], 2, id="Return and Ctrl-D"),
-        pytest.param([b"password\r", MD5[:-9].encode() + b"\r", b"\r"], 2, id="a part of one"),
+        pytest.param([b"password\r", MD5[:-9].encode() + b"\r", b"\r"], 2, id="a part of a hash"),
     ],
 )
 def test_without_a_hash_nothing_is_compared(keys: list[bytes], status: int) -> None:
     terminal = at_terminal(["verify"], keys)
     assert terminal.status == status and terminal.shows_keys_afterwards, terminal
-    assert YES.strip() not in terminal.shown and NO.strip() not in terminal.shown, terminal
+    assert YES.strip() not in terminal.screen and NO.strip() not in terminal.screen, terminal
 
 
 def test_the_help_says_what_a_status_means() -> None:
