@@ -1,7 +1,7 @@
-"""The recipes of a document for administrators, followed on a machine with files of its own.
+"""The recipes for administrators, followed with password files in a scratch folder.
 
-The commands are the document's, but for the paths of files and for cron's schedule; chpasswd and
-useradd are the system's, on files in a scratch folder, in which id looks, too.
+The commands are the document's, except for the paths of files and cron's schedule. chpasswd and
+useradd are the system's, and work on the files in the scratch folder, which id reads too.
 """
 from __future__ import annotations
 
@@ -20,15 +20,15 @@ from support.process import Changes, Result, run
 
 pytestmark = pytest.mark.needs("root", "chpasswd")
 
-AGED = ":19000:0:99999:7:::"  # the fields of a shadow file that follow the hash
-# By which useradd gives a new account the same.
+AGED = ":19000:0:99999:7:::"  # the fields after the hash in a shadow file
+# The settings by which useradd gives new accounts the same ages.
 AGES = "PASS_MIN_DAYS 0\nPASS_MAX_DAYS 99999\nPASS_WARN_AGE 7\n"
 SECONDS_OF_DAY = 86_400
-SCHEDULE = re.compile(r"^(?:\S+ ){5}root ", re.MULTILINE)  # of a line for cron
+SCHEDULE = re.compile(r"^(?:\S+ ){5}root ", re.MULTILINE)  # at the start of a line for cron
 RECOMMENDED = "$6$rounds=656000$"
 
 LOCKED = "!"
-# Both libxcrypt's, of "password".
+# libxcrypt's hashes of "password".
 OUTDATED = "$5$rounds=1000$ab$1w1vy5uCLDQWfIMwmaMatnSGmBa34fZnvo3JO2w3CP1"
 CURRENT = (
     "$6$rounds=656000$ab$hc10aHkXN.GF5BQag9FBjeGeBnJXHj4GHeiS9SEq5r1wLkbQRKB4zP9d0pztZ6D3nYaEdp3"
@@ -40,19 +40,19 @@ YESCRYPT = "$y$j9T$ab$x"
 
 
 def today() -> int:
-    """The date as a shadow file has it."""
+    """Returns the date as in a shadow file, in days."""
     return int(time.time()) // SECONDS_OF_DAY
 
 
 @dataclass(frozen=True)
 class Entry:
-    """What a shadow file has of an account."""
+    """An account's line in a shadow file."""
 
     field: str
-    rest: str  # the date of the last change, and what follows
+    rest: str  # the date of the last change, and the later fields
 
     def has_new_password(self, password: str, not_before: int) -> bool:
-        """Whether the field is a hash by the recommended cost, and the date is that of the run."""
+        """Returns whether the field is a hash of recommended cost, and changed since that date."""
         dates = [AGED.replace("19000", str(day)) for day in range(not_before, today() + 1)]
         is_recommended = self.field.startswith(RECOMMENDED)
         return is_recommended and self.rest in dates and is_hash_of(self.field, password)
@@ -60,19 +60,19 @@ class Entry:
 
 @dataclass(frozen=True)
 class Machine:
-    """A folder where recipes are followed, and a system of which they change the passwords."""
+    """A folder in which recipes are followed, and the system whose passwords they change."""
 
     system: Path
     folder: Path
     environment: Changes
-    began: int  # the date when the test began
+    began: int  # the date at the start of the test
 
     @property
     def shadow(self) -> Path:
         return self.system / "etc/shadow"
 
     def set_accounts(self, fields: Mapping[str, str]) -> None:
-        """Replaces all accounts by these, each with what its field is."""
+        """Replaces all accounts by these names and fields."""
         names = sorted(fields)
         users = [f"{name}:x:1000:1000::/:/bin/sh\n" for name in names]
         (self.system / "etc/passwd").write_text("".join(users), encoding="ascii")
@@ -80,16 +80,16 @@ class Machine:
         self.shadow.write_text("".join(entries), encoding="ascii")
 
     def entries(self) -> dict[str, Entry]:
-        """The accounts by their names."""
+        """Returns the accounts by name."""
         parts = [line.split(":", 2) for line in self.shadow.read_text().splitlines()]
         return {name: Entry(field, f":{rest}") for name, field, rest in parts}
 
     def write(self, name: str, content: bytes) -> None:
-        """Writes a file of the folder."""
+        """Writes a file in the folder."""
         (self.folder / name).write_bytes(content)
 
     def follow(self, mark: str, language: str = "sh") -> "Followed":
-        """Follows a recipe, in which /etc/shadow is the file of this system."""
+        """Follows a recipe, with this system's file in place of /etc/shadow."""
         block = marked(mark, language)
         commands = SCHEDULE.sub("", block.code)
         commands = re.sub(r" /etc/shadow\b", f" {shlex.quote(str(self.shadow))}", commands)
@@ -97,20 +97,20 @@ class Machine:
         return Followed(block, result)
 
     def has_new_password(self, name: str, password: str) -> bool:
-        """Whether an account has a hash of the password, made since the test began."""
+        """Returns whether an account has got a hash of the password since the test began."""
         return self.entries()[name].has_new_password(password, self.began)
 
 
 @dataclass(frozen=True)
 class Followed:
-    """A recipe that was followed."""
+    """A recipe that was followed, and its result."""
 
     block: Block
     result: Result
 
     @property
     def lines(self) -> list[str]:
-        """The lines that it printed, with one blank for several."""
+        """The lines that it printed, with single blanks between words."""
         text = self.result.stdout.decode()
         return [" ".join(line.split()) for line in text.splitlines()]
 
@@ -120,12 +120,12 @@ class Followed:
         return self.result.stderr.decode()
 
     def lacks(self, expected: str) -> str:
-        """What a failure says."""
+        """Returns the message of a failure."""
         return f"{self.block.place}\nexpected: {expected}\n{self.result}"
 
 
 def save_command(path: Path, text: str) -> None:
-    """Writes a script that anybody can run."""
+    """Writes a script that every user can run."""
     path.write_text(text, encoding="ascii")
     path.chmod(0o755)
 
@@ -154,7 +154,7 @@ THREE_LOCKED = {"ann": LOCKED, "bob": LOCKED, "eve": LOCKED}
 # ---- Passwords from a file
 
 
-def test_new_passwords_are_those_of_the_file(machine: Machine) -> None:
+def test_accounts_get_the_passwords_of_the_file(machine: Machine) -> None:
     machine.set_accounts(THREE_LOCKED)
     machine.write("passwords", b"ann:password\nbob:pass:word\n")
     followed = machine.follow("new passwords")
@@ -177,21 +177,21 @@ def test_a_new_password_unlocks_no_account(machine: Machine, mark: str) -> None:
         assert f"({name}): locked in " in followed.errors, followed.lacks(f"a message about {name}")
 
 
-# As Excel saves it in Germany, when asked for UTF-8. The last row's class has a blank behind it.
+# A table as Excel in German saves it in UTF-8. The last row's class has a trailing blank.
 SCHOOL = (
     "\ufefflast;first;login;class\r\n" "Müller;Ann;ann;5a\r\nXu;Bob;bob;5b\r\nSchön;Eve;eve;5a \r\n"
 ).encode()
 
 
 def passwords_in(path: Path) -> dict[str, str]:
-    """The passwords in a list, without its heading."""
+    """Returns the passwords in a list, without its heading."""
     heading, *rows = path.read_text(encoding="utf-8-sig").splitlines()
     assert heading == "last;first;name;password", heading
     return {name: password for _, _, name, password in [row.split(";") for row in rows]}
 
 
-def follow_made_passwords(machine: Machine) -> Followed:
-    """Follows both commands. Returns the second, or the first if that fails."""
+def follow_generated_passwords(machine: Machine) -> Followed:
+    """Follows both commands. Returns the second one, or the first one if it fails."""
     machine.write("users.csv", SCHOOL)
     followed = machine.follow("made passwords")
     if followed.result.status != 0:
@@ -200,11 +200,11 @@ def follow_made_passwords(machine: Machine) -> Followed:
 
 
 @pytest.mark.parametrize("accounts", [THREE_LOCKED, {"bob": LOCKED}], ids=["all", "one of them"])
-def test_made_passwords_are_loaded_and_listed_by_class(
+def test_generated_passwords_are_loaded_and_listed_by_class(
     machine: Machine, accounts: Mapping[str, str]
 ) -> None:
     machine.set_accounts(accounts)
-    followed = follow_made_passwords(machine)
+    followed = follow_generated_passwords(machine)
     assert followed.result.status == 0, followed.lacks("status 0")
     lists = sorted(path.name for path in (machine.folder / "lists").iterdir())
     assert lists == ["5a.csv", "5b.csv"], followed.lacks("a list for each class")
@@ -215,10 +215,10 @@ def test_made_passwords_are_loaded_and_listed_by_class(
         assert machine.has_new_password(name, password), followed.lacks(f"a new hash for {name}")
 
 
-def test_made_passwords_unlock_nobody_a_year_later(machine: Machine) -> None:
+def test_generated_passwords_unlock_no_account_a_year_later(machine: Machine) -> None:
     machine.set_accounts({"ann": OUTDATED, "bob": LOCKED + OUTDATED, "eve": LOCKED + CURRENT})
     before = machine.entries()
-    followed = follow_made_passwords(machine)
+    followed = follow_generated_passwords(machine)
     assert followed.result.status == 0, followed.lacks("status 0")
     lists = [path.name for path in (machine.folder / "lists").iterdir()]
     assert lists == ["5a.csv"], followed.lacks("no list for the class of bob, who is locked")
@@ -229,7 +229,7 @@ def test_made_passwords_unlock_nobody_a_year_later(machine: Machine) -> None:
         assert machine.entries()[name] == before[name], followed.lacks(f"{name} stays locked")
 
 
-def test_a_new_password_that_is_empty_changes_no_account(machine: Machine) -> None:
+def test_an_empty_new_password_changes_no_account(machine: Machine) -> None:
     machine.set_accounts(THREE_LOCKED)
     before = machine.entries()
     machine.write("passwords", b"ann:password\nbob:\n")
@@ -238,8 +238,8 @@ def test_a_new_password_that_is_empty_changes_no_account(machine: Machine) -> No
     assert machine.entries() == before, followed.lacks("no account has changed")
 
 
-# A password of 169 bytes is one byte too long for the default budget. The last line has a name for
-# the second time.
+# A password of 169 bytes is one byte too long for the default budget. The last line repeats a
+# name.
 SOME_GOOD_LINES = b"ann:password\nbob:%b\nsecret\neve:password\n:secret\n%b\nann:secret\n" % (
     b"x" * 169,
     b"secret" * 11,
@@ -256,7 +256,7 @@ def fixture_good_lines(machine: Machine) -> Followed:
 def test_good_lines_are_loaded_and_the_others_are_not(
     machine: Machine, good_lines: Followed
 ) -> None:
-    assert good_lines.result.status == 0, good_lines.lacks("status 0, chpasswd's")
+    assert good_lines.result.status == 0, good_lines.lacks("status 0 of chpasswd")
     assert machine.has_new_password("ann", "password"), good_lines.lacks("a new hash for ann")
     assert machine.has_new_password("eve", "password"), good_lines.lacks("a new hash for eve")
     is_kept = machine.entries()["bob"] == Entry(LOCKED, AGED)
@@ -272,7 +272,7 @@ def test_other_lines_are_shown_by_number_and_without_passwords(good_lines: Follo
     assert good_lines.result.stdout == b"", good_lines.lacks("nothing on standard output")
 
 
-# ---- Passwords that are known
+# ---- Known passwords
 
 ACCOUNTS = {
     "ann": OUTDATED,
@@ -290,7 +290,7 @@ def fixture_known_passwords(machine: Machine) -> Followed:
     return machine.follow("known passwords")
 
 
-def test_who_has_a_password_of_a_list_is_printed(known_passwords: Followed) -> None:
+def test_accounts_with_a_listed_password_are_printed(known_passwords: Followed) -> None:
     assert known_passwords.lines == ["eve:ok"], known_passwords.lacks("eve alone")
 
 
@@ -349,16 +349,16 @@ WHICH_ARE_WELL = {
 
 
 def lines_of_accounts(followed: Followed) -> set[str]:
-    """What an audit printed of accounts, without its heading and its summary."""
+    """Returns an audit's rows for accounts, without its heading and summary."""
     return {line for line in followed.lines if line.partition(" ")[0] in AUDITED}
 
 
-def test_an_audit_shows_what_each_hash_is_like(machine: Machine) -> None:
+def test_an_audit_has_a_row_for_each_account(machine: Machine) -> None:
     machine.set_accounts(AUDITED)
     followed = machine.follow("audits")
     expected = {*WHICH_NEED_CARE.values(), *WHICH_ARE_WELL.values()}
     absent = expected - lines_of_accounts(followed)
-    assert not absent, followed.lacks(f"these lines too: {sorted(absent)}")
+    assert not absent, followed.lacks(f"also these lines: {sorted(absent)}")
 
 
 def test_cron_mails_the_accounts_that_need_care_and_no_others(machine: Machine) -> None:
@@ -375,12 +375,12 @@ def test_cron_mails_nothing_if_no_account_needs_care(machine: Machine) -> None:
     assert followed.result.stdout + followed.result.stderr == b"", followed.lacks("nothing printed")
 
 
-# ---- A disk that is full at each command: nobody gets a part of a hash
+# ---- A disk that fills up at each command: no account gets a part of a hash
 
 KIB_OF_PAGE = 4
-PAGES_FOR_ALL = 8  # so many have room for all that a recipe makes
+PAGES_FOR_ALL = 8  # enough for all files that a recipe writes
 USERS = [f"user{number}" for number in range(1, 61)]
-# $0 is the size of the disk, $1 the recipe. What it makes for a service is printed.
+# $0 is the size of the disk, $1 the recipe. Prints the file that the recipe makes for a service.
 ON_SMALL_DISK = """\
 mount -t tmpfs -o size=$0k,mode=755 none full && cd full && ln -s ../passwords ../list . || exit
 sh -c "$1"
@@ -390,7 +390,7 @@ cat at.passwords 2> /dev/null
 
 @dataclass(frozen=True)
 class Recipe:
-    """Blocks that are followed one after the other."""
+    """Blocks that are followed in turn."""
 
     marks: tuple[str, ...]
 
@@ -398,7 +398,7 @@ class Recipe:
         return " and ".join(self.marks)
 
     def commands(self, shadow: Path) -> str:
-        """The commands, of which each block has a shell of its own. Their hashes cost little.
+        """Returns the commands, with a shell for each block and cheap hashes.
 
         A service's file is on the small disk.
         """
@@ -418,9 +418,9 @@ RECIPES = [
 
 @dataclass(frozen=True)
 class OnSmallDisk:
-    """A recipe that was followed on a small disk, and the fields of all accounts after it.
+    """A recipe that was followed on a small disk, and all fields after it.
 
-    Those of a service's file are among them.
+    The fields include those in a service's file.
     """
 
     recipe: Recipe
@@ -429,17 +429,17 @@ class OnSmallDisk:
 
     @property
     def new(self) -> list[str]:
-        """The fields that are no longer as they were before."""
+        """The fields that have changed."""
         return [field for field in self.fields if field != OUTDATED]
 
     def lacks(self, expected: str) -> str:
-        """What a failure says."""
+        """Returns the message of a failure."""
         places = ", ".join(str(marked(mark, "sh").place) for mark in self.recipe.marks)
         return f"{places}\nexpected: {expected}\nnew fields: {self.new}\n{self.result}"
 
 
 def follow_on_small_disk(machine: Machine, recipe: Recipe, pages: int) -> OnSmallDisk:
-    """Follows a recipe where its own files have so much room."""
+    """Follows a recipe whose own files are on a disk with this many pages."""
     machine.set_accounts({user: OUTDATED for user in USERS})
     lines = "".join(f"{user}:password\n" for user in USERS).encode()
     machine.write("passwords", lines)
@@ -460,15 +460,15 @@ def follow_on_small_disk(machine: Machine, recipe: Recipe, pages: int) -> OnSmal
 @pytest.mark.needs("namespaces")
 @pytest.mark.parametrize("pages", range(1, PAGES_FOR_ALL), ids="{} pages".format)
 @pytest.mark.parametrize("recipe", RECIPES, ids=str)
-def test_a_full_disk_leaves_whole_hashes(machine: Machine, recipe: Recipe, pages: int) -> None:
+def test_a_full_disk_leaves_complete_hashes(machine: Machine, recipe: Recipe, pages: int) -> None:
     followed = follow_on_small_disk(machine, recipe, pages)
     odd = [field for field in followed.new if not is_hash_of(field, "password")]
-    assert odd == [], followed.lacks("each field is the old hash, or a new one that is whole")
+    assert odd == [], followed.lacks("each field is the old hash, or a complete new one")
 
 
 @pytest.mark.needs("namespaces")
 @pytest.mark.parametrize("recipe", RECIPES, ids=str)
-def test_a_small_disk_with_room_gets_all_hashes(machine: Machine, recipe: Recipe) -> None:
+def test_a_small_disk_with_enough_room_gets_all_hashes(machine: Machine, recipe: Recipe) -> None:
     followed = follow_on_small_disk(machine, recipe, PAGES_FOR_ALL)
     whole = [field for field in followed.new if is_hash_of(field, "password")]
     assert len(whole) == len(USERS), followed.lacks("a new hash for each user")

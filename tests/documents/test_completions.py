@@ -1,7 +1,7 @@
-"""Completions in bash, zsh and fish, as somebody meets them who presses Tab.
+"""Completions in bash, zsh and fish, as a user sees them who presses Tab.
 
-The options that a shell offers are those of the help, and the methods those of the formats. Other
-values are not offered, and files only after a redirection, or where pwhash reads them.
+A shell offers the options of the help and the methods of the formats. It offers no other values,
+and files only after a redirection or where pwhash reads or writes one.
 """
 from __future__ import annotations
 
@@ -22,16 +22,16 @@ pytestmark = pytest.mark.xdist_group("completions")  # so that each shell starts
 
 Start = Callable[[Surroundings], AbstractContextManager[Shell]]
 
-FILES = ["logins", "sha256sums"]  # in the folder where the shells stand
+FILES = ["logins", "sha256sums"]  # in the shells' current folder
 METHOD_NAMES = [method.name for method in METHODS]
 
 
 # ---- The completions, and the shells that read them
 
 
-@pytest.fixture(scope="module", name="made")
-def fixture_made(program: Path, tmp_path_factory: pytest.TempPathFactory) -> tuple[Path, Result]:
-    """A folder with the completions, and how the command ended that wrote them."""
+@pytest.fixture(scope="module", name="written")
+def fixture_written(program: Path, tmp_path_factory: pytest.TempPathFactory) -> tuple[Path, Result]:
+    """A folder with the completions, and the result of the command that wrote them."""
     folder = tmp_path_factory.mktemp("completions")
     result = run(ROOT / "tools/completions", program, ROOT / "bin/pwhash", folder)
     return folder, result
@@ -39,10 +39,10 @@ def fixture_made(program: Path, tmp_path_factory: pytest.TempPathFactory) -> tup
 
 @pytest.fixture(scope="module", name="surroundings")
 def fixture_surroundings(
-    made: tuple[Path, Result], commands: Path, tmp_path_factory: pytest.TempPathFactory
+    written: tuple[Path, Result], commands: Path, tmp_path_factory: pytest.TempPathFactory
 ) -> Surroundings:
-    """Where the shells stand."""
-    completions, result = made
+    """The folder and environment of the shells."""
+    completions, result = written
     result.required()
     scratch = tmp_path_factory.mktemp("shells")
     folder = scratch / "folder"
@@ -56,8 +56,8 @@ def fixture_surroundings(
     environment = {
         "HOME": str(scratch),
         "PATH": f"{commands}:{os.environ['PATH']}",
-        # Since bash-completion 2.12 only this folder comes before that of the system, where the
-        # package whois has a completion of a mkpasswd, too.
+        # Since bash-completion 2.12 only this folder precedes the system's, in which whois has
+        # completions for its own mkpasswd.
         "BASH_COMPLETION_USER_DIR": f"{scratch}/share/bash-completion",
         "INPUTRC": None,
         "XDG_DATA_HOME": None,
@@ -66,7 +66,7 @@ def fixture_surroundings(
 
 
 def in_shell(start: Start, name: str, *needed: str) -> object:
-    """A parameter for a shell."""
+    """Returns a shell as a parameter of tests."""
     return pytest.param(start, id=name, marks=pytest.mark.needs("python3-pexpect", *needed))
 
 
@@ -81,13 +81,13 @@ def in_shell(start: Start, name: str, *needed: str) -> object:
     ],
 )
 def fixture_shell(request: pytest.FixtureRequest, surroundings: Surroundings) -> Iterator[Shell]:
-    """A shell, until the tests in it are done."""
+    """A shell that runs until its tests are done."""
     with request.param(surroundings) as shell:
         yield shell
 
 
 def offered(shell: Shell, line: str) -> list[str]:
-    """The words that a shell offers at the end of a line, in the alphabet's order.
+    """Returns the words that a shell offers at the end of a line, sorted.
 
     Zsh puts "=" after an option that takes a value, and all but bash repeat "--method=".
     """
@@ -102,26 +102,26 @@ def assert_offered(shell: Shell, line: str, expected: list[str]) -> None:
     assert found == sorted(expected), message
 
 
-def test_completions_are_written_and_nothing_is_printed(made: tuple[Path, Result]) -> None:
-    assert_result(made[1])
+def test_completions_are_written_and_nothing_is_printed(written: tuple[Path, Result]) -> None:
+    assert_result(written[1])
 
 
 # ---- Options
 
 
 def option_rows(program: Path) -> list[str]:
-    """The rows of options in the help of mkpasswd, each with all names of its option."""
+    """Returns the rows of mkpasswd's help, each with all names of an option."""
     text = run(program, "--help").required().stdout.decode()
     return re.findall(r"^ +(-.*?)(?:  |$)", text, re.MULTILINE)
 
 
 def names_in(rows: list[str]) -> list[str]:
-    """The names of options."""
+    """Returns the names of options."""
     return [name for row in rows for name in re.findall(r"(?<!\S)--?[A-Za-z][\w-]*", row)]
 
 
 def names_with_value(rows: list[str]) -> list[str]:
-    """The names of options that take a value of which none is known."""
+    """Returns the names of options whose value can be anything."""
     rows_with_value = [row for row in rows if row.endswith(">") and "--method" not in row]
     return names_in(rows_with_value)
 
@@ -138,14 +138,14 @@ def test_two_hyphens_offer_the_long_options_of_the_help(shell: Shell, program: P
 @pytest.mark.parametrize("form", ["OPTION ", "OPTION lo", "OPTION=lo"])
 def test_no_file_is_a_value_of_an_option(shell: Shell, program: Path, form: str) -> None:
     options = names_with_value(option_rows(program))
-    assert options != [], "expected: options with a value in the help of mkpasswd"
+    assert options != [], "mkpasswd's help has no option with a value"
     lines = [f"mkpasswd {form.replace('OPTION', option)}" for option in options]
     words = {line: offered(shell, line) for line in lines}
     problems = [f"'{line}' offers {found}" for line, found in words.items() if found]
-    assert not problems, "expected: nothing offered\n" + "\n".join(problems)
+    assert not problems, "expected no words\n" + "\n".join(problems)
 
 
-# Tables: what is typed before Tab, and the words that are offered.
+# What is typed before Tab, and the words that a shell offers.
 RESTS_OF_OPTIONS = {
     "mkpasswd --check --meth": ["--method"],
     "mkpasswd.proved --check --reh": ["--rehash"],
@@ -160,7 +160,7 @@ RESTS_OF_OPTIONS = {
 
 
 @pytest.mark.parametrize("line", RESTS_OF_OPTIONS)
-def test_the_rest_of_an_option_is_offered(shell: Shell, line: str) -> None:
+def test_an_option_is_completed(shell: Shell, line: str) -> None:
     assert_offered(shell, line, RESTS_OF_OPTIONS[line])
 
 
@@ -198,7 +198,7 @@ WORDS_OF_PWHASH = {
 
 
 @pytest.mark.parametrize("line", WORDS_OF_PWHASH)
-def test_the_words_of_pwhash_are_offered(shell: Shell, line: str) -> None:
+def test_commands_and_values_of_pwhash_are_offered(shell: Shell, line: str) -> None:
     assert_offered(shell, line, WORDS_OF_PWHASH[line])
 
 
@@ -220,7 +220,7 @@ FILES_OFFERED = {
 
 
 @pytest.mark.parametrize("line", FILES_OFFERED)
-def test_files_are_offered_where_one_is_read_or_written(shell: Shell, line: str) -> None:
+def test_files_are_offered_if_one_is_read_or_written(shell: Shell, line: str) -> None:
     assert_offered(shell, line, FILES_OFFERED[line])
 
 
@@ -235,5 +235,5 @@ def test_files_are_offered_where_one_is_read_or_written(shell: Shell, line: str)
         "pwhash calibrate lo",
     ],
 )
-def test_no_file_is_offered_where_none_is_read(shell: Shell, line: str) -> None:
+def test_no_file_is_offered_if_none_is_read(shell: Shell, line: str) -> None:
     assert_offered(shell, line, [])

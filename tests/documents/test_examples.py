@@ -1,7 +1,7 @@
-"""What documents and manuals show is true: commands, what they print, and what they cost.
+"""The examples in documents and manuals are right: commands, their output, and costs.
 
-The commands of a document's `console` blocks are run in one folder and in their order. A failure
-names the document and the line. Blocks under `<!-- tested: NAME -->` are in test_marked_blocks.py.
+The commands of a document's `console` blocks run in one folder, in order. A failure names the
+document and the line. test_marked_blocks.py tests blocks under `<!-- tested: NAME -->`.
 """
 from __future__ import annotations
 
@@ -35,14 +35,14 @@ from support.process import Changes, Result, assert_result, run, printable
 
 Play = Callable[[Place], Played]
 
-HISTORY = "CHANGELOG.md"  # which may name targets of make that are gone
+HISTORY = "CHANGELOG.md"  # it may name former targets of make
 
 
 # ---- Console blocks
 
 
 def sentence_of(place: Place) -> str:
-    """The command at a place, with the block that it stands in, or its line."""
+    """Describes the command at a place by its block, or else by its line."""
     name, number = name_of(place.path), place.line
     where = f"line {number}"
     if not is_manual(place.path):
@@ -53,7 +53,7 @@ def sentence_of(place: Place) -> str:
 
 
 def examples() -> Iterator[object]:
-    """A parameter for each command that a document or a manual shows."""
+    """Yields a parameter for each command that a document or a manual shows."""
     for path in documents() + manuals():
         marks = [pytest.mark.xdist_group(f"examples of {name_of(path)}")]
         if is_manual(path):
@@ -64,7 +64,7 @@ def examples() -> Iterator[object]:
 
 @pytest.fixture(scope="session", name="play")
 def fixture_play(environment: Changes, tmp_path_factory: pytest.TempPathFactory) -> Play:
-    """Runs the example at a place, and first those above it in the same document."""
+    """A function that runs the example at a place, after those above it in the document."""
     players: dict[Path, Player] = {}
 
     def play(place: Place) -> Played:
@@ -94,19 +94,19 @@ def test_a_console_block_begins_with_a_command(block: Block) -> None:
     assert block.code.startswith("$ "), f"{block.place}: expected: a command after `$ `"
 
 
-# ---- Commands that aren't run here
+# ---- Commands that don't run here
 
 
 @pytest.mark.parametrize("block", all_blocks("sh", "bash"), ids=str)
 def test_a_shell_parses_a_block(block: Block) -> None:
     result = run(block.language, "-n", stdin=block.code.encode())
     is_parsed = result.status == 0 and result.stdout + result.stderr == b""
-    expected = f"{block.place}: expected: a shell parses this, and prints nothing"
+    expected = f"{block.place}: a shell must parse this without a message"
     assert is_parsed, f"{expected}\n{block.code}{result}"
 
 
 def targets_named(path: Path) -> dict[str, Place]:
-    """The targets of make that a document names, with the line of the first mention."""
+    """Returns the targets of make that a document names, with the line of the first mention."""
     mention = re.compile(r"(?:`|^)make (?:\w+=[^\s`]+ )*([a-z]\w*)")
     places: dict[str, Place] = {}
     for number, line in enumerate(lines_of(path), start=1):
@@ -116,7 +116,7 @@ def targets_named(path: Path) -> dict[str, Place]:
 
 
 def mentions() -> Iterator[object]:
-    """A parameter for each target of make that each document names."""
+    """Yields a parameter for each target of make that each document names."""
     for path in documents():
         if name_of(path) != HISTORY:
             for target, place in targets_named(path).items():
@@ -124,7 +124,7 @@ def mentions() -> Iterator[object]:
 
 
 def targets_in_makefile() -> set[str]:
-    """The targets of the Makefile's rules."""
+    """Returns the targets of the Makefile's rules."""
     rules = re.findall(r"^([^\s:=#][^:=#\n]*):(?!=)", "\n".join(lines_of(ROOT / "Makefile")), re.M)
     return {target for rule in rules for target in rule.split()}
 
@@ -134,12 +134,12 @@ def test_the_makefile_has_a_target_that_a_document_names(target: str, place: Pla
     assert target in targets_in_makefile(), f"{place}: the Makefile has no target {target}"
 
 
-# ---- What a table says that a hash costs: the least budget that admits it
+# ---- Tables of costs: the cost of a hash is the least budget that admits it
 
 
 @dataclass(frozen=True)
 class CostRow:
-    """A row of a table: options, and what a hash of a password of eight bytes costs by them."""
+    """A row of a table: options, and the cost of hashing a password of eight bytes with them."""
 
     place: Place
     options: str
@@ -150,7 +150,7 @@ class CostRow:
 
     @property
     def libxcrypt_hash(self) -> bytes:
-        """A hash of the password by libxcrypt, with a salt of the length that is drawn."""
+        """libxcrypt's hash of the password, with a salt as long as a drawn one."""
         words = self.options.split()
         values = dict(zip(words[::2], words[1::2]))
         rounds = int(values["-R"]) if "-R" in values else None
@@ -162,7 +162,7 @@ PASSWORD = b"password"
 
 
 def cost_rows() -> list[CostRow]:
-    """The rows of all documents that have options with -m, and a cost."""
+    """Returns the rows of all documents that have options with -m, and a cost."""
     row = re.compile(r"\|.*?`(-m [^`]*)`[^|]*\| (\d+) \|.*")
     rows = []
     for path in documents():
@@ -174,16 +174,16 @@ def cost_rows() -> list[CostRow]:
 
 
 def expected_at(row: CostRow, expected: str, result: Result) -> str:
-    """What a failure says of a row."""
+    """Returns the message of a failure."""
     return f"{row.place} says that a hash costs {row.cost}\nexpected: {expected}\n{result}"
 
 
 def test_a_document_says_what_hashes_cost() -> None:
-    assert cost_rows() != [], "expected: a table with options in one column and costs in the next"
+    assert cost_rows() != [], "no document has a table with options and costs"
 
 
 @pytest.mark.parametrize("row", cost_rows(), ids=str)
-def test_a_budget_of_one_less_than_the_cost_is_too_low(program: Path, row: CostRow) -> None:
+def test_a_budget_below_the_cost_is_too_low(program: Path, row: CostRow) -> None:
     words = ["--batch", *row.options.split()]
     result = run(program, *words, "--budget", row.cost - 1, stdin=b"x:%b\n" % PASSWORD)
     assert_result(result, status=1, stderr=b"mkpasswd: line 1: over budget\n")

@@ -1,4 +1,4 @@
-"""Manuals: their form, and that they say what the commands' help and the rules say."""
+"""Manuals: their form, and that they agree with the commands' help and with the model."""
 from __future__ import annotations
 
 import re
@@ -6,7 +6,7 @@ from pathlib import Path
 
 import pytest
 from support import ROOT
-from support.documents import lines_of, manuals, name_of, shown_manual
+from support.documents import lines_of, manuals, name_of, rendered_manual
 from support.libxcrypt import crypt
 from support.model.answers import LINE_REFUSALS
 from support.model.methods import BY_NAME, METHODS, Method
@@ -15,8 +15,8 @@ from support.process import assert_result, run
 MKPASSWD = ROOT / "man/mkpasswd.1"
 PWHASH = ROOT / "man/pwhash.1"
 
-# An option in a help, or in a manual as mandoc shows it: its long name, and what is said of it up
-# to the next option or to an empty line.
+# Matches an option in a help, or in a rendered manual: its long name, and its description up to the
+# next option or an empty line.
 OPTION = re.compile(
     r"""^\ *(?:-\w,\ )? (?P<name>--[a-z][\w-]*)
     (?:\ <?[A-Z]+>?)? (?:\ {2,}|\n)
@@ -24,7 +24,7 @@ OPTION = re.compile(
     re.MULTILINE | re.DOTALL | re.VERBOSE,
 )
 
-# What ends a run, in the order in which the manual has to have it.
+# What ends a run, in the manual's order.
 ENDINGS = [
     "2 unknown method",
     "2 two salts",
@@ -56,7 +56,7 @@ ENDINGS = [
         ),
     ],
 )
-def test_a_formatter_finds_nothing_to_say(command: list[str], path: Path) -> None:
+def test_a_formatter_accepts_a_manual_without_a_message(command: list[str], path: Path) -> None:
     assert_result(run(*command, path))
 
 
@@ -64,7 +64,7 @@ def test_a_formatter_finds_nothing_to_say(command: list[str], path: Path) -> Non
 
 
 def purposes_in(text: str) -> dict[str, str]:
-    """What a text says of each option, in one line and without quotes."""
+    """Returns a text's description of each option, in one line and without quotes."""
     purposes = {}
     for option in OPTION.finditer(text):
         bare = re.sub(r"[‘’']", "", option["purpose"])
@@ -73,33 +73,33 @@ def purposes_in(text: str) -> dict[str, str]:
 
 
 def options_in_source(path: Path) -> list[str]:
-    """The options that a manual describes, by their long names, as it is written."""
+    """Returns the long names of the options in a manual's source."""
     items = re.findall(r"^\.It Fl (?:\w , Fl )?-([a-z][\w-]*)", "\n".join(lines_of(path)), re.M)
     return [f"--{name}" for name in items]
 
 
 def help_of(*command: str | Path) -> str:
-    """What a command's help says."""
+    """Returns a command's help."""
     return run(*command, "--help").required().stdout.decode()
 
 
 @pytest.mark.needs("mandoc")
 def test_the_manual_of_mkpasswd_has_the_options_of_its_help(program: Path) -> None:
     expected = set(purposes_in(help_of(program)))
-    found = set(purposes_in(shown_manual(MKPASSWD)))
+    found = set(purposes_in(rendered_manual(MKPASSWD)))
     assert (expected - found, found - expected) == (set(), set()), (
         f"{name_of(MKPASSWD)}: expected: the options of mkpasswd --help\n"
-        f"absent: {sorted(expected - found)}\nmore than expected: {sorted(found - expected)}"
+        f"missing: {sorted(expected - found)}\nunexpected: {sorted(found - expected)}"
     )
 
 
 @pytest.mark.needs("mandoc")
 @pytest.mark.parametrize("option", options_in_source(MKPASSWD))
-def test_the_manual_of_mkpasswd_begins_with_the_words_of_its_help(
+def test_the_manual_of_mkpasswd_describes_an_option_in_the_words_of_its_help(
     program: Path, option: str
 ) -> None:
     expected = purposes_in(help_of(program)).get(option, f"{option} in mkpasswd --help")
-    found = purposes_in(shown_manual(MKPASSWD)).get(option, "")
+    found = purposes_in(rendered_manual(MKPASSWD)).get(option, "")
     message = f"{name_of(MKPASSWD)}: {option}\nexpected: {expected} ..\nfound: {found}"
     assert found.startswith(expected), message
 
@@ -120,8 +120,8 @@ def test_the_manual_of_mkpasswd_begins_with_the_words_of_its_help(
 )
 def test_the_manual_of_pwhash_has_the_options_of_each_help(words: list[str]) -> None:
     in_help = set(re.findall(r"(?<!\S)--[a-z][\w-]*", help_of(ROOT / "bin/pwhash", *words)))
-    shown = shown_manual(PWHASH)
-    in_manual = set(re.findall(r"^ *(?:-\w, )?(--[a-z][\w-]*)", shown, re.MULTILINE))
+    text = rendered_manual(PWHASH)
+    in_manual = set(re.findall(r"^ *(?:-\w, )?(--[a-z][\w-]*)", text, re.MULTILINE))
     absent = sorted(in_help - in_manual)
     assert in_help and not absent, f"{name_of(PWHASH)}: expected: {absent or 'options in the help'}"
 
@@ -130,16 +130,16 @@ def test_the_manual_of_pwhash_has_the_options_of_each_help(words: list[str]) -> 
 
 
 def written(method: Method) -> str:
-    """A method in a test's name."""
+    """Returns the name of a method, for a test's name."""
     return method.name
 
 
 def row_of(method: Method) -> re.Match[str] | None:
-    """The row of a method in the table of mkpasswd's manual, with its short name, if it has one."""
+    """Returns a method's row in the table of mkpasswd's manual, which may have a short name."""
     prefix = re.escape(method.prefix.decode())
     salts = rf"1 to {method.longest_salt} +{method.drawn_salt} characters"
     row = rf"^{method.name} +(?P<short>\S+ +)?{prefix} +{salts}$"
-    return re.search(row, shown_manual(MKPASSWD), re.MULTILINE)
+    return re.search(row, rendered_manual(MKPASSWD), re.MULTILINE)
 
 
 @pytest.mark.needs("mandoc")
@@ -154,7 +154,7 @@ LONG_NAMES = [method.name for method in METHODS]
 
 @pytest.mark.needs("mandoc")
 @pytest.mark.parametrize("name", [name for name in BY_NAME if name not in LONG_NAMES])
-def test_the_short_name_of_a_method_in_the_manual_is_taken(program: Path, name: str) -> None:
+def test_the_short_name_of_a_method_in_the_manual_works(program: Path, name: str) -> None:
     method = BY_NAME[name]
     row = row_of(method)
     found = (row["short"] or "").strip() if row else "no row"
@@ -174,8 +174,8 @@ def test_the_short_name_of_a_method_in_the_manual_is_taken(program: Path, name: 
         pytest.param("EXIT STATUS", ENDINGS, id="what ends a run"),
     ],
 )
-def test_the_manual_has_in_their_order(heading: str, expected: list[str]) -> None:
-    _, _, section = shown_manual(MKPASSWD).partition(f"\n{heading}\n")
+def test_the_manual_lists_in_order(heading: str, expected: list[str]) -> None:
+    _, _, section = rendered_manual(MKPASSWD).partition(f"\n{heading}\n")
     wanted = {" ".join(text.split()) for text in expected}
     heads = [" ".join(head.split()) for head in re.findall(r"^(\S.*?) {2,}", section, re.MULTILINE)]
     found = [head for head in heads if head in wanted]

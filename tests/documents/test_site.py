@@ -1,5 +1,4 @@
-"""The web pages: they are the same bytes wherever they are made, well-formed, and their links lead
-somewhere."""
+"""The web pages: they are reproducible and well-formed, and their links work."""
 from __future__ import annotations
 
 import re
@@ -20,19 +19,19 @@ pytestmark = [
     pytest.mark.xdist_group("site"),  # so that the pages are written once
 ]
 
-HASHING_PAGE = "mkpasswd.html"  # which has a script, and is no XML
-FEWEST_LINKS = 100  # with fewer, the links are not found
+HASHING_PAGE = "mkpasswd.html"  # it has a script, and isn't XML
+FEWEST_LINKS = 100  # if a test finds fewer, its search is broken
 
 
 @dataclass(frozen=True)
 class Site:
-    """A folder with the pages, and how the command ended that wrote them."""
+    """A folder with the pages, and the result of the command that wrote them."""
 
     folder: Path
     result: Result
 
     def pages(self) -> list[Path]:
-        """All pages but the one that hashes."""
+        """All pages except the one that hashes."""
         self.result.required()
         pages = sorted(self.folder.glob("*.html"))
         return [page for page in pages if page.name != HASHING_PAGE]
@@ -70,10 +69,10 @@ def test_the_pages_are_well_formed(site: Site) -> None:
             ElementTree.parse(page)
         except ElementTree.ParseError as error:
             problems.append(f"{page.name}: {error}")
-    assert not problems, "expected: pages that are well-formed\n" + "\n".join(problems)
+    assert not problems, "expected well-formed pages\n" + "\n".join(problems)
 
 
-def test_no_page_has_the_sums_of_archives_that_hold_the_pages(site: Site) -> None:
+def test_no_page_has_checksums_of_archives_that_contain_the_pages(site: Site) -> None:
     evidence = (ROOT / "docs/EVIDENCE.md").read_text(encoding="utf-8")
     sums = re.findall(r"`([0-9a-f]{16,64})`", evidence)
     pages = {page.name: page.read_text(encoding="utf-8") for page in site.pages()}
@@ -81,7 +80,7 @@ def test_no_page_has_the_sums_of_archives_that_hold_the_pages(site: Site) -> Non
 
 
 def heading_of(page: Path) -> str:
-    """The first heading of a page, without its tags."""
+    """Returns the first heading of a page, without tags."""
     return next("".join(each.itertext()) for each in elements_of(page) if each.tag == "h1")
 
 
@@ -98,7 +97,7 @@ def test_each_document_has_its_page(site: Site, document: Path) -> None:
 
 @dataclass(frozen=True)
 class Link:
-    """Where a page points to: a page, `page#place`, another file, or an address."""
+    """A link from a page to another page, a place in one (`page#place`), a file, or an address."""
 
     page: str
     target: str
@@ -110,7 +109,7 @@ class Link:
 
 
 def elements_of(page: Path) -> Iterator[ElementTree.Element]:
-    """The elements of a page that is well-formed."""
+    """Yields the elements of a page. Fails the test unless it is well-formed."""
     try:
         tree = ElementTree.parse(page)
     except ElementTree.ParseError as error:
@@ -119,7 +118,7 @@ def elements_of(page: Path) -> Iterator[ElementTree.Element]:
 
 
 def links_in(page: Path) -> Iterator[Link]:
-    """The links of a page, and the files that it shows."""
+    """Yields the links of a page, and the files that it shows."""
     for element in elements_of(page):
         for name in ("href", "src"):
             target = element.get(name)
@@ -129,7 +128,7 @@ def links_in(page: Path) -> Iterator[Link]:
 
 
 def links_in_hashing_page(site: Site) -> Iterator[Link]:
-    """The links of the page that hashes, where it was built."""
+    """Yields the links of the page that hashes, if it is built."""
     page = site.folder / HASHING_PAGE
     if page.exists():
         for target in re.findall(r'<a href="([^"]*)"', page.read_text(encoding="utf-8")):
@@ -137,7 +136,7 @@ def links_in_hashing_page(site: Site) -> Iterator[Link]:
 
 
 def places_in(page: Path) -> Iterator[str]:
-    """The page, and each place in it that a link can name."""
+    """Yields the name of the page, and each place in it that a link can name."""
     yield page.name
     for element in elements_of(page):
         identifier = element.get("id")
@@ -148,17 +147,17 @@ def places_in(page: Path) -> Iterator[str]:
 def test_no_link_is_dead(site: Site) -> None:
     links = [link for page in site.pages() for link in links_in(page)]
     places = {place for page in site.pages() for place in places_in(page)}
-    assert len(links) > FEWEST_LINKS, f"expected: more links than {links}"
+    assert len(links) > FEWEST_LINKS, f"found only these links: {links}"
     dead = [
         f"{link.page} has a link to {link.target}"
         for link in [*links, *links_in_hashing_page(site)]
         if not link.is_elsewhere and link.target not in places
         if not (site.folder / link.target).is_file()
     ]
-    assert not dead, "expected: links that lead somewhere\n" + "\n".join(dead)
+    assert not dead, "expected links without a missing target\n" + "\n".join(dead)
 
 
-# ---- What a small tree leads to
+# ---- A small tree
 
 MANUAL = """.Dd November 30, 2026
 .Dt PWHASH 1
@@ -191,7 +190,7 @@ class Tree:
         """Changes a piece of a file."""
         file = self.folder / path
         text = file.read_text(encoding="utf-8")
-        assert old in text, f"expected: {old} in {path}\n{text}"
+        assert old in text, f"expected {old} in {path}\n{text}"
         file.write_text(text.replace(old, new), encoding="utf-8")
 
     def write_site(self) -> Site:
@@ -211,8 +210,8 @@ def fixture_tree(tmp_path: Path) -> Tree:
     return Tree(tmp_path)
 
 
-def test_a_file_that_is_linked_replaces_no_document(tree: Tree) -> None:
-    """The guide's page is guide.html, and the linked script has the name guide."""
+def test_a_linked_file_replaces_no_document(tree: Tree) -> None:
+    """The guide's page is guide.html, and the linked script is called guide."""
     site = tree.write_site()
     site.result.required()
     assert heading_of(site.folder / "guide.html") == "Guide"
@@ -241,7 +240,7 @@ def test_a_manual_of_another_program_has_no_link(tree: Tree) -> None:
         ),
     ],
 )
-def test_what_a_link_leads_to_and_is_not_there_is_an_error(
+def test_a_missing_target_of_a_link_is_an_error(
     tree: Tree, path: str, old: str, new: str, place: str
 ) -> None:
     tree.change(path, old, new)

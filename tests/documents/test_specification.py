@@ -1,5 +1,7 @@
-"""The specification, of a small tree: it has all that a call rests on, and where it can't be made,
-an error names the place."""
+"""The specification of a small tree: it has everything that a call depends on.
+
+An error names the place that tools/specification can't handle.
+"""
 from __future__ import annotations
 
 import shutil
@@ -196,7 +198,7 @@ limit = 10
 
 @dataclass(frozen=True)
 class Tree:
-    """A folder with the sources of a page."""
+    """A folder with the sources of a specification."""
 
     folder: Path
 
@@ -204,11 +206,11 @@ class Tree:
         """Changes a piece of a file that occurs once."""
         file = self.folder / path
         text = file.read_text(encoding="utf-8")
-        assert text.count(old) == 1, f"expected: one {old} in {path}\n{text}"
+        assert text.count(old) == 1, f"expected one {old} in {path}\n{text}"
         file.write_text(text.replace(old, new), encoding="utf-8")
 
     def page(self) -> Result:
-        """What the command prints."""
+        """Runs tools/specification, which prints the page."""
         return run(self.folder / "tools/specification")
 
 
@@ -223,12 +225,12 @@ def fixture_tree(tmp_path: Path) -> Tree:
     return Tree(tmp_path)
 
 
-def test_the_page_has_all_that_a_call_rests_on(tree: Tree) -> None:
+def test_the_page_has_everything_that_a_call_depends_on(tree: Tree) -> None:
     assert_result(tree.page(), stdout=PAGE.encode())
 
 
 def test_a_name_that_is_imported_twice_leads_to_both(tree: Tree) -> None:
-    """Which of them a clause means only the checker knows."""
+    """Only the checker knows which of them a clause means."""
     path = "crates/low/specs/Sums.antt"
     tree.change(path, "{limit as most}\n", "{limit as most}\nuse Rattle.low.specs.More.{most}\n")
     more = "abbrev pub most : ℕ\nmost = 20\n"
@@ -281,14 +283,14 @@ def test_a_name_that_is_imported_twice_leads_to_both(tree: Tree) -> None:
             "λ p. record",
             "λ p.\n        record",
             "crates/low/src/pair.rt:17",
-            id="a view over several lines",
+            id="a view on several lines",
         ),
         pytest.param(
             "crates/low/src/pair.rt",
             "impl Model for Pair",
             "impl Model for Couple",
             "crates/low/src/pair.rt:12",
-            id="the view of a type elsewhere",
+            id="a view of a type that isn't there",
         ),
         pytest.param(
             "crates/high/src/lib.rt",
@@ -309,7 +311,7 @@ def test_a_name_that_is_imported_twice_leads_to_both(tree: Tree) -> None:
             "\n{\n",
             " {\n",
             "crates/high/src/lib.rt:7",
-            id="a call whose clauses have no end",
+            id="a call whose clauses don't end",
         ),
         pytest.param(
             "tools/specification.md",
@@ -355,7 +357,7 @@ def test_a_name_that_is_imported_twice_leads_to_both(tree: Tree) -> None:
         ),
     ],
 )
-def test_what_the_page_can_not_follow_is_an_error(
+def test_a_source_that_the_page_cannot_show_is_an_error(
     tree: Tree, path: str, old: str, new: str, place: str
 ) -> None:
     tree.change(path, old, new)

@@ -1,4 +1,4 @@
-"""The picture of a terminal in README: it shows what pwhash prints."""
+"""README's picture of a terminal shows what pwhash prints."""
 from __future__ import annotations
 
 from pathlib import Path
@@ -14,7 +14,7 @@ TEXT = "{http://www.w3.org/2000/svg}text"
 
 
 def rows_of(picture: Path) -> list[str]:
-    """The rows of text in a picture."""
+    """Returns the rows of text in a picture."""
     return ["".join(text.itertext()) for text in ElementTree.parse(picture).iter(TEXT)]
 
 
@@ -24,4 +24,4 @@ def test_the_picture_shows_what_pwhash_prints(tmp_path: Path) -> None:
     built("libmkpasswd.so.3", "lib")
     picture = tmp_path / "terminal.svg"
     run(ROOT / "tools/terminal", picture).required()
-    assert rows_of(picture) == rows_of(PICTURE), "docs/terminal.svg is old: run tools/terminal"
+    assert rows_of(picture) == rows_of(PICTURE), "docs/terminal.svg is outdated: run tools/terminal"

@@ -1,6 +1,6 @@
 """mkpasswd_limit and mkpasswd_rounds: which passwords a policy admits, and rounds for longer ones.
 
-test_limits_of_policies.py asks them about many more policies, without the model.
+test_limits_of_policies.py tests them with many more policies, without the model.
 """
 from __future__ import annotations
 
@@ -33,11 +33,11 @@ from support.policies import (
 
 VALID = (
     *(policy for policy in POLICIES if policy not in CLAMPED),
-    Policy("sha512crypt of the most rounds that admit every password", 6, 75_356),
-    Policy("sha512crypt of one round more", 6, 75_357),
-    Policy("sha256crypt of the most rounds that admit every password", 5, 76_596),
-    Policy("sha256crypt of one round more", 5, 76_597),
-    Policy("sha512crypt of the most rounds", 6, 999_999_999),
+    Policy("sha512crypt with the most rounds that admit every password", 6, 75_356),
+    Policy("sha512crypt with one round more", 6, 75_357),
+    Policy("sha256crypt with the most rounds that admit every password", 5, 76_596),
+    Policy("sha256crypt with one round more", 5, 76_597),
+    Policy("sha512crypt with the most rounds", 6, 999_999_999),
     Policy("md5crypt with the greatest number as rounds", 1, GREATEST_32),
 )
 INVALID = (
@@ -48,7 +48,7 @@ INVALID = (
         for policy in CLAMPED
     ),
 )
-# The cost of a new hash of these lengths is a budget, and so are the numbers beside it.
+# The budgets are the costs of new hashes of these lengths, and the numbers next to them.
 LENGTHS_OF_BUDGETS = (0, 8, 64, 65, 169, 1023, 1024)
 TOO_LONG = (LONGEST_PASSWORD + 1, GREATEST_32 + 1, GREATEST_32 + 9, GREATEST)
 LENGTHS = (0, 64, 169, LONGEST_PASSWORD, *TOO_LONG)
@@ -56,15 +56,15 @@ RANDOM_BYTES = System(random_bytes=bytes(range(1, 25)))
 
 
 def budgets_of(policy: Policy) -> list[int]:
-    """None of its own, the least and the greatest, and budgets on each side of some costs."""
+    """Returns 0 for none, the least and the greatest budget, and those around some costs."""
     setting = policy.setting
     costs = [cost(setting, length) for length in LENGTHS_OF_BUDGETS]
-    beside = [price + step for price in costs for step in (-1, 0, 1)]
-    return [0, 1, GREATEST, *beside]
+    near_costs = [price + step for price in costs for step in (-1, 0, 1)]
+    return [0, 1, GREATEST, *near_costs]
 
 
 def calls_by(policy: Policy, budgets: list[int]) -> list[Call]:
-    """Both calls with each budget and each length."""
+    """Returns both calls with each budget and each length."""
     calls: list[Call] = []
     for budget in budgets:
         calls.append(Limit(policy.method, policy.rounds, budget))
@@ -74,20 +74,20 @@ def calls_by(policy: Policy, budgets: list[int]) -> list[Call]:
 
 @pytest.mark.parametrize("policy", VALID, ids=str)
 def test_each_side_of_a_limit_is_reported(driver: Driver, policy: Policy) -> None:
-    driver.assert_by_the_rules(calls_by(policy, budgets_of(policy)))
+    driver.assert_matches_model(calls_by(policy, budgets_of(policy)))
 
 
-def test_calls_in_eight_threads_report_as_in_one(driver: Driver) -> None:
+def test_calls_report_the_same_in_eight_threads(driver: Driver) -> None:
     calls = [call for policy in VALID for call in calls_by(policy, budgets_of(policy))]
     calls += [call for policy in INVALID for call in calls_by(policy, [0, GREATEST])]
-    driver.assert_by_the_rules(calls, threads=8)
+    driver.assert_matches_model(calls, threads=8)
 
 
 @pytest.mark.parametrize("policy", VALID, ids=str)
-def test_a_budget_has_room_for_the_longest_password_whose_hash_costs_no_more(
+def test_a_budget_admits_the_longest_password_whose_hash_costs_no_more(
     driver: Driver, policy: Policy
 ) -> None:
-    """Where the costs of a length and of the next one differ."""
+    """Tests lengths whose cost differs from the next length's."""
     setting = policy.setting
     for length in (0, 8, 64, 168):
         budget = cost(setting, length + 1) - 1
@@ -97,7 +97,7 @@ def test_a_budget_has_room_for_the_longest_password_whose_hash_costs_no_more(
 
 
 @pytest.mark.parametrize("policy", VALID, ids=str)
-def test_a_budget_without_room_for_the_empty_password_is_reported(
+def test_a_budget_that_does_not_admit_the_empty_password_is_reported(
     driver: Driver, policy: Policy
 ) -> None:
     budget = cost(policy.setting, 0) - 1
@@ -114,14 +114,14 @@ def test_an_invalid_policy_has_no_limit_and_no_rounds(
         calls += [
             Rounds(length, policy.method, policy.rounds, budget) for length in (0, LONGEST_PASSWORD)
         ]
-        for answer in driver.assert_by_the_rules(calls):
+        for answer in driver.assert_matches_model(calls):
             assert (answer.result, answer.error) == (0, policy.error)
             assert (answer.length, answer.cost, answer.rounds) == (0, 0, 0)
 
 
 @pytest.mark.parametrize("policy", [RECOMMENDED, *INVALID], ids=str)
 @pytest.mark.parametrize("length", [pytest.param(length, id=f"{length}") for length in TOO_LONG])
-def test_no_policy_has_rounds_for_a_password_longer_than_any(
+def test_no_policy_has_rounds_for_a_password_above_1024_bytes(
     driver: Driver, length: int, policy: Policy
 ) -> None:
     call = Rounds(length, policy.method, policy.rounds)
@@ -156,16 +156,16 @@ def test_the_fewest_rounds_need_a_budget_of_their_cost(
         pytest.param(1024, 118_822, id="1024 bytes with fewer"),
     ],
 )
-def test_a_hash_with_the_reported_rounds_is_made_and_gets_in_within_the_limit(
+def test_a_hash_with_the_reported_rounds_is_made_and_accepted_within_the_limit(
     driver: Driver, length: int, rounds: int
 ) -> None:
-    """As docs/FORMATS.md says; whoever needs fewer rounds gives the limit as a budget."""
+    """For fewer rounds, docs/FORMATS.md says, the limit must be given as the budget."""
     password = b"a" * length
     driver.assert_answer(Rounds(length, 6), result=1, rounds=rounds)
     limit = driver.answers([Limit(6)])[0].cost
     new = New(password, 6, rounds, limit)
-    made = new.expected(RANDOM_BYTES).out.strip('"').encode()
-    calls: list[Call] = [new, Login(password, made, 6, 0, limit)]
-    answers = driver.assert_by_the_rules(calls, RANDOM_BYTES, threads=2)
+    new_hash = new.expected(RANDOM_BYTES).out.strip('"').encode()
+    calls: list[Call] = [new, Login(password, new_hash, 6, 0, limit)]
+    answers = driver.assert_matches_model(calls, RANDOM_BYTES, threads=2)
     assert [(answer.result, answer.error) for answer in answers] == [(1, 0), (1, 0)]
     assert answers[1].outdated == int(rounds != 656_000)

@@ -1,4 +1,4 @@
-"""mkpasswd_audit: what it says of each field, without a password."""
+"""mkpasswd_audit: what it reports for each field, without a password."""
 from __future__ import annotations
 
 import re
@@ -27,7 +27,7 @@ AUDITED_BY = (*POLICIES, INVALID_POLICIES[0], INVALID_POLICIES[-1])
 
 @dataclass(frozen=True)
 class StoredHash:
-    """A hash, whole or not."""
+    """A hash, complete or not."""
 
     title: str
     text: bytes
@@ -36,19 +36,19 @@ class StoredHash:
         return self.title
 
 
-def made_up(text: bytes) -> bytes:
-    """A hash with this setting that nobody knows a password of."""
+def dummy_hash(text: bytes) -> bytes:
+    """Returns a dummy hash with this setting."""
     return text + b"$" + b"." * read_setting(text).method.hash_length
 
 
-# With N of 2^15 and more a login by a cheaper policy refuses each password.
+# With an N of 2^15 or more, a login by a cheaper policy refuses every password.
 AT_THE_LIMITS = [
-    StoredHash("at the own budget", made_up(recommended_setting(SHA512CRYPT, 0).text)),
-    StoredHash("above the own budget", made_up(recommended_setting(SHA512CRYPT, 656_001).text)),
+    StoredHash("at the own budget", dummy_hash(recommended_setting(SHA512CRYPT, 0).text)),
+    StoredHash("above the own budget", dummy_hash(recommended_setting(SHA512CRYPT, 656_001).text)),
     *(
         StoredHash(
             f"scrypt with an N of 2^{log_n}",
-            made_up(b"$7$" + ScryptCost(log_n, r=32, p=1).text + b"a" * 86),
+            dummy_hash(b"$7$" + ScryptCost(log_n, r=32, p=1).text + b"a" * 86),
         )
         for log_n in (15, 16, 17, 18)
     ),
@@ -56,11 +56,11 @@ AT_THE_LIMITS = [
 HASHES = [*(StoredHash(known.title, known.text) for known in KNOWN_HASHES), *AT_THE_LIMITS]
 
 
-def altered(text: bytes) -> list[bytes]:
-    """A hash, and what is no hash any more, or another one.
+def alterations(text: bytes) -> list[bytes]:
+    """Returns a hash and altered copies of it.
 
-    It is cut, has more behind it, another last character or one that no hash has, a salt that
-    wasn't cut, rounds that are out of range.
+    They are shorter or longer, or have another or an impossible last character, a salt that is
+    too long, or other rounds, some out of range.
     """
     front, digest = text.rsplit(b"$", 1)
     last = ALPHABET.index(digest[-1:])
@@ -77,12 +77,12 @@ def altered(text: bytes) -> list[bytes]:
 
 
 def audits_by_each_policy(fields: list[bytes]) -> list[Audit]:
-    """Audits with the budget that a policy has itself."""
+    """Returns audits by each policy without a budget."""
     return [Audit(field, policy.method, policy.rounds) for field in fields for policy in AUDITED_BY]
 
 
 def cost_of(field: bytes) -> int:
-    """What a hash can cost, or a small number where there is none."""
+    """Returns what a hash can cost, or a small number if the field has no setting."""
     try:
         return cost(read_setting(field), LONGEST_PASSWORD)
     except Refused:
@@ -90,7 +90,7 @@ def cost_of(field: bytes) -> int:
 
 
 def audits_by_budgets(fields: list[bytes]) -> list[Audit]:
-    """Audits with budgets around the cost."""
+    """Returns audits with budgets around the cost."""
     return [
         Audit(field, 6, 0, budget)
         for field in fields
@@ -99,28 +99,28 @@ def audits_by_budgets(fields: list[bytes]) -> list[Audit]:
 
 
 @pytest.mark.parametrize("stored", HASHES, ids=str)
-def test_a_published_hash_is_whole(stored: StoredHash) -> None:
+def test_a_published_hash_is_complete(stored: StoredHash) -> None:
     assert is_whole(read_setting(stored.text), stored.text)
 
 
 @pytest.mark.parametrize("stored", HASHES, ids=str)
-def test_a_hash_and_its_alterations_are_judged_by_each_policy(
+def test_a_hash_and_its_alterations_are_audited_by_each_policy(
     driver: Driver, stored: StoredHash
 ) -> None:
-    driver.assert_by_the_rules(audits_by_each_policy(altered(stored.text)))
+    driver.assert_matches_model(audits_by_each_policy(alterations(stored.text)))
 
 
 @pytest.mark.parametrize("stored", HASHES, ids=str)
-def test_a_hash_and_its_alterations_are_judged_by_budgets(
+def test_a_hash_and_its_alterations_are_audited_by_budgets(
     driver: Driver, stored: StoredHash
 ) -> None:
-    driver.assert_by_the_rules(audits_by_budgets(altered(stored.text)))
+    driver.assert_matches_model(audits_by_budgets(alterations(stored.text)))
 
 
 @pytest.mark.parametrize("stored", HASHES, ids=str)
-def test_the_headers_own_calls_judge_alike(driver: Driver, stored: StoredHash) -> None:
-    calls = in_each_form(*(Audit(field, 6, 5000) for field in altered(stored.text)))
-    driver.assert_by_the_rules(calls)
+def test_the_inline_calls_report_the_same(driver: Driver, stored: StoredHash) -> None:
+    calls = in_each_form(*(Audit(field, 6, 5000) for field in alterations(stored.text)))
+    driver.assert_matches_model(calls)
 
 
 @pytest.mark.parametrize("field", WITHOUT_SETTING, ids=str)
@@ -128,17 +128,17 @@ def test_a_field_without_a_setting_has_its_error(driver: Driver, field: Field) -
     error = error_of_audit(field.text, field.error)
     for call in in_each_form(Audit(field.text, 6, 5000)):
         driver.assert_answer(call, result=0, error=error, cost=0)
-    driver.assert_by_the_rules(audits_by_each_policy([field.text]))
-    driver.assert_by_the_rules(audits_by_budgets([field.text]))
+    driver.assert_matches_model(audits_by_each_policy([field.text]))
+    driver.assert_matches_model(audits_by_budgets([field.text]))
 
 
 @pytest.mark.parametrize("field", WITH_SETTING, ids=str)
-def test_a_field_that_is_no_hash_is_dead_or_over_the_budget(driver: Driver, field: Field) -> None:
+def test_an_impossible_hash_is_dead_or_over_the_budget(driver: Driver, field: Field) -> None:
     error = Reason.OVER_BUDGET if field in TOO_DEAR else Reason.DEAD
     for call in in_each_form(Audit(field.text, 6, 5000)):
         driver.assert_answer(call, result=0, error=error)
-    driver.assert_by_the_rules(audits_by_each_policy([field.text]))
-    driver.assert_by_the_rules(audits_by_budgets([field.text]))
+    driver.assert_matches_model(audits_by_each_policy([field.text]))
+    driver.assert_matches_model(audits_by_budgets([field.text]))
 
 
 @pytest.mark.parametrize("policy", [*INVALID_POLICIES, *INVALID_ROUNDS], ids=str)
@@ -167,9 +167,9 @@ def test_a_null_pointer_is_an_empty_field(driver: Driver) -> None:
         driver.assert_answer(call, result=0, error=Reason.NO_HASH)
 
 
-def test_calls_in_eight_threads_answer_as_in_one(driver: Driver) -> None:
-    fields = [field for stored in HASHES[:3] for field in altered(stored.text)]
-    driver.assert_by_the_rules(audits_by_each_policy(fields), threads=8)
+def test_calls_answer_the_same_in_eight_threads(driver: Driver) -> None:
+    fields = [field for stored in HASHES[:3] for field in alterations(stored.text)]
+    driver.assert_matches_model(audits_by_each_policy(fields), threads=8)
 
 
 @pytest.mark.parametrize(
@@ -185,7 +185,7 @@ def test_calls_in_eight_threads_answer_as_in_one(driver: Driver) -> None:
         pytest.param(b"$md5,rounds=904$abc$def", 106, id="SunMD5"),
         pytest.param(b"_J9..XXXXlR3Ph8hjuLU", 107, id="bsdicrypt"),
         pytest.param(b"abJnggxhB/yWI", 108, id="descrypt"),
-        pytest.param(b"$argon2id$v=19$m=65536", 0, id="a scheme that crypt(5) has not"),
+        pytest.param(b"$argon2id$v=19$m=65536", 0, id="a scheme that crypt(5) doesn't have"),
     ],
 )
 def test_another_scheme_is_reported_by_its_number(
@@ -211,11 +211,11 @@ def test_another_scheme_is_reported_by_its_number(
 def test_a_hash_has_its_scheme_and_rounds(
     driver: Driver, setting: bytes, expected: dict[str, Any]
 ) -> None:
-    for call in in_each_form(Audit(made_up(setting))):
+    for call in in_each_form(Audit(dummy_hash(setting))):
         driver.assert_answer(call, **expected)
 
 
 @pytest.mark.parametrize("field", [b"secret", b"abJnggxhB/yW", b"abJnggxhB/yWI."])
-def test_a_password_is_of_no_scheme(driver: Driver, field: bytes) -> None:
+def test_a_plain_password_has_no_scheme(driver: Driver, field: bytes) -> None:
     for call in in_each_form(Audit(field)):
         driver.assert_answer(call, result=0, error=Reason.NO_SCHEME, scheme=0)

@@ -1,4 +1,4 @@
-"""The service that docs/C.md shows lets in who knows the password, and nobody else."""
+"""The service in docs/C.md accepts the right password of a user, and nothing else."""
 from __future__ import annotations
 
 from pathlib import Path
@@ -18,7 +18,7 @@ ASKS_BOTH = "matches(typed, is_known ? field : NULL, &report)"
 
 
 def built(builder: Builder, folder: Path, code: str, *words: Word) -> Path:
-    """The service with this code of the page, compiled without a warning."""
+    """Builds the service with this code of the page, without a warning."""
     page = folder / "page.c"
     page.write_text(code, encoding="ascii")
     program = builder.build(SOURCES / "c_page.c", "-D_DEFAULT_SOURCE", page, *words)
@@ -35,7 +35,7 @@ def fixture_service(builder: Builder, tmp_path_factory: pytest.TempPathFactory) 
 
 @pytest.fixture(scope="module", name="moving_service")
 def fixture_moving_service(builder: Builder, tmp_path_factory: pytest.TempPathFactory) -> Path:
-    """The service that has users with hashes of libxcrypt's."""
+    """The page's service for users who have hashes from libxcrypt."""
     login = marked("whole login in C", "c").code
     assert ASKS in login
     names = ("users in C", "new password in C", "moving in C")
@@ -44,7 +44,7 @@ def fixture_moving_service(builder: Builder, tmp_path_factory: pytest.TempPathFa
 
 
 def assert_renewed(result: Result, password: bytes) -> None:
-    """Fails the test unless somebody is in, and has a new hash of the password."""
+    """Fails the test unless the login is accepted, and stores a new hash of the password."""
     new = result.required().stdout.removesuffix(b"\n")
     assert new.startswith(b"$6$rounds=656000$"), result
     assert crypt(password, new) == new
@@ -53,11 +53,11 @@ def assert_renewed(result: Result, password: bytes) -> None:
 # ---- The login
 
 
-def test_a_match_gets_in_and_keeps_a_hash_that_is_current(service: Path) -> None:
+def test_a_match_is_accepted_and_keeps_a_current_hash(service: Path) -> None:
     assert_result(run(service, CURRENT, "password"), stdout=CURRENT + b"\n")
 
 
-def test_a_match_of_an_old_hash_gets_in_and_a_new_one(service: Path) -> None:
+def test_a_match_of_an_old_hash_is_accepted_and_gets_a_new_one(service: Path) -> None:
     assert_renewed(run(service, MD5CRYPT, "password"), b"password")
 
 
@@ -75,7 +75,7 @@ def test_nobody_else_gets_in(service: Path, field: bytes, logged: bytes) -> None
     assert_result(run(service, field, "passwort"), status=1, stdout=field + b"\n", stderr=logged)
 
 
-def test_an_account_that_is_locked_meanwhile_stays_outside(service: Path) -> None:
+def test_an_account_that_is_locked_meanwhile_is_refused(service: Path) -> None:
     result = run(service, CURRENT, "password", env={"LOCKED": "1"})
     assert_result(result, status=1, stdout=CURRENT + b"\n")
 
@@ -97,20 +97,18 @@ def test_a_new_password_is_hashed(service: Path) -> None:
         pytest.param("x" * 1025, b"The password is too long.", id="one of 1,025 bytes"),
     ],
 )
-def test_a_new_password_that_cannot_be_is_refused(
-    service: Path, password: str, sentence: bytes
-) -> None:
+def test_an_invalid_new_password_is_refused(service: Path, password: str, sentence: bytes) -> None:
     result = run(service, CURRENT, "password", password).required()
     assert result.stdout.split(b"\n")[1] == sentence, result
 
 
-# ---- Moving
+# ---- Moving from another scheme
 
 
 @pytest.mark.parametrize(
     "field", [pytest.param(BCRYPT, id="bcrypt"), pytest.param(YESCRYPT, id="yescrypt")]
 )
-def test_a_match_of_another_scheme_gets_in_and_a_new_hash(
+def test_a_match_of_another_scheme_is_accepted_and_gets_a_new_hash(
     moving_service: Path, field: bytes
 ) -> None:
     assert_renewed(run(moving_service, field, "password"), b"password")
@@ -126,7 +124,7 @@ def test_a_match_of_another_scheme_gets_in_and_a_new_hash(
         pytest.param(MD5CRYPT, id="md5crypt"),
     ],
 )
-def test_another_password_stays_outside(moving_service: Path, field: bytes) -> None:
+def test_another_password_is_refused(moving_service: Path, field: bytes) -> None:
     result = run(moving_service, field, "passwort")
     assert_result(result, status=1, stdout=field + b"\n", stderr=b"ann: wrong password\n")
 
@@ -141,7 +139,7 @@ def test_a_damaged_hash_of_another_scheme_lets_nobody_in(
     assert_result(result, status=1, stdout=field + b"\n", stderr=b"ann: wrong password\n")
 
 
-def test_the_policy_is_one_that_the_compiler_takes(builder: Builder, tmp_path: Path) -> None:
+def test_the_policy_compiles(builder: Builder, tmp_path: Path) -> None:
     source = tmp_path / "policy.c"
     code = marked("policy in C", "c").code
     check = "int main(void) { return !mkpasswd_limit(&policy, NULL); }\n"

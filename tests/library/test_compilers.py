@@ -1,6 +1,6 @@
-"""A caller of the library, built by each compiler, standard and kind of linking, makes all calls.
+"""A caller, built by each compiler, for each standard and way of linking, makes all calls.
 
-The caller is tests/c/calls.c. clang's and gcc's sanitizers look at it and at the library's memory.
+The caller is tests/c/calls.c. The sanitizers of clang and gcc watch it and the library's memory.
 """
 from __future__ import annotations
 
@@ -23,7 +23,7 @@ ARM = "aarch64-linux-gnu-gcc"
 
 @dataclass(frozen=True)
 class Compiler:
-    """A compiler, its language, and the standards of that."""
+    """A compiler, its language, and the language's standards."""
 
     name: str
     language: str
@@ -31,7 +31,7 @@ class Compiler:
 
     @property
     def words(self) -> list[Word]:
-        """What it compiles the caller with. The old C++ has no long long, which uint64_t may be."""
+        """The compiler's arguments. Old C++ has no long long, which uint64_t may be."""
         return [self.name, *WARNINGS, "-Wno-long-long", "-x", self.language]
 
 
@@ -43,18 +43,18 @@ COMPILERS = (
     Compiler("g++", "c++", CPP),
     Compiler("clang++", "c++", CPP),
 )
-# What a caller may ask of its own sources, where the header is one of them.
+# Warnings that a caller may enable for its own sources, which include the header.
 STRICTER = ("-Wconversion", "-Wsign-conversion", "-Wcast-qual", "-Wundef")
-# g++ would say that mkpasswd_password() hides the constructor of the struct of its name.
+# g++ would warn that mkpasswd_password() hides the constructor of the struct of that name.
 OF_LANGUAGES = {"c": ("-Wshadow", "-Wstrict-prototypes"), "c++": ("-Wold-style-cast",)}
 SANITIZERS = ("-fsanitize=address,undefined", "-fno-sanitize-recover=all")
-# glibc's macros for declarations, which musl hasn't.
+# glibc's macros for declarations, which musl doesn't have.
 WITHOUT_GLIBC = ("-static", "-D__THROW=", "-D__NTH(call)=call")
 
 
 @dataclass(frozen=True)
 class Linking:
-    """How the caller is linked, and optimized."""
+    """How the caller is linked and optimized."""
 
     title: str
     is_shared: bool
@@ -79,7 +79,7 @@ def assert_makes_all_calls(driver: Driver) -> None:
     """Fails the test unless the driver's answers in eight threads are those of the model."""
     calls = calls_of_each_kind()
     for system in SYSTEMS:
-        driver.assert_by_the_rules(calls, system, threads=8)
+        driver.assert_matches_model(calls, system, threads=8)
 
 
 EACH_STANDARD = pytest.mark.parametrize(
@@ -98,7 +98,7 @@ EACH_STANDARD = pytest.mark.parametrize(
 
 
 @EACH_STANDARD
-def test_a_compiler_has_no_stricter_warning_about_the_header(
+def test_a_compiler_has_no_strict_warning_about_the_header(
     installed: Installed, compiler: Compiler, standard: str
 ) -> None:
     words = [f"-std={standard}", f"-I{installed.include}", "-O2", "-c", "-o", "/dev/null"]
@@ -108,7 +108,7 @@ def test_a_compiler_has_no_stricter_warning_about_the_header(
 
 @pytest.mark.parametrize("name", ["calls.c", "declarations.c"])
 @EACH_STANDARD
-def test_a_compiler_takes_the_header_without_a_word(
+def test_a_compiler_accepts_the_header_without_a_warning(
     installed: Installed, compiler: Compiler, standard: str, name: str
 ) -> None:
     words = [f"-std={standard}", f"-I{installed.include}", "-fsyntax-only"]
@@ -123,11 +123,11 @@ def test_a_compiler_takes_the_header_without_a_word(
         for compiler in COMPILERS
     ],
 )
-def test_a_caller_by_the_oldest_standard_makes_all_calls(
+def test_a_caller_in_the_oldest_standard_makes_all_calls(
     installed: Installed, tmp_path: Path, compiler: Compiler, linking: Linking
 ) -> None:
     program = tmp_path / "caller"
-    # The static library is a file of its own, and no source.
+    # The static library isn't a source file.
     library = installed.shared if linking.is_shared else ["-x", "none", *installed.static]
     words: list[Word] = [*compiler.words, SOURCE, f"-std={compiler.standards[0]}"]
     assert_result(run(*words, *linking.words, *library, "-o", program))

@@ -1,4 +1,4 @@
-"""What documents and manuals say of the library: README's login in C, a manual for each call."""
+"""The library's documents: README's login in C works, and each call has a manual."""
 from __future__ import annotations
 
 import re
@@ -36,17 +36,17 @@ def fixture_service(builder: Builder, tmp_path_factory: pytest.TempPathFactory) 
 
 @pytest.fixture(scope="session", name="digests_of_a_login")
 def fixture_digests_of_a_login(service: Path) -> bytes:
-    """What the service prints of the work of a login that succeeds."""
+    """The work of a login that succeeds, as the service prints it."""
     result = run(service, b"password", CURRENT)
     assert_result(result, stderr=result.stderr)
     return result.stderr
 
 
-def test_a_match_gets_in_after_the_recommended_rounds(digests_of_a_login: bytes) -> None:
+def test_a_match_is_accepted_after_the_recommended_rounds(digests_of_a_login: bytes) -> None:
     assert int(digests_of_a_login) > 656_000
 
 
-def test_a_match_that_is_outdated_is_replaced(service: Path) -> None:
+def test_an_outdated_match_is_replaced(service: Path) -> None:
     result = run(service, b"password", MD5CRYPT).required()
     old, new = result.stdout.removesuffix(b"\n").split(b" ")
     assert old == MD5CRYPT
@@ -54,12 +54,12 @@ def test_a_match_that_is_outdated_is_replaced(service: Path) -> None:
     assert crypt(b"password", new) == new
 
 
-def test_the_hash_of_the_empty_password_lets_nobody_in_by_another(service: Path) -> None:
+def test_another_password_does_not_match_the_hash_of_the_empty_one(service: Path) -> None:
     assert run(service, b"password", SCRYPT_OF_NOTHING.text).status == 1
 
 
 @pytest.mark.parametrize("field", WITHOUT_MATCH.values(), ids=list(WITHOUT_MATCH))
-def test_nobody_else_gets_in_and_each_login_takes_the_same_work(
+def test_every_other_login_is_refused_after_the_same_work(
     service: Path, digests_of_a_login: bytes, field: list[bytes]
 ) -> None:
     assert_result(run(service, b"passw0rd", *field), status=1, stderr=digests_of_a_login)
@@ -71,7 +71,7 @@ def test_nobody_else_gets_in_and_each_login_takes_the_same_work(
 @pytest.mark.parametrize(
     "password", [pytest.param(b"null", id="null"), pytest.param(b"a" * 1025, id="1025 bytes")]
 )
-def test_a_password_that_is_refused_takes_no_work(
+def test_a_refused_password_takes_no_work(
     service: Path, password: bytes, field: list[bytes]
 ) -> None:
     assert_result(run(service, password, *field), status=1, stderr=b"0\n")
@@ -79,7 +79,7 @@ def test_a_password_that_is_refused_takes_no_work(
 
 # ---- Manuals
 
-# A pattern for what an example prints, and its code.
+# Matches what an example prints, and its code.
 EXAMPLE = re.compile(
     r"^\.\\\" prints: (?P<printed>.*?)\n\.Bd -literal.*?\n(?P<code>.*?)^\.Ed$",
     re.MULTILINE | re.DOTALL,
@@ -87,13 +87,13 @@ EXAMPLE = re.compile(
 
 
 def pages_with_examples() -> list[str]:
-    """The names of the manuals that have an example in C."""
+    """Returns the names of the manuals that have an example in C."""
     pages = sorted(ROOT.glob("man/*.3"))
     return [page.name for page in pages if EXAMPLE.search(page.read_text(encoding="utf-8"))]
 
 
 def test_there_is_a_manual_for_each_call(installed: Installed) -> None:
-    """libmkpasswd(3) says how an exported function belongs to its call."""
+    """libmkpasswd(3) explains which exported function belongs to which call."""
     pages = (installed.root / "usr/share/man/man3").glob("*.3")
     expected = ["libmkpasswd", "mkpasswd_version", *installed.inline()]
     assert sorted(page.stem for page in pages) == sorted(expected)

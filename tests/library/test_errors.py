@@ -1,6 +1,6 @@
-"""Each error, by calls that fail with it: none lets anybody in, whatever the report was before.
+"""Each error: a call that fails with it returns 0, whatever the report was before.
 
-The driver makes each call with a report full of ones and with one of zeros, or with none.
+The driver makes each call with a report of ones, with a report of zeros, and without one.
 """
 from __future__ import annotations
 
@@ -41,7 +41,7 @@ class Failure:
 
 
 def failures_by(field: Field) -> list[Failure]:
-    """A check and a login of a field that never lets "password" in."""
+    """Returns a check and a login with a field that never matches "password"."""
     is_dead = field.error is Reason.WRONG_PASSWORD
     return [
         Failure(f"a check of {field.title}", Verify(b"password", field.text), field.error),
@@ -61,7 +61,7 @@ FAILURES = (
     Failure("a login of an unknown name", Login(b"password", None, 1), Reason.NO_HASH),
     Failure("a login with a wrong password", Login(b"passw0rd", MD5CRYPT), Reason.WRONG_PASSWORD),
     Failure("a login by an unknown method", Login(b"password", MD5CRYPT, 2), Reason.UNKNOWN_METHOD),
-    Failure("a login by 12 rounds", Login(b"password", MD5CRYPT, 6, 12), Reason.ROUNDS),
+    Failure("a login with 12 rounds", Login(b"password", MD5CRYPT, 6, 12), Reason.ROUNDS),
     Failure(
         "a login without memory",
         Login(b"password", SCRYPT_OF_PASSWORD.text),
@@ -78,7 +78,7 @@ FAILURES = (
     Failure("a setting without a salt", MakeSetting(0, 0, b""), Reason.SALT_LENGTH),
     Failure("a setting with a bad salt", MakeSetting(0, 0, b"a_b"), Reason.SALT_CHARACTER),
     Failure(
-        "a hash for which there is no room",
+        "a hash without room in out",
         Hash(b"password", CHEAP_SCRYPT, out_size=8),
         Reason.TOO_FEW_BYTES,
     ),
@@ -87,12 +87,12 @@ FAILURES = (
 
 
 @pytest.mark.parametrize("failure", FAILURES, ids=str)
-def test_whoever_gets_an_error_gets_no(driver: Driver, failure: Failure) -> None:
+def test_a_call_with_an_error_returns_0(driver: Driver, failure: Failure) -> None:
     for call in in_each_form(failure.call):
         driver.assert_answer(call, failure.system, result=0, error=failure.error, outdated=0)
 
 
-def test_a_test_of_the_error_lets_in_whom_the_result_does(driver: Driver) -> None:
+def test_the_error_is_0_exactly_if_the_result_is_1(driver: Driver) -> None:
     calls: list[Call] = [*careless_logins()]
     calls += in_each_form(*(Login(b"password", field.text, 6, 1000) for field in NEVER_OPEN))
     calls += in_each_form(Login(b"password", MD5CRYPT, 6, 1000), Login(b"passw0rd", MD5CRYPT, 1))
@@ -100,5 +100,5 @@ def test_a_test_of_the_error_lets_in_whom_the_result_does(driver: Driver) -> Non
         assert (answer.error == 0) == (answer.result == 1), f"{call.row}\n{answer}"
 
 
-def test_each_error_is_that_of_a_call_here() -> None:
+def test_each_error_has_a_call_here() -> None:
     assert {failure.error for failure in FAILURES} == set(Reason)

@@ -1,4 +1,4 @@
-"""mkpasswd_setting: settings with given salts, and what it refuses first."""
+"""mkpasswd_setting: settings with given salts, and the order of its refusals."""
 from __future__ import annotations
 
 import pytest
@@ -17,7 +17,7 @@ def test_a_salt_of_each_length_is_kept_or_refused(
 ) -> None:
     salts = [ALPHABET[:1] * length for length in range(method.longest_salt + 3)]
     calls = in_each_form(*(MakeSetting(number, 0, salt) for salt in salts))
-    driver.assert_by_the_rules(calls)
+    driver.assert_matches_model(calls)
     for salt in (salts[0], salts[-1], salts[-2]):
         call = MakeSetting(number, 0, salt)
         driver.assert_answer(call, result=0, error=Reason.SALT_LENGTH, out='"*0"')
@@ -28,25 +28,25 @@ def test_a_null_salt_is_an_empty_one(driver: Driver) -> None:
         driver.assert_answer(call, result=0, error=Reason.SALT_LENGTH, out='"*0"')
 
 
-def test_a_policy_of_zeros_is_sha512crypt_of_656000_rounds(driver: Driver) -> None:
+def test_a_policy_of_zeros_is_sha512crypt_with_656000_rounds(driver: Driver) -> None:
     for call in in_each_form(MakeSetting(0, 0, b"salt")):
         driver.assert_answer(call, result=1, error=0, out='"$6$rounds=656000$salt"')
 
 
 @pytest.mark.parametrize(("number", "method"), NAMED_METHODS)
-def test_a_salt_has_each_character_of_the_alphabet_and_no_other(
+def test_a_salt_may_have_each_character_of_the_alphabet_and_no_other(
     driver: Driver, number: int, method: Method
 ) -> None:
     salts = [b"a" + bytes([byte]) for byte in range(256)]
     calls = in_each_form(*(MakeSetting(number, 0, salt) for salt in salts))
-    driver.assert_by_the_rules(calls)
+    driver.assert_matches_model(calls)
     call = MakeSetting(number, 0, b"a" * (method.longest_salt - 1) + b"$")
     driver.assert_answer(call, result=0, error=Reason.SALT_CHARACTER)
 
 
 @pytest.mark.parametrize("policy", POLICIES, ids=str)
 def test_a_setting_has_the_rounds_of_its_policy(driver: Driver, policy: Policy) -> None:
-    driver.assert_by_the_rules(in_each_form(MakeSetting(policy.method, policy.rounds, b"salt")))
+    driver.assert_matches_model(in_each_form(MakeSetting(policy.method, policy.rounds, b"salt")))
 
 
 @pytest.mark.parametrize("policy", [*INVALID_POLICIES, *INVALID_ROUNDS], ids=str)
@@ -58,33 +58,31 @@ def test_an_invalid_policy_is_refused(driver: Driver, policy: InvalidPolicy) -> 
 @pytest.mark.parametrize(
     ("call", "error"),
     [
-        pytest.param(
-            MakeSetting(2, 5, b"", 0), Reason.UNKNOWN_METHOD, id="the method is the first"
-        ),
+        pytest.param(MakeSetting(2, 5, b"", 0), Reason.UNKNOWN_METHOD, id="the method comes first"),
         pytest.param(
             MakeSetting(7, 5, b"$" * 87, 0),
             Reason.SALT_LENGTH,
-            id="a salt's length is before its characters, the rounds and the room",
+            id="a salt's length comes before its characters, the rounds and the room",
         ),
         pytest.param(
             MakeSetting(7, 5, b"$" * 86, 0),
             Reason.SALT_CHARACTER,
-            id="a salt's characters are before the rounds and the room",
+            id="a salt's characters come before the rounds and the room",
         ),
         pytest.param(
             MakeSetting(7, 5, b"salt", 0),
             Reason.ROUNDS,
-            id="the rounds are before the room",
+            id="the rounds come before the room",
         ),
         pytest.param(
             MakeSetting(6, 999, b"salt", 0),
             Reason.ROUNDS,
-            id="rounds that would be clamped are before the room",
+            id="rounds that would be clamped come before the room",
         ),
         pytest.param(
             MakeSetting(6, 1000, b"salt", 19),
             Reason.TOO_FEW_BYTES,
-            id="the room is the last",
+            id="the room comes last",
         ),
     ],
 )
@@ -93,8 +91,8 @@ def test_the_first_refusal_is_reported(driver: Driver, call: MakeSetting, error:
 
 
 @pytest.mark.parametrize("room", [None, 0, 1, 2, 3, 19, 20, 145])
-def test_a_setting_is_written_where_there_is_room(driver: Driver, room: int | None) -> None:
-    driver.assert_by_the_rules(in_each_form(MakeSetting(6, 1000, b"salt", room)))
+def test_a_setting_is_written_if_there_is_room(driver: Driver, room: int | None) -> None:
+    driver.assert_matches_model(in_each_form(MakeSetting(6, 1000, b"salt", room)))
 
 
 def test_a_password_is_hashed_with_the_setting(driver: Driver) -> None:

@@ -1,6 +1,6 @@
 """mkpasswd_hash and the calls that read a stored hash, for settings of every kind.
 
-The hashes are libxcrypt's, which is another implementation.
+The expected hashes are libxcrypt's, an independent implementation.
 """
 from __future__ import annotations
 
@@ -28,7 +28,7 @@ from support.policies import POLICIES
 from support.stored_fields import KNOWN_HASHES, LONGEST_PASSWORD, SCRYPT_WITH_LONGEST_SALT
 
 CHEAP = 500_000
-# Lengths at which a block of a digest, or a byte of the length, begins.
+# Lengths at which a digest's block, or another byte of the encoded length, begins.
 LENGTHS = (
     *(0, 1, 7, 8, 15, 16, 17, 31, 32, 33, 55, 56, 63, 64, 65),
     *(111, 112, 127, 128, 129, 200),
@@ -49,7 +49,7 @@ ODD_SETTINGS = (
 
 @dataclass(frozen=True)
 class Hashed:
-    """A password, a setting and the hash."""
+    """A password and its hash."""
 
     number: int
     password: bytes
@@ -57,17 +57,17 @@ class Hashed:
 
     @property
     def setting(self) -> bytes:
-        """The text before the last dollar sign."""
+        """The hash up to its last dollar sign."""
         return self.text.rsplit(b"$", 1)[0]
 
     @property
     def room(self) -> int:
-        """The bytes of the hash with its zero byte."""
+        """The size of the hash with its zero byte."""
         return len(self.text) + 1
 
     @property
     def other_password(self) -> bytes:
-        """The password with another byte at some place, or with a byte more."""
+        """The password with one byte changed, or with one more byte."""
         if self.password == b"":
             return b"x"
         place = self.number % len(self.password)
@@ -77,38 +77,38 @@ class Hashed:
 
     @property
     def damaged(self) -> list[bytes]:
-        """The hash without its last character, and with another one."""
+        """The hash without its last character, and with another last character."""
         other_end = b"/" if self.text.endswith(b".") else b"."
         return [self.text[:-1], self.text[:-1] + other_end]
 
     @property
     def is_cheap(self) -> bool:
-        """Whether many calls can hash it."""
+        """Whether a test can afford to hash it many times."""
         return cost(read_setting(self.text), len(self.password)) < CHEAP
 
 
 def salts(source: random.Random, lengths: Iterator[int]) -> Iterator[bytes]:
-    """Random salts of these lengths."""
+    """Yields random salts of these lengths."""
     for length in lengths:
         yield bytes(source.choices(ALPHABET, k=length))
 
 
 def settings_of_sha_crypt(prefix: bytes, source: random.Random) -> list[bytes]:
-    """Settings without rounds and with 1000 to 1324."""
+    """Returns settings without rounds, and with 1000 to 1324 rounds."""
     without = [prefix + salt for salt in salts(source, iter((0, 7, 16)))]
     numbered = enumerate(salts(source, iter(range(19))))
     return without + [b"%brounds=%d$%b" % (prefix, 1000 + n * n, salt) for n, salt in numbered]
 
 
 def settings_of_scrypt(source: random.Random) -> Iterator[bytes]:
-    """Settings of many costs, with salts of each length."""
+    """Yields settings of many costs, with salts of each length."""
     for number, salt in enumerate(salts(source, iter(range(87)))):
         numbers = ScryptCost(2 + number % 7, r=1 + number % 5, p=1 + number % 3)
         yield b"$7$" + numbers.text + salt
 
 
 def by_libxcrypt(settings: list[bytes]) -> list[Hashed]:
-    """The hashes of random passwords."""
+    """Returns libxcrypt's hashes of random passwords with these settings."""
     source = random.Random(26)
     rows = []
     for number, setting in enumerate(settings):
@@ -121,7 +121,7 @@ def by_libxcrypt(settings: list[bytes]) -> list[Hashed]:
 
 
 def with_the_longest_password() -> list[Hashed]:
-    """Hashes of 1,024 bytes, which libxcrypt doesn't make."""
+    """Returns the model's hashes of 1,024 bytes, which libxcrypt refuses."""
     rows = []
     for number, text in enumerate((b"$5$rounds=1000$saltstringsaltst", b"$7$20....0....NaCl")):
         known = hash_of(read_setting(text), LONGEST_PASSWORD)
@@ -131,33 +131,33 @@ def with_the_longest_password() -> list[Hashed]:
 
 
 def published() -> list[Hashed]:
-    """The published hashes."""
+    """Returns the published hashes."""
     return [Hashed(number, known.password, known.text) for number, known in enumerate(KNOWN_HASHES)]
 
 
 def with_odd_characters() -> list[Hashed]:
-    """Hashes with characters in salts that no program draws."""
+    """Returns hashes whose salts have characters that no program draws."""
     return by_libxcrypt(list(ODD_SETTINGS))
 
 
 def of_md5crypt() -> list[Hashed]:
-    """Hashes with salts of 0 to 12 characters, which are cut to 8."""
+    """Returns hashes with salts of 0 to 12 characters, which md5crypt cuts to 8."""
     lengths = (number % 13 for number in range(111))
     return by_libxcrypt([b"$1$" + salt for salt in salts(random.Random(1), lengths)])
 
 
 def of_sha256crypt() -> list[Hashed]:
-    """Hashes with salts of 0 to 18 characters, which are cut to 16."""
+    """Returns hashes with salts of 0 to 18 characters, which sha256crypt cuts to 16."""
     return by_libxcrypt(settings_of_sha_crypt(b"$5$", random.Random(5)))
 
 
 def of_sha512crypt() -> list[Hashed]:
-    """The same with the other digest."""
+    """Returns hashes with salts of 0 to 18 characters, which sha512crypt cuts to 16."""
     return by_libxcrypt(settings_of_sha_crypt(b"$6$", random.Random(6)))
 
 
 def of_scrypt() -> list[Hashed]:
-    """Hashes with salts of each length."""
+    """Returns scrypt hashes with salts of each length."""
     return by_libxcrypt(list(settings_of_scrypt(random.Random(7))))
 
 
@@ -180,65 +180,65 @@ def fixture_rows(request: pytest.FixtureRequest) -> list[Hashed]:
 
 @pytest.fixture(scope="module", name="cheap_rows")
 def fixture_cheap_rows() -> list[Hashed]:
-    """Hashes of all groups that take little time."""
+    """The cheap hashes of all groups."""
     return [row for make in GROUPS.values() for row in make() if row.is_cheap]
 
 
-def test_the_right_password_fits(driver: Driver, rows: list[Hashed]) -> None:
-    driver.assert_by_the_rules(in_each_form(*(Verify(row.password, row.text) for row in rows)))
+def test_the_right_password_matches(driver: Driver, rows: list[Hashed]) -> None:
+    driver.assert_matches_model(in_each_form(*(Verify(row.password, row.text) for row in rows)))
 
 
 def test_a_password_with_another_byte_differs(driver: Driver, rows: list[Hashed]) -> None:
-    driver.assert_by_the_rules([Verify(row.other_password, row.text) for row in rows])
+    driver.assert_matches_model([Verify(row.other_password, row.text) for row in rows])
 
 
-def test_a_damaged_hash_fits_nobody(driver: Driver, rows: list[Hashed]) -> None:
+def test_a_damaged_hash_matches_no_password(driver: Driver, rows: list[Hashed]) -> None:
     calls = [Verify(row.password, text) for row in rows[::3] for text in row.damaged]
-    driver.assert_by_the_rules(calls)
+    driver.assert_matches_model(calls)
 
 
-def test_a_setting_makes_the_hash(driver: Driver, rows: list[Hashed]) -> None:
+def test_a_setting_gives_the_hash(driver: Driver, rows: list[Hashed]) -> None:
     calls = [Hash(row.password, row.setting, out_size=row.room + 49) for row in rows]
-    answers = driver.assert_by_the_rules(calls)
+    answers = driver.assert_matches_model(calls)
     expected = [f'"{row.text.decode()}"' for row in rows]
     assert [answer.out for answer in answers] == expected
 
 
-def test_a_hash_as_the_setting_makes_itself_in_just_enough_room(
+def test_a_hash_as_the_setting_gives_itself_in_just_enough_room(
     driver: Driver, rows: list[Hashed]
 ) -> None:
-    driver.assert_by_the_rules([Hash(row.password, row.text, out_size=row.room) for row in rows])
+    driver.assert_matches_model([Hash(row.password, row.text, out_size=row.room) for row in rows])
 
 
-def test_each_form_of_the_call_makes_the_hash(driver: Driver, rows: list[Hashed]) -> None:
-    driver.assert_by_the_rules(in_each_form(*(Hash(row.password, row.text) for row in rows)))
+def test_each_form_of_the_call_gives_the_hash(driver: Driver, rows: list[Hashed]) -> None:
+    driver.assert_matches_model(in_each_form(*(Hash(row.password, row.text) for row in rows)))
 
 
-def test_room_for_a_byte_less_is_too_few(driver: Driver, rows: list[Hashed]) -> None:
+def test_one_byte_too_few_is_reported(driver: Driver, rows: list[Hashed]) -> None:
     calls = [Hash(row.password, row.setting, out_size=row.room - 1) for row in rows]
-    driver.assert_by_the_rules(calls)
+    driver.assert_matches_model(calls)
 
 
 def test_the_bound_is_reported(driver: Driver, rows: list[Hashed]) -> None:
-    driver.assert_by_the_rules([Bound(row.setting, len(row.password)) for row in rows])
+    driver.assert_matches_model([Bound(row.setting, len(row.password)) for row in rows])
 
 
-def test_a_hash_is_outdated_by_a_policy_that_makes_stronger_ones(
+def test_a_hash_is_outdated_by_a_policy_for_stronger_ones(
     driver: Driver, rows: list[Hashed]
 ) -> None:
     calls = []
     for row in rows:
         policy = POLICIES[row.number % len(POLICIES)]
         calls.append(NeedsRehash(row.text, policy.method, policy.rounds))
-    driver.assert_by_the_rules(calls)
+    driver.assert_matches_model(calls)
 
 
 def test_the_bound_of_scrypt_at_its_ceiling_is_reported(driver: Driver) -> None:
-    driver.assert_by_the_rules([Bound(b"$7$GU..../....", 8)])
+    driver.assert_matches_model([Bound(b"$7$GU..../....", 8)])
 
 
 def hashing_calls(rows: list[Hashed]) -> list[Call]:
-    """Calls that hash."""
+    """Returns calls that hash."""
     calls: list[Call] = []
     for row in rows:
         calls += in_each_form(Verify(row.password, row.text))
@@ -247,18 +247,18 @@ def hashing_calls(rows: list[Hashed]) -> list[Call]:
     return calls
 
 
-def test_calls_in_eight_threads_answer_as_in_one(driver: Driver, cheap_rows: list[Hashed]) -> None:
+def test_calls_answer_the_same_in_eight_threads(driver: Driver, cheap_rows: list[Hashed]) -> None:
     calls = hashing_calls(cheap_rows[::4])
     calls += hashing_calls([row for row in cheap_rows if row.password == LONGEST_PASSWORD])
-    driver.assert_by_the_rules(calls, threads=8)
+    driver.assert_matches_model(calls, threads=8)
 
 
 @pytest.mark.parametrize("allocation", [1, 2, 3, 4])
-def test_an_allocation_of_scrypt_that_fails_is_reported(
+def test_a_failed_allocation_of_scrypt_is_reported(
     driver: Driver, cheap_rows: list[Hashed], allocation: int
 ) -> None:
-    """Nothing else allocates, so that calls with other methods answer as ever."""
+    """The other methods don't allocate, so their calls are unaffected."""
     calls = hashing_calls([row for row in cheap_rows if row.text.startswith(b"$7$")])
     calls += hashing_calls(cheap_rows[:2])
     calls.append(Hash(b"pleaseletmein", b"$7$C6..../....SodiumChloride"))
-    driver.assert_by_the_rules(calls, System(refused_allocation=allocation))
+    driver.assert_matches_model(calls, System(refused_allocation=allocation))

@@ -1,4 +1,4 @@
-"""mkpasswd.h: its numbers, the layout of a report, and what a compiler says of its declarations."""
+"""mkpasswd.h: its numbers, its errors, and the layout of a report."""
 from __future__ import annotations
 
 import re
@@ -22,18 +22,17 @@ from support.model.work import LONGEST_PASSWORD
 from support.process import run
 from support.stored_fields import SCRYPT_WITH_LONGEST_SALT
 
-# An error with its comment, which begins with the message.
+# Matches an error with its comment, which begins with the message.
 ERROR = re.compile(
     r"^ */\* ([^:\n]+?)(?::.*)? \*/\n *MKPASSWD_ERROR_(\w+) = (\d+),?$", re.MULTILINE
 )
-# The fields of struct mkpasswd_report in their order: eight numbers of 32 bits, six of 64;
-# little-endian.
+# The layout of struct mkpasswd_report: eight numbers of 32 bits and six of 64, little-endian.
 REPORT = struct.Struct("<8I6Q")
 FIELDS = (
     *("error", "outdated", "length", "scheme", "rounds", "n", "r", "p"),
     *("cost", "digests", "bytes", "mixes", "table", "scratch"),
 )
-# The calls of tests/c/report.c.
+# The calls that tests/c/report.c makes.
 REPORTED: tuple[Call, ...] = (
     Hash(b"password", b"$7$46..../....SodiumChloride"),
     Limit(),
@@ -53,7 +52,7 @@ def test_the_errors_are_numbered_from_1_on_and_have_the_messages_of_their_commen
     assert [number for _, number, _ in found] == list(range(1, len(found) + 1))
 
 
-def test_each_error_of_the_header_has_such_a_comment(installed: Installed) -> None:
+def test_each_error_of_the_header_has_a_comment_with_its_message(installed: Installed) -> None:
     names = re.findall(r"MKPASSWD_ERROR_(\w+) = ", installed.header)
     assert sorted(names) == sorted(error.name for error in Reason)
 
@@ -78,11 +77,13 @@ def test_each_error_of_the_header_has_such_a_comment(installed: Installed) -> No
         ),
     ],
 )
-def test_a_number_is_what_the_formats_say(installed: Installed, name: str, number: int) -> None:
+def test_a_number_in_the_header_is_the_formats_number(
+    installed: Installed, name: str, number: int
+) -> None:
     assert installed.defined(name) == number
 
 
-def test_each_field_of_a_report_is_at_its_place(builder: Builder) -> None:
+def test_each_field_of_a_report_is_in_its_place(builder: Builder) -> None:
     program = builder.build(SOURCES / "report.c")
     result = run(program).required()
     assert len(result.stdout) == len(REPORTED) * REPORT.size, str(result)
@@ -92,8 +93,8 @@ def test_each_field_of_a_report_is_at_its_place(builder: Builder) -> None:
         assert found == {name: getattr(expected, name) for name in FIELDS}
 
 
-def test_no_two_fields_are_alike_in_all_reports() -> None:
-    """So that the test before this one sees fields that are exchanged."""
+def test_no_two_fields_are_equal_in_all_reports() -> None:
+    """Otherwise the test above would miss two exchanged fields."""
     reports = [call.expected(System()) for call in REPORTED]
     values = [tuple(getattr(report, name) for report in reports) for name in FIELDS]
     assert len(set(values)) == len(values)

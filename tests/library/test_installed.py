@@ -1,4 +1,4 @@
-"""What is installed: names and versions of the libraries' symbols, processors, pkg-config."""
+"""The installed library: names and versions of its symbols, processors, pkg-config, linking."""
 from __future__ import annotations
 
 import re
@@ -12,7 +12,7 @@ from support.model.calls import Version
 from support.process import Changes, assert_result, run
 
 SYMBOL_VERSION = "MKPASSWD_3"
-# A line of `objdump -T`: an address, flags, a section, and the size, version and name.
+# Matches a line of `objdump -T`: an address, flags, section and size, the version, the name.
 SYMBOL = re.compile(r"^[0-9a-f]{16} (.*) (MKPASSWD_[\d.]+) +(mkpasswd_\w+)$", re.MULTILINE)
 LINKS = re.compile(r"^\.Dl ((?:musl-gcc|cc) .*)$", re.MULTILINE)
 PRINTED_BY_LOGIN = b"$6$rounds=656000\n"
@@ -22,7 +22,7 @@ cc -o login examples/login.c $(pkg-config --cflags --libs mkpasswd); ./login"""
 
 
 def version_of(installed: Installed) -> str:
-    """The version in mkpasswd.pc."""
+    """Returns the version in mkpasswd.pc."""
     path = installed.libraries / "pkgconfig/mkpasswd.pc"
     found = re.search(r"^Version: (.*)$", path.read_text(encoding="ascii"), re.MULTILINE)
     assert found is not None, f"{path} has no version"
@@ -30,13 +30,13 @@ def version_of(installed: Installed) -> str:
 
 
 def number_of(version: str) -> int:
-    """A version as the header writes it."""
+    """Returns a version as the number that the header defines."""
     major, minor, patch = (int(part) for part in version.split("."))
     return 10_000 * major + 100 * minor + patch
 
 
 def pkg_config_environment(installed: Installed) -> Changes:
-    """What has pkg-config find the library here, and programs the shared one."""
+    """Returns the environment in which pkg-config, and programs, find the installed library."""
     return {
         "PKG_CONFIG_SYSROOT_DIR": str(installed.root),
         "PKG_CONFIG_LIBDIR": str(installed.libraries / "pkgconfig"),
@@ -60,14 +60,14 @@ def test_the_shared_library_has_each_exported_call_in_one_version(installed: Ins
 
 
 @pytest.mark.needs("objdump")
-def test_the_static_library_has_the_exported_calls_alone(installed: Installed) -> None:
+def test_the_static_library_has_only_the_exported_calls(installed: Installed) -> None:
     result = run("nm", "-g", "--defined-only", installed.libraries / "libmkpasswd.a").required()
     found = re.findall(r"^\S+ \w (\S+)$", result.stdout.decode(), re.MULTILINE)
     assert sorted(found) == installed.exported(), str(result)
 
 
 @pytest.mark.needs("objdump")
-def test_the_shared_library_has_its_name_and_needs_the_c_library_alone(
+def test_the_shared_library_has_its_name_and_needs_only_the_c_library(
     installed: Installed,
 ) -> None:
     result = run("objdump", "-p", installed.libraries / "libmkpasswd.so").required()
@@ -80,13 +80,13 @@ def test_the_shared_library_has_its_name_and_needs_the_c_library_alone(
 
 @pytest.mark.needs("readelf")
 @pytest.mark.parametrize("name", ["libmkpasswd.so.3", "libmkpasswd.a"])
-def test_a_library_says_what_processor_it_needs(installed: Installed, name: str) -> None:
+def test_a_library_states_which_processor_it_needs(installed: Installed, name: str) -> None:
     result = run("readelf", "-n", installed.libraries / name).required()
     assert re.search(r"x86 ISA needed: .*x86-64-v2", result.stdout.decode()), str(result)
 
 
 @pytest.mark.needs("qemu-x86_64-static")
-def test_a_lesser_processor_is_refused(installed: Installed) -> None:
+def test_a_processor_below_that_is_refused(installed: Installed) -> None:
     program = installed.root / "usr/bin/mkpasswd"
     result = run("qemu-x86_64-static", "-cpu", "core2duo", program, "-V")
     assert result.status == 127, str(result)
@@ -113,7 +113,7 @@ def test_the_program_has_the_version_of_pkg_config(installed: Installed) -> None
 
 
 @pytest.mark.needs("pkg-config")
-def test_pkg_config_prints_the_words_for_a_compiler(installed: Installed) -> None:
+def test_pkg_config_prints_the_compilers_arguments(installed: Installed) -> None:
     environment = pkg_config_environment(installed)
     result = run("pkg-config", "--cflags", "--libs", "mkpasswd", env=environment).required()
     expected = f"-I{installed.include} -L{installed.libraries} -lmkpasswd"
@@ -121,7 +121,7 @@ def test_pkg_config_prints_the_words_for_a_compiler(installed: Installed) -> Non
 
 
 @pytest.mark.needs("pkg-config")
-def test_the_installed_example_builds_by_pkg_config(installed: Installed, tmp_path: Path) -> None:
+def test_the_installed_example_builds_with_pkg_config(installed: Installed, tmp_path: Path) -> None:
     (tmp_path / "examples").symlink_to(installed.root / "usr/share/doc/mkpasswd/examples")
     environment = pkg_config_environment(installed)
     result = run("bash", "-euc", LOGIN_BY_PKG_CONFIG, env=environment, cwd=tmp_path)
@@ -132,7 +132,7 @@ def test_the_installed_example_builds_by_pkg_config(installed: Installed, tmp_pa
 
 
 def linking_commands() -> list[str]:
-    """The commands of the manual that link login.c."""
+    """Returns the manual's commands that link login.c."""
     return LINKS.findall((ROOT / "man/libmkpasswd.3").read_text(encoding="utf-8"))
 
 
@@ -147,7 +147,7 @@ def test_the_manual_links_shared_and_static_programs_and_those_for_musl() -> Non
 def test_a_command_of_the_manual_links_a_login(
     installed: Installed, tmp_path: Path, command: str
 ) -> None:
-    """The prefix is the one where the library is installed here."""
+    """The manual's prefix is replaced by the one of this installation."""
     example = installed.root / "usr/share/doc/mkpasswd/examples/login.c"
     (tmp_path / "login.c").symlink_to(example)
     here = command.replace("/usr/local/include", str(installed.include))

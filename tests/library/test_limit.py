@@ -1,6 +1,6 @@
-"""The limit of a policy, which a budget of 0 stands for.
+"""The limit of a policy, which applies if the budget is 0.
 
-docs/FORMATS.md has a table of limits and of the longest passwords that they allow.
+docs/FORMATS.md has a table of limits and of the longest passwords that they admit.
 """
 from __future__ import annotations
 
@@ -24,12 +24,12 @@ FIELDS = {
     "scrypt": SCRYPT_OF_PASSWORD.text,
     "another scheme": b"$y$x",
     "a hash above the limit": b"$6$rounds=999999999$ab$x",
-    "a hash by the policy": b"$6$rounds=656000$ab$" + b"." * 86,
+    "a hash with the policy's setting": b"$6$rounds=656000$ab$" + b"." * 86,
 }
 
 
 def documented_limits() -> dict[str, tuple[int, int]]:
-    """The limit and the longest password of each method in docs/FORMATS.md."""
+    """Returns the limit and the longest password of each method in docs/FORMATS.md."""
     text = (ROOT / "docs/FORMATS.md").read_text(encoding="utf-8")
     rows = re.findall(r"^\| (\w+) \| (\d+) \| ([\d,]+) bytes \|$", text, re.MULTILINE)
     return {name: (int(limit), int(longest.replace(",", ""))) for name, limit, longest in rows}
@@ -65,24 +65,24 @@ def test_the_documented_limit_allows_the_documented_password(number: int) -> Non
     [
         pytest.param(8, id="8 bytes"),
         pytest.param(64, id="64 bytes"),
-        pytest.param(None, id="the longest that is documented"),
+        pytest.param(None, id="the longest documented one"),
     ],
 )
-def test_a_password_up_to_the_limit_is_set_and_gets_in(
+def test_a_password_up_to_the_limit_is_hashed_and_accepted(
     driver: Driver, number: int, length: int | None
 ) -> None:
     password = b"a" * (length or LONGEST[number])
     new = New(password, number)
-    made = new.expected(RANDOM_BYTES).out.strip('"').encode()
-    calls: list[Call] = [new, Login(password, made, number, budget=0)]
-    answers = driver.assert_by_the_rules(calls, RANDOM_BYTES, threads=2)
+    new_hash = new.expected(RANDOM_BYTES).out.strip('"').encode()
+    calls: list[Call] = [new, Login(password, new_hash, number, budget=0)]
+    answers = driver.assert_matches_model(calls, RANDOM_BYTES, threads=2)
     assert [(answer.result, answer.error) for answer in answers] == [(1, 0), (1, 0)]
     assert answers[1].outdated == 0
 
 
 @METHOD_NUMBERS
 def test_an_unknown_name_takes_the_work_of_a_new_hash(driver: Driver, number: int) -> None:
-    driver.assert_by_the_rules([Login(b"a" * 64, b"", number, budget=0)])
+    driver.assert_matches_model([Login(b"a" * 64, b"", number, budget=0)])
 
 
 @pytest.mark.parametrize(
@@ -96,7 +96,7 @@ def test_a_longer_password_is_refused_without_work_whatever_is_stored(
     password = b"a" * length
     calls: list[Call] = [New(password, number)]
     calls += [Login(password, field, number, budget=0) for field in FIELDS.values()]
-    for answer in driver.assert_by_the_rules(calls, RANDOM_BYTES):
+    for answer in driver.assert_matches_model(calls, RANDOM_BYTES):
         assert answer.result == 0
         assert (answer.digests, answer.mixes, answer.table, answer.allocations) == (0, 0, 0, 0)
 
@@ -107,11 +107,9 @@ def test_a_longer_password_is_refused_without_work_whatever_is_stored(
 @pytest.mark.parametrize(
     "fewer", [pytest.param(0, id="the cost"), pytest.param(1, id="one less than the cost")]
 )
-def test_a_budget_of_its_own_allows_all_1024_bytes(
-    driver: Driver, field: bytes, fewer: int
-) -> None:
+def test_a_given_budget_can_admit_all_1024_bytes(driver: Driver, field: bytes, fewer: int) -> None:
     budget = 1_297_572_512 - fewer
-    driver.assert_by_the_rules([Login(LONGEST_PASSWORD, field, 6, 0, budget)], threads=2)
+    driver.assert_matches_model([Login(LONGEST_PASSWORD, field, 6, 0, budget)], threads=2)
 
 
 @METHOD_NUMBERS

@@ -1,7 +1,7 @@
 """mkpasswd_limit and mkpasswd_rounds of the shared library, for 100,000 policies.
 
-What they must report is computed by the formulas of docs/FORMATS.md, and neither the rules of the
-model nor the header take part: test_admitted.py has those.
+The expected reports follow from the formulas of docs/FORMATS.md, without the model or the header,
+which test_admitted.py uses.
 """
 from __future__ import annotations
 
@@ -30,14 +30,14 @@ from support.policy_limits import (
 
 POLICIES = 100_000
 
-# struct mkpasswd_report: error, outdated, length, scheme, rounds, n, r, p, cost and five counts
+# struct mkpasswd_report: error, outdated, length, scheme, rounds, n, r, p, cost and five counts.
 REPORT = struct.Struct("<8I6Q")
 RECOMMENDED_METHOD = 0
 
 
 @dataclass(frozen=True)
 class Answer:
-    """What a call returned and reported."""
+    """What a call returns and reports."""
 
     returned: int
     error: int
@@ -59,7 +59,7 @@ def fixture_library() -> ctypes.CDLL:
 
 
 def answer_of(returned: int, report: bytes) -> Answer:
-    """The answer of a call, which neither hashed nor audited."""
+    """Returns the answer of a call. Fails if its report says that it hashed or audited."""
     error, outdated, length, scheme, rounds, *others = REPORT.unpack(report)
     cost = others.pop(3)  # after n, r and p
     assert (outdated, scheme, others) == (0, 0, [0] * 8)
@@ -67,14 +67,14 @@ def answer_of(returned: int, report: bytes) -> Answer:
 
 
 def limit_of(library: ctypes.CDLL, policy: Policy) -> Answer:
-    """What mkpasswd_limit reports."""
+    """Calls mkpasswd_limit."""
     report = ctypes.create_string_buffer(REPORT.size)
     returned = library.mkpasswd_limit_bytes(policy.method, policy.rounds, policy.budget, report)
     return answer_of(returned, report.raw)
 
 
 def rounds_of(library: ctypes.CDLL, length: int, policy: Policy) -> Answer:
-    """What mkpasswd_rounds reports."""
+    """Calls mkpasswd_rounds."""
     report = ctypes.create_string_buffer(REPORT.size)
     numbers = (policy.method, policy.rounds, policy.budget)
     returned = library.mkpasswd_rounds_bytes(length, *numbers, report)
@@ -82,7 +82,7 @@ def rounds_of(library: ctypes.CDLL, length: int, policy: Policy) -> Answer:
 
 
 def is_longest(policy: Policy, length: int) -> bool:
-    """Whether a password of this length is within the limit, and none is that is a byte longer."""
+    """Returns whether this length is within the limit, and the next one isn't."""
     if length > LONGEST_PASSWORD:
         return False
     if new_cost(policy.method, policy.chosen_rounds, length) > policy.limit:
@@ -93,7 +93,7 @@ def is_longest(policy: Policy, length: int) -> bool:
 
 
 def assert_limit(library: ctypes.CDLL, policy: Policy) -> None:
-    """Fails the test unless the limit and the longest password within it are reported."""
+    """Fails the test unless the report has the limit and the longest password within it."""
     answer = limit_of(library, policy)
     if policy.error is not None:
         assert answer == Answer(0, policy.error, 0, 0, 0), policy
@@ -107,7 +107,7 @@ def assert_limit(library: ctypes.CDLL, policy: Policy) -> None:
 
 
 def assert_rounds(library: ctypes.CDLL, policy: Policy, length: int) -> None:
-    """Fails the test unless rounds within the limit, and their cost, are reported for a length."""
+    """Fails the test unless the report has rounds within the limit, and their cost."""
     answer = rounds_of(library, length, policy)
     if length > LONGEST_PASSWORD:
         assert answer == Answer(0, Reason.PASSWORD_TOO_LONG, 0, 0, 0), (policy, length)
@@ -137,7 +137,7 @@ def assert_rounds(library: ctypes.CDLL, policy: Policy, length: int) -> None:
 def test_a_policy_with_recommended_rounds_has_the_documented_limit(
     library: ctypes.CDLL, method: int, limit: int, longest: int
 ) -> None:
-    """The table in docs/FORMATS.md."""
+    """The numbers are those of the table in docs/FORMATS.md."""
     answer = limit_of(library, Policy(method, 0, 0))
     assert (answer.cost, answer.length, answer.rounds) == (
         limit,
@@ -157,14 +157,14 @@ def test_method_0_has_the_limit_of_sha512crypt(
 
 @pytest.mark.slow
 def test_a_limit_admits_exactly_the_passwords_up_to_the_longest(library: ctypes.CDLL) -> None:
-    """For 100,000 policies."""
+    """Tries 100,000 random policies."""
     for policy in random_policies(seed=111, count=POLICIES):
         assert_limit(library, policy)
 
 
 @pytest.mark.slow
 def test_rounds_for_any_length_keep_a_new_hash_within_the_limit(library: ctypes.CDLL) -> None:
-    """For 100,000 policies, each with a length."""
+    """Tries 100,000 random policies, each with a random length."""
     source = random.Random(112)
     for policy in random_policies(seed=113, count=POLICIES):
         assert_rounds(library, policy, source.choice((0, 64, 1024, 1025, source.randrange(1026))))
@@ -177,7 +177,7 @@ def test_rounds_for_any_length_keep_a_new_hash_within_the_limit(library: ctypes.
 def test_a_policy_without_a_budget_has_rounds_for_every_length(
     library: ctypes.CDLL, length: int
 ) -> None:
-    """Its limit is never below what the fewest rounds cost."""
+    """The limit of such a policy is never below the cost of the fewest rounds."""
     for method in METHODS:
         for rounds in (0, *((6, 11) if method == SCRYPT else (1000, 75_357, MOST_ROUNDS))):
             policy = Policy(method, rounds, 0)

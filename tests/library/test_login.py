@@ -1,4 +1,4 @@
-"""mkpasswd_login: who gets in, whose hash is outdated, and that each login does the same work."""
+"""mkpasswd_login: which logins it accepts, which hashes are outdated, and how much work it does."""
 from __future__ import annotations
 
 import pytest
@@ -22,11 +22,11 @@ from support.stored_fields import (
 )
 
 CHEAP_POLICIES = (
-    Policy("sha256crypt of 1000 rounds", 5, 1000),
-    Policy("sha512crypt of 5000 rounds", 6, 5000),
-    Policy("sha512crypt of 10000 rounds", 6, 10_000),
+    Policy("sha256crypt with 1000 rounds", 5, 1000),
+    Policy("sha512crypt with 5000 rounds", 6, 5000),
+    Policy("sha512crypt with 10000 rounds", 6, 10_000),
 )
-POLICIES = (Policy("md5crypt", 1, 0), *CHEAP_POLICIES, Policy("scrypt of the least cost", 7, 6))
+POLICIES = (Policy("md5crypt", 1, 0), *CHEAP_POLICIES, Policy("scrypt with the lowest cost", 7, 6))
 INVALID = (*INVALID_ROUNDS, *INVALID_POLICIES)
 INVALID_PASSWORDS = pytest.mark.parametrize(
     ("password", "field", "error"),
@@ -34,16 +34,16 @@ INVALID_PASSWORDS = pytest.mark.parametrize(
         pytest.param(
             LONGEST_PASSWORD + b"a", OF_PASSWORD.text, Reason.PASSWORD_TOO_LONG, id="1025 bytes"
         ),
-        pytest.param(b"a\0", b"", Reason.PASSWORD_ZERO_BYTE, id="a zero byte for no hash"),
+        pytest.param(b"a\0", b"", Reason.PASSWORD_ZERO_BYTE, id="a zero byte without a hash"),
         pytest.param(b"\0", b"!", Reason.PASSWORD_ZERO_BYTE, id="a zero byte for a locked field"),
     ],
 )
-# The hashes that are not outdated by these policies; all others are.
+# The hashes that are current by these policies. All others are outdated.
 CURRENT = {
     (OF_PASSWORD.title, "md5crypt"),
-    ("Drepper's sha256crypt", "sha256crypt of 1000 rounds"),
-    ("Drepper's sha512crypt with 10000 rounds", "sha512crypt of 5000 rounds"),
-    ("Drepper's sha512crypt with 10000 rounds", "sha512crypt of 10000 rounds"),
+    ("Drepper's sha256crypt", "sha256crypt with 1000 rounds"),
+    ("Drepper's sha512crypt with 10000 rounds", "sha512crypt with 5000 rounds"),
+    ("Drepper's sha512crypt with 10000 rounds", "sha512crypt with 10000 rounds"),
 }
 COST_OF_MD5CRYPT = cost(read_setting(OF_PASSWORD.text), 8)
 COST_OF_SHA512CRYPT = cost(recommended_setting(SHA512CRYPT, 5000), 8)
@@ -51,22 +51,22 @@ COST_OF_SHA512CRYPT = cost(recommended_setting(SHA512CRYPT, 5000), 8)
 
 @pytest.mark.parametrize("policy", POLICIES[:-1], ids=str)
 @pytest.mark.parametrize("known", KNOWN_FOR_LOGINS, ids=str)
-def test_the_right_password_gets_in(driver: Driver, known: KnownHash, policy: Policy) -> None:
+def test_the_right_password_is_accepted(driver: Driver, known: KnownHash, policy: Policy) -> None:
     outdated = int((known.title, policy.title) not in CURRENT)
     for call in in_each_form(Login(known.password, known.text, policy.method, policy.rounds)):
         driver.assert_answer(call, result=1, error=0, outdated=outdated)
 
 
 @pytest.mark.parametrize("known", KNOWN_FOR_LOGINS, ids=str)
-def test_the_right_password_gets_in_where_new_hashes_are_of_scrypt(
+def test_the_right_password_is_accepted_if_new_hashes_are_scrypt(
     driver: Driver, known: KnownHash
 ) -> None:
-    driver.assert_by_the_rules(in_each_form(Login(known.password, known.text, 7, 6)))
+    driver.assert_matches_model(in_each_form(Login(known.password, known.text, 7, 6)))
 
 
 @pytest.mark.parametrize("policy", CHEAP_POLICIES, ids=str)
 @pytest.mark.parametrize("field", NEVER_OPEN, ids=str)
-def test_a_field_that_is_no_hash_of_the_password_is_refused(
+def test_a_field_that_does_not_match_is_refused(
     driver: Driver, field: Field, policy: Policy
 ) -> None:
     error = Reason.DEAD if field.error is Reason.WRONG_PASSWORD else field.error
@@ -83,7 +83,7 @@ def test_a_wrong_password_is_refused(driver: Driver, policy: Policy) -> None:
         for password in (b"", b"Password")
         if password != known.password
     ]
-    for answer in driver.assert_by_the_rules(in_each_form(*calls)):
+    for answer in driver.assert_matches_model(in_each_form(*calls)):
         assert (answer.result, answer.error, answer.outdated) == (0, Reason.WRONG_PASSWORD, 0)
 
 
@@ -124,17 +124,17 @@ def test_an_invalid_password_is_reported_before_an_invalid_policy(
 @pytest.mark.parametrize(
     "budget",
     [
-        pytest.param(0, id="0, which stands for the limit of the policy"),
-        pytest.param(COST_OF_MD5CRYPT - 1, id="one less than md5crypt costs"),
-        pytest.param(COST_OF_MD5CRYPT, id="what md5crypt costs"),
-        pytest.param(COST_OF_SHA512CRYPT - 1, id="one less than a new hash costs"),
-        pytest.param(COST_OF_SHA512CRYPT, id="what a new hash costs"),
+        pytest.param(0, id="0, for the limit of the policy"),
+        pytest.param(COST_OF_MD5CRYPT - 1, id="one less than the cost of md5crypt"),
+        pytest.param(COST_OF_MD5CRYPT, id="the cost of md5crypt"),
+        pytest.param(COST_OF_SHA512CRYPT - 1, id="one less than the cost of a new hash"),
+        pytest.param(COST_OF_SHA512CRYPT, id="the cost of a new hash"),
         pytest.param(GREATEST, id="the greatest number"),
     ],
 )
-def test_a_budget_limits_what_is_hashed(driver: Driver, field: bytes, budget: int) -> None:
-    """Also the hash that is dropped where there is none to compare with."""
-    driver.assert_by_the_rules(in_each_form(Login(b"password", field, 6, 5000, budget)))
+def test_a_budget_limits_the_work(driver: Driver, field: bytes, budget: int) -> None:
+    """That includes the dummy hash of a login without a hash to compare with."""
+    driver.assert_matches_model(in_each_form(Login(b"password", field, 6, 5000, budget)))
 
 
 def test_a_null_field_is_an_unknown_name(driver: Driver) -> None:
@@ -155,8 +155,8 @@ def test_a_null_password_is_refused(driver: Driver, field: bytes | None) -> None
         driver.assert_answer(call, result=0, error=Reason.PASSWORD_ZERO_BYTE, digests=0)
 
 
-def test_a_policy_of_zeros_is_sha512crypt_of_656000_rounds(driver: Driver) -> None:
-    """So no hash of another method, or of fewer rounds, is current by it."""
+def test_a_policy_of_zeros_is_sha512crypt_with_656000_rounds(driver: Driver) -> None:
+    """So hashes of other methods, or with fewer rounds, are outdated by it."""
     current = recommended_setting(SHA512CRYPT, 656_000, b"salt").text
     fewer = recommended_setting(SHA512CRYPT, 655_999, b"salt").text
     for setting, outdated in ((current, 0), (fewer, 1)):
@@ -166,35 +166,35 @@ def test_a_policy_of_zeros_is_sha512crypt_of_656000_rounds(driver: Driver) -> No
             driver.assert_answer(call, result=1, error=0, outdated=outdated)
 
 
-def test_calls_in_eight_threads_answer_as_in_one(driver: Driver) -> None:
+def test_calls_answer_the_same_in_eight_threads(driver: Driver) -> None:
     calls = [
         Login(b"password", field.text, policy.method, policy.rounds)
         for field in NEVER_OPEN
         for policy in CHEAP_POLICIES[:2]
     ]
-    driver.assert_by_the_rules(in_each_form(*calls), threads=8)
+    driver.assert_matches_model(in_each_form(*calls), threads=8)
 
 
 @pytest.mark.parametrize("allocation", [1, 2, 3, 4])
-def test_an_allocation_that_fails_lets_nobody_in(driver: Driver, allocation: int) -> None:
+def test_a_login_with_a_failed_allocation_is_refused(driver: Driver, allocation: int) -> None:
     fields = (OF_PASSWORD.text, b"", b"!", SCRYPT_OF_PASSWORD.text)
     calls = in_each_form(*(Login(b"password", field, 7, 6) for field in fields))
-    driver.assert_by_the_rules(calls, System(refused_allocation=allocation))
+    driver.assert_matches_model(calls, System(refused_allocation=allocation))
 
 
 @pytest.mark.parametrize(
     ("method", "number", "rounds"),
     [
         pytest.param(MD5CRYPT, 1, 0, id="md5crypt"),
-        pytest.param(SHA256CRYPT, 5, 2000, id="sha256crypt of 2000 rounds"),
+        pytest.param(SHA256CRYPT, 5, 2000, id="sha256crypt with 2000 rounds"),
         pytest.param(SHA512CRYPT, 6, 0, id="sha512crypt as recommended"),
-        pytest.param(SCRYPT, 7, 6, id="scrypt of the least cost"),
+        pytest.param(SCRYPT, 7, 6, id="scrypt with the lowest cost"),
     ],
 )
 def test_each_kind_of_field_takes_the_same_work(
     driver: Driver, method: Method, number: int, rounds: int
 ) -> None:
-    """The stored hashes have a salt like the one of the hash that is dropped."""
+    """The stored hashes have salts like the dummy hash's, since the work depends on the salt."""
     setting = recommended_setting(method, rounds)
     right, wrong = hash_of(setting, b"password"), hash_of(setting, b"Password")
     assert right is not None and wrong is not None

@@ -1,4 +1,4 @@
-"""mkpasswd_message and mkpasswd_scheme_name: a text for each number, and what doesn't fit."""
+"""mkpasswd_message and mkpasswd_scheme_name: a text for each number, and too little room."""
 from __future__ import annotations
 
 import pytest
@@ -14,12 +14,12 @@ from support.model.calls import (
     in_each_form,
 )
 
-# No error, and those beside the known ones.
+# 0 for no error, and numbers next to the known ones.
 UNKNOWN_ERRORS = (0, len(Reason) + 1, len(Reason) + 2, 2**31 - 1, 2**31, 2**32 - 1)
 
 
-def rooms_for(text: str) -> tuple[int, ...]:
-    """Rooms around the length of a message."""
+def sizes_around(text: str) -> tuple[int, ...]:
+    """Returns sizes of `out` around the length of a message."""
     return (0, 1, 2, 3, len(text), len(text) + 1, TEXT_SIZE)
 
 
@@ -29,19 +29,19 @@ def rooms_for(text: str) -> tuple[int, ...]:
 def test_an_error_has_its_message(driver: Driver, error: Reason) -> None:
     for call in in_each_form(Message(error)):
         driver.assert_answer(call, result=1, out=f'"{error.message}"')
-    calls = [Message(error, room) for room in rooms_for(error.message)]
-    driver.assert_by_the_rules(in_each_form(*calls, Message(error, None)))
+    calls = [Message(error, room) for room in sizes_around(error.message)]
+    driver.assert_matches_model(in_each_form(*calls, Message(error, None)))
 
 
 @pytest.mark.parametrize("number", UNKNOWN_ERRORS)
 def test_0_and_an_unknown_error_are_an_unknown_reason(driver: Driver, number: int) -> None:
     for call in in_each_form(Message(number)):
         driver.assert_answer(call, result=0, out='"unknown reason"')
-    calls = [Message(number, room) for room in rooms_for("unknown reason")]
-    driver.assert_by_the_rules(in_each_form(*calls, Message(number, None)))
+    calls = [Message(number, room) for room in sizes_around("unknown reason")]
+    driver.assert_matches_model(in_each_form(*calls, Message(number, None)))
 
 
-def test_a_message_asks_the_system_for_nothing(driver: Driver) -> None:
+def test_a_message_needs_nothing_from_the_system(driver: Driver) -> None:
     answer = driver.answers([Message(Reason.DEAD)], System(refused_allocation=1))[0]
     assert (answer.allocations, answer.drawn) == (0, 0)
 
@@ -55,12 +55,12 @@ def test_a_message_asks_the_system_for_nothing(driver: Driver) -> None:
 )
 def test_a_scheme_has_its_name(driver: Driver, number: int, name: str) -> None:
     driver.assert_answer(SchemeName(number), result=1, out=f'"{name}"')
-    calls = [SchemeName(number, room) for room in (*rooms_for(name), None)]
-    driver.assert_by_the_rules(in_each_form(*calls))
+    calls = [SchemeName(number, room) for room in (*sizes_around(name), None)]
+    driver.assert_matches_model(in_each_form(*calls))
 
 
 @pytest.mark.parametrize("number", [0, 2, 3, 4, 8, 100, 109, 2**32 - 1])
 def test_another_number_is_an_unknown_scheme(driver: Driver, number: int) -> None:
     driver.assert_answer(SchemeName(number), result=0, out='"unknown scheme"')
-    calls = [SchemeName(number, room) for room in (*rooms_for("unknown scheme"), None)]
-    driver.assert_by_the_rules(in_each_form(*calls))
+    calls = [SchemeName(number, room) for room in (*sizes_around("unknown scheme"), None)]
+    driver.assert_matches_model(in_each_form(*calls))

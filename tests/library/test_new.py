@@ -1,4 +1,4 @@
-"""mkpasswd_new: hashes with a salt of random numbers."""
+"""mkpasswd_new: hashes with random salts."""
 from __future__ import annotations
 
 import re
@@ -30,7 +30,7 @@ SYSTEMS = pytest.mark.parametrize(
     "system",
     [
         pytest.param(LOWEST_DIGITS, id="a byte and zeros"),
-        pytest.param(MANY_DIGITS, id="other bytes each"),
+        pytest.param(MANY_DIGITS, id="different bytes"),
     ],
 )
 VALID = [policy for policy in POLICIES if policy not in CLAMPED]
@@ -39,12 +39,12 @@ DEAR = 10_000_000
 
 
 def affordable() -> list[Policy]:
-    """The policies whose hashes cost no more than the header's budget."""
+    """Returns the policies whose hashes cost no more than BUDGET."""
     return [policy for policy in POLICIES if cost(policy.setting, 8) <= BUDGET]
 
 
 def new_by(policy: Policy) -> list[New]:
-    """Calls with each password, room and budget; where one hashes for long, fewer."""
+    """Returns calls with each password, room and budget, or fewer for expensive policies."""
     length, price = length_of_hash(policy.setting), cost(policy.setting, 8)
     calls = []
     for room in (0, 1, 2, 3, length, length + 1, TEXT_SIZE):
@@ -59,7 +59,7 @@ def new_by(policy: Policy) -> list[New]:
     return calls
 
 
-def test_a_salt_is_made_of_the_lowest_bits_first(driver: Driver) -> None:
+def test_a_salt_uses_the_lowest_bits_first(driver: Driver) -> None:
     assert salt_of((129, 0, 0), 8) == b"/0......"
     made = crypt(b"password", b"$1$/0......").decode()
     driver.assert_answer(New(b"password", 1), LOWEST_DIGITS, result=1, out=f'"{made}"')
@@ -70,13 +70,13 @@ def test_a_salt_is_made_of_the_lowest_bits_first(driver: Driver) -> None:
 def test_the_first_of_several_refusals_of_a_new_hash_is_reported(
     driver: Driver, policy: Policy, system: System
 ) -> None:
-    """Each password with each room for `out` and each budget."""
-    driver.assert_by_the_rules(new_by(policy), system, threads=4)
+    """Tries each password with each size of `out` and each budget."""
+    driver.assert_matches_model(new_by(policy), system, threads=4)
 
 
 @SYSTEMS
 @pytest.mark.parametrize("policy", affordable(), ids=str)
-def test_each_form_makes_a_new_hash_and_takes_null_pointers(
+def test_each_form_makes_a_new_hash_and_accepts_null_pointers(
     driver: Driver, policy: Policy, system: System
 ) -> None:
     price = cost(policy.setting, 8)
@@ -85,7 +85,7 @@ def test_each_form_makes_a_new_hash_and_takes_null_pointers(
         New(b"password", policy.method, policy.rounds, price, None),
         New(None, policy.method, policy.rounds, price),
     )
-    driver.assert_by_the_rules(calls, system, threads=4)
+    driver.assert_matches_model(calls, system, threads=4)
 
 
 @pytest.mark.parametrize("policy", INVALID_POLICIES, ids=str)
@@ -98,7 +98,7 @@ def test_an_invalid_policy_makes_no_hash(driver: Driver, policy: InvalidPolicy) 
         for room in (0, 1, 2, 3, 4, TEXT_SIZE)
         for budget in (0, 1, 8, 9, GREATEST)
     ]
-    driver.assert_by_the_rules(in_each_form(*calls), MANY_DIGITS)
+    driver.assert_matches_model(in_each_form(*calls), MANY_DIGITS)
 
 
 @pytest.mark.parametrize("policy", CLAMPED, ids=str)
@@ -110,7 +110,7 @@ def test_rounds_that_would_be_clamped_make_no_hash(driver: Driver, policy: Polic
 @pytest.mark.parametrize("policy", VALID, ids=str)
 def test_without_random_numbers_there_is_no_hash(driver: Driver, policy: Policy) -> None:
     calls = [call for call in new_by(policy) if call.budget in (0, 1, GREATEST)]
-    driver.assert_by_the_rules(calls, NO_NUMBERS)
+    driver.assert_matches_model(calls, NO_NUMBERS)
     driver.assert_answer(
         New(b"password", policy.method, policy.rounds, GREATEST),
         result=0,
@@ -123,12 +123,10 @@ def test_without_random_numbers_there_is_no_hash(driver: Driver, policy: Policy)
 
 @SYSTEMS
 @pytest.mark.parametrize("allocation", [1, 2, 3, 4])
-def test_an_allocation_that_fails_makes_no_hash(
-    driver: Driver, allocation: int, system: System
-) -> None:
+def test_a_failed_allocation_makes_no_hash(driver: Driver, allocation: int, system: System) -> None:
     system = System(allocation, system.random_bytes)
     calls = [New(password, 7, 0, BUDGET) for password in (b"password", b"a\0")]
-    driver.assert_by_the_rules(calls, system)
+    driver.assert_matches_model(calls, system)
 
 
 @SYSTEMS
@@ -141,10 +139,10 @@ def test_an_allocation_that_fails_makes_no_hash(
         pytest.param(7, 0, id="scrypt"),
     ],
 )
-def test_a_password_in_out_is_hashed_before_it_is_written_over(
+def test_a_password_in_out_is_hashed_before_it_is_overwritten(
     driver: Driver, method: int, rounds: int, system: System
 ) -> None:
-    driver.assert_by_the_rules([NewOver(b"password", method, rounds)], system)
+    driver.assert_matches_model([NewOver(b"password", method, rounds)], system)
 
 
 @SYSTEMS
@@ -157,24 +155,24 @@ def test_a_password_in_out_is_hashed_before_it_is_written_over(
     ],
 )
 def test_the_longest_password_gets_a_hash(driver: Driver, method: int, system: System) -> None:
-    driver.assert_by_the_rules([New(b"a" * 1024, method, 5000)], system)
+    driver.assert_matches_model([New(b"a" * 1024, method, 5000)], system)
 
 
-def test_10000_salts_of_the_system_differ(driver: Driver) -> None:
+def test_10000_salts_from_the_system_differ(driver: Driver) -> None:
     answers = driver.answers([New(b"a", 1)] * 10_000, REAL)
     assert {(answer.result, answer.error, answer.drawn) for answer in answers} == {(1, 0, 24)}
     salts = {match[0] for answer in answers if (match := re.match(r'"\$1\$[^$]{8}\$', answer.out))}
     assert len(salts) == 10_000
 
 
-def test_a_policy_of_zeros_is_sha512crypt_of_656000_rounds(driver: Driver) -> None:
-    """A null policy too: the driver makes each call of the header with both."""
+def test_a_policy_of_zeros_is_sha512crypt_with_656000_rounds(driver: Driver) -> None:
+    """So is a null policy: the driver makes each inline call with both."""
     for call in in_each_form(New(b"password")):
         made = driver.answers([call], MANY_DIGITS)[0].out.strip('"').encode()
         assert made.startswith(b"$6$rounds=656000$"), call.row
         assert crypt(b"password", made) == made
 
 
-def test_libxcrypt_agrees_with_a_hash_whose_salt_is_the_systems(driver: Driver) -> None:
+def test_libxcrypt_agrees_with_a_hash_with_a_random_salt(driver: Driver) -> None:
     made = driver.answers([New(b"a", 1)], REAL)[0].out.strip('"').encode()
     assert crypt(b"a", made) == made

@@ -1,7 +1,7 @@
-"""The object of the library: what no clause can say of it.
+"""The library's machine code: properties that no clause can state.
 
-Each function that hashes has to call the proved function of its name, and nothing between, and a
-comparison of hashes may not depend on where they differ.
+Each function that hashes must call only the proved function of its name, and the time of a
+comparison of hashes must not depend on where they differ.
 """
 from __future__ import annotations
 
@@ -22,14 +22,14 @@ CALLED = {
     "mkpasswd_login_bytes": ["mkpasswd_proved_login", "wipe_stack"],
     "mkpasswd_hash_bytes": ["mkpasswd_proved_hash", "wipe_stack"],
 }
-# A call of another object, or of a static function of this one.
+# Matches a call of another object's function, or of a static function of this object.
 CALL = re.compile(r"PLT32\s+(\w+)|\t(?:call|jmp) .*<(wipe_stack|hash_anew)>$", re.MULTILINE)
 FUNCTION = re.compile(r"^\w+ <(\S+)>:\n(.*?)\n(?=\n|\Z)", re.MULTILINE | re.DOTALL)
-# The call that makes the hash, and a byte of it beside one of the stored hash.
+# Match the call that hashes, and the comparison of a byte with the stored hash's.
 HASHED = re.compile(r"^.*\bcrypt_core::hash::hash_by\b.*\n", re.MULTILINE)
 BYTE_COMPARED = re.compile(r"\txor +[^\n]*\([^\n]*,1\),%\w+\n")
 JUMP_ON_A_TEST = re.compile(r"\t((?:test|cmp)\w* [^\n]*)\n[^\n]*\tj")
-# A test of a whole register, or by a number above 0, is one of a length.
+# A test of a 64-bit register, or against a number above 0, tests a length.
 OF_A_LENGTH = re.compile(r"[ ,]%r(?:[a-d]x|[sd]i|[sb]p|\d+)\b| \$0x[1-9a-f]\w*,")
 COMPARES_WORDS = re.compile(r"memcmp|bcmp|repz|pmovmsk|ptest")
 
@@ -38,7 +38,7 @@ pytestmark = pytest.mark.needs("objdump")
 
 @pytest.fixture(scope="module", params=LEVELS, name="folder")
 def fixture_folder(request: pytest.FixtureRequest) -> Path:
-    """The folder of what is built for a level of x86-64."""
+    """The folder of the build for a level of x86-64."""
     folder = ROOT / "build" / str(request.param)
     if not (folder / "mkpasswd.o").exists():
         not_applicable(f"build/{request.param} has no library")
@@ -47,14 +47,14 @@ def fixture_folder(request: pytest.FixtureRequest) -> Path:
 
 @pytest.fixture(scope="module", name="functions")
 def fixture_functions(folder: Path) -> dict[str, str]:
-    """The instructions of each function."""
+    """The instructions of each function, by name."""
     result = run("objdump", "-dr", "--no-show-raw-insn", folder / "mkpasswd.o").required()
     return dict(FUNCTION.findall(result.stdout.decode()))
 
 
 @pytest.fixture(scope="module", name="comparisons")
 def fixture_comparisons(functions: dict[str, str]) -> dict[str, str]:
-    """What each function that compares a hash with a stored one does once it has the hash."""
+    """The instructions of each comparing function, from where it has computed the hash."""
     found = {}
     for name, body in functions.items():
         _, *parts = HASHED.split(body)
@@ -65,17 +65,17 @@ def fixture_comparisons(functions: dict[str, str]) -> dict[str, str]:
 
 
 def sections_of(file: Path) -> str:
-    """The bytes of an object's sections, without the name of its file."""
+    """Returns a dump of an object's sections, without the name of the file."""
     text = run("objdump", "-s", file).required().stdout.decode()
     return re.sub(r"^.*file format.*\n", "", text, flags=re.MULTILINE)
 
 
-def test_the_usual_library_is_built() -> None:
+def test_the_default_library_is_built() -> None:
     level = (ROOT / "build/cpu").read_text(encoding="ascii").strip() or USUAL_LEVEL
     assert (ROOT / "build" / level / "mkpasswd.o").exists()
 
 
-def test_only_names_were_changed_in_the_proved_object(folder: Path, tmp_path: Path) -> None:
+def test_only_names_differ_from_the_proved_object(folder: Path, tmp_path: Path) -> None:
     run("ar", "x", folder / "libcrypt_c.a", "crypt_c.o", cwd=tmp_path).required()
     proved = sections_of(tmp_path / "crypt_c.o")
     assert proved != ""
@@ -83,20 +83,24 @@ def test_only_names_were_changed_in_the_proved_object(folder: Path, tmp_path: Pa
 
 
 @pytest.mark.parametrize("name", CALLED)
-def test_a_function_calls_its_proved_one_and_wipes(functions: dict[str, str], name: str) -> None:
+def test_a_function_calls_its_proved_one_and_wipes_the_stack(
+    functions: dict[str, str], name: str
+) -> None:
     calls = [first or second for first, second in CALL.findall(functions[name])]
     # The stack protector's call ends the process.
     calls = [called for called in calls if called != "__stack_chk_fail"]
     assert sorted(calls) == CALLED[name], f"the instructions of {name}:\n{functions[name]}"
 
 
-def test_a_comparison_jumps_by_lengths_and_by_its_result_alone(comparisons: dict[str, str]) -> None:
-    """By whether there is a hash, and at the end by whether a byte differs."""
+def test_a_comparison_branches_only_on_lengths_and_on_its_result(
+    comparisons: dict[str, str]
+) -> None:
+    """It tests whether there is a hash, and at the end whether any byte differs."""
     for name, body in comparisons.items():
         tests = [test for test in JUMP_ON_A_TEST.findall(body) if not OF_A_LENGTH.search(test)]
         assert len(tests) == 2, "\n".join([name, *tests, body])
 
 
-def test_a_comparison_compares_no_words(comparisons: dict[str, str]) -> None:
+def test_a_comparison_compares_single_bytes(comparisons: dict[str, str]) -> None:
     for name, body in comparisons.items():
         assert COMPARES_WORDS.findall(body) == [], name

@@ -1,7 +1,7 @@
-"""Published examples, of which a call is refused an allocation, and the largest hashes of scrypt.
+"""Published examples in which an allocation fails, and the largest scrypt hashes.
 
-A test of the proved code can't have an allocation fail, and no clause can tell a lack of memory
-that a call invents. Expected numbers are literals here, beside what the model says.
+A test in a crate can't make an allocation fail, and no clause rules out that a call reports a lack
+of memory that isn't there. The expected numbers are literals, besides the model's.
 """
 from __future__ import annotations
 
@@ -15,7 +15,7 @@ from support.needs import not_applicable
 
 SCRYPT = 7
 
-# The hash of openssl-passwd(1), and the third vector of RFC 7914.
+# The hash in openssl-passwd(1), and the third test vector of RFC 7914.
 MD5 = b"$1$xxxxxxxx$UYCIxa628.9qXjpQCjM4a."
 THIRD_VECTOR = b"$7$C6..../....SodiumChloride$kBGj9fHznVYFQMEn/qDCfrDevf9YDtcDdKvEqHJLV8D"
 OF_THE_THIRD_VECTOR = Hash(b"pleaseletmein", b"$7$C6..../....SodiumChloride", GREATEST)
@@ -29,7 +29,7 @@ OF_THE_THIRD_VECTOR = Hash(b"pleaseletmein", b"$7$C6..../....SodiumChloride", GR
         pytest.param(3, 16777216, 1024, id="the word scratch"),
     ],
 )
-def test_scrypt_counts_only_what_it_got_before_the_refused(
+def test_scrypt_counts_only_the_memory_before_a_failed_allocation(
     driver: Driver, refused: int, table: int, scratch: int
 ) -> None:
     driver.assert_answer(
@@ -45,7 +45,7 @@ def test_scrypt_counts_only_what_it_got_before_the_refused(
     )
 
 
-def test_scrypt_asks_for_no_fourth_allocation(driver: Driver) -> None:
+def test_scrypt_makes_only_three_allocations(driver: Driver) -> None:
     driver.assert_answer(
         OF_THE_THIRD_VECTOR,
         System(refused_allocation=4),
@@ -70,7 +70,7 @@ def test_scrypt_asks_for_no_fourth_allocation(driver: Driver) -> None:
         pytest.param(3, 256, 128, id="the word scratch of 256"),
     ],
 )
-def test_memory_that_is_refused_is_not_counted(
+def test_memory_of_a_failed_allocation_is_not_counted(
     driver: Driver, refused: int, table: int, scratch: int
 ) -> None:
     driver.assert_answer(
@@ -86,7 +86,7 @@ def test_memory_that_is_refused_is_not_counted(
 
 
 def test_the_least_memory_of_scrypt_is_counted(driver: Driver) -> None:
-    """The hash is that of Python's hashlib: libxcrypt, which the model asks, refuses N = 2."""
+    """The hash is from Python's hashlib, since libxcrypt, which the model uses, refuses N = 2."""
     call = Hash(b"", b"$7$//..../....", GREATEST)
     [answer] = driver.answers([call], System(refused_allocation=4))
     assert (answer.result, answer.digests, answer.bytes, answer.mixes) == (1, 10, 948, 4)
@@ -107,19 +107,19 @@ def test_md5crypt_needs_no_memory(driver: Driver, refused: int) -> None:
     )
 
 
-# ---- The largest hashes of scrypt
+# ---- The largest scrypt hashes
 
-# With 11 rounds N is 2^18 and r is 32, so the table has 1 GiB. The hash is that of libxcrypt and of
-# Python's hashlib.
+# With rounds = 11, N is 2^18 and r is 32, so the table has 1 GiB. libxcrypt and Python's hashlib
+# give the same hash.
 LARGEST_ROUNDS = 11
 LARGEST = b"$7$GU..../....ab$usU8J1uEK/M/.nHi2It6aoypY36zRdBmdiCRjefMUs."
 NEEDED_KILOBYTES = 3 * 2**19
-OF_THE_POLICY = 0  # as a budget
+OF_THE_POLICY = 0  # the budget that stands for the policy's limit
 
 
 @pytest.fixture(name="driver_with_memory")
 def fixture_driver_with_memory(driver: Driver) -> Driver:
-    """The program that makes calls, where it can have 1 GiB."""
+    """The driver, if 1 GiB of memory is available."""
     available = re.search(r"MemAvailable: +(\d+) kB", Path("/proc/meminfo").read_text("ascii"))
     if available and int(available[1]) < NEEDED_KILOBYTES:
         not_applicable("a hash needs 1 GiB of memory")
@@ -141,7 +141,7 @@ def test_a_hash_with_a_table_of_1_gib_is_verified(driver_with_memory: Driver) ->
 
 
 @pytest.mark.slow
-def test_a_login_with_a_table_of_1_gib_gets_in(driver_with_memory: Driver) -> None:
+def test_a_login_with_a_table_of_1_gib_is_accepted(driver_with_memory: Driver) -> None:
     driver_with_memory.assert_answer(
         Login(b"password", LARGEST, SCRYPT, LARGEST_ROUNDS, OF_THE_POLICY),
         result=1,
@@ -153,7 +153,7 @@ def test_a_login_with_a_table_of_1_gib_gets_in(driver_with_memory: Driver) -> No
 
 @pytest.mark.slow
 def test_a_dummy_hash_with_a_table_of_1_gib_is_made(driver_with_memory: Driver) -> None:
-    """A new hash has a salt of 22 bytes, so more is digested than of a hash with 2."""
+    """The dummy hash has a salt of 22 bytes instead of 2, so it digests more bytes."""
     driver_with_memory.assert_answer(
         Login(b"password", b"!", SCRYPT, LARGEST_ROUNDS, OF_THE_POLICY),
         result=0,

@@ -1,7 +1,6 @@
-"""Refusals: which is reported where several apply, and what `out` has then.
+"""Refusals: which one is reported if several apply, and what is in `out` then.
 
-The calls here are mkpasswd_hash, mkpasswd_bound and mkpasswd_needs_rehash. mkpasswd_new is in
-test_new.py.
+This tests mkpasswd_hash, mkpasswd_bound and mkpasswd_needs_rehash; test_new.py tests mkpasswd_new.
 """
 from __future__ import annotations
 
@@ -34,7 +33,7 @@ PASSWORDS = (b"password", b"a" * 1025, b"pass\0word", b"\0" + b"a" * 1024)
 
 @dataclass(frozen=True)
 class Text:
-    """A setting, or what is none."""
+    """A setting, or a text that isn't one."""
 
     title: str
     text: bytes
@@ -44,7 +43,7 @@ class Text:
 
     @property
     def length_of_hash(self) -> int:
-        """The characters of its hash, or of what stands for one."""
+        """The length of its hash, or of some hash if the text is no setting."""
         try:
             return length_of_hash(read_setting(self.text))
         except Refused:
@@ -52,7 +51,7 @@ class Text:
 
     @property
     def cost(self) -> int:
-        """What a hash of "password" can cost, or a small number."""
+        """What a hash of "password" can cost, or a small number if the text is no setting."""
         try:
             return cost(read_setting(self.text), 8)
         except Refused:
@@ -69,7 +68,7 @@ TEXTS = (
 
 @pytest.mark.parametrize("text", TEXTS, ids=str)
 def test_the_first_of_several_refusals_of_a_hash_is_reported(driver: Driver, text: Text) -> None:
-    """Each password with each room for `out` and each budget."""
+    """Tries each password with each size of `out` and each budget."""
     rooms = (0, 1, 2, 3, text.length_of_hash, text.length_of_hash + 1, TEXT_SIZE)
     budgets = (0, text.cost - 1, text.cost, GREATEST)
     calls = [
@@ -78,7 +77,7 @@ def test_the_first_of_several_refusals_of_a_hash_is_reported(driver: Driver, tex
         for room in rooms
         for budget in budgets
     ]
-    driver.assert_by_the_rules(calls)
+    driver.assert_matches_model(calls)
 
 
 @pytest.mark.parametrize("text", TEXTS, ids=str)
@@ -90,7 +89,7 @@ def test_the_first_of_several_refusals_is_reported_in_each_form(driver: Driver, 
         for room in rooms
         for call in in_each_form(Hash(password, text.text, text.cost, room))
     ]
-    driver.assert_by_the_rules(calls)
+    driver.assert_matches_model(calls)
 
 
 @pytest.mark.parametrize(
@@ -106,7 +105,7 @@ def test_the_first_of_several_refusals_is_reported_in_each_form(driver: Driver, 
         pytest.param(Hash(b"a", b"*0", out_size=0), Reason.BAD_CHARACTER, "unchanged", id="none"),
     ],
 )
-def test_after_a_refusal_out_has_what_no_password_matches(
+def test_after_a_refusal_out_has_a_token_that_no_password_matches(
     driver: Driver, call: Hash, error: Reason, out: str
 ) -> None:
     driver.assert_answer(call, result=0, error=error, length=0, out=out)
@@ -121,7 +120,7 @@ def test_after_a_refusal_out_has_what_no_password_matches(
         pytest.param(Hash(b"a", b"$1$a", out_size=None), Reason.TOO_FEW_BYTES, id="out"),
         pytest.param(Hash(b"a", b"*0", out_size=None), Reason.BAD_CHARACTER, id="out, for *0"),
         pytest.param(Bound(None), Reason.UNKNOWN_SCHEME, id="stored hash, for its bound"),
-        pytest.param(NeedsRehash(None), Reason.UNKNOWN_SCHEME, id="stored hash, for its age"),
+        pytest.param(NeedsRehash(None), Reason.UNKNOWN_SCHEME, id="stored hash, if outdated"),
     ],
 )
 def test_a_null_pointer_is_refused(
@@ -132,22 +131,20 @@ def test_a_null_pointer_is_refused(
 
 
 @pytest.mark.parametrize("text", TEXTS, ids=str)
-def test_a_bound_has_its_first_refusal(driver: Driver, text: Text) -> None:
+def test_bound_reports_the_first_refusal(driver: Driver, text: Text) -> None:
     calls = [Bound(text.text, length) for length in (0, 1024, 1025, GREATEST)]
-    driver.assert_by_the_rules([*calls, *in_each_form(Bound(text.text, 8))])
+    driver.assert_matches_model([*calls, *in_each_form(Bound(text.text, 8))])
 
 
 @pytest.mark.parametrize("text", TEXTS, ids=str)
-def test_the_age_of_a_hash_has_its_first_refusal(driver: Driver, text: Text) -> None:
+def test_needs_rehash_reports_the_first_refusal(driver: Driver, text: Text) -> None:
     policies: list[Policy] = [*POLICIES, *INVALID_POLICIES]
     calls = [NeedsRehash(text.text, policy.method, policy.rounds) for policy in policies]
-    driver.assert_by_the_rules([*calls, *in_each_form(NeedsRehash(text.text, 6, 0))])
+    driver.assert_matches_model([*calls, *in_each_form(NeedsRehash(text.text, 6, 0))])
 
 
 @pytest.mark.parametrize("policy", INVALID_POLICIES, ids=str)
-def test_an_invalid_policy_says_nothing_of_the_age_of_a_hash(
-    driver: Driver, policy: InvalidPolicy
-) -> None:
+def test_an_invalid_policy_makes_no_hash_outdated(driver: Driver, policy: InvalidPolicy) -> None:
     call = NeedsRehash(MD5CRYPT, policy.method, policy.rounds)
     driver.assert_answer(call, result=0, error=policy.error)
 
@@ -156,8 +153,8 @@ def test_an_invalid_policy_says_nothing_of_the_age_of_a_hash(
     "setting",
     [
         pytest.param(b"$5$ab", id="sha256crypt without rounds"),
-        pytest.param(b"$5$rounds=5000$ab", id="sha256crypt of 5000 rounds"),
-        pytest.param(b"$6$rounds=5000$ab", id="sha512crypt of 5000 rounds"),
+        pytest.param(b"$5$rounds=5000$ab", id="sha256crypt with 5000 rounds"),
+        pytest.param(b"$6$rounds=5000$ab", id="sha512crypt with 5000 rounds"),
         pytest.param(b"$7$86....U....ab", id="scrypt with a large p"),
     ],
 )
@@ -166,7 +163,7 @@ def test_a_setting_is_outdated_by_a_stronger_policy(
     driver: Driver, setting: bytes, policy: Policy
 ) -> None:
     calls = in_each_form(NeedsRehash(setting, policy.method, policy.rounds))
-    driver.assert_by_the_rules(calls)
+    driver.assert_matches_model(calls)
 
 
 @pytest.mark.parametrize(

@@ -1,4 +1,4 @@
-"""The time of logins: no clause keeps a compiler from dropping a hash that nobody reads."""
+"""The time of logins: no clause keeps a compiler from removing a dummy hash."""
 from __future__ import annotations
 
 import re
@@ -10,14 +10,14 @@ from support.process import run
 
 ROUNDS = 1000
 LOGINS = 50  # for each kind of field
-LEAST_SHARE = 0.5  # of the time of a wrong password
+LEAST_SHARE = 0.5  # of the time that a wrong password takes
 
 pytestmark = pytest.mark.xdist_group("the time of logins")
 
 
 @pytest.fixture(scope="module", name="times")
 def fixture_times(builder: Builder) -> dict[str, float]:
-    """The median of the processor time of logins for each kind of field, in milliseconds."""
+    """The median processor time of a login in milliseconds, for each kind of field."""
     program = builder.build(ROOT / "tools/bench-login.c")
     result = run(program, ROUNDS, LOGINS).required()
     rows = re.findall(r"^(\S.*?) +([\d.]+) ms ", result.stdout.decode(), re.MULTILINE)

@@ -1,4 +1,4 @@
-"""mkpasswd_verify: who gets in, also where a caller looks at nothing but the result."""
+"""mkpasswd_verify: which passwords match, even if a caller checks only the result."""
 from __future__ import annotations
 
 import pytest
@@ -17,12 +17,12 @@ from support.stored_fields import (
 
 
 @pytest.mark.parametrize("known", KNOWN_HASHES, ids=str)
-def test_the_model_makes_published_hashes(known: KnownHash) -> None:
+def test_the_model_gives_the_published_hashes(known: KnownHash) -> None:
     assert hash_of(read_setting(known.text), known.password) == known.text
 
 
 @pytest.mark.parametrize("known", KNOWN_HASHES, ids=str)
-def test_the_right_password_fits(driver: Driver, known: KnownHash) -> None:
+def test_the_right_password_matches(driver: Driver, known: KnownHash) -> None:
     for call in in_each_form(Verify(known.password, known.text)):
         driver.assert_answer(call, result=1, error=0, outdated=0)
 
@@ -34,7 +34,7 @@ def test_a_wrong_password_is_refused(driver: Driver, wrong: WrongPassword) -> No
 
 
 @pytest.mark.parametrize("field", NEVER_OPEN, ids=str)
-def test_a_field_that_is_no_hash_of_the_password_is_refused(driver: Driver, field: Field) -> None:
+def test_a_field_that_does_not_match_is_refused(driver: Driver, field: Field) -> None:
     for call in in_each_form(Verify(b"password", field.text)):
         driver.assert_answer(call, result=0, error=field.error)
 
@@ -49,7 +49,7 @@ def test_a_field_that_is_no_hash_of_the_password_is_refused(driver: Driver, fiel
         pytest.param(GREATEST, 1, 0, id="the greatest number"),
     ],
 )
-def test_the_right_password_fits_within_the_budget(
+def test_the_right_password_matches_only_within_the_budget(
     driver: Driver, budget: int, result: int, error: int
 ) -> None:
     for call in in_each_form(Verify(b"password", OF_PASSWORD.text, budget)):
@@ -71,10 +71,10 @@ def test_a_null_pointer_is_refused(driver: Driver, call: Verify, error: Reason) 
         driver.assert_answer(each, result=0, error=error)
 
 
-def test_calls_in_eight_threads_answer_as_in_one(driver: Driver) -> None:
-    driver.assert_by_the_rules(careless_logins(), threads=8)
+def test_calls_answer_the_same_in_eight_threads(driver: Driver) -> None:
+    driver.assert_matches_model(careless_logins(), threads=8)
 
 
 @pytest.mark.parametrize("allocation", [1, 2, 3, 4])
-def test_an_allocation_that_fails_lets_nobody_in(driver: Driver, allocation: int) -> None:
-    driver.assert_by_the_rules(careless_logins(), System(refused_allocation=allocation))
+def test_a_check_with_a_failed_allocation_is_refused(driver: Driver, allocation: int) -> None:
+    driver.assert_matches_model(careless_logins(), System(refused_allocation=allocation))

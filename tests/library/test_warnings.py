@@ -1,7 +1,7 @@
-"""What compilers say to a careless caller, and that they keep quiet about a careful one.
+"""Compilers warn careless callers, and don't warn careful ones.
 
-The careless callers are tests/c/warned_*.c, where each line that a compiler has to warn about says
-so, and statements of this file that no compiler may take.
+The careless callers are tests/c/warned_*.c, which mark each line that a compiler must warn about,
+and statements in this file that no compiler may accept.
 """
 from __future__ import annotations
 
@@ -22,7 +22,7 @@ ALL_COMPILERS = pytest.mark.parametrize(
 
 @dataclass(frozen=True)
 class Caller:
-    """A file of statements, and what a compiler has to say of each that is marked."""
+    """A file of statements, and the warning that each marked one must get."""
 
     title: str
     name: str
@@ -33,12 +33,12 @@ class Caller:
 
     @property
     def path(self) -> Path:
-        """The file."""
+        """The path of the file."""
         return SOURCES / self.name
 
     @property
     def marked_lines(self) -> list[int]:
-        """The numbers of the lines that a compiler has to warn about."""
+        """The numbers of the lines that a compiler must warn about."""
         lines = self.path.read_text(encoding="ascii").splitlines()
         return [number for number, line in enumerate(lines, 1) if line.endswith(MARK)]
 
@@ -60,7 +60,7 @@ SMALL_ROOM = Caller(
 def compiled(
     compiler: str, source: Path, installed: Installed, program: Path, *words: Word
 ) -> Result:
-    """How a compiler makes a program with the static library."""
+    """Compiles a program with the static library, and returns how that went."""
     language = "c++" if "+" in compiler else "c"
     library: list[Word] = ["-x", "none", *installed.static]
     return run(compiler, *words, "-x", language, source, *library, "-o", program)
@@ -69,7 +69,7 @@ def compiled(
 def compiled_with_warnings(
     compiler: str, source: Path, installed: Installed, program: Path
 ) -> Result:
-    """The same with the usual warnings, and in C++ those about casts that are C's."""
+    """Compiles it with the usual warnings, in C++ also about old-style casts."""
     words = ["-Wall", "-Wextra", "-O1"]
     if "+" in compiler:
         words.append("-Wold-style-cast")
@@ -77,7 +77,7 @@ def compiled_with_warnings(
 
 
 def warnings_by_line(result: Result, source: Path) -> dict[int, str]:
-    """What a compiler warned of in each line of a file."""
+    """Returns a compiler's warning for each line of a file."""
     found: dict[int, str] = {}
     pattern = rf"^{re.escape(str(source))}:(\d+):\d+: (?:warning|error): (.*)$"
     for number, text in re.findall(pattern, result.stderr.decode(), re.MULTILINE):
@@ -86,7 +86,7 @@ def warnings_by_line(result: Result, source: Path) -> dict[int, str]:
 
 
 def assert_warned(caller: Caller, result: Result) -> None:
-    """Fails the test unless just the marked lines got the warning."""
+    """Fails the test unless exactly the marked lines got the warning."""
     assert caller.marked_lines
     lines = caller.path.read_text(encoding="ascii").splitlines()
     found = warnings_by_line(result, caller.path)
@@ -121,8 +121,8 @@ def test_gcc_warns_of_an_out_that_is_too_small(
     )
 
 
-def test_each_call_that_can_fail_is_ignored_in_that_file(installed: Installed) -> None:
-    """The results of those that give a text or a number may be ignored, and of what makes one."""
+def test_the_file_of_ignored_results_has_each_call_that_can_fail(installed: Installed) -> None:
+    """Calls that only return a text, a number or a struct may be ignored."""
     text = IGNORED_RESULTS.path.read_text(encoding="ascii")
     ignored = re.findall(rf"(mkpasswd_\w+)\(.*{re.escape(MARK)}", text)
     calls = {*installed.exported(), *installed.inline()}
@@ -135,17 +135,17 @@ def test_each_call_that_can_fail_is_ignored_in_that_file(installed: Installed) -
 
 
 @ALL_COMPILERS
-def test_the_headers_own_calls_take_null_pointers(
+def test_the_inline_calls_accept_null_pointers(
     installed: Installed, tmp_path: Path, compiler: str
 ) -> None:
-    """No compiler says a word, and each call does what the header says: the program returns 0."""
+    """No compiler warns, and the program returns 0 if each call does what the header says."""
     program = tmp_path / "caller"
     assert_result(compiled_with_warnings(compiler, SOURCES / "null_pointers.c", installed, program))
     assert_result(run(program))
 
 
 @ALL_COMPILERS
-def test_a_callers_own_test_for_null_is_kept(
+def test_a_compiler_keeps_a_callers_own_test_for_null(
     installed: Installed, tmp_path: Path, compiler: str
 ) -> None:
     program = tmp_path / "caller"
@@ -154,7 +154,7 @@ def test_a_callers_own_test_for_null_is_kept(
     assert_result(run(program))
 
 
-# ---- What no compiler takes
+# ---- Statements that no compiler accepts
 
 FUNCTION = """\
 #include <mkpasswd.h>
@@ -179,9 +179,9 @@ RIGHT_ORDER = {
     "mkpasswd_audit": "mkpasswd_audit(field, NULL, report)",
 }
 REFUSED = {
-    "an exchanged password and field of a login": "mkpasswd_login(field, password, NULL, report)",
-    "the same of a check": "mkpasswd_verify(field, password, 1, report)",
-    "the same of a hash": "mkpasswd_hash(field, password, 1, out, sizeof out, report)",
+    "exchanged password and field of a login": "mkpasswd_login(field, password, NULL, report)",
+    "exchanged password and field of a check": "mkpasswd_verify(field, password, 1, report)",
+    "exchanged arguments of a hash": "mkpasswd_hash(field, password, 1, out, sizeof out, report)",
     "two passwords": "mkpasswd_login(password, password, NULL, report)",
     "two fields": "mkpasswd_login(field, field, NULL, report)",
     "a field as a new password": "mkpasswd_new(field, NULL, out, sizeof out, report)",
@@ -193,7 +193,7 @@ REFUSED = {
 
 
 def compiled_statement(compiler: str, statement: str, installed: Installed, folder: Path) -> Result:
-    """How a compiler takes a function that returns what a statement gives."""
+    """Compiles a function that returns a statement's result, and returns how that went."""
     source = folder / "caller.c"
     source.write_text(FUNCTION.replace("STATEMENT", statement), encoding="ascii")
     words = ["-Wall", "-Wextra", "-fsyntax-only", f"-I{installed.include}"]
@@ -202,7 +202,7 @@ def compiled_statement(compiler: str, statement: str, installed: Installed, fold
 
 @ALL_COMPILERS
 @pytest.mark.parametrize("statement", RIGHT_ORDER.values(), ids=list(RIGHT_ORDER))
-def test_a_compiler_takes_arguments_in_their_order(
+def test_a_compiler_accepts_arguments_in_the_right_order(
     installed: Installed, tmp_path: Path, compiler: str, statement: str
 ) -> None:
     assert_result(compiled_statement(compiler, statement, installed, tmp_path))
@@ -210,7 +210,7 @@ def test_a_compiler_takes_arguments_in_their_order(
 
 @ALL_COMPILERS
 @pytest.mark.parametrize("statement", REFUSED.values(), ids=list(REFUSED))
-def test_no_compiler_takes(
+def test_no_compiler_accepts(
     installed: Installed, tmp_path: Path, compiler: str, statement: str
 ) -> None:
     result = compiled_statement(compiler, statement, installed, tmp_path)
@@ -218,4 +218,4 @@ def test_no_compiler_takes(
     errors = re.findall(
         rf"^\S+caller\.c:{line}:\d+: error: .*", result.stderr.decode(), re.MULTILINE
     )
-    assert result.status != 0 and errors, f"expected: an error in line {line}\n{result}"
+    assert result.status != 0 and errors, f"expected an error in line {line}\n{result}"

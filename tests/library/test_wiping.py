@@ -1,8 +1,8 @@
-"""What calls leave in memory.
+"""Calls leave nothing of a password in memory.
 
-The test looks at the memory of a process that makes a call three times. The third password has
-another byte at each place. So eight bytes in a row that the third call changed are of the
-password, or of what was computed from it.
+The test reads the memory of a process that makes a call three times, the third time with a
+password that differs in every byte. Eight bytes in a row that the third call changes are then
+from the password, or computed from it.
 """
 from __future__ import annotations
 
@@ -18,14 +18,14 @@ from support.stored_fields import MD5CRYPT, SCRYPT_OF_PASSWORD
 
 LEAST_FOUND = 8  # bytes in a row
 CALLS = 3
-# glibc's malloc then never hands memory back by itself.
+# With these settings glibc's malloc never returns memory to the system.
 KEEPS_MEMORY = "glibc.malloc.mmap_max=0:glibc.malloc.trim_threshold=4000000000"
-Memory = dict[int, bytes]  # by the first address of each part
+Memory = dict[int, bytes]  # the content of each mapping, by its first address
 
 
 @dataclass(frozen=True)
 class Case:
-    """A call: its name in tests/c/residue.c and what that gets."""
+    """A call: its name in tests/c/residue.c, and its arguments."""
 
     title: str
     call: str
@@ -37,7 +37,7 @@ class Case:
         return self.title
 
     def words(self, length: int, is_locked: bool) -> list[str | bytes]:
-        """The words of the command, for a password of so many bytes."""
+        """Returns the command's arguments for a password of this length."""
         numbers = (self.method, self.rounds, length, int(is_locked))
         return [self.call, self.text, *(str(number) for number in numbers)]
 
@@ -66,12 +66,12 @@ CASES = (
 
 @pytest.fixture(scope="session", name="residue")
 def fixture_residue(builder: Builder) -> Path:
-    """The program that makes calls and stops."""
+    """The program that makes a call and then stops."""
     return builder.build(SOURCES / "residue.c")
 
 
 def memory_of(process: subprocess.Popen[bytes]) -> Memory:
-    """The private memory of a process that can be written."""
+    """Returns the private, writable memory of a process."""
     maps = Path(f"/proc/{process.pid}/maps").read_text(encoding="ascii", errors="replace")
     found = {}
     with open(f"/proc/{process.pid}/mem", "rb", buffering=0) as memory:
@@ -82,8 +82,8 @@ def memory_of(process: subprocess.Popen[bytes]) -> Memory:
     return found
 
 
-def changed(old: bytes, new: bytes) -> list[bytes]:
-    """The runs of bytes that differ, as the differences of their bits."""
+def changed_runs(old: bytes, new: bytes) -> list[bytes]:
+    """Returns the runs of bytes that differ, as exclusive ors."""
     if old == new:
         return []
     size = max(len(old), len(new))
@@ -94,7 +94,7 @@ def changed(old: bytes, new: bytes) -> list[bytes]:
 
 
 def assert_nothing_left(residue: Path, words: list[str | bytes], env: Changes | None) -> None:
-    """Fails the test if the third call changed eight bytes in a row."""
+    """Fails the test if the third call has changed eight bytes in a row."""
     memories = []
     command = (residue, *words)
     pipe = subprocess.PIPE
@@ -112,9 +112,9 @@ def assert_nothing_left(residue: Path, words: list[str | bytes], env: Changes | 
     left = [
         f"at {start:x}: {run.hex()}"
         for start, part in third.items()
-        for run in changed(second.get(start, b""), part)
+        for run in changed_runs(second.get(start, b""), part)
     ]
-    assert left == [], f"{printable_command(command)} leaves bytes behind"
+    assert left == [], f"{printable_command(command)} leaves bytes in memory"
 
 
 @pytest.mark.parametrize("length", [8, 24, 1000], ids=lambda length: f"{length} bytes")
@@ -124,19 +124,19 @@ def test_nothing_of_a_password_is_left_in_memory(residue: Path, case: Case, leng
 
 
 @pytest.mark.parametrize("case", LARGE_TABLES, ids=str)
-def test_nothing_is_left_in_memory_that_malloc_keeps(residue: Path, case: Case) -> None:
+def test_nothing_is_left_in_memory_kept_by_malloc(residue: Path, case: Case) -> None:
     environment = {"GLIBC_TUNABLES": KEEPS_MEMORY}
     assert_nothing_left(residue, case.words(24, is_locked=False), environment)
 
 
 @pytest.mark.needs("root")
 @pytest.mark.parametrize("case", LARGE_TABLES, ids=str)
-def test_nothing_is_left_in_memory_that_is_locked(residue: Path, case: Case) -> None:
-    """The system can't take locked pages back, so the library has to write over them."""
+def test_nothing_is_left_in_locked_memory(residue: Path, case: Case) -> None:
+    """The system can't discard locked pages, so the library must overwrite them."""
     environment = {"GLIBC_TUNABLES": KEEPS_MEMORY}
     assert_nothing_left(residue, case.words(24, is_locked=True), environment)
 
 
-def test_the_test_finds_bytes_that_are_left() -> None:
-    assert changed(b"same" + b"a" * 8 + b"same", b"same" + b"b" * 8 + b"same") == [b"\3" * 8]
-    assert changed(b"a" * 7, b"b" * 7) == []
+def test_this_test_finds_bytes_that_are_left() -> None:
+    assert changed_runs(b"same" + b"a" * 8 + b"same", b"same" + b"b" * 8 + b"same") == [b"\3" * 8]
+    assert changed_runs(b"a" * 7, b"b" * 7) == []

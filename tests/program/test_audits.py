@@ -1,4 +1,4 @@
-"""What an audit finds in each kind of field."""
+"""What an audit reports for each kind of field."""
 from __future__ import annotations
 
 from dataclasses import dataclass
@@ -10,7 +10,7 @@ from support.model.settings import ScryptCost, read_setting
 from support.model.work import LONGEST_PASSWORD, cost
 from support.process import Word, assert_result, run
 
-# Hashes of "password" that libxcrypt makes.
+# libxcrypt's hashes of "password".
 SHA512 = (
     b"$6$rounds=656000$ab$hc10aHkXN.GF5BQag9FBjeGeBnJXHj4GHeiS9SEq5r1wLkbQRKB4zP9d0pztZ6D3nYaEdp3L"
     b"iHXS5HEc4ufoq0"
@@ -26,14 +26,14 @@ SHA256 = b"$5$rounds=656000$ab$OPbOPv7dVBLpN3R.bhm45g.TZiUJo/hpodcbU1pIYG/"
 MD5 = b"$1$xxxxxxxx$UYCIxa628.9qXjpQCjM4a."
 SCRYPT = b"$7$CU..../....ab$4A55KAlzbPi/J3hBHfOo9KGY241BFLQ6dV4No23GMC8"
 
-# Hashes that nobody has a password of.
+# Dummy hashes.
 SCRYPT_DEAR = b"$7$" + ScryptCost(15, 32, 1).text + b"ab$" + b"a" * 42 + b"."
 SCRYPT_AT_LIMIT = b"$7$" + ScryptCost(14, 39, 1).text + b"aaaaa$" + b"a" * 42 + b"."
-SCRYPT_DEAREST = b"$7$" + ScryptCost(18, 32, 1).text + b"a" * 86  # as -R 11 has it
+SCRYPT_DEAREST = b"$7$" + ScryptCost(18, 32, 1).text + b"a" * 86  # the cost of -R 11
 SHA512_MOST_ROUNDS = b"$6$rounds=999999999$ab$x"
 SHA512_MOST_ROUNDS_LONGEST_SALT = b"$6$rounds=999999999$aaaaaaaaaaaaaaaa"
 
-# How findings begin; COST stands for what a login with the longest password can cost.
+# How findings begin. COST stands for the highest cost of a login with the longest password.
 OF_SHA512 = "sha512crypt:656000:COST"
 OF_SHA256 = "sha256crypt:656000:COST"
 OF_MD5 = "md5crypt:1000:COST"
@@ -47,7 +47,7 @@ Options = list[Word]
 
 @dataclass(frozen=True)
 class Audit:
-    """A field, the options beside --audit, and the finding."""
+    """A field, the options besides --audit, and the finding."""
 
     title: str
     field: bytes
@@ -59,7 +59,7 @@ class Audit:
 
     @property
     def expected(self) -> str:
-        """The finding with the cost."""
+        """The finding, with the cost filled in."""
         if "COST" not in self.finding:
             return self.finding
         highest = cost(read_setting(self.field), LONGEST_PASSWORD)
@@ -88,11 +88,11 @@ BY_OTHER_POLICIES = [
     Audit("scrypt as the policy", SCRYPT, f"{OF_SCRYPT}:current", ("-m", "scrypt")),
     Audit("scrypt with a higher cost", SCRYPT, f"{OF_SCRYPT}:outdated", ("-m", "scrypt", "-R", 8)),
 ]
-# Without a budget an audit has one, which grows with the cost of a longest salt.
+# Without the option, the budget follows from the cost of a hash with the longest salt.
 BY_BUDGETS = [
     Audit("the cost as the budget", SHA512, f"{OF_SHA512}:current", ("--budget", COST_OF_SHA512)),
     Audit(
-        "a budget one too small",
+        "a budget too small by one",
         SHA512,
         f"{OF_SHA512}:over budget",
         ("--budget", COST_OF_SHA512 - 1),
@@ -120,8 +120,8 @@ BY_BUDGETS = [
         ("-m", "scrypt", "-R", 11),
     ),
 ]
-# Without a budget the empty password has one too, that of a login: it costs 268460964 with the
-# first hash here. With the other it costs 163609376, which is the limit by 422664 rounds.
+# Without the option, the empty password has a limit too, that of a login. It costs 268460964 with
+# the first hash here, and 163609376 with the second, which is the limit for 422664 rounds.
 BY_THE_LIMIT_OF_A_LOGIN = [
     Audit("dear scrypt by the default policy", SCRYPT_DEAR, f"{OF_SCRYPT_DEAR}:over budget"),
     Audit(
@@ -155,7 +155,7 @@ BY_THE_LIMIT_OF_A_LOGIN = [
         ("-R", 422663),
     ),
 ]
-# The last character of a hash has two bits or four.
+# The last character of a hash encodes two or four bits.
 BY_THE_LAST_CHARACTER = [
     Audit("sha512crypt with the last 1", SHA512[:-1] + b"1", f"{OF_SHA512}:current"),
     Audit("sha512crypt with the last 2", SHA512[:-1] + b"2", f"{OF_SHA512}:dead"),
@@ -181,8 +181,8 @@ DAMAGED = [
     Audit("cut to sixty characters", SHA512[:60], f"{OF_SHA512}:dead"),
     Audit("cut by a character", SHA512[:-1], f"{OF_SHA512}:dead"),
     Audit("cut before the last dollar sign", SETTING, f"{OF_SHA512}:dead"),
-    Audit("cut behind the last dollar sign", SETTING + b"$", f"{OF_SHA512}:dead"),
-    Audit("a character more", SHA512 + b".", f"{OF_SHA512}:dead"),
+    Audit("cut after the last dollar sign", SETTING + b"$", f"{OF_SHA512}:dead"),
+    Audit("one more character", SHA512 + b".", f"{OF_SHA512}:dead"),
     Audit("another part", SHA512 + b"$extra", f"{OF_SHA512}:dead"),
     Audit("a character that is no digit", SETTING + b"$_" + DIGITS[1:], f"{OF_SHA512}:dead"),
     Audit(
@@ -192,7 +192,7 @@ DAMAGED = [
     ),
     Audit("a salt that is too long for md5crypt", MD5.replace(b"x", b"xx", 1), f"{OF_MD5}:dead"),
     Audit(
-        "fewer rounds than there are",
+        "fewer rounds than the minimum",
         SHA512.replace(b"656000", b"999"),
         "sha512crypt:1000:COST:dead",
     ),
@@ -212,15 +212,15 @@ OTHER_SCHEMES = [
     Audit("an underscore", b"_", "bsdicrypt:unknown"),
     Audit("an underscore and any bytes", b"_ \0\xe9" + b"x" * 400, "bsdicrypt:unknown"),
     Audit("a dollar sign", b"$", "unknown"),
-    Audit("a prefix that is cut", b"$1", "unknown"),
+    Audit("an incomplete prefix", b"$1", "unknown"),
     Audit("bcrypt 2x", b"$2x$04$ab", "unknown"),
-    Audit("yescrypt's prefix that is cut", b"$y", "unknown"),
+    Audit("an incomplete prefix of yescrypt", b"$y", "unknown"),
     Audit("a number that no scheme has", b"$8$ab$x", "unknown"),
 ]
 NO_SCHEME = [
     Audit("a character", b"x", "no scheme"),
     Audit("words", b"a secret", "no scheme"),
-    Audit("a letter of two bytes", b"\xc3\xa9", "no scheme"),
+    Audit("a two-byte letter", b"\xc3\xa9", "no scheme"),
     Audit("a hash without its dollar sign", b"1$ab$x", "no scheme"),
     Audit("twelve digits", b"a" * 12, "no scheme"),
     Audit("fourteen digits", b"a" * 14, "no scheme"),
@@ -231,19 +231,19 @@ NO_SCHEME = [
 LOCKED = [
     Audit("an exclamation mark", b"!", "locked"),
     Audit("an asterisk", b"*", "locked"),
-    Audit("a hash behind an exclamation mark", b"!" + SHA512, "locked"),
+    Audit("a hash after an exclamation mark", b"!" + SHA512, "locked"),
 ]
 MALFORMED = [
     Audit("a zero byte", b"$1$a\0b", "malformed:bad character"),
     Audit("a space in yescrypt", b"$y$j9T$a b", "malformed:bad character"),
-    Audit("a space behind a dollar sign", b"$ ", "malformed:bad character"),
+    Audit("a space after a dollar sign", b"$ ", "malformed:bad character"),
     Audit(
         "a long setting",
         b"$6$rounds=999999999$" + b"x" * 400,
         "malformed:setting too long",
     ),
-    Audit("a long setting of yescrypt", b"$y$" + b"x" * 400, "malformed:setting too long"),
-    Audit("no rounds behind rounds=", b"$5$rounds=0$ab$x", "malformed:bad rounds"),
+    Audit("a long yescrypt setting", b"$y$" + b"x" * 400, "malformed:setting too long"),
+    Audit("no rounds after rounds=", b"$5$rounds=0$ab$x", "malformed:bad rounds"),
     Audit(
         "an N beyond scrypt's range",
         b"$7$" + ScryptCost(24, 1, 1).text + b"ab$x",
@@ -254,13 +254,13 @@ MALFORMED = [
         b"$7$" + ScryptCost(20, 16, 1).text + b"ab$x",
         "malformed:above ceiling",
     ),
-    Audit("a salt that scrypt doesn't take", b"$7$CU..../....a_b$x", "malformed:bad salt"),
+    Audit("a salt that scrypt refuses", b"$7$CU..../....a_b$x", "malformed:bad salt"),
 ]
 WITH_STATUS_0 = ("current", "locked", "unknown")
 
 
 def assert_finding(program: Path, audit: Audit, more_options: Options) -> None:
-    """The finding comes for a line of the field alone, for one of /etc/shadow, and at the end."""
+    """Fails unless an audit has the finding for a bare field, a shadow line, and a last line."""
     given = b"ann:%b\nbob:%b:19000:0:99999:7:::\neve:%b:" % ((audit.field,) * 3)
     answers = [f"{name}:{audit.expected}\n" for name in ("ann", "bob", "eve")]
     status = 0 if audit.finding.endswith(WITH_STATUS_0) else 1
@@ -286,7 +286,7 @@ def assert_finding(program: Path, audit: Audit, more_options: Options) -> None:
 )
 def test_an_audit_finds(program: Path, audit: Audit) -> None:
     assert_finding(program, audit, [])
-    assert_finding(program, audit, ["--work", "--rehash"])  # which change nothing
+    assert_finding(program, audit, ["--work", "--rehash"])  # these change nothing
 
 
 def test_an_audit_refuses_lines_by_their_numbers(program: Path) -> None:

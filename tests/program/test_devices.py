@@ -1,11 +1,11 @@
-"""Each read, write, allocation and draw of the program fails in turn, in each of its modes.
+"""Each read, write, allocation and random draw of the program fails in turn, in each mode.
 
-Each such run has to end with the status 3, to name the fault, and to have printed nothing but what
-a run without a fault prints, the answers to all lines before in full. Where the words are refused
-the status stays 2, whatever becomes of the message.
+Such a run must end with status 3, name the failure, and print only a beginning of what a
+successful run prints, with complete answers to all lines before. If the arguments are refused,
+the status stays 2 even if the message can't be written.
 
-One failed allocation may be ignored, and the whole answer come: std shrinks the list of the
-arguments in the end, and if that fails it stays as it was.
+One failed allocation may be ignored: std finally shrinks the list of arguments, and if that fails
+the list stays as it is.
 """
 from __future__ import annotations
 
@@ -29,7 +29,7 @@ MESSAGES = {
 
 @dataclass(frozen=True)
 class Call:
-    """A call that the program made."""
+    """A system or library call of the program."""
 
     kind: str
     size: int
@@ -39,23 +39,23 @@ class Call:
 
 @dataclass(frozen=True)
 class Traced:
-    """How a run ended, and the calls that it made."""
+    """How a run ended, and its calls."""
 
     result: Result
     calls: list[Call]
 
     def count(self, kind: str) -> int:
-        """How many calls of a kind there were."""
+        """Returns how many calls of a kind the run made."""
         return sum(call.kind == kind for call in self.calls)
 
     @property
     def has_failed_call(self) -> bool:
-        """Whether a call was made to fail."""
+        """Whether a call has failed."""
         return any(call.has_failed for call in self.calls)
 
 
 class Tracer:
-    """Runs the program with tests/c/faults.c, which logs its calls and lets one of them fail."""
+    """Runs the program with tests/c/faults.c, which logs its calls and makes one of them fail."""
 
     def __init__(self, program: Path, library: Path, log: Path) -> None:
         self.program = program
@@ -63,7 +63,7 @@ class Tracer:
         self.log = log
 
     def run(self, words: list[Word], given: bytes, fault: str | None = None) -> Traced:
-        """Runs the program; the fault is a kind and a number, as in `read 2`, or `short`."""
+        """Runs the program. A fault is a kind and a number, as in `read 2`, or `short`."""
         self.log.write_bytes(b"")
         environment = {
             "LD_PRELOAD": str(self.library),
@@ -76,7 +76,7 @@ class Tracer:
 
 
 def call_of(line: str) -> Call:
-    """The call that a line of the log tells of."""
+    """Reads a call from a line of the log."""
     kind, size, descriptor, *failed = line.split()
     return Call(kind, int(size), int(descriptor), bool(failed))
 
@@ -99,7 +99,7 @@ MD5 = b"$1$xxxxxxxx$UYCIxa628.9qXjpQCjM4a."
 SCRYPT_OF_X = b"$7$CU..../....ab$TioQ/OazCAbGpb/E7e054xV/7lAamSWFPOGclTgvmt0"
 OLD_SCRYPT = crypt(b"password", b"$7$2/..../....xxxxxxxx")
 NEW_SCRYPT = crypt(b"password", b"$7$BU..../....ab")
-# The third vector of RFC 7914, with a table of 16 MiB.
+# The third test vector of RFC 7914, with a table of 16 MiB.
 THIRD_VECTOR = crypt(b"pleaseletmein", b"$7$C6..../....SodiumChloride")
 LINE_OF_16_MIB = b"ann:%b:password\n" % crypt(b"password", b"$7$C6..../....xxxxxxxx")
 LINE_OF_64_MIB = b"ann:%b:password\n" % crypt(b"password", b"$7$CU..../....ab")
@@ -110,24 +110,24 @@ FORM_OF_SHA512 = r"\$6\$[./0-9A-Za-z]{16}\$[./0-9A-Za-z]{86}\n"
 
 @dataclass(frozen=True)
 class Mode:
-    """What the program is asked to do, and what it prints if no call fails."""
+    """A command, and what it prints if no call fails."""
 
     title: str
     words: list[Word]
     given: bytes = b""
     stdout: bytes = b""
-    form: str = ""  # of an output that isn't known
+    form: str = ""  # a pattern, if the output isn't known
     stderr: bytes = b""
     status: int = 0
-    makes_hashes: bool = True  # or compares them, so that it draws a seed
+    makes_hashes: bool = True  # whether it hashes, for which it draws a seed
     draws_salt: bool = False
-    allocations_behind_an_answer: int = 0
+    allocations_after_an_answer: int = 0
 
     def __str__(self) -> str:
         return self.title
 
     def assert_result(self, result: Result) -> None:
-        """The run is one without a fault."""
+        """Fails the test unless this is the result of a run without a fault."""
         if not self.form:
             assert_result(result, status=self.status, stdout=self.stdout, stderr=self.stderr)
             return
@@ -136,17 +136,17 @@ class Mode:
         assert is_of_form, f"expected stdout: {self.form}\n{result}"
 
     def can_begin_with(self, stdout: bytes, whole: bytes) -> bool:
-        """Whether an output can be that of a run that ended early; a drawn salt is another."""
+        """Returns whether a run that ends early, perhaps with another salt, can print this."""
         if self.form:
             return len(stdout) <= len(whole)
         return self.stdout.startswith(stdout)
 
 
-# The hashes are openssl-passwd(1)'s and libxcrypt's.
+# The hashes are from openssl-passwd(1) and libxcrypt.
 MODES = [
     Mode("a password", [*MD5_WORDS, "password"], stdout=MD5 + b"\n"),
     Mode(
-        "a password that is read",
+        "a password from standard input",
         [*MD5_WORDS, "-s"],
         given=b"password\nmore\n",
         stdout=MD5 + b"\n",
@@ -187,7 +187,7 @@ MODES = [
         stdout=b"ann:ok\nbob:ok\ncat:no\n",
         stderr=b"mkpasswd: line 3: no name\n",
         status=1,
-        allocations_behind_an_answer=3,
+        allocations_after_an_answer=3,
     ),
     Mode(
         "rehash from scrypt",
@@ -196,18 +196,18 @@ MODES = [
         stdout=b"bob:ok:%b\n" % MD5,
     ),
     Mode(
-        "rehash between costs of scrypt",
+        "rehash from one scrypt cost to another",
         TO_SCRYPT,
         given=b"ann::\nbob:%b:password\n" % OLD_SCRYPT,
         stdout=b"ann:none\nbob:ok:%b\n" % NEW_SCRYPT,
-        allocations_behind_an_answer=6,
+        allocations_after_an_answer=6,
     ),
     Mode(
-        "check with a table that is kept",
+        "check with a reused table",
         ["--check"],
         given=LINE_OF_16_MIB * 2 + LINE_OF_64_MIB,
         stdout=b"ann:ok\n" * 3,
-        allocations_behind_an_answer=5,
+        allocations_after_an_answer=5,
     ),
     Mode(
         "audit",
@@ -232,17 +232,17 @@ MODES = [
 def test_without_a_fault_each_mode_prints_its_answers(tracer: Tracer, mode: Mode) -> None:
     whole = tracer.run(mode.words, mode.given)
     mode.assert_result(whole.result)
-    assert whole.count("memory") > 0, "it asks for memory"
-    assert whole.count("write") > 0, "it writes"
-    assert (whole.count("read") > 0) == (mode.given != b""), "it reads where it has to"
-    assert whole.count("random") == int(mode.makes_hashes), "it draws one seed, only for hashes"
+    assert whole.count("memory") > 0, "it must allocate memory"
+    assert whole.count("write") > 0, "it must write"
+    assert (whole.count("read") > 0) == (mode.given != b""), "it must read only if it has input"
+    assert whole.count("random") == int(mode.makes_hashes), "it must draw one seed if it hashes"
 
 
 def assert_named(mode: Mode, kind: str, traced: Traced, whole: bytes) -> None:
-    """A run with a fault named it, and printed only what one without a fault prints before."""
+    """Fails unless a run named its fault, and printed only a beginning of a successful run."""
     result = traced.result
-    is_untold = kind == "write" and mode.status == 2
-    status, message = (2, b"") if is_untold else (3, MESSAGES[kind])
+    has_no_message = kind == "write" and mode.status == 2
+    status, message = (2, b"") if has_no_message else (3, MESSAGES[kind])
     assert traced.has_failed_call, f"no call failed\n{result}"
     assert result.status == status, f"expected status: {status}\n{result}"
     assert result.stderr.endswith(message), f"expected stderr: ..{printable(message)}\n{result}"
@@ -256,7 +256,7 @@ def assert_named(mode: Mode, kind: str, traced: Traced, whole: bytes) -> None:
 
 
 def assert_each_failed_call_is_named(tracer: Tracer, mode: Mode, kind: str) -> None:
-    """Each call of a kind fails in turn."""
+    """Makes each call of a kind fail in turn."""
     whole = tracer.run(mode.words, mode.given)
     for number in range(1, whole.count(kind) + 1):
         traced = tracer.run(mode.words, mode.given, f"{kind} {number}")
@@ -282,7 +282,7 @@ def test_a_failed_draw_is_named(tracer: Tracer, mode: Mode) -> None:
 @pytest.mark.parametrize("mode", MODES, ids=str)
 def test_a_failed_allocation_is_named(tracer: Tracer, mode: Mode) -> None:
     whole = tracer.run(mode.words, mode.given)
-    ignored, behind_an_answer = [], 0
+    ignored, after_an_answer = [], 0
     for number in range(1, whole.count("memory") + 1):
         traced = tracer.run(mode.words, mode.given, f"memory {number}")
         result = traced.result
@@ -293,14 +293,14 @@ def test_a_failed_allocation_is_named(tracer: Tracer, mode: Mode) -> None:
             continue
         assert_named(mode, "memory", traced, whole.result.stdout)
         if result.stdout != b"":
-            behind_an_answer += 1
+            after_an_answer += 1
     most_ignored = 1 if mode.words else 0
     assert len(ignored) <= most_ignored, ignored
-    assert behind_an_answer == mode.allocations_behind_an_answer
+    assert after_an_answer == mode.allocations_after_an_answer
 
 
 @pytest.mark.parametrize("mode", MODES, ids=str)
-def test_reads_and_writes_may_handle_one_byte_each(tracer: Tracer, mode: Mode) -> None:
+def test_reads_and_writes_may_transfer_one_byte_each(tracer: Tracer, mode: Mode) -> None:
     whole = tracer.run(mode.words, mode.given).result
     result = tracer.run(mode.words, mode.given, "short").result
     mode.assert_result(result)
@@ -310,8 +310,8 @@ def test_reads_and_writes_may_handle_one_byte_each(tracer: Tracer, mode: Mode) -
 
 # ---- Memory
 
-# With N = 2^14 and p = 1 scrypt asks for a table of 128 N r bytes, or takes a kept one, the parts
-# of 128 r p, and the halves of 256 r. Nothing else about a line asks for memory.
+# With N = 2^14 and p = 1, scrypt allocates a table of 128 N r bytes or reuses one, 128 r p bytes of
+# blocks, and 256 r bytes to mix them. Nothing else allocates memory for a line.
 BEFORE_TABLE = 2097152
 BEFORE_PARTS = 16
 WITH_R_32 = [BEFORE_TABLE + 67108864, BEFORE_PARTS + 4096, BEFORE_PARTS + 8192]
@@ -331,7 +331,7 @@ REFUSED_LINES = b"".join(
 
 
 def allocated(tracer: Tracer, words: list[Word], given: bytes, status: int) -> list[int]:
-    """The sizes of all calls for memory of a run that ends with this status."""
+    """Returns the sizes of a run's allocations. The run must end with this status."""
     traced = tracer.run(words, given)
     assert traced.result.status == status, f"expected status: {status}\n{traced.result}"
     return [call.size for call in traced.calls if call.kind == "memory"]
@@ -352,7 +352,7 @@ def allocated(tracer: Tracer, words: list[Word], given: bytes, status: int) -> l
             LINE_OF_16_MIB * 2 + LINE_OF_64_MIB + LINE_OF_16_MIB,
             0,
             [*WITH_R_8, *WITH_R_8_IN_A_KEPT_TABLE, *WITH_R_32, *WITH_R_8],
-            id="checks by scrypt, of which one takes the table before",
+            id="checks by scrypt, the second with the first one's table",
         ),
         pytest.param(
             ["--check", "--rehash", "-m", "scrypt"],
@@ -399,19 +399,19 @@ def allocated(tracer: Tracer, words: list[Word], given: bytes, status: int) -> l
         pytest.param(["--batch", "-m", "scrypt"], REFUSED_LINES, 1, [], id="refused lines, none"),
     ],
 )
-def test_a_line_asks_for_the_memory_of(
+def test_a_line_allocates_the_memory_of(
     tracer: Tracer, words: list[Word], given: bytes, status: int, allocations: list[int]
 ) -> None:
     without_lines = allocated(tracer, words, b"", 0)
     assert allocated(tracer, words, given, status) == [*without_lines, *allocations]
 
 
-# Two tables don't fit into the most addresses of these (kB), and none into the fewest.
+# Limits of the address space in kB. Both tables fit in the highest, and none in the lowest.
 ADDRESSES = [*range(3000, 6500, 500), *range(18500, 24500, 500), 50_000, 65_000, 80_000]
 
 
-def assert_it_does_what_it_can(program: Path) -> None:
-    """In few addresses the program does what it can, and says what it lacks."""
+def assert_does_what_it_can(program: Path) -> None:
+    """Fails unless the program answers what it can in little memory, and says what it lacks."""
     endings = set()
     for kilobytes in ADDRESSES:
         limited = ["sh", "-c", 'ulimit -v "$0" && exec "$@"', kilobytes, program, "--check"]
@@ -421,19 +421,19 @@ def assert_it_does_what_it_can(program: Path) -> None:
     assert endings == {(0, b"ann:ok\n" * 2, b""), (3, b"ann:ok\n", message), (3, b"", message)}
 
 
-def test_in_few_addresses_the_program_does_what_it_can(program: Path) -> None:
-    assert_it_does_what_it_can(program)
+def test_in_little_memory_the_program_does_what_it_can(program: Path) -> None:
+    assert_does_what_it_can(program)
 
 
-def test_in_few_addresses_the_static_program_does_what_it_can() -> None:
-    assert_it_does_what_it_can(built("build/x86-64/mkpasswd", "static"))
+def test_in_little_memory_the_static_program_does_what_it_can() -> None:
+    assert_does_what_it_can(built("build/x86-64/mkpasswd", "static"))
 
 
 # ---- Reads and writes
 
 
 def expected_calls(given: list[bytes], answers: list[tuple[int, bytes]]) -> list[Call]:
-    """A write for each answer once its line has been read, and reads of 512 bytes until the end."""
+    """Returns reads of 512 bytes, with a write for each answer as soon as its line is read."""
     calls, length, read = [], 0, 0
     for line, (descriptor, text) in zip(given, answers):
         length += len(line)

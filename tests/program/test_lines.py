@@ -1,6 +1,6 @@
-"""The program answers lines: random ones, many in an open pipe, and some into closed outputs.
+"""The program answers lines: random ones, many from an open pipe, and some to closed outputs.
 
-Audits are in test_audits.py.
+test_audits.py has the audits.
 """
 from __future__ import annotations
 
@@ -25,8 +25,8 @@ MANY = 20_000
 
 
 @pytest.mark.parametrize("chunk", chunks("hash", 1000) + chunks("hostile", 2500), ids=str)
-def test_random_lines_are_answered_by_the_rules(program: Path, chunk: Chunk) -> None:
-    """Each run prints what the model says, byte for byte. The seed gives the lines again."""
+def test_random_lines_get_the_answers_of_the_model(program: Path, chunk: Chunk) -> None:
+    """Each run prints exactly what the model says. The seed determines the lines."""
     for task in tasks(SEED, chunk):
         result = run(program, *task.job.words, stdin=task.given)
         found = differences(task.job, task.given, result)
@@ -42,16 +42,16 @@ class StoredFields:
     """The fields of a long run of lines, with the password "password"."""
 
     md5crypt = crypt(b"password", b"$1$xxxxxxxx")
-    # Memory is asked for also after millions of digests.
+    # scrypt still allocates memory after millions of digests.
     scrypt = crypt(b"password", b"$7$2/..../....ab")
     locked = b"!" + b"x" * 900
 
 
-NAME = b"n" * 58  # so long that answers of more than a MiB fill each buffer
+NAME = b"n" * 58  # long enough for more than a MiB of answers, which fills each buffer
 
 
 def numbered_line(number: int) -> tuple[bytes, bytes]:
-    """A line, and its answer. All of them together take twice the memory that is allowed."""
+    """Returns a line and its answer. All lines together need twice the allowed memory."""
     field, verdict = StoredFields.locked, b"locked"
     if number % 10 == 0:
         field, verdict = StoredFields.md5crypt, b"ok"
@@ -61,7 +61,7 @@ def numbered_line(number: int) -> tuple[bytes, bytes]:
 
 
 def write_and_ignore_a_closed_pipe(pipe: IO[bytes], lines: Iterator[bytes]) -> None:
-    """Writes lines as far as somebody reads them; what comes back tells why nobody does."""
+    """Writes lines as far as somebody reads them. If nobody does, the answers show why."""
     with contextlib.suppress(BrokenPipeError):
         for line in lines:
             pipe.write(line)
@@ -69,7 +69,7 @@ def write_and_ignore_a_closed_pipe(pipe: IO[bytes], lines: Iterator[bytes]) -> N
 
 
 def peak_of_memory(process: subprocess.Popen[bytes]) -> int:
-    """The most memory that a running process has had, in kB."""
+    """Returns the peak memory of a running process in kB."""
     status = Path(f"/proc/{process.pid}/status").read_text(encoding="ascii")
     peak = re.search(r"^VmHWM:\s+(\d+) kB", status, re.MULTILINE)
     assert peak is not None
@@ -90,7 +90,7 @@ def test_each_line_is_answered_in_little_memory_while_the_pipe_is_open(program: 
         if is_built_program:
             assert peak_of_memory(process) <= MOST_MEMORY
         process.stdin.close()
-        assert process.stdout.read() == b"", "there are more answers than lines"
+        assert process.stdout.read() == b"", "the program gave more answers than it got lines"
         process.wait()
         assert status_of(process) == 0
 
@@ -98,14 +98,14 @@ def test_each_line_is_answered_in_little_memory_while_the_pipe_is_open(program: 
 # ---- Closed outputs
 
 
-def status_after_its_reader_left(
+def status_after_reader_left(
     process: subprocess.Popen[bytes], output: IO[bytes], line: bytes
 ) -> int:
-    """The status of a process whose output is closed after ten lines, and which gets many more."""
+    """Returns the status of a process whose output closes after ten of many lines."""
     assert process.stdin is not None
     process.stdin.write(line * 10)
     process.stdin.flush()
-    assert [output.readline() == b"" for _ in range(10)] == [False] * 10, "ten lines come out"
+    assert [output.readline() == b"" for _ in range(10)] == [False] * 10, "expected ten lines"
     output.close()
     with contextlib.suppress(BrokenPipeError):
         process.stdin.write(line * 100_000)
@@ -116,7 +116,7 @@ def status_after_its_reader_left(
     return status_of(process)
 
 
-def test_a_closed_output_is_a_write_fault_and_no_signal(program: Path, tmp_path: Path) -> None:
+def test_a_closed_output_is_a_write_fault_without_a_signal(program: Path, tmp_path: Path) -> None:
     with (
         (tmp_path / "errors").open("w+b") as errors,
         started(
@@ -124,12 +124,12 @@ def test_a_closed_output_is_a_write_fault_and_no_signal(program: Path, tmp_path:
         ) as process,
     ):
         assert process.stdout is not None
-        assert status_after_its_reader_left(process, process.stdout, b"a::x\n") == 3
+        assert status_after_reader_left(process, process.stdout, b"a::x\n") == 3
         errors.seek(0)
         assert errors.read() == b"mkpasswd: write fault\n"
 
 
-def test_a_closed_error_output_ends_the_run_and_is_no_signal(program: Path, tmp_path: Path) -> None:
+def test_a_closed_error_output_ends_the_run_without_a_signal(program: Path, tmp_path: Path) -> None:
     with (
         (tmp_path / "answers").open("w+b") as answers,
         started(
@@ -137,6 +137,6 @@ def test_a_closed_error_output_ends_the_run_and_is_no_signal(program: Path, tmp_
         ) as process,
     ):
         assert process.stderr is not None
-        assert status_after_its_reader_left(process, process.stderr, b"y\n") == 3
+        assert status_after_reader_left(process, process.stderr, b"y\n") == 3
         answers.seek(0)
         assert answers.read() == b""

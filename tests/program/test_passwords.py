@@ -1,7 +1,7 @@
-"""Random passwords and salts: the program and libxcrypt make the same hashes.
+"""Random passwords and salts: the program and libxcrypt give the same hashes.
 
-A salt and a password come as words, by -S, or from standard input, and by many costs; hashes by
-costs that no option has are checked. Each case comes of a fixed seed.
+Salts and passwords come from arguments, -S or standard input, with many costs. Costs that no
+option gives are tested by checks. All cases follow from fixed seeds.
 """
 from __future__ import annotations
 
@@ -20,12 +20,12 @@ MOST_SALT_OF_MD5CRYPT = 8
 MOST_SALT_OF_SHA_CRYPT = 16
 MOST_SALT_OF_SCRYPT = 86
 
-# Lengths in bytes where a block of a digest ends, or a copy of one; libxcrypt takes at most 511.
+# Lengths in bytes at which a digest, or its block, ends. libxcrypt accepts at most 511.
 EDGE_LENGTHS = (0, 1, 15, 16, 17, 31, 32, 33, 63, 64, 65, 127, 128, 129, 255, 256, 511)
 
 
 class Way(enum.Enum):
-    """How the program gets a salt and a password."""
+    """How the program gets the salt and the password."""
 
     SALT_OPTION_AND_WORD = "-S SALT PASSWORD"
     TWO_WORDS = "PASSWORD SALT"
@@ -34,11 +34,11 @@ class Way(enum.Enum):
 
     @property
     def is_word(self) -> bool:
-        """Whether the password is a word of the command, where it can have a line feed."""
+        """Whether the password is an argument, which can contain a line feed."""
         return self in (Way.SALT_OPTION_AND_WORD, Way.TWO_WORDS)
 
     def words(self, salt: bytes, password: bytes) -> list[Word]:
-        """The words of the command."""
+        """Returns the arguments of the command."""
         if self is Way.SALT_OPTION_AND_WORD:
             return ["-S", salt, "--", password]
         if self is Way.TWO_WORDS:
@@ -48,7 +48,7 @@ class Way(enum.Enum):
         return ["-S", salt]
 
     def given(self, password: bytes) -> bytes:
-        """What the program can read; with -s more lines follow, and otherwise no line feed."""
+        """Returns the standard input: with -s more lines follow, else there is no line feed."""
         if self.is_word:
             return b"more\n"
         if self is Way.SALT_OPTION_AND_STDIN:
@@ -58,9 +58,9 @@ class Way(enum.Enum):
 
 @dataclass(frozen=True)
 class Hashing:
-    """A method and a cost as options, the same as libxcrypt's setting, and the number of cases.
+    """A method and a cost as options, libxcrypt's setting for them, and the number of cases.
 
-    libxcrypt refuses rounds below 1000, so its setting has those that the program makes instead.
+    libxcrypt refuses rounds below 1000, so its setting has the rounds that the program clamps to.
     """
 
     options: str
@@ -95,7 +95,7 @@ HIGHEST_COST = Hashing("scrypt -R 11", b"$7$" + ScryptCost(18, 32, 1).text, MOST
 
 @dataclass(frozen=True)
 class Case:
-    """A salt and a password, and how the program gets them."""
+    """A salt, a password, and how the program gets them."""
 
     salt: bytes
     password: bytes
@@ -103,12 +103,12 @@ class Case:
 
 
 def random_salt(source: random.Random, length: int) -> bytes:
-    """A salt of so many characters."""
+    """Returns a random salt of this length."""
     return bytes(source.choices(ALPHABET, k=length))
 
 
 def random_password(source: random.Random, length: int) -> bytes:
-    """A password of so many bytes, in characters of one to three bytes."""
+    """Returns a random password of this many bytes, whose characters have one to three bytes."""
     password = b""
     while len(password) < length:
         one_byte = bytes([source.randint(1, 127)])
@@ -118,7 +118,7 @@ def random_password(source: random.Random, length: int) -> bytes:
 
 
 def random_case(source: random.Random, longest_salt: int, number: int) -> Case:
-    """A case; every second password has one of the edge lengths, in turn."""
+    """Returns a case. Every second password has one of the edge lengths, in turn."""
     length = source.randrange(512)
     if number % 2 == 0:
         length = EDGE_LENGTHS[number // 2 % len(EDGE_LENGTHS)]
@@ -129,7 +129,7 @@ def random_case(source: random.Random, longest_salt: int, number: int) -> Case:
 
 
 def assert_same_hashes(program: Path, hashing: Hashing) -> None:
-    """libxcrypt makes the hashes that the program prints."""
+    """Fails the test unless the program prints libxcrypt's hashes."""
     source = random.Random(hashing.options)
     for number in range(hashing.cases):
         case = random_case(source, hashing.longest_salt, number)
@@ -140,19 +140,19 @@ def assert_same_hashes(program: Path, hashing: Hashing) -> None:
 
 
 @pytest.mark.parametrize("hashing", HASHINGS, ids=str)
-def test_libxcrypt_makes_the_same_hashes(program: Path, hashing: Hashing) -> None:
+def test_libxcrypt_gives_the_same_hashes(program: Path, hashing: Hashing) -> None:
     assert_same_hashes(program, hashing)
 
 
 @pytest.mark.slow
-def test_libxcrypt_makes_the_same_hash_by_the_highest_cost(program: Path) -> None:
+def test_libxcrypt_gives_the_same_hash_with_the_highest_cost(program: Path) -> None:
     assert_same_hashes(program, HIGHEST_COST)
 
 
 @pytest.mark.parametrize(
     ("cost", "salt_length", "password_length"),
     [
-        # Many rows in a small table: the most that RFC 7914 allows with r = 1, and more with r = 2.
+        # Many rows in a small table: as many as RFC 7914 allows with r = 1, and more with r = 2.
         pytest.param(ScryptCost(15, 1, 1), 8, 8, id="N = 2^15 and r = 1"),
         pytest.param(ScryptCost(16, 2, 1), 22, 65, id="N = 2^16 and r = 2"),
         pytest.param(ScryptCost(17, 2, 1), 86, 511, id="N = 2^17 and r = 2"),
@@ -160,7 +160,7 @@ def test_libxcrypt_makes_the_same_hash_by_the_highest_cost(program: Path) -> Non
         pytest.param(ScryptCost(2, 1, 1 << 17), 22, 16, id="p = 2^17"),
     ],
 )
-def test_a_password_matches_its_hash_by_libxcrypt(
+def test_a_password_matches_libxcrypts_hash(
     program: Path, cost: ScryptCost, salt_length: int, password_length: int
 ) -> None:
     source = random.Random(str(cost))

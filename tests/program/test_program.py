@@ -1,8 +1,8 @@
-"""The program as a user meets it, where no clause says what it prints or how it meets the system.
+"""The program as a user sees it, where no clause states what it prints or how it uses the system.
 
-Each run has to end with its status and to print what is expected on the stream where it belongs,
-and nothing on the other. The fixed hashes are libxcrypt's, and passlib's for passwords of 512 bytes
-and more, which libxcrypt doesn't take.
+Each run must end with the right status, print the expected output on the right stream, and
+nothing on the other one. The fixed hashes are libxcrypt's, and passlib's for passwords of 512
+bytes and more, which libxcrypt refuses.
 """
 from __future__ import annotations
 
@@ -17,7 +17,7 @@ from support.model.work import LONGEST_PASSWORD
 from support.process import Result, Word, assert_result, run
 
 Words = list[Word]
-A_FOLDER = Path("/")  # which can be opened, and not be read
+A_FOLDER = Path("/")  # can be opened, but not read
 
 MD5_WORDS: Words = ["-m", "md5crypt", "-S", "xxxxxxxx"]
 MD5 = b"$1$xxxxxxxx$UYCIxa628.9qXjpQCjM4a."
@@ -31,24 +31,24 @@ SHA512_TOO_LOW = (
     b"WGsUSklZt58jaTfF4ZEQpyUNGc0dqbpBYYBaHHrsX."
 )
 LONGEST = b"a" * LONGEST_PASSWORD
-LONG_WORD = "a" * 100_000  # which needs more memory than any word that the command takes
+LONG_WORD = "a" * 100_000  # takes more memory than any valid argument
 METHODS = b"Available methods:\nmd5crypt\nsha256crypt\nsha512crypt\nscrypt\n"
 DIGIT = rb"[./0-9A-Za-z]"
 
 
 def assert_refused_by_option_parser(result: Result, named: str) -> None:
-    """The option parser refuses the words with the status 2, and names this."""
+    """Fails unless the option parser refuses the arguments with status 2, and names this."""
     message = result.stderr.decode()
     is_refused = result.status == 2 and result.stdout == b"" and named in message
     assert is_refused, f"expected status: 2\nexpected stderr: ..{named}..\n{result}"
 
 
 def assert_fault(result: Result, status: int, message: str) -> None:
-    """The program prints a message, and ends with this status."""
+    """Fails unless the program printed this message and ended with this status."""
     assert_result(result, status=status, stderr=f"mkpasswd: {message}\n".encode())
 
 
-# ---- Words
+# ---- Arguments
 
 
 @pytest.mark.parametrize("option", ["-V", "--version"])
@@ -60,8 +60,8 @@ def test_the_version_is_the_source_tree_s(program: Path, option: str) -> None:
 @pytest.mark.parametrize(
     ("words", "named"),
     [
-        pytest.param([*MD5_WORDS, "-Q", "password"], "'-Q'", id="an option that there isn't"),
-        pytest.param(["-m", "help", "-Q"], "'-Q'", id="such an option beside help"),
+        pytest.param([*MD5_WORDS, "-Q", "password"], "'-Q'", id="an unknown option"),
+        pytest.param(["-m", "help", "-Q"], "'-Q'", id="an unknown option beside help"),
         pytest.param(
             ["-5", "secret"],
             "error: unexpected argument '-5' found\n\nUsage: ",
@@ -73,7 +73,7 @@ def test_the_version_is_the_source_tree_s(program: Path, option: str) -> None:
             id="an option with a line feed",
         ),
         pytest.param(["-m"], "'--method <TYPE>'", id="an option without its value"),
-        pytest.param(["password", "ab", "third"], "'third'", id="a third word"),
+        pytest.param(["password", "ab", "third"], "'third'", id="a third argument"),
         pytest.param(["-R", "4294967296", "x"], "'--rounds <NUMBER>'", id="rounds of 33 bits"),
         pytest.param(["-R", "", "x"], "'--rounds <NUMBER>'", id="empty rounds"),
         pytest.param(["-R", "-1", "x"], "'-1'", id="negative rounds"),
@@ -83,7 +83,7 @@ def test_the_version_is_the_source_tree_s(program: Path, option: str) -> None:
             id="a budget of 65 bits",
         ),
         pytest.param(
-            ["--check", "--budget", "few"], "'--budget <NUMBER>'", id="a budget that is a word"
+            ["--check", "--budget", "few"], "'--budget <NUMBER>'", id="a budget that isn't a number"
         ),
         pytest.param(
             ["--batch", "--first-line", "0"], "'--first-line <NUMBER>'", id="a first line of 0"
@@ -112,18 +112,18 @@ def test_the_option_parser_refuses(program: Path, words: Words, named: str) -> N
     assert_refused_by_option_parser(run(program, *words), named)
 
 
-# As many words as the command takes, of which two are salts.
+# As many arguments as the command accepts. Two of them are salts.
 ALL_WORDS: Words = [
     *("-m", "md5", "-S", "ab", "-R", "5", "--work", "-s"),
     *("--batch", "--check", "--audit", "--", "x", "cd"),
 ]
 
 
-def test_all_words_that_the_command_takes_are_read(program: Path) -> None:
+def test_all_arguments_are_read(program: Path) -> None:
     assert_fault(run(program, *ALL_WORDS), 2, "two salts")
 
 
-def test_more_words_are_refused_by_the_first_that_is_one_too_many(program: Path) -> None:
+def test_the_first_argument_too_many_is_named(program: Path) -> None:
     result = run(program, *ALL_WORDS, *["--check"] * 200)
     assert_refused_by_option_parser(result, "unexpected argument '--check'")
 
@@ -142,7 +142,7 @@ def test_the_methods_are_listed(program: Path, words: Words, given: bytes | Path
 
 
 @pytest.mark.parametrize("name", sorted(BY_NAME))
-def test_the_longest_salt_is_taken_whole(program: Path, name: str) -> None:
+def test_the_longest_salt_is_accepted(program: Path, name: str) -> None:
     method = BY_NAME[name]
     salt = b"a" * method.longest_salt
     result = run(program, "-m", name, "-R", 6, "-S", salt, "x").required()
@@ -164,7 +164,7 @@ def test_a_longer_salt_is_refused(program: Path, name: str) -> None:
         ),
         pytest.param("unknown method", ["-m", "", "x"], id="an empty method"),
         pytest.param("unknown method", ["-m", "MD5", "x"], id="a method in capitals"),
-        pytest.param("unknown method", ["-m", "md5cryp", "x"], id="a method that is cut"),
+        pytest.param("unknown method", ["-m", "md5cryp", "x"], id="an incomplete method"),
         pytest.param("unknown method", ["-m", LONG_WORD, "x"], id="a long method"),
         pytest.param("two salts", ["-S", "ab", "x", "ab"], id="two equal salts"),
         pytest.param(
@@ -208,7 +208,7 @@ def test_a_longer_salt_is_refused(program: Path, name: str) -> None:
         ),
     ],
 )
-def test_words_are_refused(program: Path, message: str, words: Words) -> None:
+def test_invalid_arguments_are_refused(program: Path, message: str, words: Words) -> None:
     assert_fault(run(program, *words), 2, message)
 
 
@@ -217,7 +217,7 @@ def test_a_cost_is_refused_before_the_password_is_read(program: Path) -> None:
     assert_fault(result, 2, "cost")
 
 
-def test_a_word_that_is_no_utf_8_is_a_start_fault(program: Path) -> None:
+def test_an_argument_that_is_not_utf_8_is_a_start_fault(program: Path) -> None:
     assert_fault(run(program, b"\xff"), 3, "start fault")
 
 
@@ -230,9 +230,9 @@ def test_a_word_that_is_no_utf_8_is_a_start_fault(program: Path) -> None:
         pytest.param([*MD5_WORDS, "a" * 513], MD5_OF_513_BYTES, id="513 bytes"),
         pytest.param([*MD5_WORDS, LONGEST], MD5_OF_LONGEST, id="the most bytes"),
         pytest.param([*MD5_WORDS, ""], MD5_OF_EMPTY, id="none"),
-        pytest.param([*MD5_WORDS, "--", "-x"], MD5_OF_DASH_X, id="what looks like an option"),
+        pytest.param([*MD5_WORDS, "--", "-x"], MD5_OF_DASH_X, id="like an option"),
         pytest.param(
-            ["password", "--salt=xxxxxxxx", "--method", "md5"], MD5, id="options behind it"
+            ["password", "--salt=xxxxxxxx", "--method", "md5"], MD5, id="options after it"
         ),
         pytest.param(
             ["-mmd5", "-Sxxxxxxxx", "--", "password"], MD5, id="options joined to their values"
@@ -253,7 +253,9 @@ def test_a_word_that_is_no_utf_8_is_a_start_fault(program: Path) -> None:
         ),
     ],
 )
-def test_a_password_of_the_words_is_hashed(program: Path, words: Words, expected: bytes) -> None:
+def test_a_password_in_the_arguments_is_hashed(
+    program: Path, words: Words, expected: bytes
+) -> None:
     assert_result(run(program, *words), stdout=expected + b"\n")
 
 
@@ -267,20 +269,20 @@ def test_a_password_of_the_words_is_hashed(program: Path, words: Words, expected
             b"password\nmore\0\n" + LONGEST + LONGEST + b"\n",
             MD5_WORDS,
             MD5,
-            id="without -s, before lines that could be no passwords",
+            id="without -s, before lines that are invalid passwords",
         ),
         pytest.param(LONGEST + b"\nb\n", [*MD5_WORDS, "-s"], MD5_OF_LONGEST, id="the most bytes"),
         pytest.param(b"", [*MD5_WORDS, "-s"], MD5_OF_EMPTY, id="none"),
-        pytest.param(b"-x\n", [*MD5_WORDS, "-s"], MD5_OF_DASH_X, id="what looks like an option"),
+        pytest.param(b"-x\n", [*MD5_WORDS, "-s"], MD5_OF_DASH_X, id="like an option"),
         pytest.param(
             b"the minimum number is still observed",
             ["-R", "10", "-S", "roundstoolow", "-s", "--work"],
             SHA512_TOO_LOW + b":1004:142068:0:0",
-            id="with fewer rounds than there are",
+            id="with fewer rounds than the minimum",
         ),
     ],
 )
-def test_a_password_of_the_input_is_hashed(
+def test_a_password_on_standard_input_is_hashed(
     program: Path, given: bytes, words: Words, expected: bytes
 ) -> None:
     assert_result(run(program, *words, stdin=given), stdout=expected + b"\n")
@@ -297,10 +299,10 @@ def test_a_long_password_is_hashed_with_a_drawn_salt(program: Path, length: int)
     ("message", "words", "given"),
     [
         pytest.param(
-            "password too long", ["-m", "md5", "-S", "ab", LONGEST + b"a"], b"", id="a long word"
+            "password too long", ["-m", "md5", "-S", "ab", LONGEST + b"a"], b"", id="a long one"
         ),
         pytest.param(
-            "password too long", ["-m", "md5", "-S", "ab", LONG_WORD], b"", id="a very long word"
+            "password too long", ["-m", "md5", "-S", "ab", LONG_WORD], b"", id="a very long one"
         ),
         pytest.param("password too long", ["-s"], LONGEST + b"a", id="a long input"),
         pytest.param("password too long", [], LONGEST + b"a\n", id="a long line"),
@@ -441,8 +443,8 @@ def test_lines_are_answered(program: Path, words: Words, given: bytes, answers: 
         ),
     ],
 )
-def test_a_budget_that_is_one_too_small_refuses(program: Path, words: Words, given: bytes) -> None:
-    """What isn't refused here would be hashed for minutes."""
+def test_a_budget_too_small_by_one_refuses(program: Path, words: Words, given: bytes) -> None:
+    """Without the refusal each of these would take minutes."""
     result = run(program, *words, stdin=given, timeout=30)
     assert_fault(result, 1, "line 1: over budget")
 
@@ -464,7 +466,7 @@ def test_a_budget_that_is_one_too_small_refuses(program: Path, words: Words, giv
 def test_each_run_draws_another_salt(
     program: Path, words: Words, before_salt: bytes, length: int
 ) -> None:
-    """With it libxcrypt makes the same hash."""
+    """libxcrypt gives the same hash with the drawn salt."""
     form = re.escape(before_salt) + rb"(%b{%d})\$%b+\n" % (DIGIT, length, DIGIT)
     salts = []
     for _ in range(2):
@@ -477,6 +479,6 @@ def test_each_run_draws_another_salt(
 
 
 def test_a_thousand_runs_draw_a_thousand_salts(program: Path) -> None:
-    """A seed of sixteen bits would give one salt twice, nearly always."""
+    """A seed of only sixteen bits would almost always repeat a salt."""
     hashes = {run(program, "-m", "md5crypt", "x").stdout for _ in range(1000)}
     assert len(hashes) == 1000

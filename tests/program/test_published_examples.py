@@ -1,7 +1,7 @@
-"""Published examples, of which the program is refused an allocation.
+"""Published examples in which one of the program's allocations fails.
 
-A test of the proved code can't have an allocation fail, so the program runs with tests/c/faults.c.
-tests/library/test_published_examples.py has the same of the library's calls.
+A test in a crate can't make an allocation fail, so the program runs with tests/c/faults.c.
+tests/library/test_published_examples.py does the same with the library's calls.
 """
 from __future__ import annotations
 
@@ -12,7 +12,7 @@ import pytest
 from support.preload import preload_library
 from support.process import Result, assert_result, run
 
-# The hash of openssl-passwd(1), and the third vector of RFC 7914.
+# The hash in openssl-passwd(1), and the third test vector of RFC 7914.
 MD5 = "$1$xxxxxxxx$UYCIxa628.9qXjpQCjM4a."
 THIRD_VECTOR = "$7$C6..../....SodiumChloride$kBGj9fHznVYFQMEn/qDCfrDevf9YDtcDdKvEqHJLV8D"
 MOST_ALLOCATIONS = 1000
@@ -20,23 +20,23 @@ MOST_ALLOCATIONS = 1000
 
 @dataclass(frozen=True)
 class Refusal:
-    """How a run ended of which one allocation was to be refused."""
+    """How a run ended in which one allocation should fail."""
 
     result: Result
     allocations: int
-    was_refused: bool  # otherwise there were fewer allocations
+    was_refused: bool  # False if the run made fewer allocations
 
 
 @dataclass(frozen=True)
 class Refuser:
-    """Runs the program with tests/c/faults.c, which logs allocations and refuses one."""
+    """Runs the program with tests/c/faults.c, which logs allocations and makes one fail."""
 
     program: Path
     library: Path
     log: Path
 
     def run(self, words: list[str], given: str, refused: int) -> Refusal:
-        """Runs the program; the allocation of this number is refused, from 1 on."""
+        """Runs the program. The allocation with this number, counted from 1, fails."""
         self.log.write_bytes(b"")
         environment = {
             "LD_PRELOAD": str(self.library),
@@ -54,7 +54,7 @@ def fixture_refuser(program: Path, tmp_path: Path) -> Refuser:
     return Refuser(program, preload_library("faults", tmp_path), tmp_path / "log")
 
 
-def test_each_allocation_of_a_plan_is_refused_until_none_is(refuser: Refuser) -> None:
+def test_the_program_reports_each_failed_allocation_before_it_hashes(refuser: Refuser) -> None:
     words = ["-m", "md5crypt", "-S", "xxxxxxxx", "password"]
     ignored = 0
     for number in range(1, MOST_ALLOCATIONS):
@@ -65,13 +65,13 @@ def test_each_allocation_of_a_plan_is_refused_until_none_is(refuser: Refuser) ->
             ignored += 1
             continue
         assert_result(refusal.result, status=3, stderr=b"mkpasswd: out of memory\n")
-    assert number > 10, "there were allocations"
+    assert number > 10, "expected more allocations"
     assert_result(refusal.result, stdout=f"{MD5}\n".encode())
-    # Before the plan is made, std shrinks the list of the arguments. If that fails, it stays.
+    # std shrinks the list of arguments before the program plans its work. If that fails, it stays.
     assert ignored <= 1
 
 
-def test_lines_before_a_refused_allocation_are_answered(refuser: Refuser) -> None:
+def test_lines_before_a_failed_allocation_are_answered(refuser: Refuser) -> None:
     first = f"ann:{MD5}:password\n"
     lines = f"{first}bob:{THIRD_VECTOR}:pleaseletmein\n"
     before = refuser.run(["--check"], first, 0).allocations

@@ -1,9 +1,8 @@
-"""What no clause can say of the proved sources.
+"""Rules for the proved sources that no clause can state.
 
-No work bypasses the meter, memory is allocated only where a list says so, and nothing prints a
-password. Each rule is a search for words, so it sees mistakes, and can be evaded by whoever wants
-to. Comments and tests may have all words. Tests are files tests.rt and test_*.rt, folders tests,
-and what follows `mod tests {` in a file.
+No work bypasses the meter, only listed files allocate memory, and nothing prints a password. Each
+rule is a search of the text: it finds mistakes, but can be evaded. Comments and tests are exempt.
+Tests are files tests.rt and test_*.rt, folders tests, and what follows `mod tests {` in a file.
 """
 from __future__ import annotations
 
@@ -35,28 +34,28 @@ class Line:
 
 
 def without_comments(text: str) -> str:
-    """Sources whose lines end where a comment begins."""
+    """Returns sources whose lines end where a comment begins."""
     return re.sub(r"//.*", "", text)
 
 
 def read(path: Path) -> str:
-    """A source file."""
+    """Returns the content of a source file."""
     return path.read_text(encoding="utf-8")
 
 
 def source_files() -> list[Path]:
-    """All source files of the crates."""
+    """Returns all source files of the crates."""
     crates = re.findall(r"^\w+", LIST_OF_CRATES, re.MULTILINE)
     return sorted(path for crate in crates for path in (CRATES / crate / "src").rglob("*.rt"))
 
 
 def name_of(path: Path) -> str:
-    """The path of a source file below the folder of the crates."""
+    """Returns the path of a source file below the folder of the crates."""
     return str(path.relative_to(CRATES))
 
 
 def lines_of_code() -> Iterator[Line]:
-    """The lines that are no tests."""
+    """Yields the lines that aren't tests."""
     for path in source_files():
         if re.search(r"/tests/|/tests\.rt$|/test_", name_of(path)):
             continue
@@ -72,7 +71,7 @@ def fixture_code() -> list[Line]:
 
 
 def files_with_exported_calls() -> list[str]:
-    """The files of the calls for C, for a page and for node."""
+    """Returns the files with the calls for C, the page and node."""
     names = {name_of(path): read(path) for path in source_files()}
     exporting = ("crypt_c/src/", "crypt_web/src/")
     return [
@@ -82,7 +81,7 @@ def files_with_exported_calls() -> list[str]:
     ]
 
 
-# ---- Where words may stand
+# ---- Names that only some files may use
 
 ARGUMENTS = ["mkpasswd/src/command.rt", "mkpasswd/src/options.rt"]
 SCRYPT = "kdf_core/src/scrypt.rt"
@@ -105,14 +104,14 @@ ON_THE_WAY_TO_SCRYPT = [
         pytest.param(
             r"\bsalsa\b",
             ["prims_core/src/lib.rt", "prims_core/src/salsa.rt", "prims_core/src/mix.rt"],
-            id="only what counts mixes blocks",
+            id="only counting functions mix blocks",
         ),
         pytest.param(
             r"\bMeter::new\b",
             ["program/src/main.rt", *files_with_exported_calls()],
-            id="only the program and the calls make a meter",
+            id="only the program and the calls create a meter",
         ),
-        # What has no allocator can't allocate; so a line is read, priced and refused without.
+        # Code without the allocator can't allocate, such as what reads, prices and refuses a line.
         pytest.param(
             r"\bGlobal\b",
             [*TABLES, SCRYPT, *ON_THE_WAY_TO_SCRYPT, *ARGUMENTS],
@@ -123,7 +122,7 @@ ON_THE_WAY_TO_SCRYPT = [
             [*TABLES, SCRYPT, *ARGUMENTS, "program/src/main.rt"],
             id="memory is allocated only for scrypt and for arguments",
         ),
-        # What has the bytes of a password is not printed, and a meter is not copied.
+        # Types that hold a password can't be printed, and a meter can't be copied.
         pytest.param(
             r"\bimpl\b.*\b(Debug|Display) for (Password|PasswordFrom|Arguments|RoundStrings)\b",
             [],
@@ -136,12 +135,12 @@ ON_THE_WAY_TO_SCRYPT = [
         ),
     ],
 )
-def test_words_stand_only_in_their_places(
+def test_a_name_is_used_only_in_its_files(
     code: list[Line], pattern: str, places: list[str]
 ) -> None:
     found = [line for line in code if re.search(pattern, line.code)]
     elsewhere = [str(line) for line in found if not line.path.startswith(tuple(places))]
-    assert elsewhere == [], f"{pattern} stands only in {places}"
+    assert elsewhere == [], f"{pattern} may occur only in {places}"
 
 
 @pytest.mark.parametrize(
@@ -175,7 +174,7 @@ def test_only_prims_core_depends_on_digests() -> None:
     assert {crate for crate, _ in dependents} <= {"prims_core"}
 
 
-def test_implementations_of_counted_offer_nothing_but_their_types() -> None:
+def test_implementations_of_counted_export_only_their_types() -> None:
     found = []
     for path in sorted(CRATES.glob(IMPLEMENTATIONS_OF_COUNTED + "*")):
         for line in without_comments(read(path)).split("\n"):
@@ -188,8 +187,8 @@ def test_2_to_the_40_reads_and_writes_are_allowed() -> None:
     assert "\nconst TURNS: u64 = 1 << 40;\n" in read(CRATES / "program/src/main.rt")
 
 
-def test_runs_ask_inspect_about_each_line_that_they_hold_whole(code: list[Line]) -> None:
-    """The clauses of a run are met as well by another function with the same rules."""
+def test_runs_call_inspect_for_each_complete_line(code: list[Line]) -> None:
+    """A second function with the same rules would satisfy the clauses too."""
     asks = r"if let Some\(fault\) = inspect\(kind, bytes\) \{"
     found = [line.path for line in code if re.search(asks, line.code)]
     assert found == ["run_core/src/answer.rt"]
@@ -197,13 +196,13 @@ def test_runs_ask_inspect_about_each_line_that_they_hold_whole(code: list[Line])
 
 # ---- Mixings and meters
 
-# These are steps of a mixing that another function counts.
+# Steps of a mixing that another function counts.
 UNCOUNTED_STEPS = ("mix_blocks", "mixed_block")
 
 
 @dataclass(frozen=True)
 class Function:
-    """A function of the sources; two can have one name."""
+    """A function in the sources. Names may repeat."""
 
     name: str
     body: str
@@ -213,7 +212,7 @@ class Function:
 
 
 def functions_of_mix() -> list[Function]:
-    """The functions of mix.rt, without clauses and tests."""
+    """Returns the functions of mix.rt, without clauses and tests."""
     text = without_comments(read(CRATES / "prims_core/src/mix.rt"))
     text = re.sub(r"^ *(requires|ensures) .*(\n {8,}.*)*", "", text, flags=re.MULTILINE)
     text = re.sub(r"^mod tests.*", "", text, flags=re.MULTILINE | re.DOTALL)
@@ -223,9 +222,9 @@ def functions_of_mix() -> list[Function]:
 
 @pytest.mark.parametrize("function", functions_of_mix(), ids=str)
 def test_a_mixing_is_counted_once(function: Function) -> None:
-    """A function that counts a mixing does one, and one that counts none is a step of those.
+    """A function that counts a mixing does exactly one. The others are steps of one.
 
-    A clause sees neither a mixing whose result is dropped nor one that is done twice.
+    No clause notices a mixing whose result is dropped, or one that is done twice.
     """
     mixings = re.findall(r"\b(?:block_mix|mix_\w+|mixed_block|salsa8\w*)\(", function.body)
     counted = re.findall(r"\bcount_mix\(", function.body)
@@ -239,14 +238,14 @@ def test_a_mixing_is_counted_once(function: Function) -> None:
 
 
 def exported_calls() -> Iterator[Function]:
-    """The calls for C, for a page and for node, and what precedes the first in each file."""
+    """Yields the calls for C, the page and node, and what precedes the first in each file."""
     for name in files_with_exported_calls():
         before, *calls = re.split(EXPORTED_CALL, without_comments(read(CRATES / name)))
-        yield Function(f"what precedes the calls of {name}", before)
+        yield Function(f"the code before the calls of {name}", before)
         for call in calls:
             yield Function(call.split("(")[0], call)
 
 
 @pytest.mark.parametrize("call", [pytest.param(call, id=call.name) for call in exported_calls()])
-def test_a_call_makes_one_meter_at_most(call: Function) -> None:
+def test_a_call_creates_at_most_one_meter(call: Function) -> None:
     assert len(re.findall(r"\bMeter::new\b", call.body)) <= 1

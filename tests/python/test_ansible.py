@@ -1,4 +1,4 @@
-"""Ansible takes the package as filters, by the recipe of docs/PYTHON.md."""
+"""The package as filters in Ansible, by the recipe of docs/PYTHON.md."""
 from __future__ import annotations
 
 import json
@@ -22,7 +22,7 @@ pytestmark = [
 UNLOCKED = "is not match('[!*]')"
 HASH = "mkpasswd_hash"
 VERIFY = "mkpasswd_verify"
-# A message that were nothing but an answer would be a boolean.
+# Ansible would make a boolean of a message that consists only of the answer.
 TASKS = {
     "lock": f"it is {{{{ ('!' + stored) {UNLOCKED} }}}}",
     "asterisk": f"it is {{{{ '*' {UNLOCKED} }}}}",
@@ -56,7 +56,7 @@ LONGEST = "x" * 168
 
 @pytest.fixture(scope="module", name="messages")
 def fixture_messages(tmp_path_factory: pytest.TempPathFactory) -> dict[str, str]:
-    """What a play says of each task."""
+    """The message of each task of a play."""
     folder = tmp_path_factory.mktemp("ansible")
     environment: dict[str, str | None] = {
         **environment_of(),
@@ -100,8 +100,8 @@ def test_a_current_hash_is_kept(messages: dict[str, str], task: str) -> None:
     [
         pytest.param("right", "it is True", id="the right password"),
         pytest.param("wrong", "it is False", id="a wrong password"),
-        pytest.param("right_in_vault", "it is True", id="the right one of a hash in a vault"),
-        pytest.param("wrong_in_vault", "it is False", id="a wrong one of a hash in a vault"),
+        pytest.param("right_in_vault", "it is True", id="the right one for a hash in a vault"),
+        pytest.param("wrong_in_vault", "it is False", id="a wrong one for a hash in a vault"),
         pytest.param("verify_within", "it is False", id="a stored hash above a budget"),
         pytest.param("verify_locked", "it is False", id="a lock"),
     ],
@@ -113,9 +113,9 @@ def test_a_password_is_checked(messages: dict[str, str], task: str, answer: str)
 @pytest.mark.parametrize(
     ("task", "answer"),
     [("lock", "it is False"), ("asterisk", "it is False"), ("hash", "it is True")],
-    ids=["a hash behind a lock", "an asterisk", "a hash"],
+    ids=["a hash after a lock", "an asterisk", "a hash"],
 )
-def test_the_condition_of_the_recipe_leaves_out_locked_accounts(
+def test_the_condition_of_the_recipe_skips_locked_accounts(
     messages: dict[str, str], task: str, answer: str
 ) -> None:
     assert messages[task] == answer
@@ -134,12 +134,12 @@ def test_the_condition_of_the_recipe_leaves_out_locked_accounts(
 def test_a_new_hash_is_made_for(
     messages: dict[str, str], task: str, password: str, front: str
 ) -> None:
-    made = messages[task]
-    assert made.startswith(front) and mkpasswd.login(password, field=made)
+    stored = messages[task]
+    assert stored.startswith(front) and mkpasswd.login(password, field=stored)
 
 
 @pytest.mark.parametrize("task", ["longest", "longest_kept"])
-def test_the_longest_password_of_the_recommended_policy_is_taken(
+def test_the_longest_password_of_the_recommended_policy_is_accepted(
     messages: dict[str, str], task: str
 ) -> None:
     assert messages[task] == "it is True"
@@ -152,7 +152,7 @@ def test_the_longest_password_of_the_recommended_policy_is_taken(
         pytest.param("hash_within", "can cost more than 1", id="a new hash above a budget"),
         pytest.param("verify_another", "hash is yescrypt:unknown", id="another scheme"),
         pytest.param("verify_malformed", "hash is malformed:bad rounds", id="a bad setting"),
-        pytest.param("verify_password", "hash is no scheme", id="a password in the hash's place"),
+        pytest.param("verify_password", "hash is no scheme", id="a password in place of the hash"),
         pytest.param("weak", "rounds must be 1000 to 999999999, or 0 for 656000", id="few rounds"),
         pytest.param("refused", "password has a zero byte", id="a zero byte"),
         pytest.param("number", "must be str or bytes, not int", id="a number as the password"),

@@ -1,4 +1,4 @@
-"""What calls refuse: other types, numbers out of range, what is no password, arguments by place."""
+"""What calls refuse: wrong types, numbers out of range, invalid passwords, positional arguments."""
 from __future__ import annotations
 
 import array
@@ -20,7 +20,7 @@ with tested_package():
 
 @dataclass(frozen=True)
 class Call:
-    """A call, which gets some value at one place."""
+    """A call with one open argument."""
 
     title: str
     function: Callable[[Any], object]
@@ -39,7 +39,7 @@ WITH_FIELD = [
     Call("cost(.., 8)", lambda field: cost(field, 8)),
 ]
 A_NUMBER: Any = 0
-# These take None besides, and the last also an empty setting.
+# These also accept None, and the last one an empty setting.
 WITH_FIELD_OR_NONE = [
     Call("setting(..)", lambda salt: Policy().setting(A_NUMBER if salt is None else salt)),
     Call("describe(..)", lambda field: describe(A_NUMBER if field is None else field)),
@@ -67,7 +67,7 @@ OTHER_TYPES = [
 
 @pytest.mark.parametrize("value", OTHER_TYPES)
 @pytest.mark.parametrize("call", [*WITH_PASSWORD, *WITH_FIELD, *WITH_FIELD_OR_NONE], ids=str)
-def test_what_is_neither_str_nor_bytes_is_refused(call: Call, value: object) -> None:
+def test_a_value_that_is_neither_str_nor_bytes_is_refused(call: Call, value: object) -> None:
     error = error_of(call.function, value)
     assert error.__class__ is TypeError and "must be str or bytes, not " in str(error)
 
@@ -98,14 +98,14 @@ NO_NUMBERS = [
     ],
     ids=str,
 )
-def test_what_is_no_int_is_refused(call: Call, number: object) -> None:
+def test_a_value_that_is_not_an_int_is_refused(call: Call, number: object) -> None:
     assert class_raised(call.function, number) is TypeError
 
 
 @pytest.mark.parametrize(
     "method", [None, 6, b"md5crypt", crypt_call], ids=["None", "6", "bytes", "a call"]
 )
-def test_what_is_no_name_of_a_method_is_refused(method: object) -> None:
+def test_a_value_that_is_not_the_name_of_a_method_is_refused(method: object) -> None:
     assert class_raised(Policy, method=method) is TypeError
 
 
@@ -125,17 +125,17 @@ OTHER_ROUNDS = [-1, 1, 12, 999, 10**9, 2**32 - 1, 2**32 + 5000, 2**64 + 5000]
 @pytest.mark.parametrize("rounds", OTHER_ROUNDS)
 @pytest.mark.parametrize("method", ["sha256crypt", "sha512crypt"])
 def test_rounds_that_no_hash_has_are_refused(method: str, rounds: int) -> None:
-    """The command and the calls of C clamp them, so that a hash of 12 rounds would have 1000."""
+    """The command and the calls for C clamp them, so a hash with 12 rounds would have 1000."""
     error = error_of(Policy, method, rounds)
     assert str(error) == "rounds must be 1000 to 999999999, or 0 for 656000"
 
 
 @pytest.mark.parametrize("rounds", [-1, 2**32, 2**64 + 5000])
-def test_rounds_that_the_library_can_not_take_are_refused_though_ignored(rounds: int) -> None:
+def test_rounds_of_more_than_32_bits_are_refused_though_ignored(rounds: int) -> None:
     assert class_raised(Policy, "md5crypt", rounds) is mkpasswd.Refused
 
 
-def test_the_most_rounds_are_more_than_any() -> None:
+def test_sha512crypt_has_at_most_999999999_rounds() -> None:
     assert Policy(rounds=999_999_999).needs_rehash(SHA512)
 
 
@@ -158,14 +158,14 @@ def test_an_unknown_method_is_refused_by_its_argument(method: str) -> None:
 
 
 @pytest.mark.parametrize("rounds", [1, 5, 12, 2**32 - 1])
-def test_a_cost_that_scrypt_does_not_take_is_refused_by_its_argument(rounds: int) -> None:
-    """The library's message names no number, and Python's names the argument too."""
+def test_a_cost_that_scrypt_does_not_have_is_refused_by_its_argument(rounds: int) -> None:
+    """Unlike the library's message, Python's names the argument and its numbers."""
     error = error_of(Policy, "scrypt", rounds)
     assert isinstance(error, Refused) and error.reason is Reason.ROUNDS
     assert str(error) == "rounds must be 6 to 11, or 0 for 7"
 
 
-# ---- Passwords that are none
+# ---- Invalid passwords
 
 
 @pytest.mark.parametrize(
@@ -196,41 +196,41 @@ def test_a_password_that_no_hash_can_have_is_refused(
         pytest.param("x" * 1024, id="1024 bytes"),
         pytest.param("é" * 512, id="1024 bytes of 512 characters"),
         pytest.param(b"\xff" * 1024, id="bytes of no encoding"),
-        pytest.param("\ud7ff\ue000", id="the characters beside the surrogates"),
+        pytest.param("\ud7ff\ue000", id="the characters next to the surrogates"),
     ],
 )
-def test_any_other_password_is_taken(password: str | bytes) -> None:
+def test_any_other_password_is_accepted(password: str | bytes) -> None:
     assert MD5CRYPT.login(password, field=MD5CRYPT.hash(password)) is True
 
 
 @pytest.mark.parametrize("setting", ["$1$salt", "$5$rounds=1000$salt", "$6$rounds=1000$salt"])
 @pytest.mark.parametrize("password", ["é", "pässwörd", "€uro", "\U0001f511key", "ünïcödé" * 20])
-def test_str_is_its_utf8(password: str, setting: str) -> None:
+def test_a_str_is_hashed_as_utf8(password: str, setting: str) -> None:
     expected = crypt(password, setting)
     assert crypt_call(password, setting) == crypt_call(password.encode(), setting) == expected
     assert MD5CRYPT.login(password, field=expected) is True
     assert MD5CRYPT.login(password.encode()[: len(password)], field=expected) is False
 
 
-def test_bytes_of_a_surrogate_are_taken() -> None:
-    """As they are characters of Latin-1."""
+def test_the_bytes_of_a_surrogate_are_accepted() -> None:
+    """They may be Latin-1."""
     assert crypt_call(b"\xed\xa0", "$1$salt") == crypt(b"\xed\xa0", "$1$salt")
 
 
-# ---- Arguments by place, and names that were once
+# ---- Positional arguments, and names of earlier versions
 
 
 @pytest.mark.parametrize(
     "given",
     [
-        pytest.param(("x", COSTLY), id="both by place"),
+        pytest.param(("x", COSTLY), id="both positional"),
         pytest.param(("x",), id="no field"),
         pytest.param((), id="nothing"),
-        pytest.param((COSTLY, "x", "md5crypt"), id="three by place"),
+        pytest.param((COSTLY, "x", "md5crypt"), id="three positional"),
     ],
 )
 def test_a_login_takes_its_field_by_name(given: tuple[str, ...]) -> None:
-    """Swapped, password and field would open accounts. Nothing is hashed then."""
+    """Positional arguments could be swapped, and so open accounts."""
     error = error_of(mkpasswd.login, *given)
     assert error.__class__ is TypeError
 

@@ -1,4 +1,4 @@
-"""mkpasswd.crypt beside the standard library's crypt: the same, but for documented differences."""
+"""mkpasswd.crypt against the standard library's crypt: the same, except as documented."""
 from __future__ import annotations
 
 import importlib
@@ -23,7 +23,7 @@ SHA_NAMES = pytest.mark.parametrize("name", ["SHA512", "SHA256"])
 
 @pytest.fixture(name="theirs")
 def fixture_theirs() -> Any:
-    """The standard library's module, which Python 3.13 no longer has."""
+    """The standard library's module, which Python has up to 3.12."""
     with warnings.catch_warnings():
         warnings.simplefilter("ignore")
         try:
@@ -36,14 +36,14 @@ def fixture_theirs() -> Any:
 
 
 @pytest.mark.parametrize("name", ["BLOWFISH", "CRYPT"])
-def test_a_method_that_is_not_ours_has_a_name(theirs: Any, name: str) -> None:
+def test_an_unsupported_method_has_its_name(theirs: Any, name: str) -> None:
     method = getattr(crypt, f"METHOD_{name}")
     assert tuple(method) == tuple(getattr(theirs, f"METHOD_{name}"))
     assert method not in crypt.methods
 
 
 @pytest.mark.parametrize("name", ["BLOWFISH", "CRYPT"])
-def test_a_method_that_is_not_ours_is_refused(name: str) -> None:
+def test_an_unsupported_method_is_refused(name: str) -> None:
     method = getattr(crypt, f"METHOD_{name}")
     for error in error_of(crypt.crypt, "x", method), error_of(crypt.mksalt, method):
         assert isinstance(error, mkpasswd.Refused)
@@ -51,13 +51,13 @@ def test_a_method_that_is_not_ours_is_refused(name: str) -> None:
 
 
 @NAMES
-def test_a_method_of_ours_is_the_same(theirs: Any, name: str) -> None:
+def test_a_supported_method_is_the_same(theirs: Any, name: str) -> None:
     method, expected = getattr(crypt, f"METHOD_{name}"), getattr(theirs, f"METHOD_{name}")
     assert tuple(method) == tuple(expected) and method._fields == expected._fields
     assert repr(method) == repr(expected)
 
 
-def test_our_methods_stand_in_the_same_order(theirs: Any) -> None:
+def test_the_methods_have_the_same_order(theirs: Any) -> None:
     ours = [method for method in theirs.methods if method.name in ("SHA512", "SHA256", "MD5")]
     assert crypt.methods == ours
 
@@ -68,14 +68,18 @@ def test_our_methods_stand_in_the_same_order(theirs: Any) -> None:
 @SHA_NAMES
 @pytest.mark.parametrize("rounds", [1000, 5000, 999_999_999])
 def test_a_salt_of_sha_crypt_has_the_same_form(theirs: Any, name: str, rounds: int) -> None:
-    made = crypt.mksalt(getattr(crypt, f"METHOD_{name}"), rounds=rounds)
+    setting = crypt.mksalt(getattr(crypt, f"METHOD_{name}"), rounds=rounds)
     expected = theirs.mksalt(getattr(theirs, f"METHOD_{name}"), rounds=rounds)
-    assert made.rpartition("$")[0] == expected.rpartition("$")[0] and len(made) == len(expected)
+    assert setting.rpartition("$")[0] == expected.rpartition("$")[0] and len(setting) == len(
+        expected
+    )
 
 
 def test_a_salt_of_md5crypt_has_the_same_form(theirs: Any) -> None:
-    made, expected = crypt.mksalt(crypt.METHOD_MD5), theirs.mksalt(theirs.METHOD_MD5)
-    assert made.rpartition("$")[0] == expected.rpartition("$")[0] and len(made) == len(expected)
+    setting, expected = crypt.mksalt(crypt.METHOD_MD5), theirs.mksalt(theirs.METHOD_MD5)
+    assert setting.rpartition("$")[0] == expected.rpartition("$")[0] and len(setting) == len(
+        expected
+    )
 
 
 @SHA_NAMES
@@ -90,25 +94,25 @@ def test_a_hash_of_sha_crypt_has_the_size_of_its_method_and_rounds(
     name: str, options: dict[str, int], rounds: int
 ) -> None:
     method = getattr(crypt, f"METHOD_{name}")
-    made = crypt.crypt("x", crypt.mksalt(method, **options))
-    assert len(made) == method.total_size + len(f"rounds={rounds}$")
+    stored = crypt.crypt("x", crypt.mksalt(method, **options))
+    assert len(stored) == method.total_size + len(f"rounds={rounds}$")
 
 
 def test_a_hash_of_md5crypt_has_the_size_of_its_method() -> None:
-    made = crypt.crypt("x", crypt.mksalt(crypt.METHOD_MD5))
-    assert len(made) == crypt.METHOD_MD5.total_size
+    stored = crypt.crypt("x", crypt.mksalt(crypt.METHOD_MD5))
+    assert len(stored) == crypt.METHOD_MD5.total_size
 
 
 @NAMES
 @pytest.mark.parametrize("rounds", [0, 999, 10**9, -1, 1.5, "1000", True], ids=repr)
-def test_rounds_that_they_refuse_are_refused(theirs: Any, name: str, rounds: object) -> None:
+def test_the_same_rounds_are_refused(theirs: Any, name: str, rounds: object) -> None:
     for module in theirs, crypt:
         with pytest.raises((ValueError, TypeError)):
             module.mksalt(getattr(module, f"METHOD_{name}"), rounds=rounds)
 
 
 def test_the_first_method_is_the_default(theirs: Any) -> None:
-    """With the recommended rounds, of which theirs has none."""
+    """Ours has the recommended rounds, which theirs doesn't know."""
     assert crypt.crypt("x")[:17] == crypt.mksalt()[:17] == "$6$rounds=656000$"
     assert theirs.mksalt()[:3] == "$6$"
 
@@ -140,18 +144,18 @@ def test_a_hash_or_a_refusal_is_the_same(theirs: Any, password: str, salt: str) 
         pytest.param("\ud800", "$1$salt", id="a lone surrogate"),
     ],
 )
-def test_what_they_raise_an_error_for_is_an_error(theirs: Any, password: Any, salt: Any) -> None:
+def test_the_same_arguments_raise_an_error(theirs: Any, password: Any, salt: Any) -> None:
     expected = error_of(theirs.crypt, password, salt)
     kind = TypeError if expected.__class__ is TypeError else ValueError
     with pytest.raises(kind):
         crypt.crypt(password, salt)
 
 
-def test_bytes_are_hashed_as_str(theirs: Any) -> None:
+def test_bytes_are_hashed_like_str(theirs: Any) -> None:
     assert crypt.crypt(b"x", MD5.encode()) == theirs.crypt("x", MD5)
 
 
-# ---- Where it differs, as docs/PYTHON.md says
+# ---- The differences in docs/PYTHON.md
 
 COSTLY_SETTING = "$6$rounds=656000$saltsaltsaltsalt"
 
@@ -163,7 +167,7 @@ COSTLY_SETTING = "$6$rounds=656000$saltsaltsaltsalt"
         pytest.param("x" * 1025, MD5, ValueError, id="a password that is too long"),
     ],
 )
-def test_what_costs_too_much_is_an_error_where_theirs_is_a_refusal(
+def test_too_high_a_cost_raises_an_error_instead_of_returning_a_token(
     theirs: Any, password: str, salt: str, error: type[Exception]
 ) -> None:
     with pytest.raises(error):
@@ -176,11 +180,11 @@ def test_168_bytes_are_hashed_with_the_recommended_rounds() -> None:
     assert crypt.crypt("x" * 168, COSTLY_SETTING) == expected
 
 
-def test_169_bytes_are_not() -> None:
+def test_169_bytes_cost_too_much_with_the_recommended_rounds() -> None:
     assert class_raised(crypt.crypt, "x" * 169, COSTLY_SETTING) is mkpasswd.TooCostly
 
 
-def test_rounds_below_the_least_are_clamped(theirs: Any) -> None:
+def test_rounds_below_the_minimum_are_clamped(theirs: Any) -> None:
     assert theirs.crypt("x", "$6$rounds=999$ab") == "*0"
     assert crypt.crypt("x", "$6$rounds=999$ab") == theirs.crypt("x", "$6$rounds=1000$ab")
 

@@ -1,4 +1,4 @@
-"""Stored fields: which need a new hash, what they cost, how they are described or refused."""
+"""Stored fields: which ones need a new hash, their cost, their description or refusal."""
 from __future__ import annotations
 
 from pathlib import Path
@@ -25,7 +25,7 @@ with tested_package():
 NO_BUDGET = 2**42  # more than any hash costs
 
 
-# ---- Fields that are empty or locked
+# ---- Empty and locked fields
 
 
 FORMS = pytest.mark.parametrize("form", [str, str.encode], ids=["str", "bytes"])
@@ -51,7 +51,7 @@ def test_an_empty_or_locked_field_is_described(field: str, form: Any) -> None:
     assert describe(form(field)) == Description(State.LOCKED if field else State.NONE)
 
 
-def test_a_name_without_a_field_is_described_as_one_without_a_hash() -> None:
+def test_none_is_described_as_no_hash() -> None:
     assert describe(None) == Description(State.NONE)
 
 
@@ -61,7 +61,7 @@ def test_an_empty_or_locked_field_has_no_cost(field: str, form: Any) -> None:
     assert class_raised(cost, form(field), 8) is Refused
 
 
-# ---- Fields that are refused
+# ---- Refused fields
 
 
 @pytest.mark.parametrize("field", REFUSED, ids=str)
@@ -79,7 +79,7 @@ def test_a_refused_field_is_refused_by_its_first_broken_rule(call: Any, field: S
 
 
 @pytest.mark.parametrize("field", REFUSED, ids=str)
-def test_a_refused_field_is_described_by_what_it_lacks(field: StoredField) -> None:
+def test_a_refused_field_is_described_by_its_first_broken_rule(field: StoredField) -> None:
     expected = Description(State.MALFORMED, reason=Reason[field.reason.name])
     if field.is_of_another_scheme:
         expected = Description(State.UNKNOWN, field.scheme)
@@ -88,18 +88,18 @@ def test_a_refused_field_is_described_by_what_it_lacks(field: StoredField) -> No
     assert describe(field.text) == expected
 
 
-# ---- Which hashes need a new one
+# ---- Hashes that need a new one
 
 
 @pytest.mark.parametrize(
     ("stored", "policy"),
     [
         pytest.param(MD5, Policy("md5crypt"), id="md5crypt"),
-        pytest.param(SHA512, Policy(rounds=5000), id="sha512crypt of as many rounds"),
-        pytest.param(SHA512, Policy(rounds=4999), id="sha512crypt of more rounds"),
+        pytest.param(SHA512, Policy(rounds=5000), id="sha512crypt with the same rounds"),
+        pytest.param(SHA512, Policy(rounds=4999), id="sha512crypt with more rounds"),
         pytest.param(SCRYPT, Policy("scrypt"), id="scrypt as recommended"),
-        pytest.param(SCRYPT, Policy("scrypt", 7), id="scrypt of the same cost"),
-        pytest.param(SCRYPT, Policy("scrypt", 6), id="scrypt of a higher cost"),
+        pytest.param(SCRYPT, Policy("scrypt", 7), id="scrypt with the same cost"),
+        pytest.param(SCRYPT, Policy("scrypt", 6), id="scrypt with a higher cost"),
     ],
 )
 def test_a_hash_by_the_policy_needs_no_new_one(stored: str, policy: Policy) -> None:
@@ -126,8 +126,8 @@ def test_a_hash_by_another_policy_needs_a_new_one(stored: str, policy: Policy) -
 # ---- Costs
 
 
-def test_the_cost_of_scrypt_is_that_of_the_messages_of_rfc_7914() -> None:
-    """Section 6; docs/FORMATS.md adds them."""
+def test_the_cost_of_scrypt_counts_the_messages_of_rfc_7914() -> None:
+    """They are in section 6. docs/FORMATS.md adds up their lengths."""
     n, r = 2**14, 32
     expected = 4 * r * 168 + 164 + 128 * r + 2 * n * 128 * r
     assert cost("$7$CU..../....salt", 8) == expected
@@ -159,12 +159,12 @@ AUDIT = Policy("md5crypt", budget=NO_BUDGET)
 
 
 @SETTINGS
-def test_a_whole_hash_is_current_or_outdated(setting: str, state: State) -> None:
+def test_a_complete_hash_is_current_or_outdated(setting: str, state: State) -> None:
     assert AUDIT.describe(crypt("password", setting)).state == state
 
 
 @SETTINGS
-def test_a_hash_is_dead_once_its_form_is_changed(setting: str, state: State) -> None:
+def test_a_hash_of_another_form_is_dead(setting: str, state: State) -> None:
     stored = crypt("password", setting)
     whole = AUDIT.describe(stored)
     assert whole.state == state
@@ -181,7 +181,7 @@ def test_a_hash_is_dead_once_its_form_is_changed(setting: str, state: State) -> 
         pytest.param("$y$j9T$salt$x", "yescrypt", id="yescrypt"),
         pytest.param("$2b$05$abcdefghijklmnopqrstuu", "bcrypt", id="bcrypt"),
         pytest.param("ab0Z8yq2hBQEo", "descrypt", id="descrypt"),
-        pytest.param("$argon2id$v=19$m=65536,t=3,p=4$x$x", None, id="none of crypt(5)"),
+        pytest.param("$argon2id$v=19$m=65536,t=3,p=4$x$x", None, id="none in crypt(5)"),
     ],
 )
 def test_another_scheme_has_its_name_in_crypt_5(field: str, scheme: str | None) -> None:
@@ -200,7 +200,7 @@ def test_another_scheme_has_its_name_in_crypt_5(field: str, scheme: str | None) 
 def test_a_description_has_the_rounds_or_the_cost_of_scrypt(
     field: str, numbers: tuple[object, ...]
 ) -> None:
-    """As crypt(5) says: 1,000 of md5crypt, 5,000 where the field has no rounds; N=2^14 is C."""
+    """By crypt(5): 1,000 for md5crypt, 5,000 if the field has no rounds, and C is N=2^14."""
     found = describe(field)
     assert (found.rounds, found.n, found.r, found.p) == numbers
 
@@ -228,13 +228,13 @@ THREE_ROUNDS = (655_999, 656_000, 656_001)
         ),
     ],
 )
-def test_an_audit_takes_the_recommended_rounds(policy: Policy, states: list[State]) -> None:
-    """By default it takes 656000 rounds, or 7 with scrypt, and admits what they can cost."""
+def test_an_audit_compares_with_the_recommended_rounds(policy: Policy, states: list[State]) -> None:
+    """By default it compares with 656000 rounds, or 7 for scrypt, and admits their cost."""
     fields = [f"$6$rounds={rounds}$saltsaltsaltsalt${'.' * 86}" for rounds in THREE_ROUNDS]
     assert [policy.describe(field).state for field in fields] == states
 
 
-# With N = 2^15 even the empty password costs 268463524, more than a login by sha512crypt admits
+# With N = 2^15 even the empty password costs 268463524, above the limit of a login by sha512crypt
 # without a budget.
 DEAR = f"$7$DU..../....{'a' * 22}${'.' * 43}"
 
@@ -247,17 +247,17 @@ DEAR = f"$7$DU..../....{'a' * 22}${'.' * 43}"
         pytest.param(Policy("scrypt"), State.CURRENT, id="scrypt"),
     ],
 )
-def test_a_dear_hash_is_described_by_the_limit_of_the_policy(policy: Policy, state: State) -> None:
+def test_a_costly_hash_is_described_by_the_policys_limit(policy: Policy, state: State) -> None:
     assert policy.describe(DEAR).state == state
 
 
 DESCRIBED = [*LOCKED, *DEAD, *(field.text for field in REFUSED), MD5, SHA512, SCRYPT, COSTLY]
 DESCRIBED.append("$6$rounds=656001$salt$" + "." * 86)
-MOST_OF_MD5CRYPT = 1_927_022  # what md5crypt digests of 1,024 bytes
+MOST_OF_MD5CRYPT = 1_927_022  # the cost of md5crypt for 1,024 bytes
 
 
 def findings_of_the_command(program: Path, policy: Policy, fields: list[str]) -> list[str]:
-    """What the command's audit prints behind each name."""
+    """Returns what the command's audit prints after each name."""
     lines = "".join(f"ann:{field}\n" for field in fields).encode()
     words: list[Word] = ["--audit", "-m", policy.method, "-R", policy.rounds or 0]
     words += ["--budget", policy.budget or 0]
@@ -270,9 +270,9 @@ def findings_of_the_command(program: Path, policy: Policy, fields: list[str]) ->
 @pytest.mark.parametrize(
     "budget",
     [
-        pytest.param(MOST_OF_MD5CRYPT, id="what md5crypt can cost"),
+        pytest.param(MOST_OF_MD5CRYPT, id="the most that md5crypt can cost"),
         pytest.param(MOST_OF_MD5CRYPT - 1, id="one less"),
-        pytest.param(None, id="the usual budget"),
+        pytest.param(None, id="the default budget"),
         pytest.param(2**64 - 1, id="the greatest budget"),
     ],
 )

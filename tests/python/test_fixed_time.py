@@ -1,7 +1,7 @@
-"""Failed logins are answered a fixed time after they began, and hold nothing until then.
+"""Failed logins are answered a fixed time after they began, and block nothing until then.
 
-How late a busy machine answers says nothing of the package, so a time counts if one of several
-attempts keeps it: what an attacker could use would be in all of them.
+A busy machine can be late, so a test passes if one of several attempts is in time: a difference
+that an attacker could use would be in all of them.
 """
 from __future__ import annotations
 
@@ -20,25 +20,25 @@ with tested_package():
     from mkpasswd import Policy
     from mkpasswd.fixed_time import Busy, FixedTime
 
-# They measure times, so they don't run beside each other.
+# These tests measure times, so they don't run in parallel.
 pytestmark = pytest.mark.xdist_group("fixed time")
 
 ATTEMPTS = 20
 QUICK = Policy(rounds=1000)
-LONGEST_WAIT = 60  # seconds, for what should come at once
+LONGEST_WAIT = 60  # seconds to wait for what should come at once
 
 
 def raise_an_error() -> NoReturn:
-    raise RuntimeError("the database is away")
+    raise RuntimeError("the database is down")
 
 
 def by_threads(logins: FixedTime, login: Callable[..., Any], *arguments: Any, **named: Any) -> Any:
-    """Waits in this thread."""
+    """Waits for the answer in this thread."""
     return logins.submit(login, *arguments, **named).result(LONGEST_WAIT)
 
 
 def by_asyncio(logins: FixedTime, login: Callable[..., Any], *arguments: Any, **named: Any) -> Any:
-    """Waits as a coroutine does."""
+    """Waits for the answer in a coroutine."""
 
     async def wait() -> Any:
         return await asyncio.wrap_future(logins.submit(login, *arguments, **named))
@@ -64,7 +64,7 @@ FAILURES = [
 
 
 def seconds_beyond(logins: FixedTime, moment: float, wait: Any, *arguments: Any) -> float:
-    """How much later than that after its start a login is answered by False."""
+    """Returns how many seconds after this moment, counted from its start, a login is refused."""
     began = time.monotonic()
     login, password, field = arguments
     assert wait(logins, login, *password, field=field) is False
@@ -73,7 +73,7 @@ def seconds_beyond(logins: FixedTime, moment: float, wait: Any, *arguments: Any)
 
 @WAYS
 @pytest.mark.parametrize(("login", "password", "field"), FAILURES)
-def test_failures_of_all_kinds_are_answered_at_one_moment(
+def test_failures_of_all_kinds_are_answered_at_the_same_moment(
     wait: Any, login: Any, password: tuple[str], field: str | None
 ) -> None:
     logins = FixedTime(seconds=0.3, threads=1, queued=1, failed=10)
@@ -86,13 +86,13 @@ def test_failures_of_all_kinds_are_answered_at_one_moment(
 
 
 @WAYS
-def test_a_login_that_raises_an_error_is_answered_at_that_moment_too(wait: Any) -> None:
-    """An error of the database, say, would otherwise tell that the name exists."""
+def test_an_error_is_raised_at_that_moment_too(wait: Any) -> None:
+    """Otherwise an error of the database, say, would show that the name exists."""
     logins = FixedTime(seconds=0.3, threads=1, queued=1, failed=10)
     began = time.monotonic()
     error = error_of(wait, logins, raise_an_error)
     assert time.monotonic() - began >= 0.3
-    assert isinstance(error, RuntimeError) and str(error) == "the database is away"
+    assert isinstance(error, RuntimeError) and str(error) == "the database is down"
 
 
 @WAYS
@@ -117,7 +117,7 @@ def test_only_true_is_a_success(answer: Any) -> None:
 def test_a_failure_that_takes_longer_is_answered_at_a_multiple_of_the_time(
     takes: float, answered: float
 ) -> None:
-    """Else a busy machine would let the time tell what was checked."""
+    """Otherwise the time would show, on a busy machine, what was checked."""
     logins = FixedTime(seconds=0.2, threads=1, queued=1, failed=10)
 
     def be_slow() -> bool:
@@ -138,7 +138,7 @@ SECONDS_OF_ONE = 0.1
 
 
 def be_wrong() -> bool:
-    """A login that takes as long as all others."""
+    """Takes as long as every other login here, and fails."""
     time.sleep(SECONDS_OF_ONE)
     return False
 
@@ -147,10 +147,10 @@ def be_wrong() -> bool:
     ("threads", "queued", "times"),
     [(2, 0, 1), (2, 1, 2), (2, 2, 2), (2, 3, 3), (1, 3, 4)],
 )
-def test_a_full_queue_is_in_time_if_its_seconds_were_chosen_by_the_rule(
+def test_a_full_queue_is_in_time_if_its_seconds_follow_the_rule(
     threads: int, queued: int, times: int
 ) -> None:
-    """As many logins as there may be, all at once."""
+    """Starts as many logins at once as the queue allows."""
     seconds = times * SECONDS_OF_ONE + 0.05
     logins = FixedTime(seconds=seconds, threads=threads, queued=queued, failed=10)
     lateness = []
@@ -165,12 +165,12 @@ def test_a_full_queue_is_in_time_if_its_seconds_were_chosen_by_the_rule(
 
 
 @pytest.mark.parametrize("seconds", [-1, float("nan"), float("inf")], ids=repr)
-def test_seconds_that_never_come_are_refused(seconds: float) -> None:
+def test_impossible_seconds_are_refused(seconds: float) -> None:
     with pytest.raises(ValueError, match="seconds must be a finite number from 0 on"):
         FixedTime(seconds=seconds, threads=1, queued=1, failed=1)
 
 
-# ---- What waits holds nothing
+# ---- Waiting failures block nothing
 
 FAILED = 100
 SLOW = Policy(rounds=50_000)
@@ -182,15 +182,15 @@ def fixture_stored() -> str:
 
 
 def wrong_logins(logins: FixedTime) -> list[Future[bool]]:
-    """Wrong logins, all of which have been hashed and wait for their time."""
+    """Returns wrong logins that have all been hashed and wait for their time."""
     answers = [logins.submit(QUICK.login, "passw0rd", field=MD5) for _ in range(FAILED)]
-    # There is one thread, so this runs after all of them.
+    # There is only one thread, so this login runs after all of them.
     assert logins.submit(QUICK.login, "password", field=MD5).result(LONGEST_WAIT) is True
     return answers
 
 
 def least_seconds(wait: Any, logins: FixedTime, stored: str) -> float:
-    """What a right login takes at least."""
+    """Returns the least time that a right login takes."""
     seconds = []
     for _ in range(3):
         began = time.monotonic()
@@ -253,8 +253,8 @@ def test_too_many_failures_refuse_the_next_login_until_one_is_answered() -> None
     assert logins.submit(QUICK.login, "password", field=MD5).result(LONGEST_WAIT) is True
 
 
-def test_whoever_goes_away_disturbs_nobody() -> None:
-    """As a client who closes the connection."""
+def test_a_cancelled_login_disturbs_no_other() -> None:
+    """A client that closes the connection cancels its login."""
     logins = FixedTime(seconds=0.1, threads=1, queued=5, failed=5)
 
     async def go_away() -> None:
@@ -267,9 +267,9 @@ def test_whoever_goes_away_disturbs_nobody() -> None:
     assert by_threads(logins, QUICK.login, "password", field=MD5) is True
 
 
-# ---- Threads that aren't there
+# ---- Missing threads
 
-# A server's worker, which fork() makes; its parent prints how it ends.
+# A server's worker process, made by fork(). Its parent prints how it ends.
 WORKER = f"""
 import os
 from mkpasswd import Policy
@@ -293,7 +293,7 @@ def test_a_worker_answers_when_its_parent_had_no_login() -> None:
 
 
 def test_a_worker_raises_an_error_when_its_parent_had_a_login() -> None:
-    """Without threads it could answer nothing, and whoever logs in would wait forever."""
+    """Without threads it could answer nothing, and users would wait forever."""
     before = f'assert logins.submit(login, "password", field={MD5!r}).result({LONGEST_WAIT})'
     result = run_python(WORKER.format(before=before)).required()
     message = b"RuntimeError: fork() copied no threads of FixedTime: make one in each process\n"
@@ -311,8 +311,8 @@ def test_a_system_without_more_threads_takes_no_place_in_the_queue(
         raise RuntimeError("can't start new thread")
 
     def refuse_two() -> None:
-        with monkeypatch.context() as replace_lines:
-            replace_lines.setattr(threading.Thread, "start", start_none)
+        with monkeypatch.context() as patch:
+            patch.setattr(threading.Thread, "start", start_none)
             for _ in range(2):
                 error = error_of(logins.submit, QUICK.login, "password", field=MD5)
                 assert str(error) == "can't start new thread"

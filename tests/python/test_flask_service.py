@@ -1,7 +1,7 @@
-"""A service with Flask and SQLite that moves its users to mkpasswd, written by docs/PYTHON.md.
+"""A service with Flask and SQLite that moves its users to mkpasswd, as docs/PYTHON.md says.
 
-Its code is that of the document's sections, one after the other, changed as they say. Here the
-sections work together; test_recipes.py has the corners of each.
+Its code is the document's sections in their order, with the changes that they name. These tests
+try the sections together; test_recipes.py tries the corner cases of each.
 """
 from __future__ import annotations
 
@@ -31,31 +31,31 @@ with tested_package():
 
 pytestmark = [
     pytest.mark.needs("python3-flask", "python3-bcrypt", "python3-werkzeug"),
-    # They measure times, so they don't run beside others that do.
+    # These tests measure times, so they don't run in parallel with others that do.
     pytest.mark.xdist_group("fixed time"),
 ]
 
 RECOMMENDED = "$6$rounds=656000$"
-SECONDS = 2  # until a failure is answered: the document has 6
+SECONDS = 2  # until a failure is answered, instead of the document's 6
 LATE = 0.1  # seconds
 ATTEMPTS = 10
-LONGEST_WAIT = 60  # seconds, for what should come soon
+LONGEST_WAIT = 60  # seconds to wait for what should come soon
 
 
 def password_of(name: str) -> str:
-    """The password of a user, which no other has."""
+    """Returns a user's password, which no other user has."""
     return f"pässword of {name}"
 
 
 def pbkdf2_of(password: str) -> str:
-    """The hash that Werkzeug makes."""
+    """Returns Werkzeug's hash of a password."""
     digest = hashlib.pbkdf2_hmac("sha256", password.encode(), b"saltsalt", 1000)
     return f"pbkdf2:sha256:1000$saltsalt${digest.hex()}"
 
 
 @functools.cache
 def fields_before() -> dict[str, str]:
-    """The table as the service has it before it moves."""
+    """Returns the fields in the table before the service moves."""
     outdated = "$6$saltsaltsaltsalt"
     current = f"{RECOMMENDED}saltsaltsaltsalt"
     bcrypt = "$2b$04$abcdefghijklmnopqrstuu"
@@ -74,7 +74,7 @@ LOCKED = ("locked", "locked bcrypt")
 
 
 def code_of_service() -> str:
-    """What somebody writes who follows the document."""
+    """Returns the code of a reader who follows the document."""
     fixed_time = recipe("failures after a fixed time")
     sections = [
         whole_login_of_a_moving_service(),
@@ -86,18 +86,18 @@ def code_of_service() -> str:
 
 @dataclass(frozen=True)
 class Service:
-    """The service that is tried, in a folder of its own."""
+    """The service under test, and its folder."""
 
-    names: dict[str, Any]  # that its code defines
+    names: dict[str, Any]  # what its code defines
     folder: Path
 
     def post(self, name: str, password: str) -> int:
-        """The status that a form gets, posted in this thread."""
+        """Posts the login form in this thread, and returns the status."""
         form = {"name": name, "password": password}
         return int(self.names["app"].test_client().post("/login", data=form).status_code)
 
     def fields(self) -> dict[str, str]:
-        """What the table has."""
+        """Returns the fields in the table, by name."""
         with contextlib.closing(sqlite3.connect(self.folder / "users.db")) as database:
             return dict(database.execute("SELECT name, hash FROM users"))
 
@@ -126,7 +126,7 @@ def test_all_users_log_in_and_outdated_hashes_are_renewed(service: Service) -> N
         assert fields[name] == crypt(password_of(name), fields[name])
 
 
-def test_a_renewed_hash_lets_in_its_password_alone_and_is_kept(service: Service) -> None:
+def test_a_renewed_hash_matches_only_its_password_and_is_kept(service: Service) -> None:
     for name in USERS:
         assert service.post(name, password_of(name)) == 200
     fields = service.fields()
@@ -151,7 +151,7 @@ def test_a_renewed_hash_lets_in_its_password_alone_and_is_kept(service: Service)
         pytest.param("pbkdf2", password_of("current"), id="another user's"),
     ],
 )
-def test_all_failures_are_answered_at_one_moment_and_change_nothing(
+def test_all_failures_are_answered_at_the_same_moment_and_change_nothing(
     service: Service, name: str, password: str
 ) -> None:
     lateness = []
@@ -160,7 +160,7 @@ def test_all_failures_are_answered_at_one_moment_and_change_nothing(
         assert service.post(name, password) == 403
         elapsed = time.monotonic() - began
         assert elapsed >= SECONDS
-        # A login that takes longer, as on a busy machine, is answered at twice the time, and so on.
+        # A login that takes longer, as on a busy machine, is answered at a multiple of the time.
         lateness.append(elapsed % SECONDS)
         if lateness[-1] <= LATE:
             break
@@ -168,7 +168,7 @@ def test_all_failures_are_answered_at_one_moment_and_change_nothing(
     assert service.fields() == fields_before()
 
 
-def test_a_service_with_too_many_logins_asks_to_try_again(service: Service) -> None:
+def test_an_overloaded_service_asks_to_try_again(service: Service) -> None:
     may_go_on = threading.Event()
     logins: FixedTime = service.names["logins"]
     others = [logins.submit(may_go_on.wait, LONGEST_WAIT) for _ in range(8)]

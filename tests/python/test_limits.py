@@ -1,4 +1,4 @@
-"""What a policy admits, as the package uses it, for 100,000 policies by formulas of documents."""
+"""The limits of 100,000 policies in the package, by the formulas of docs/FORMATS.md."""
 from __future__ import annotations
 
 import pytest
@@ -29,7 +29,7 @@ NAMES = {
 
 
 def longest_within(policy: Policy) -> int | None:
-    """The length of the longest password whose new hash is within the limit, or None."""
+    """Returns the length of the longest password whose new hash is within the limit, or None."""
     shortest, longest = -1, LONGEST_PASSWORD
     while shortest < longest:
         middle = (shortest + longest + 1) // 2
@@ -40,7 +40,7 @@ def longest_within(policy: Policy) -> int | None:
     return None if shortest < 0 else shortest
 
 
-def test_the_limit_and_the_longest_password_are_those_of_the_formulas() -> None:
+def test_the_limit_and_the_longest_password_follow_the_formulas() -> None:
     for policy in random_policies(7, POLICIES):
         if policy.method not in METHODS or policy.error:
             continue
@@ -56,8 +56,8 @@ def test_a_policy_refuses_exactly_the_rounds_that_no_new_hash_has(seed: int) -> 
     for policy in random_policies(seed, 1000):
         if policy.method not in METHODS:
             continue
-        made = (NAMES[policy.method], policy.rounds)
+        arguments = (NAMES[policy.method], policy.rounds)
         if policy.error:
-            assert class_raised(mkpasswd.Policy, *made) is mkpasswd.Refused, policy
+            assert class_raised(mkpasswd.Policy, *arguments) is mkpasswd.Refused, policy
         else:
-            assert mkpasswd.Policy(*made).rounds == policy.rounds
+            assert mkpasswd.Policy(*arguments).rounds == policy.rounds

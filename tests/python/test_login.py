@@ -1,4 +1,4 @@
-"""login: who gets in, what it costs, and what the log says; and which hash is then renewed."""
+"""login: which logins are accepted, their work, the log, and which hashes are renewed."""
 from __future__ import annotations
 
 from typing import Any
@@ -14,10 +14,10 @@ with tested_package():
 QUICK = Policy(rounds=1000)
 
 
-# ---- Who gets in
+# ---- The result
 
-# The setting of a stored hash, the policy of the service, and how a new hash begins where the
-# stored one is outdated.
+# The setting of a stored hash, the policy of the service, and how the new hash begins if the stored
+# one is outdated.
 LOGINS = [
     pytest.param("$1$salt", Policy("md5crypt"), None, id="md5crypt"),
     pytest.param("$1$salt", Policy("sha256crypt", 1000), "$5$rounds=1000$", id="to sha256crypt"),
@@ -26,7 +26,7 @@ LOGINS = [
     pytest.param("$6$rounds=3000$salt", Policy(rounds=2000), None, id="more rounds"),
     pytest.param("$6$rounds=3000$salt", Policy(rounds=4000), "$6$rounds=4000$", id="fewer rounds"),
     pytest.param("$6$rounds=3000$salt", Policy(), "$6$rounds=656000$", id="fewer than recommended"),
-    pytest.param("$7$BU..../....salt", Policy("scrypt"), "$7$CU", id="a lower cost of scrypt"),
+    pytest.param("$7$BU..../....salt", Policy("scrypt"), "$7$CU", id="a lower scrypt cost"),
 ]
 STORED = pytest.mark.parametrize(
     ("setting", "policy"), [pytest.param(*row.values[:2], id=row.id) for row in LOGINS]
@@ -35,7 +35,7 @@ STORED = pytest.mark.parametrize(
 
 @pytest.mark.parametrize(("setting", "policy", "front"), LOGINS)
 @pytest.mark.parametrize("form", [str, str.encode], ids=["str", "bytes"])
-def test_the_right_password_gets_in_and_an_outdated_hash_is_renewed(
+def test_the_right_password_is_accepted_and_an_outdated_hash_renewed(
     setting: str, policy: Policy, front: str | None, form: Any
 ) -> None:
     stored = crypt("pässword", setting)
@@ -49,7 +49,7 @@ def test_the_right_password_gets_in_and_an_outdated_hash_is_renewed(
 
 @STORED
 @pytest.mark.parametrize("password", ["password", "pässword ", "", "!"])
-def test_another_password_stays_outside(setting: str, policy: Policy, password: str) -> None:
+def test_another_password_is_refused(setting: str, policy: Policy, password: str) -> None:
     stored = crypt("pässword", setting)
     assert policy.login(password, field=stored) is False
 
@@ -63,7 +63,7 @@ def test_the_stored_hash_is_no_password(setting: str, policy: Policy) -> None:
 @pytest.mark.parametrize(
     "field", [None, *NEVER_OPEN, "x" * 10**6], ids=lambda text: title(str(text))
 )
-def test_no_field_that_may_be_stored_raises_or_lets_in(field: str | None) -> None:
+def test_a_field_without_a_match_returns_false(field: str | None) -> None:
     as_bytes = None if field is None else field.encode("utf-8", "surrogatepass")
     for stored in field, as_bytes:
         assert QUICK.login("password", field=stored) is False
@@ -86,7 +86,7 @@ def test_no_field_that_may_be_stored_raises_or_lets_in(field: str | None) -> Non
     ],
 )
 @pytest.mark.parametrize("field", [None, "", "!", MD5, SHA512], ids=lambda text: title(str(text)))
-def test_no_password_that_may_be_typed_raises_or_lets_in(
+def test_a_password_that_no_hash_can_have_returns_false(
     password: str | bytes, field: str | None
 ) -> None:
     assert QUICK.login(password, field=field) is False
@@ -108,15 +108,15 @@ def test_a_hash_above_the_budget_lets_nobody_in() -> None:
         pytest.param("x", [MD5], id="a list as the field"),
     ],
 )
-def test_a_login_tells_its_programmer(password: object, field: object) -> None:
+def test_a_wrong_type_is_an_error(password: object, field: object) -> None:
     assert class_raised(mkpasswd.login, password, field=field) is TypeError
 
 
 # ---- Hashes that cost more
 
 
-def test_a_hash_that_costs_up_to_the_budget_lets_in_by_a_policy_that_costs_as_much() -> None:
-    """So a service can move to a method which costs more than half of its budget."""
+def test_a_hash_that_costs_up_to_the_budget_matches_by_a_policy_that_costs_as_much() -> None:
+    """So a service can move to a method that costs more than half of its budget."""
     stored = crypt("password", "$6$rounds=900000$salt")
     policy = Policy("scrypt", budget=mkpasswd.cost("$7$CU..../....salt", 8) + 5000)
     assert policy.budget is not None and policy.budget < 2 * mkpasswd.cost(stored, 8)
@@ -124,13 +124,13 @@ def test_a_hash_that_costs_up_to_the_budget_lets_in_by_a_policy_that_costs_as_mu
     assert policy.hash("password").startswith("$7$CU")
 
 
-def test_a_login_goes_on_where_a_new_hash_would_cost_too_much() -> None:
+def test_a_login_succeeds_even_if_a_new_hash_would_cost_too_much() -> None:
     policy, password = Policy(budget=150_000_000), "x" * 83
     assert policy.login(password, field=crypt(password, "$1$salt")) is True
     assert class_raised(policy.hash, password) is mkpasswd.TooCostly
 
 
-# ---- What it costs
+# ---- The work
 
 POLICIES = [
     Policy("md5crypt"),
@@ -144,7 +144,7 @@ UNCHECKED = [None, "", "!" + SHA512, "$y$j9T$salt$x", "$5$rounds=0$a$x", COSTLY]
 
 @pytest.fixture(name="works")
 def fixture_works(monkeypatch: pytest.MonkeyPatch) -> list[Any]:
-    """What each login reports that it did, from now on."""
+    """A list that gets the work of each login."""
     works = []
     call = _library.login
 
@@ -159,7 +159,7 @@ def fixture_works(monkeypatch: pytest.MonkeyPatch) -> list[Any]:
 
 @pytest.mark.parametrize("policy", POLICIES, ids=[policy.method for policy in POLICIES])
 def test_a_login_does_the_same_work_for_every_name(works: list[Any], policy: Policy) -> None:
-    """A wrong password for a hash of the service's own kind, and fields that can't be checked."""
+    """Tries a wrong password with a hash by the policy, and with fields that can't be checked."""
     for field in policy.hash("password"), *UNCHECKED:
         assert not policy.login("passw0rd", field=field)
     counts = {(work.digests, work.mixes, work.table) for work in works}
@@ -179,7 +179,7 @@ def test_a_login_does_the_same_work_for_every_name(works: list[Any], policy: Pol
 @pytest.mark.parametrize(
     "field",
     [
-        pytest.param("$6$rounds=656000$saltsaltsaltsalt$" + "x" * 86, id="a hash as recommended"),
+        pytest.param("$6$rounds=656000$saltsaltsaltsalt$" + "x" * 86, id="a recommended hash"),
         pytest.param(crypt("x" * 169, "$1$salt"), id="a cheap hash"),
         pytest.param(None, id="no hash"),
         pytest.param("!", id="a lock"),
@@ -210,10 +210,10 @@ WRONG_PASSWORD = mkpasswd.Reason.WRONG_PASSWORD.message
         pytest.param("password", "", "no hash", id="no hash"),
         pytest.param("password", "!", "locked", id="a lock"),
         pytest.param("password", "*", "locked", id="the other lock"),
-        pytest.param("password", "!" + "x" * 400, "locked", id="a long field behind a lock"),
+        pytest.param("password", "!" + "x" * 400, "locked", id="a long field after a lock"),
         pytest.param("password", "$y$x", "unknown scheme", id="another scheme"),
         pytest.param("password", COSTLY, "over budget", id="a costly hash"),
-        pytest.param("password", MD5[:-1], "dead", id="a hash that was cut"),
+        pytest.param("password", MD5[:-1], "dead", id="a truncated hash"),
         pytest.param("\0", MD5, "password has a zero byte", id="a zero byte"),
     ],
 )
@@ -225,7 +225,7 @@ def test_the_log_says_why_a_login_is_refused(
     assert messages_of(caplog) == [f"login refused: {reason}"]
 
 
-def test_the_log_says_nothing_of_a_login_that_succeeds(caplog: pytest.LogCaptureFixture) -> None:
+def test_the_log_has_no_line_for_a_login_that_succeeds(caplog: pytest.LogCaptureFixture) -> None:
     caplog.set_level("DEBUG", "mkpasswd")
     assert Policy("md5crypt").login("password", field=MD5)
     assert messages_of(caplog) == []

@@ -1,7 +1,7 @@
-"""Mistakes with the result of a login: those that let nobody in, and those of docs/SECURITY.md.
+"""Mistakes with the result of a login: harmless ones, and those that docs/SECURITY.md names.
 
-Each mistake is a few lines of a service that logs a user in. All of them are written to one file,
-which mypy reads and which is then run.
+Each mistake is a few lines of a service. They all go into one file, which mypy checks and the tests
+run.
 """
 from __future__ import annotations
 
@@ -47,7 +47,7 @@ def test_a_login_returns_false_for_a_field_that_never_opens(field: str) -> None:
     assert QUICK.login(RIGHT, field=field) is False
 
 
-# ---- Lines of a service
+# ---- Mistakes in a service
 
 SERVICE = f"""\
 import asyncio
@@ -77,7 +77,7 @@ async def log_all_in(password: str) -> List[bool]:
 
 @dataclass(frozen=True)
 class Lines:
-    """The end of a function that returns whether a user is in, and whether mypy --strict objects.
+    """The last lines of a function that decides about a login, and whether mypy --strict objects.
 
     The function has the argument `password`.
     """
@@ -94,7 +94,7 @@ def lines(name: str, *code: str, is_found: bool = False) -> Lines:
     return Lines(name, code, is_found)
 
 
-# These are right, or at least let in whoever should be in and nobody else.
+# These accept the right password and nothing else.
 SOUND = [
     lines("is False", "return login(password) is not False"),
     lines("is True", "return login(password) is True"),
@@ -116,19 +116,19 @@ SOUND = [
     lines("any", "return any([login(password)])"),
 ]
 
-# Calls of earlier versions, and arguments in another's place: these let nobody in at all.
+# Calls of earlier versions and misplaced arguments: these refuse everybody.
 WITHOUT_EFFECT = [
     lines("two results", "matches, _ = login(password)", "return bool(matches)", is_found=True),
     lines("an attribute", "return bool(login(password).matches)", is_found=True),
     lines("verify", "return bool(mkpasswd.verify(password, field=FIELD))", is_found=True),
-    lines("a field by place", "return POLICY.login(password, FIELD)", is_found=True),
-    lines("swapped by place", "return POLICY.login(FIELD, password)", is_found=True),
+    lines("a positional field", "return POLICY.login(password, FIELD)", is_found=True),
+    lines("swapped positional arguments", "return POLICY.login(FIELD, password)", is_found=True),
     lines("no field", "return POLICY.login(password)", is_found=True),
     lines("a field twice", "return POLICY.login(FIELD, password, field=FIELD)", is_found=True),
     lines("None as the password", "return POLICY.login(None, field=FIELD)", is_found=True),
 ]
 
-# These let in by a wrong password, as docs/SECURITY.md says.
+# These accept a wrong password, as docs/SECURITY.md says.
 OPEN = [
     lines("== 0", "return login(password) == 0"),
     lines("!= -1", "return login(password) != -1"),
@@ -152,7 +152,7 @@ ALL = [*SOUND, *WITHOUT_EFFECT, *OPEN]
 
 @pytest.fixture(scope="module", name="service")
 def fixture_service(tmp_path_factory: pytest.TempPathFactory) -> Path:
-    """A file with a function for each of the lines above, in their order."""
+    """A file with a function for each entry above, in order."""
     text = SERVICE
     for number, each in enumerate(ALL):
         text += f"\n\ndef decide_{number}(password: str) -> bool:\n"
@@ -164,12 +164,12 @@ def fixture_service(tmp_path_factory: pytest.TempPathFactory) -> Path:
 
 @pytest.fixture(scope="module", name="decisions")
 def fixture_decisions(service: Path) -> dict[str, Any]:
-    """The functions of the service."""
+    """The functions in that file, by name."""
     return runpy.run_path(str(service))
 
 
 def is_in(decisions: dict[str, Any], each: Lines, password: str) -> bool:
-    """Whether a function lets in by a password. One that raises an exception does not."""
+    """Returns whether a function accepts a password. An exception means that it doesn't."""
     answer = False
     with contextlib.suppress(Exception):
         answer = bool(decisions[f"decide_{ALL.index(each)}"](password))
@@ -177,26 +177,26 @@ def is_in(decisions: dict[str, Any], each: Lines, password: str) -> bool:
 
 
 @pytest.mark.parametrize("each", SOUND, ids=str)
-def test_these_let_in_by_the_right_password_alone(decisions: dict[str, Any], each: Lines) -> None:
+def test_sound_code_accepts_only_the_right_password(decisions: dict[str, Any], each: Lines) -> None:
     assert is_in(decisions, each, RIGHT) and not is_in(decisions, each, WRONG)
 
 
 @pytest.mark.parametrize("each", WITHOUT_EFFECT, ids=str)
-def test_these_let_nobody_in(decisions: dict[str, Any], each: Lines) -> None:
+def test_wrong_calls_refuse_everybody(decisions: dict[str, Any], each: Lines) -> None:
     assert not is_in(decisions, each, WRONG) and not is_in(decisions, each, RIGHT)
 
 
 @pytest.mark.filterwarnings("ignore:coroutine .* was never awaited")
 @pytest.mark.parametrize("each", OPEN, ids=str)
-def test_these_are_the_mistakes_of_the_document(decisions: dict[str, Any], each: Lines) -> None:
-    """If one of them no longer lets in by a wrong password, the document is out of date."""
+def test_a_mistake_in_the_document_accepts_a_wrong_password(
+    decisions: dict[str, Any], each: Lines
+) -> None:
+    """If one of them no longer does, the document is out of date."""
     assert is_in(decisions, each, WRONG)
 
 
 @pytest.mark.needs("mypy")
-def test_mypy_finds_the_lines_that_have_no_effect_and_no_others(
-    service: Path, tmp_path: Path
-) -> None:
+def test_mypy_finds_exactly_the_mistakes_that_it_should(service: Path, tmp_path: Path) -> None:
     mypy = ("/usr/bin/mypy", "--strict", "--no-site-packages", "--cache-dir", tmp_path / "cache")
     result = run(*mypy, service, env={"MYPYPATH": str(PACKAGE)})
     text = service.read_text(encoding="ascii").splitlines()

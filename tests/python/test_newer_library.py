@@ -1,4 +1,4 @@
-"""The package over a later library, whose errors have numbers that the package does not know."""
+"""The package over a newer library, with error numbers that the package doesn't know."""
 from __future__ import annotations
 
 from pathlib import Path
@@ -24,7 +24,7 @@ pytestmark = pytest.mark.needs("objdump", "cc")
 
 @pytest.fixture(scope="module", name="newer_library")
 def fixture_newer_library(tmp_path_factory: pytest.TempPathFactory) -> Path:
-    """A library whose logins answer as the environment says."""
+    """A library whose logins return what the environment says."""
     folder = tmp_path_factory.mktemp("newer")
     older, library = folder / "older.a", folder / SONAME
     of_tree = built("libmkpasswd.a", "lib")
@@ -37,19 +37,19 @@ def fixture_newer_library(tmp_path_factory: pytest.TempPathFactory) -> Path:
 
 
 def login_over(library: Path, answer: str, error: str) -> list[str]:
-    """What a login prints and logs."""
+    """Returns the lines that a login prints and logs."""
     answers = {"NEWER_ANSWER": answer, "NEWER_ERROR": error}
     result = run_python(LOGIN, env={**environment_of(library), **answers}).required()
     return result.stdout.decode().splitlines()
 
 
 @pytest.mark.parametrize("error", [NO_ERROR, UNKNOWN], ids=["no error", "an unknown error"])
-def test_what_the_call_returns_is_the_answer(newer_library: Path, error: str) -> None:
+def test_the_result_alone_decides_a_login(newer_library: Path, error: str) -> None:
     assert login_over(newer_library, "1", error) == ["True"]
 
 
 @pytest.mark.parametrize("answer", ["0", "-1", "2"])
 @pytest.mark.parametrize("error", [NO_ERROR, UNKNOWN], ids=["no error", "an unknown error"])
-def test_everything_but_1_lets_nobody_in(newer_library: Path, answer: str, error: str) -> None:
+def test_every_result_but_1_is_a_refusal(newer_library: Path, answer: str, error: str) -> None:
     *log, printed = login_over(newer_library, answer, error)
     assert printed == "False" and len(log) == 1 and log[0].startswith("DEBUG login refused: ")

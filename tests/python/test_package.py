@@ -1,4 +1,4 @@
-"""The package as a whole: its numbers, its examples, and its types."""
+"""The package as a whole: its numbers, examples, types and imports."""
 from __future__ import annotations
 
 import ctypes
@@ -19,11 +19,11 @@ with tested_package():
 HEADER = (ROOT / "c/mkpasswd.h").read_text(encoding="ascii")
 
 
-# ---- Numbers are the header's
+# ---- The header's numbers
 
 
 def defined() -> dict[str, int]:
-    """The numbers that the header defines, by their names without the prefix."""
+    """Returns the numbers that the header defines, by name without the prefix."""
     pattern = r"^#define MKPASSWD_(\w+) (\d+)"
     return {name: int(number) for name, number in re.findall(pattern, HEADER, re.MULTILINE)}
 
@@ -38,7 +38,7 @@ def test_the_recommended_rounds_are_those_of_new_salts() -> None:
 
 
 def test_the_reasons_are_the_headers() -> None:
-    """With their names, numbers and messages."""
+    """Their names, numbers and messages agree."""
     pattern = r"/\* ([a-z ]+?)(?:: .*)? \*/\n +MKPASSWD_ERROR_(\w+) = (\d+)"
     expected = {(name, int(number), words) for words, name, number in re.findall(pattern, HEADER)}
     assert expected
@@ -100,7 +100,7 @@ print(found.state is mkpasswd.State.DEAD, crypt.crypt("x", crypt.methods[0]), po
 logins = FixedTime(seconds=5, threads=2, queued=10, failed=100)
 answer: "Future[bool]" = logins.submit(policy.login, "x", field=None)
 """
-# What somebody careless writes, and what earlier versions took.
+# Careless code, and calls of earlier versions.
 WRONG = [
     "mkpasswd.hash(5)",
     'mkpasswd.login("x", stored)',
@@ -127,7 +127,7 @@ USER = "user.py"
 
 
 def run_mypy(folder: Path, *words: str | Path) -> Result:
-    """mypy without the hints that python3-typeshed has of passlib: its classes contradict."""
+    """Runs mypy without python3-typeshed's hints for passlib, whose classes are contradictory."""
     mypy = ("/usr/bin/mypy", "--strict", "--no-site-packages", "--cache-dir", folder / "cache")
     return run(*mypy, *words, cwd=folder, env={"MYPYPATH": str(PACKAGE)})
 
@@ -148,12 +148,12 @@ def test_mypy_finds_each_careless_line_and_no_other(tmp_path: Path) -> None:
     assert sorted(found) == list(range(first, first + len(WRONG))), result
 
 
-# ---- What an import costs
+# ---- The cost of an import
 
 SLOW = ("asyncio", "concurrent.futures", "dataclasses", "inspect", "logging", "secrets")
 
 
-def test_an_import_takes_no_slow_module_with_it() -> None:
-    """Each of these takes as long as all that the package needs."""
+def test_importing_the_package_imports_no_slow_module() -> None:
+    """Each of these takes as long to import as everything that the package needs."""
     script = f"import sys, mkpasswd\nprint([name for name in {SLOW!r} if name in sys.modules])"
     assert_result(run_python(script), stdout=b"[]\n")

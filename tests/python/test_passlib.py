@@ -1,4 +1,4 @@
-"""passlib over the package: contexts, budgets, and the same work for every name."""
+"""The package in passlib: contexts, budgets, and the same work for every name."""
 from __future__ import annotations
 
 import importlib
@@ -18,9 +18,9 @@ pytestmark = [
 ]
 
 FRONT = "$6$rounds=656000$"
-# It costs more than the budgets of the recipes.
+# A hash that costs more than the budgets of the recipes.
 BEYOND = "$6$rounds=20000000$saltstring$" + "x" * 86
-# No hash can have these passwords. passlib has a limit of its own, 4,096 characters.
+# No hash can have these passwords. passlib itself has a limit of 4,096 characters.
 IMPOSSIBLE = ["x" * 1025, "x" * 5000, "x\0", "\ud800"]
 IMPOSSIBLE_IDS = ["1025 bytes", "5000 bytes", "a zero byte", "a lone surrogate"]
 NAMES = ["md5_crypt", "sha256_crypt", "sha512_crypt"]
@@ -29,7 +29,7 @@ NO_BUDGET = 2**42  # more than any hash costs
 
 @pytest.fixture(scope="module", name="ours")
 def fixture_ours() -> Any:
-    """The package's handlers, which are passlib's by these names once they are imported."""
+    """The package's handlers. Importing them registers them under passlib's names."""
     with warnings.catch_warnings():
         warnings.simplefilter("ignore")
         return importlib.import_module("mkpasswd.passlib")
@@ -37,12 +37,12 @@ def fixture_ours() -> Any:
 
 @pytest.fixture(scope="module", name="context")
 def fixture_context(cook: Cook) -> Any:
-    """The context of the document."""
+    """The document's context."""
     return cook.follow("passlib")["context"]
 
 
 def context_of(*handlers: Any, **options: Any) -> Any:
-    """A context of passlib."""
+    """Returns a context of passlib."""
     return importlib.import_module("passlib.context").CryptContext(list(handlers), **options)
 
 
@@ -61,11 +61,11 @@ def fixture_of_168(context: Any) -> str:
 # ---- The recipe
 
 
-def test_a_new_hash_is_libxcrypts_by_the_recommended_rounds(stored: str) -> None:
+def test_a_new_hash_is_libxcrypts_with_the_recommended_rounds(stored: str) -> None:
     assert stored.startswith(FRONT) and stored == crypt("pässword", stored)
 
 
-def test_the_right_password_alone_gets_in(context: Any, stored: str) -> None:
+def test_only_the_right_password_is_accepted(context: Any, stored: str) -> None:
     assert context.verify("pässword", stored) and not context.verify("passwörd", stored)
 
 
@@ -86,7 +86,7 @@ def test_a_hash_above_the_budget_lets_nobody_in(context: Any) -> None:
     assert context.verify("password", BEYOND) is False
 
 
-def test_168_bytes_get_in_and_169_do_not(context: Any, of_168: str) -> None:
+def test_168_bytes_are_accepted_and_169_are_not(context: Any, of_168: str) -> None:
     assert context.verify("x" * 168, of_168) and not context.verify("x" * 169, of_168)
 
 
@@ -99,26 +99,24 @@ REFUSED = pytest.mark.parametrize(
 
 
 @REFUSED
-def test_a_password_that_is_refused_does_not_match(
-    context: Any, of_168: str, password: str
-) -> None:
+def test_a_refused_password_does_not_match(context: Any, of_168: str, password: str) -> None:
     assert context.verify(password, of_168) is False
     assert context.verify_and_update(password, of_168) == (False, None)
 
 
 @pytest.mark.parametrize("password", IMPOSSIBLE_PASSWORDS)
-def test_a_password_that_no_hash_can_have_gets_none(context: Any, password: str) -> None:
+def test_a_password_that_no_hash_can_have_gets_no_hash(context: Any, password: str) -> None:
     with pytest.raises(ValueError):
         context.hash(password)
 
 
 # ---- Renewals
 
-# As the recommended policy, it admits passwords of up to 168 bytes with its rounds.
+# A cheaper policy that, like the recommended one, admits up to 168 bytes with its rounds.
 ROUNDS = 20_000
 BUDGET = mkpasswd.cost(f"$6$rounds={ROUNDS}${'a' * 16}", 168)
 LENGTHS = [1, 64, 168, 169, 500, 1024]
-# passlib's handlers, with options by which they cost little.
+# passlib's handlers, with options that make them cheap.
 OTHERS = pytest.mark.parametrize(
     ("scheme", "rounds"),
     [
@@ -131,13 +129,13 @@ OTHERS = pytest.mark.parametrize(
 
 @pytest.fixture(name="like_recommended")
 def fixture_like_recommended(ours: Any) -> Any:
-    """Our handler of sha512_crypt, with less cost."""
+    """Our handler of sha512_crypt with that policy."""
     return ours.sha512_crypt.using(budget=BUDGET, default_rounds=ROUNDS)
 
 
 @OTHERS
 @pytest.mark.parametrize("length", LENGTHS)
-def test_everybody_gets_in_and_gets_a_new_hash(
+def test_every_user_is_accepted_and_gets_a_new_hash(
     like_recommended: Any, scheme: str, rounds: int, length: int
 ) -> None:
     password, wrong = "x" * length, "y" + "x" * (length - 1)
@@ -206,11 +204,11 @@ def fixture_quick(context: Any) -> Any:
         *(pytest.param(word, None, id=name) for word, name in zip(IMPOSSIBLE, IMPOSSIBLE_IDS)),
     ],
 )
-def test_what_can_not_be_checked_costs_what_an_unknown_name_does(
+def test_a_failed_login_costs_what_an_unknown_name_does(
     quick: Any, digests: list[int], password: str, field: str | None
 ) -> None:
     stored = field or quick.hash("password")
-    quick.dummy_verify()  # the first makes a hash besides
+    quick.dummy_verify()  # the first one also makes a hash
     digests.clear()
     quick.dummy_verify()
     unknown = sum(digests)
@@ -242,19 +240,19 @@ def test_few_rounds_are_renewed(ours: Any) -> None:
     assert new.startswith(FRONT)
 
 
-def test_rounds_of_ones_own_are_the_least(ours: Any) -> None:
+def test_given_rounds_are_the_minimum(ours: Any) -> None:
     few = context_of(ours.sha512_crypt, sha512_crypt__rounds=5000)
     assert few.verify_and_update("Hello world!", SHA512) == (True, None)
 
 
-def test_a_budget_of_ones_own_admits_the_longest_password(ours: Any) -> None:
+def test_a_given_budget_can_admit_the_longest_password(ours: Any) -> None:
     options = {"sha512_crypt__rounds": 5000, "sha512_crypt__budget": 10**9}
     longest = "\U0001f511" * 256
     context = context_of(ours.sha512_crypt, **options)
     assert context.verify(longest, context.hash(longest))
 
 
-# ---- Contexts that are written and read again
+# ---- Contexts that are written and read
 
 
 @pytest.fixture(name="written")
@@ -262,13 +260,13 @@ def fixture_written(context: Any) -> Any:
     return context.using(sha512_crypt__budget=1_000_000_000)
 
 
-def test_a_context_is_the_same_after_it_was_written_and_read(written: Any) -> None:
+def test_a_context_stays_the_same_when_it_is_written_and_read(written: Any) -> None:
     read = importlib.import_module("passlib.context").CryptContext.from_string(written.to_string())
     assert read.to_string() == written.to_string() and "NOTE" not in written.to_string()
     assert read.handler("sha512_crypt").budget == 1_000_000_000
 
 
-def test_a_context_that_was_read_heeds_the_budget(written: Any) -> None:
+def test_a_context_that_was_read_applies_the_budget(written: Any) -> None:
     read = importlib.import_module("passlib.context").CryptContext.from_string(written.to_string())
     assert read.verify("password", BEYOND) is False
 
@@ -281,7 +279,7 @@ def test_passlib_finds_a_handler_by_its_name(ours: Any, name: str) -> None:
 
 # ---- Budgets
 
-# What the longest password costs with the fewest rounds.
+# The cost of the longest password with the fewest rounds.
 LEAST_BUDGETS = {
     "md5_crypt": mkpasswd.cost("$1$saltsalt", 1024),
     "sha256_crypt": mkpasswd.cost("$5$rounds=1000$" + "a" * 16, 1024),
@@ -302,9 +300,9 @@ def test_a_hash_within_the_budget_matches(
 ) -> None:
     budget = form(LEAST_BUDGETS[name])
     handler = getattr(ours, name)
-    replace_lines = handler.using(budget=budget)
-    assert replace_lines.verify(password, stored)
-    assert replace_lines.using().budget == replace_lines.budget == int(budget)
+    limited = handler.using(budget=budget)
+    assert limited.verify(password, stored)
+    assert limited.using().budget == limited.budget == int(budget)
     context = context_of(handler, **{f"{name}__budget": budget})
     assert context.verify(password, stored) and context.to_dict()[f"{name}__budget"] == budget
 
@@ -328,7 +326,7 @@ def test_a_hash_above_the_budget_does_not_match(ours: Any) -> None:
     ],
 )
 @pytest.mark.parametrize("name", ["md5_crypt", "sha256_crypt"])
-def test_what_is_no_budget_is_refused(
+def test_an_invalid_budget_is_refused(
     ours: Any, name: str, budget: object, error: type[Exception]
 ) -> None:
     with pytest.raises(error):

@@ -1,7 +1,7 @@
-"""passlib's own tests of its handlers, over those of the package.
+"""passlib's own tests of its handlers, run on the package's handlers.
 
-Every hash is made by the package. What passlib's tests skip is listed with their reasons, such as
-other backends, which a handler over a library doesn't have.
+The package makes every hash. passlib's tests skip what a handler over a library doesn't have, such
+as other backends.
 """
 from __future__ import annotations
 
@@ -27,7 +27,10 @@ NO_BUDGET = 2**42  # more than any hash costs; passlib's tests know no budget
 
 
 def suite_of(name: str) -> Any:
-    """passlib's tests of a handler. One wants verify() to raise an error above 4,096 characters."""
+    """Returns passlib's tests of a handler, except for one.
+
+    It expects verify() to raise an error above 4,096 characters, where our handlers return False.
+    """
     assert mkpasswd.__version__
     handler = type(name, (getattr(HANDLERS, name),), {"budget": NO_BUDGET})
     tests: type[unittest.TestCase] = getattr(SUITE, f"_{name}_test")

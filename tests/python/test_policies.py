@@ -1,4 +1,4 @@
-"""Policies, the hashes that they make, and what those may cost."""
+"""Policies, their hashes, and what those may cost."""
 from __future__ import annotations
 
 import copy
@@ -25,11 +25,11 @@ def test_the_recommended_policy_is_the_default() -> None:
     assert Policy() == Policy("sha512crypt", None, None) != Policy(rounds=5000)
 
 
-def test_equal_policies_are_one_in_a_set() -> None:
+def test_a_set_has_equal_policies_once() -> None:
     assert len({Policy(), Policy(), QUICK}) == 2
 
 
-def test_a_policy_is_not_another_value() -> None:
+def test_a_policy_does_not_equal_another_value() -> None:
     assert Policy() not in (None, "sha512crypt", ("sha512crypt", None, None))
 
 
@@ -47,13 +47,13 @@ def test_a_policy_can_be_copied_and_pickled(again: Any) -> None:
     assert policy.login("password", field=policy.hash("password")) is True
 
 
-def test_a_policy_shows_what_it_was_given() -> None:
+def test_a_policy_shows_its_arguments() -> None:
     expected = "Policy(method='scrypt', rounds=8, budget=None)"
     assert repr(Policy("scrypt", 8)) == expected
 
 
 @pytest.mark.parametrize("name", ["method", "rounds", "budget", "other"])
-def test_a_policy_does_not_change(name: str) -> None:
+def test_a_policy_cannot_be_changed(name: str) -> None:
     assert class_raised(setattr, Policy(), name, 5000) is AttributeError
 
 
@@ -66,14 +66,14 @@ def test_a_policy_does_not_change(name: str) -> None:
         pytest.param(Policy("md5crypt"), "$1$", id="md5crypt"),
         pytest.param(Policy("md5crypt", 5), "$1$", id="md5crypt, which ignores rounds"),
         pytest.param(Policy("sha256crypt"), "$5$rounds=656000$", id="sha256crypt"),
-        pytest.param(Policy("sha256crypt", 1000), "$5$rounds=1000$", id="sha256crypt of 1000"),
+        pytest.param(Policy("sha256crypt", 1000), "$5$rounds=1000$", id="sha256crypt with 1000"),
         pytest.param(Policy(), "$6$rounds=656000$", id="sha512crypt"),
-        pytest.param(Policy(rounds=0), "$6$rounds=656000$", id="sha512crypt of 0"),
-        pytest.param(Policy(rounds=5000), "$6$rounds=5000$", id="sha512crypt of 5000"),
-        pytest.param(Policy(rounds=12345), "$6$rounds=12345$", id="sha512crypt of 12345"),
+        pytest.param(Policy(rounds=0), "$6$rounds=656000$", id="sha512crypt with 0"),
+        pytest.param(Policy(rounds=5000), "$6$rounds=5000$", id="sha512crypt with 5000"),
+        pytest.param(Policy(rounds=12345), "$6$rounds=12345$", id="sha512crypt with 12345"),
         pytest.param(Policy("scrypt"), "$7$CU..../....", id="scrypt"),
-        pytest.param(Policy("scrypt", 0), "$7$CU..../....", id="scrypt of 0"),
-        pytest.param(Policy("scrypt", 6), "$7$BU..../....", id="scrypt of 6"),
+        pytest.param(Policy("scrypt", 0), "$7$CU..../....", id="scrypt with 0"),
+        pytest.param(Policy("scrypt", 6), "$7$BU..../....", id="scrypt with 6"),
     ],
 )
 def test_a_new_hash_is_libxcrypts_with_a_new_salt(policy: Policy, front: str) -> None:
@@ -82,15 +82,15 @@ def test_a_new_hash_is_libxcrypts_with_a_new_salt(policy: Policy, front: str) ->
     assert policy.hash("pässword") != stored
 
 
-# The last has less than 150,000,000, the least limit, and the one before a cost above that of the
-# recommended policy.
+# The last policy costs less than 150,000,000, the lowest limit, and the one before it costs more
+# than the recommended one.
 OWN_HASHES = [*map(Policy, METHODS), Policy("scrypt", 9), Policy("sha512crypt", 1000)]
 
 
 @pytest.mark.parametrize(
     "policy", OWN_HASHES, ids=lambda policy: f"{policy.method} {policy.rounds}"
 )
-def test_a_policy_lets_in_by_its_own_hashes(policy: Policy) -> None:
+def test_a_policy_accepts_its_own_hashes(policy: Policy) -> None:
     stored = policy.hash("pässword")
     assert stored == crypt("pässword", stored)
     assert policy.login("pässword", field=stored) is True
@@ -108,12 +108,12 @@ COST_OF_MD5 = cost(MD5, 8)
     "budget",
     [
         pytest.param(COST_OF_MD5, id="the cost"),
-        pytest.param(2**64, id="more than a number of the library"),
+        pytest.param(2**64, id="more than 64 bits"),
         pytest.param(2**100, id="much more"),
-        pytest.param(None, id="none of its own"),
+        pytest.param(None, id="none given"),
     ],
 )
-def test_a_hash_within_the_budget_lets_in(budget: int | None) -> None:
+def test_a_hash_within_the_budget_matches(budget: int | None) -> None:
     assert Policy(budget=budget).login("password", field=MD5) is True
 
 
@@ -154,12 +154,12 @@ def test_a_new_hash_above_the_budget_is_an_error() -> None:
     ],
 )
 def test_a_limit_is_as_documented(policy: Policy, limit: Limit) -> None:
-    """docs/FORMATS.md has a table of them."""
+    """docs/FORMATS.md has a table of limits."""
     assert policy.limit() == limit
 
 
 def dearest_setting(limit: int) -> tuple[str, str]:
-    """The most rounds within a limit, in thousands, and the next ones."""
+    """Returns settings with the most thousands of rounds within a limit, and with one more."""
 
     def setting(rounds: int) -> str:
         return f"$6$rounds={rounds}$saltsaltsaltsalt"
@@ -185,15 +185,15 @@ LONGEST = "x" * 1024
 
 @pytest.fixture(scope="module", name="of_168")
 def fixture_of_168() -> str:
-    """A hash of the longest password by the recommended policy."""
+    """A hash of the longest password, by the recommended policy."""
     return mkpasswd.hash(LONGEST_WITHIN_LIMIT)
 
 
-def test_168_bytes_get_in_by_the_recommended_policy(of_168: str) -> None:
+def test_168_bytes_match_by_the_recommended_policy(of_168: str) -> None:
     assert mkpasswd.login(LONGEST_WITHIN_LIMIT, field=of_168) is True
 
 
-def test_168_other_bytes_do_not(of_168: str) -> None:
+def test_168_other_bytes_do_not_match(of_168: str) -> None:
     assert mkpasswd.login("x" * 167 + "y", field=of_168) is False
 
 
@@ -203,7 +203,7 @@ def test_169_bytes_are_refused_by_the_recommended_policy() -> None:
     assert str(error) == "over budget: the hash can cost more than 253921472"
 
 
-def test_a_budget_of_ones_own_admits_the_longest_password() -> None:
+def test_a_given_budget_can_admit_the_longest_password() -> None:
     policy = Policy(budget=1_300_000_000)
     stored = policy.hash(LONGEST)
     assert stored.startswith("$6$rounds=656000$")
@@ -221,13 +221,13 @@ def test_a_password_within_the_limit_keeps_its_policy(length: int) -> None:
     [pytest.param(200, 528_906, id="200"), pytest.param(1024, 118_822, id="1024")],
 )
 def test_a_longer_password_gets_fewer_rounds(length: int, rounds: int) -> None:
-    """docs/FORMATS.md has their formula, and these two numbers."""
+    """docs/FORMATS.md has the formula, and these two numbers."""
     policy, limit = Policy().for_length(length), Policy().limit().cost
     assert policy == Policy(rounds=rounds, budget=limit)
     assert cost(policy.setting("a" * 16), length) <= limit
 
 
-def test_a_longer_password_gets_in_by_its_policy() -> None:
+def test_a_longer_password_matches_by_its_policy() -> None:
     policy = Policy().for_length(1024)
     stored = policy.hash(LONGEST)
     assert stored == crypt(LONGEST, stored)
@@ -270,14 +270,12 @@ def test_a_length_without_rounds_is_refused(
     ],
 )
 @pytest.mark.parametrize("salt", ["salt", b"salt"], ids=["str", "bytes"])
-def test_a_setting_has_the_salt_that_was_given(
-    policy: Policy, setting: str, salt: str | bytes
-) -> None:
+def test_a_setting_has_the_given_salt(policy: Policy, setting: str, salt: str | bytes) -> None:
     assert policy.setting(salt) == setting
 
 
 @pytest.mark.parametrize("method", METHODS)
-def test_a_new_setting_is_like_that_of_a_new_hash(method: str) -> None:
+def test_a_new_setting_has_the_form_of_a_new_hashs(method: str) -> None:
     policy = Policy(method)
     setting, stored = policy.setting(), policy.hash("password")
     assert len(setting) == len(stored.rpartition("$")[0]) and setting != policy.setting()
@@ -291,19 +289,19 @@ def test_a_new_setting_is_like_that_of_a_new_hash(method: str) -> None:
         pytest.param("a" * 17, Reason.SALT_LENGTH, id="too long"),
         pytest.param("a$b", Reason.SALT_CHARACTER, id="a dollar"),
         pytest.param("a:b", Reason.SALT_CHARACTER, id="a colon"),
-        pytest.param("é", Reason.SALT_CHARACTER, id="a letter of another alphabet"),
+        pytest.param("é", Reason.SALT_CHARACTER, id="a non-ASCII letter"),
     ],
 )
-def test_a_salt_that_would_not_be_taken_whole_is_refused(salt: str, reason: Reason) -> None:
+def test_a_salt_that_cannot_be_used_whole_is_refused(salt: str, reason: Reason) -> None:
     error = error_of(Policy().setting, salt)
     assert isinstance(error, mkpasswd.Refused) and error.reason is reason
 
 
-# ---- A caller who looks at nothing but an exception
+# ---- A caller who only handles exceptions
 
 
 def is_open(field: Any, policy: Policy = QUICK) -> bool:
-    """Whether a careless login lets "password" in."""
+    """Returns whether a careless login accepts "password"."""
     try:
         return policy.login("password", field=field)
     except (ValueError, TypeError):
@@ -314,15 +312,15 @@ NEVER_OPEN = [*LOCKED, *DEAD, *(field.text for field in REFUSED), COSTLY, SHA512
 
 
 @pytest.mark.parametrize("field", [*NEVER_OPEN, None, 0, True], ids=lambda text: title(str(text)))
-def test_a_careless_login_stays_closed(field: object) -> None:
+def test_a_careless_login_is_refused(field: object) -> None:
     assert not is_open(field)
 
 
 @pytest.mark.parametrize("budget", [1, COST_OF_MD5 - 1], ids=["1", "one less than the cost"])
-def test_a_careless_login_stays_closed_above_the_budget(budget: int) -> None:
+def test_a_careless_login_above_the_budget_is_refused(budget: int) -> None:
     assert not is_open(MD5, Policy(budget=budget))
 
 
 @pytest.mark.parametrize("policy", [Policy(), Policy(budget=COST_OF_MD5)], ids=["usual", "just"])
-def test_a_careless_login_opens_for_the_right_password(policy: Policy) -> None:
+def test_a_careless_login_accepts_the_right_password(policy: Policy) -> None:
     assert is_open(MD5, policy)

@@ -1,4 +1,4 @@
-"""Threads, memory, and an interpreter that has no library."""
+"""Threads, too little memory, and an interpreter without the library."""
 from __future__ import annotations
 
 import shutil
@@ -18,8 +18,8 @@ with tested_package():
 COUNT = 40
 
 
-def test_other_threads_run_while_a_hash_is_made() -> None:
-    """With the interpreter's lock kept, this thread would get next to no processor time."""
+def test_other_threads_run_during_a_hash() -> None:
+    """If the call kept the interpreter's lock, this thread would hardly get processor time."""
     stored = mkpasswd.Policy(rounds=1_000_000).hash("password")
     spent: list[float] = []
 
@@ -82,24 +82,24 @@ def test_too_little_memory_is_an_error(call: str) -> None:
     [
         pytest.param(SETTING, b"False\n", id="a hash of scrypt"),
         pytest.param(None, b"False\n", id="no name"),
-        pytest.param(MD5, b"True\n", id="a hash that needs none"),
+        pytest.param(MD5, b"True\n", id="a hash that needs no memory"),
     ],
 )
-def test_a_login_goes_on_with_too_little_memory(field: str | None, answer: bytes) -> None:
-    """Whoever has a hash that needs none gets in."""
+def test_a_login_with_too_little_memory_returns_an_answer(field: str | None, answer: bytes) -> None:
+    """A hash that needs no memory still matches."""
     script = f'{LIMIT}print(policy.login("password", field={field!r}))'
     assert_result(run_python(script), stdout=answer)
 
 
-# ---- A library that is none
+# ---- Files that aren't the library
 
 ANOTHER_LIBRARY = "import _ctypes; print(_ctypes.__file__)"
 MESSAGE = b"ImportError: mkpasswd needs its C library, libmkpasswd.so.3, and could not load it: "
 
 
 @pytest.mark.parametrize("kind", ["an empty file", "garbage", "another library"])
-def test_a_library_that_is_none_is_named(kind: str, tmp_path: Path) -> None:
-    """The loader stops at a file that is none, so that it finds none of the system's after it."""
+def test_a_file_that_is_not_the_library_is_named(kind: str, tmp_path: Path) -> None:
+    """The loader stops at such a file, instead of finding the system's library after it."""
     place = tmp_path / SONAME
     place.write_bytes(b"garbage" * 100 if kind == "garbage" else b"")
     if kind == "another library":

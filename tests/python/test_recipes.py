@@ -1,4 +1,4 @@
-"""The recipes of docs/PYTHON.md do what they say."""
+"""The recipes of docs/PYTHON.md work as described."""
 from __future__ import annotations
 
 import asyncio
@@ -33,7 +33,7 @@ with tested_package():
     from mkpasswd import _library
 
 RECOMMENDED = "$6$rounds=656000$"
-# A right hash, none, a locked one, one that costs too much, and NULL.
+# A good hash, an empty field, a locked one, one that costs too much, and NULL.
 USERS = {"ann": MD5, "joe": "", "bob": "!" + MD5, "eve": COSTLY, "kim": None}
 WRONG_PASSWORDS = ["passw0rd", "", "x\0", "\ud800", "x" * 1025, MD5, "!"]
 ADDRESS = "203.0.113.7"
@@ -52,11 +52,11 @@ def fields_of(users: sqlite3.Connection) -> dict[str, Any]:
     return dict(users.execute("SELECT name, hash FROM users"))
 
 
-# ---- What an interpreter shows
+# ---- Interpreter sessions
 
 
 def interpreter_blocks() -> list[Block]:
-    """The blocks of the document that show an interpreter."""
+    """Returns the document's blocks that show an interpreter session."""
     return [block for block in blocks_of(ROOT / "docs/PYTHON.md") if block.language == "pycon"]
 
 
@@ -65,9 +65,9 @@ def test_an_interpreter_prints_what_is_shown(block: Block) -> None:
     names = {"mkpasswd": mkpasswd}
     path, line = str(block.place.path), block.place.line
     test = doctest.DocTestParser().get_doctest(block.code, names, str(block), path, line - 1)
-    shown: list[str] = []
-    result = doctest.DocTestRunner(verbose=False).run(test, out=shown.append)
-    assert result.attempted > 0 and result.failed == 0, "".join(shown)
+    failures: list[str] = []
+    result = doctest.DocTestRunner(verbose=False).run(test, out=failures.append)
+    assert result.attempted > 0 and result.failed == 0, "".join(failures)
 
 
 # ---- A whole login
@@ -75,7 +75,7 @@ def test_an_interpreter_prints_what_is_shown(block: Block) -> None:
 
 @pytest.fixture(name="names")
 def fixture_names(cook: Cook) -> dict[str, Any]:
-    """What the service of the section has."""
+    """The names that the section's code defines."""
     return cook.run(whole_login())
 
 
@@ -85,7 +85,7 @@ def fixture_login(names: dict[str, Any]) -> Any:
 
 
 def from_an_address(names: dict[str, Any]) -> Any:
-    """The login of a service, from one address."""
+    """Returns the service's login with a fixed client address."""
 
     def login(database: sqlite3.Connection, name: str | None, password: str) -> Any:
         return names["login"](database, name, password, ADDRESS)
@@ -95,16 +95,14 @@ def from_an_address(names: dict[str, Any]) -> Any:
 
 @pytest.mark.parametrize("name", [*USERS, "nobody", None], ids=str)
 @pytest.mark.parametrize("password", WRONG_PASSWORDS, ids=title)
-def test_a_wrong_password_lets_nobody_in_and_changes_nothing(
+def test_a_wrong_password_is_refused_and_changes_nothing(
     database: sqlite3.Connection, login: Any, name: str | None, password: str
 ) -> None:
     assert login(database, name, password) is False
     assert fields_of(database) == USERS
 
 
-def test_the_right_password_lets_in_who_has_its_hash(
-    database: sqlite3.Connection, login: Any
-) -> None:
+def test_the_right_password_is_accepted(database: sqlite3.Connection, login: Any) -> None:
     names = [name for name in (*USERS, "nobody") if login(database, name, "password")]
     assert names == ["ann"]
 
@@ -128,7 +126,7 @@ def test_a_new_user_gets_a_hash_that_is_kept(
 
 
 @pytest.mark.parametrize("password", ["", "x\0", "x" * 169, "x" * 1025], ids=title)
-def test_nobody_is_registered_with_a_password_that_can_not_be_used(
+def test_a_password_that_cannot_be_used_registers_nobody(
     database: sqlite3.Connection, names: dict[str, Any], password: str
 ) -> None:
     with pytest.raises(ValueError):
@@ -143,9 +141,7 @@ def test_a_known_name_is_not_registered_again(
     assert fields_of(database) == USERS
 
 
-def test_a_database_that_can_not_be_written_keeps_the_old_hash(
-    database: sqlite3.Connection, login: Any
-) -> None:
+def test_a_read_only_database_keeps_the_old_hash(database: sqlite3.Connection, login: Any) -> None:
     database.execute("PRAGMA query_only = 1")
     assert login(database, "ann", "password") is True and fields_of(database)["ann"] == MD5
 
@@ -155,11 +151,11 @@ def test_a_database_that_can_not_be_written_keeps_the_old_hash(
     [
         pytest.param("!" + MD5, False, id="a lock"),
         pytest.param(SHA512, True, id="a new password"),
-        pytest.param("", False, id="a demand for one"),
+        pytest.param("", False, id="a reset password"),
         pytest.param(None, False, id="a deletion"),
     ],
 )
-def test_what_changed_meanwhile_is_kept_and_a_lock_heeded(
+def test_a_change_during_a_login_is_kept_and_a_lock_respected(
     database: sqlite3.Connection,
     login: Any,
     monkeypatch: pytest.MonkeyPatch,
@@ -182,7 +178,7 @@ def test_what_changed_meanwhile_is_kept_and_a_lock_heeded(
     [OSError(), MemoryError(), mkpasswd.TooCostly(2, 1)],
     ids=lambda error: str(type(error)),
 )
-def test_a_renewal_that_fails_leaves_the_old_hash_and_lets_in(
+def test_a_failed_renewal_leaves_the_old_hash_and_accepts_the_login(
     database: sqlite3.Connection, login: Any, monkeypatch: pytest.MonkeyPatch, error: Exception
 ) -> None:
     def fail(*_arguments: Any) -> None:
@@ -192,10 +188,10 @@ def test_a_renewal_that_fails_leaves_the_old_hash_and_lets_in(
     assert login(database, "ann", "password") is True and fields_of(database)["ann"] == MD5
 
 
-def test_two_logins_at_once_renew_a_hash_once(
+def test_two_simultaneous_logins_renew_a_hash_once(
     database: sqlite3.Connection, login: Any, monkeypatch: pytest.MonkeyPatch
 ) -> None:
-    """The second comes while the first makes its hash, and both get in."""
+    """The second one comes while the first one hashes, and both are accepted."""
     new, answers = _library.new, []
 
     def come_between(*arguments: Any) -> Any:
@@ -215,7 +211,7 @@ def test_two_logins_at_once_renew_a_hash_once(
         pytest.param("my password", f"login failed: None from '{ADDRESS}'", id="no user"),
     ],
 )
-def test_the_log_of_a_failure_has_the_address_and_names_users_alone(
+def test_the_log_of_a_failure_has_the_address_and_names_only_users(
     database: sqlite3.Connection,
     login: Any,
     caplog: pytest.LogCaptureFixture,
@@ -226,7 +222,7 @@ def test_the_log_of_a_failure_has_the_address_and_names_users_alone(
     assert [(record.name, record.getMessage()) for record in caplog.records] == [("logins", logged)]
 
 
-def test_the_log_has_a_user_who_was_locked_during_the_login(
+def test_the_log_names_a_user_who_was_locked_during_the_login(
     database: sqlite3.Connection,
     login: Any,
     monkeypatch: pytest.MonkeyPatch,
@@ -259,7 +255,7 @@ def test_a_password_is_changed(
 
 @pytest.mark.parametrize("name", [*USERS, "nobody"])
 @pytest.mark.parametrize("old", ["passw0rd", ""])
-def test_a_wrong_password_changes_none(
+def test_a_wrong_old_password_changes_nothing(
     database: sqlite3.Connection, names: dict[str, Any], name: str, old: str
 ) -> None:
     assert names["change_password"](database, name, old, "pässword") is False
@@ -267,7 +263,7 @@ def test_a_wrong_password_changes_none(
 
 
 @pytest.mark.parametrize("new", ["", "x\0", "x" * 169, "x" * 1025], ids=title)
-def test_a_new_password_that_can_not_be_used_keeps_the_old_one(
+def test_a_new_password_that_cannot_be_used_keeps_the_old_one(
     database: sqlite3.Connection, names: dict[str, Any], new: str
 ) -> None:
     with pytest.raises(ValueError):
@@ -276,7 +272,7 @@ def test_a_new_password_that_can_not_be_used_keeps_the_old_one(
 
 
 @pytest.mark.parametrize("change", ["!" + MD5, SHA512], ids=["a lock", "another change"])
-def test_a_change_of_a_password_undoes_no_other_change(
+def test_changing_a_password_undoes_no_other_change(
     database: sqlite3.Connection,
     names: dict[str, Any],
     monkeypatch: pytest.MonkeyPatch,
@@ -293,7 +289,7 @@ def test_a_change_of_a_password_undoes_no_other_change(
     assert fields_of(database)["ann"] == change
 
 
-def test_a_lock_locks_one_account(database: sqlite3.Connection, login: Any) -> None:
+def test_a_lock_locks_only_one_account(database: sqlite3.Connection, login: Any) -> None:
     database.execute(recipe("lock an account", "sql"))
     assert login(database, "ann", "password") is False
     fields = fields_of(database)
@@ -309,7 +305,7 @@ OLD_NEEDS = pytest.mark.needs("python3-passlib", "python3-bcrypt", "python3-werk
 
 @pytest.fixture(name="moving")
 def fixture_moving(cook: Cook) -> dict[str, Any]:
-    """What a service has that moves, as the document says."""
+    """The names that the code of a moving service defines."""
     return cook.run(whole_login_of_a_moving_service())
 
 
@@ -319,7 +315,7 @@ def fixture_moving_login(moving: dict[str, Any]) -> Any:
 
 
 def old_hash(scheme: str, password: str) -> str:
-    """A hash of a service that moves, which costs little."""
+    """Returns a cheap hash of a service that moves."""
     if scheme == "bcrypt":
         handler = importlib.import_module("passlib.hash").bcrypt
         return str(handler.using(rounds=4).hash(password))
@@ -334,7 +330,7 @@ def store(users: sqlite3.Connection, field: str) -> None:
 
 @OLD_NEEDS
 @OLD_SCHEMES
-def test_a_user_with_an_old_hash_gets_in_and_moves(
+def test_a_user_with_an_old_hash_is_accepted_and_moves(
     database: sqlite3.Connection, moving_login: Any, scheme: str
 ) -> None:
     store(database, old_hash(scheme, "password"))
@@ -359,7 +355,7 @@ def test_a_wrong_password_does_not_move(
 
 @OLD_NEEDS
 @pytest.mark.parametrize("length", [169, 1024, 1025])
-def test_a_password_that_ours_do_not_take_keeps_its_old_hash(
+def test_a_password_too_long_for_a_new_hash_keeps_its_old_one(
     database: sqlite3.Connection, moving_login: Any, length: int
 ) -> None:
     old = old_hash("pbkdf2", "x" * length)
@@ -372,7 +368,7 @@ def test_a_password_that_ours_do_not_take_keeps_its_old_hash(
 @OLD_NEEDS
 @OLD_SCHEMES
 @pytest.mark.parametrize("damage", ["!{}", "*", "{}x", "x{}"])
-def test_a_locked_or_damaged_old_hash_lets_nobody_in(
+def test_a_locked_or_damaged_old_hash_is_refused(
     database: sqlite3.Connection, moving_login: Any, scheme: str, damage: str
 ) -> None:
     store(database, damage.format(old_hash(scheme, "password")))
@@ -390,7 +386,7 @@ def test_a_locked_or_damaged_old_hash_lets_nobody_in(
     ],
     ids=title,
 )
-def test_an_old_hash_that_its_check_refuses_lets_nobody_in_and_is_not_logged(
+def test_an_old_hash_that_its_check_refuses_is_refused_and_not_logged(
     database: sqlite3.Connection,
     moving_login: Any,
     caplog: pytest.LogCaptureFixture,
@@ -405,7 +401,7 @@ def test_an_old_hash_that_its_check_refuses_lets_nobody_in_and_is_not_logged(
 
 @OLD_NEEDS
 @OLD_SCHEMES
-def test_a_password_of_an_old_hash_is_changed(
+def test_a_password_with_an_old_hash_can_be_changed(
     database: sqlite3.Connection, moving: dict[str, Any], scheme: str
 ) -> None:
     old = old_hash(scheme, "password")
@@ -418,7 +414,7 @@ def test_a_password_of_an_old_hash_is_changed(
 
 
 @OLD_NEEDS
-def test_a_hash_that_was_stored_as_bytes_moves_once_it_is_text(
+def test_a_hash_stored_as_bytes_moves_once_it_is_text(
     database: sqlite3.Connection, moving_login: Any
 ) -> None:
     database.execute(
@@ -432,7 +428,7 @@ def test_a_hash_that_was_stored_as_bytes_moves_once_it_is_text(
 
 @OLD_NEEDS
 @pytest.mark.needs("python3-argon2")
-def test_a_user_with_a_hash_of_argon2_gets_in_and_moves(
+def test_a_user_with_an_argon2_hash_is_accepted_and_moves(
     database: sqlite3.Connection, cook: Cook
 ) -> None:
     code = whole_login_of_a_moving_service() + "\n\n" + recipe("check Argon2")
@@ -448,7 +444,7 @@ def test_a_user_with_a_hash_of_argon2_gets_in_and_moves(
     assert fields_of(database)["ann"].startswith(RECOMMENDED)
 
 
-def test_a_table_shows_which_kinds_of_hashes_it_has(database: sqlite3.Connection) -> None:
+def test_a_query_shows_which_kinds_of_hashes_are_stored(database: sqlite3.Connection) -> None:
     store(database, "$2b$04$abcdefghijklmnopqrstuu")
     kinds = dict(database.execute(recipe("see what is stored", "sql")))
     assert kinds == {"$2b": 1, "": 1, "!$1": 1, "$6$": 1, None: 1}
@@ -456,7 +452,7 @@ def test_a_table_shows_which_kinds_of_hashes_it_has(database: sqlite3.Connection
 
 @OLD_NEEDS
 @pytest.mark.parametrize("name", [*USERS, "nobody", None], ids=str)
-def test_all_others_log_in_as_before(
+def test_users_without_an_old_hash_log_in_as_before(
     database: sqlite3.Connection, moving_login: Any, name: str | None
 ) -> None:
     assert moving_login(database, name, "password") is (name == "ann")
@@ -467,7 +463,7 @@ def test_all_others_log_in_as_before(
 
 
 def folder_with(database: sqlite3.Connection, folder: Path, monkeypatch: Any) -> None:
-    """Makes a folder the current one, with the database in the file that the document names."""
+    """Changes to a folder, and saves the database there under the document's name."""
     monkeypatch.chdir(folder)
     with contextlib.closing(sqlite3.connect("users.db")) as users:
         database.backup(users)
@@ -477,7 +473,7 @@ def folder_with(database: sqlite3.Connection, folder: Path, monkeypatch: Any) ->
 def fixture_fixed_time(
     database: sqlite3.Connection, cook: Cook, tmp_path: Path, monkeypatch: pytest.MonkeyPatch
 ) -> dict[str, Any]:
-    """A service with both forms of the answer, in a folder where the database is."""
+    """A service with both forms of the answer, in the folder with the database."""
     folder_with(database, tmp_path, monkeypatch)
     forms = ("failures after a fixed time", "asyncio with a fixed time")
     return cook.run("\n\n".join([whole_login(), *map(recipe, forms)]))
@@ -485,13 +481,13 @@ def fixture_fixed_time(
 
 @pytest.fixture(name="answer", params=["threads", "asyncio"])
 def fixture_answer(fixed_time: dict[str, Any], request: pytest.FixtureRequest) -> Any:
-    """The function of the document for threads, or that for asyncio."""
+    """The document's function for threads, and the one for asyncio."""
     if request.param == "threads":
         return fixed_time["answer"]
     return lambda *words: asyncio.run(fixed_time["answer_later"](*words))
 
 
-def test_the_right_password_is_answered_by_true(answer: Any) -> None:
+def test_the_right_password_is_answered_with_true(answer: Any) -> None:
     assert answer("ann", "password", ADDRESS) is True
 
 
@@ -503,7 +499,7 @@ def test_a_wrong_password_is_answered_after_six_seconds(answer: Any, name: str) 
 
 
 def test_the_costliest_login_is_measured(cook: Cook, capsys: pytest.CaptureFixture[str]) -> None:
-    """With a policy that costs less."""
+    """The test replaces the policy by a cheaper one."""
     imported = "import mkpasswd\n"
     cheaper = f"{imported}\nmkpasswd = mkpasswd.Policy(rounds=1000)\n"
     cook.run(replace_lines(recipe("measure the costliest login"), {imported: cheaper}))
@@ -512,7 +508,7 @@ def test_the_costliest_login_is_measured(cook: Cook, capsys: pytest.CaptureFixtu
     assert float(with_others.removeprefix("with all threads busy: ")) > 0
 
 
-# ---- The others
+# ---- Other recipes
 
 
 def test_an_audit_prints_each_field(
@@ -535,7 +531,7 @@ def test_an_audit_prints_each_field(
         pytest.param("ann", "pässword", "another name", id="a known name"),
     ],
 )
-def test_a_form_says_why_somebody_can_not_be_registered(
+def test_a_form_says_why_a_user_cannot_be_registered(
     database: sqlite3.Connection, cook: Cook, name: str, password: str, problem: str | None
 ) -> None:
     names = cook.run(whole_login() + "\n\n" + recipe("errors"))
@@ -588,7 +584,7 @@ def test_asyncio_waits_for_a_login(cook: Cook, password: str, is_match: bool) ->
 def fixture_app(
     database: sqlite3.Connection, cook: Cook, tmp_path: Path, monkeypatch: pytest.MonkeyPatch
 ) -> Any:
-    """Flask's application, which answers failures at once."""
+    """The application in Flask, which answers failures at once."""
     folder_with(database, tmp_path, monkeypatch)
     fixed_time = replace_lines(recipe("failures after a fixed time"), {"seconds=6": "seconds=0"})
     return cook.run("\n\n".join([whole_login(), fixed_time, recipe("Flask")]))["app"]
@@ -596,7 +592,7 @@ def fixture_app(
 
 @pytest.fixture(name="post")
 def fixture_post(app: Any) -> Any:
-    """Posts a form to the application, in a thread, and returns the status."""
+    """A function that posts a form to the application in a thread, and returns the status."""
 
     def post(**form: str) -> int:
         with ThreadPoolExecutor(1) as threads:
@@ -607,7 +603,7 @@ def fixture_post(app: Any) -> Any:
 
 
 @pytest.mark.needs("python3-flask")
-def test_flask_lets_in_the_right_password(post: Any) -> None:
+def test_flask_accepts_the_right_password(post: Any) -> None:
     assert post(name="ann", password="password") == 200
 
 
@@ -627,7 +623,7 @@ def test_flask_refuses_a_locked_account(post: Any) -> None:
 @pytest.mark.parametrize(
     "form", [{}, {"name": "ann"}, {"password": "password"}], ids=["nothing", "a name", "a password"]
 )
-def test_flask_refuses_half_a_form(post: Any, form: dict[str, str]) -> None:
+def test_flask_refuses_an_incomplete_form(post: Any, form: dict[str, str]) -> None:
     assert post(**form) == 400
 
 
@@ -653,7 +649,7 @@ def fixture_matches(cook: Cook) -> Any:
     return cook.follow("the standard library's crypt")["matches"]
 
 
-def test_crypt_matches_the_right_password_alone(matches: Any) -> None:
+def test_crypt_matches_only_the_right_password(matches: Any) -> None:
     assert matches("password", MD5) and not matches("passw0rd", MD5)
 
 
@@ -665,5 +661,5 @@ def test_crypt_matches_the_right_password_alone(matches: Any) -> None:
     ],
     ids=title,
 )
-def test_crypt_matches_no_field_that_is_no_hash(matches: Any, field: str) -> None:
+def test_crypt_matches_no_password_with_a_field_that_is_no_hash(matches: Any, field: str) -> None:
     assert not matches("password", field)

@@ -1,4 +1,4 @@
-"""Nothing that a call raises or prints has the password in it."""
+"""Nothing that a call raises, logs or prints contains the password."""
 from __future__ import annotations
 
 import traceback
@@ -30,13 +30,13 @@ WRONG: list[tuple[str, Any]] = [
 
 
 def all_of(error: BaseException | None) -> str:
-    """Whatever a log or a debugger could show of an error and its causes."""
+    """Returns everything that a log or a debugger could show of an error and its causes."""
     assert error is not None
-    shown = "".join(traceback.format_exception(type(error), error, error.__traceback__))
+    text = "".join(traceback.format_exception(type(error), error, error.__traceback__))
     while error is not None:
-        shown += repr((error, str(error), error.args, vars(error), getattr(error, "object", "")))
+        text += repr((error, str(error), error.args, vars(error), getattr(error, "object", "")))
         error = error.__cause__ or error.__context__
-    return shown
+    return text
 
 
 @pytest.mark.parametrize("password", [value for _, value in WRONG], ids=[name for name, _ in WRONG])
@@ -51,12 +51,12 @@ def test_no_error_about_a_password_shows_it(
 @pytest.mark.parametrize(
     ("call", "arguments", "named"),
     [
-        pytest.param(mkpasswd.login, (SECRET, "x"), {}, id="a field by place"),
-        pytest.param(mkpasswd.login, ("x", SECRET), {}, id="a password in the field's place"),
+        pytest.param(mkpasswd.login, (SECRET, "x"), {}, id="a positional field"),
+        pytest.param(mkpasswd.login, ("x", SECRET), {}, id="a password in place of the field"),
         pytest.param(crypt, (SECRET, COSTLY), {}, id="a costly setting"),
         pytest.param(crypt, (SECRET, 5), {}, id="a number as the setting"),
         pytest.param(mkpasswd.login, (SECRET,), {"field": 5}, id="a number as the field"),
-        pytest.param(mkpasswd.hash, (SECRET, "bcrypt"), {}, id="a method behind the password"),
+        pytest.param(mkpasswd.hash, (SECRET, "bcrypt"), {}, id="a positional method"),
         pytest.param(Policy(budget=1).hash, (SECRET,), {}, id="a budget that is too low"),
     ],
 )
@@ -83,5 +83,5 @@ def test_no_log_of_a_login_shows_the_password(
 ) -> None:
     caplog.set_level("DEBUG")
     assert mkpasswd.login(password, field=field) is False
-    shown = "".join(str(vars(record)) for record in caplog.records)
-    assert "login refused" in shown and "s3cret" not in shown and MD5 not in shown
+    text = "".join(str(vars(record)) for record in caplog.records)
+    assert "login refused" in text and "s3cret" not in text and MD5 not in text

@@ -1,4 +1,4 @@
-"""Hashes are those of libxcrypt and hashlib, for random passwords, salts and costs."""
+"""Random passwords, salts and costs give the same hashes as libxcrypt and hashlib."""
 from __future__ import annotations
 
 import hashlib
@@ -23,29 +23,29 @@ QUIETLY = settings(deadline=None, database=None, derandomize=True, max_examples=
 
 @pytest.fixture(scope="module", autouse=True, name="home_of_hypothesis")
 def fixture_home_of_hypothesis(tmp_path_factory: pytest.TempPathFactory) -> None:
-    """A folder for what hypothesis keeps, which otherwise is in the current one."""
+    """A folder for hypothesis's files, which otherwise go into the current folder."""
     home = tmp_path_factory.mktemp("hypothesis")
-    set_home: Any = configuration.set_hypothesis_home_dir  # which has no types
+    set_home: Any = configuration.set_hypothesis_home_dir  # it has no types
     set_home(str(home))
 
 
 def low_bits_first(number: int, characters: int) -> str:
-    """A number in digits of 6 bits."""
+    """Encodes a number in digits of 6 bits, the lowest bits first."""
     return "".join(ALPHABET[number >> 6 * place & 63] for place in range(characters))
 
 
 def md5crypt_setting(salt: str) -> str:
-    """A setting of md5crypt."""
+    """Returns an md5crypt setting."""
     return f"$1${salt}"
 
 
 def sha_crypt_setting(number: str, rounds: int | None, salt: str) -> str:
-    """A setting of SHA-crypt, perhaps without rounds."""
+    """Returns a SHA-crypt setting, perhaps without rounds."""
     return f"${number}${salt}" if rounds is None else f"${number}$rounds={rounds}${salt}"
 
 
 def scrypt_setting(log2_n: int, r: int, p: int, salt: str) -> str:
-    """A setting of scrypt as crypt(5) writes it."""
+    """Returns a scrypt setting in the form of crypt(5)."""
     return "$7$" + ALPHABET[log2_n] + low_bits_first(r, 5) + low_bits_first(p, 5) + salt
 
 
@@ -92,13 +92,13 @@ def test_scrypt_is_hashlibs(password: bytes, log2_n: int, r: int, p: int) -> Non
 
 
 @pytest.mark.parametrize(
-    ("made", "count"),
+    ("draw", "count"),
     [
         pytest.param(lambda: mksalt(METHOD_MD5), 2000, id="mksalt"),
         pytest.param(lambda: mkpasswd.Policy("md5crypt").hash(""), 500, id="hash"),
     ],
 )
-def test_salts_have_all_characters_and_differ(made: Callable[[], str], count: int) -> None:
-    texts = [made() for _ in range(count)]
+def test_salts_have_all_characters_and_differ(draw: Callable[[], str], count: int) -> None:
+    texts = [draw() for _ in range(count)]
     assert len(set(texts)) == count
     assert set("".join(text[3:11] for text in texts)) == set(ALPHABET)

@@ -1,4 +1,4 @@
-"""Subclasses of str, bytes and int, whose methods lie: they are what they hold."""
+"""Subclasses of str, bytes and int with lying methods: the calls use the real value."""
 from __future__ import annotations
 
 from typing import Any
@@ -13,11 +13,11 @@ with tested_package():
 
 
 def none(_self: object, *_others: object) -> None:
-    """What a method returns that has no answer."""
+    """Replaces a method, and returns nothing."""
 
 
 def true(_self: object, _other: object) -> bool:
-    """What a comparison returns that is always true."""
+    """Replaces a comparison, and is always true."""
     return True
 
 
@@ -26,7 +26,7 @@ METHODS_OF_VALUES = (
     "encode",
 )
 COMPARISONS = ("__eq__", "__lt__", "__le__", "__gt__", "__ge__", "__contains__")
-# None of them says what an object is.
+# None of these methods says what an object's value is.
 LIES: dict[str, Any] = {
     **dict.fromkeys(METHODS_OF_VALUES, none),
     **dict.fromkeys(COMPARISONS, true),
@@ -36,7 +36,7 @@ LIES: dict[str, Any] = {
 
 
 def lying(value: Any, length: int = 0) -> Any:
-    """The same value, of a class of its own."""
+    """Returns the same value in a subclass whose methods lie."""
     lies = {**LIES, "__len__": lambda _self: length}
     return type("Secret", (type(value),), lies)(value)
 
@@ -50,8 +50,8 @@ QUICK = Policy("md5crypt")
 
 @LENGTHS
 @PASSWORDS
-def test_the_password_is_what_is_held(password: Any, length: int) -> None:
-    """A __len__ of 0 would make a hash of nothing, and a large one would read beyond the object."""
+def test_a_password_is_hashed_by_its_real_value(password: Any, length: int) -> None:
+    """A __len__ of 0 would hash nothing, and a large one would read beyond the object."""
     secret = lying(password, length)
     stored = QUICK.hash(secret)
     assert QUICK.login(password, field=stored) and not QUICK.login(b"", field=stored)
@@ -60,7 +60,7 @@ def test_the_password_is_what_is_held(password: Any, length: int) -> None:
 
 
 @PASSWORDS
-def test_a_policy_is_what_is_held(password: Any) -> None:
+def test_a_policy_uses_the_real_values(password: Any) -> None:
     policy = Policy(lying("md5crypt"), lying(0), lying(10**6))
     stored = policy.hash(lying(password))
     assert stored.startswith("$1$") and policy.login(password, field=stored) is True
@@ -68,17 +68,17 @@ def test_a_policy_is_what_is_held(password: Any) -> None:
 
 
 @PASSWORDS
-def test_numbers_are_what_is_held(password: Any) -> None:
+def test_numbers_are_used_by_their_real_value(password: Any) -> None:
     stored = QUICK.hash(password)
     assert cost(lying(stored), lying(8)) == cost(stored, 8)
 
 
-def test_the_rounds_of_a_salt_are_what_is_held() -> None:
+def test_the_rounds_of_a_salt_are_the_real_value() -> None:
     assert mksalt(rounds=lying(1000)).startswith("$6$rounds=1000$")
 
 
 @PASSWORDS
-def test_another_password_is_another(password: Any) -> None:
+def test_another_password_does_not_match(password: Any) -> None:
     stored = QUICK.hash(password)
     for wrong in lying(password[:-1]), lying(password[:0]), lying(password * 2):
         assert not QUICK.login(wrong, field=stored)
@@ -91,7 +91,7 @@ def test_a_password_that_is_too_long_is_refused(password: Any) -> None:
 
 
 @PASSWORDS
-def test_a_field_is_what_is_held(password: Any) -> None:
+def test_a_field_is_compared_by_its_real_value(password: Any) -> None:
     stored = QUICK.hash(password)
     assert not QUICK.login(lying(password), field=lying("!" + stored))
     assert needs_rehash(lying(stored))

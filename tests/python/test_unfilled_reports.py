@@ -1,4 +1,4 @@
-"""A report that no call has filled: it is all zeros, lets nobody in, and is never an answer."""
+"""A report that no call has filled: it is all zeros, refuses every login, and is no answer."""
 from __future__ import annotations
 
 import importlib
@@ -21,7 +21,7 @@ LONG = "x" * 1024
 
 @pytest.fixture(name="silent_library")
 def fixture_silent_library(monkeypatch: pytest.MonkeyPatch) -> None:
-    """Each call of the library returns 0 at once, and leaves its report and its buffer alone."""
+    """Makes each call of the library return 0, without touching its report and buffer."""
 
     def say_nothing(*_arguments: Any) -> _library.Answer:
         return _library.Answer(False, _library.Report())
@@ -35,7 +35,7 @@ def fixture_silent_library(monkeypatch: pytest.MonkeyPatch) -> None:
 @pytest.mark.parametrize("password", ["password", b"password", "passw0rd", "", LONG])
 @pytest.mark.parametrize("field", [MD5, MD5.encode(), "", "!", None])
 @pytest.mark.parametrize("login", [mkpasswd.login, POLICY.login], ids=["login", "of a policy"])
-def test_nobody_gets_in(
+def test_every_login_is_refused(
     login: Callable[..., object], password: str | bytes, field: str | bytes | None
 ) -> None:
     assert login(password, field=field) is False
@@ -61,15 +61,15 @@ def test_no_hash_is_renewed() -> None:
         pytest.param(mksalt, id="mksalt"),
     ],
 )
-def test_a_call_that_has_an_answer_raises_an_error(call: Callable[[], object]) -> None:
+def test_a_call_that_returns_a_value_raises_an_error(call: Callable[[], object]) -> None:
     error = error_of(call)
     assert isinstance(error, ValueError)
     assert not isinstance(error, Refused) or error.reason is None
 
 
 @pytest.mark.needs("python3-django")
-def test_django_lets_nobody_in(monkeypatch: pytest.MonkeyPatch) -> None:
-    """Its hasher has asked for the rounds by then."""
+def test_django_refuses_every_login(monkeypatch: pytest.MonkeyPatch) -> None:
+    """The hasher has asked the library for the rounds before that."""
     hasher = importlib.import_module("mkpasswd.django").MkpasswdPasswordHasher()
     monkeypatch.setattr(type(hasher), "policy", POLICY)
     silent = _library.Answer(False, _library.Report())
@@ -80,7 +80,7 @@ def test_django_lets_nobody_in(monkeypatch: pytest.MonkeyPatch) -> None:
 
 
 @pytest.mark.needs("python3-passlib")
-def test_passlib_lets_nobody_in(monkeypatch: pytest.MonkeyPatch) -> None:
+def test_passlib_refuses_every_login(monkeypatch: pytest.MonkeyPatch) -> None:
     with warnings.catch_warnings():
         warnings.simplefilter("ignore")
         handler = importlib.import_module("mkpasswd.passlib").sha512_crypt

@@ -1,4 +1,4 @@
-"""The wheel: its bytes, its files, and how it is installed."""
+"""The wheel: its bytes, its files, and its installation."""
 from __future__ import annotations
 
 import re
@@ -16,14 +16,14 @@ from support.stored_strings import MD5
 with tested_package():
     import mkpasswd
 
-# A fixture of a worker makes the wheels once, in seconds.
+# One worker runs these tests, so that the wheel is built once.
 pytestmark = [
     pytest.mark.needs("python3-build", "python3-wheel", "objdump"),
     pytest.mark.xdist_group("the wheel"),
     pytest.mark.slow,
 ]
 
-# Prints where the library is that an interpreter took.
+# Prints the path of the library that an interpreter has loaded.
 TRY = f"""
 import doctest, mkpasswd
 from mkpasswd import _loaded, _policy, crypt
@@ -35,7 +35,7 @@ print(_loaded.LIBRARY._name)
 
 
 def printed(result: Result) -> str:
-    """What a command printed, which has to succeed."""
+    """Returns what a command printed. It must have succeeded."""
     return result.required().stdout.decode().strip()
 
 
@@ -46,7 +46,7 @@ def only_file(folder: Path) -> Path:
 
 @pytest.fixture(scope="module", name="folder")
 def fixture_folder(tmp_path_factory: pytest.TempPathFactory) -> Path:
-    return tmp_path_factory.mktemp("made")
+    return tmp_path_factory.mktemp("wheel")
 
 
 @pytest.fixture(scope="module", name="wheel")
@@ -58,14 +58,14 @@ def fixture_wheel(folder: Path) -> Path:
 
 
 def test_a_wheel_has_the_same_bytes_elsewhere(wheel: Path, folder: Path) -> None:
-    """At another time of day, in another folder, and with another mask."""
+    """The second one is built later, in another folder, and with another umask."""
     command = ("sh", "-c", 'umask 077 && "$0" "$1" second', ROOT / "tools/wheel", LIBRARY)
     run(*command, cwd=folder, env={"TZ": "Asia/Tokyo"}).required()
     again = only_file(folder / "second")
     assert again.name == wheel.name and again.read_bytes() == wheel.read_bytes()
 
 
-def test_a_wheel_is_named_after_the_version_and_the_c_library_that_it_needs(wheel: Path) -> None:
+def test_a_wheel_is_named_after_its_version_and_the_c_library_that_it_needs(wheel: Path) -> None:
     version = printed(run(ROOT / "tools/version"))
     symbols = re.findall(r"GLIBC_([\d.]+)", printed(run("objdump", "-T", LIBRARY)))
     newest = max(symbols, key=lambda symbol: [int(number) for number in symbol.split(".")])
@@ -73,14 +73,14 @@ def test_a_wheel_is_named_after_the_version_and_the_c_library_that_it_needs(whee
     assert wheel.name == f"mkpasswd-{version}-py3-none-{tag}.whl"
 
 
-def test_a_file_that_is_no_library_gives_no_wheel(wheel: Path, folder: Path) -> None:
+def test_a_file_that_is_not_a_library_gives_no_wheel(wheel: Path, folder: Path) -> None:
     result = run(ROOT / "tools/wheel", wheel, folder / "none")
     assert result.status == 1 and wheel.name.encode() in result.stderr, str(result)
     assert not (folder / "none").exists()
 
 
 def modules_of(package: str) -> list[str]:
-    """The files of a package's folder, as a wheel names them."""
+    """Returns the files in a package's folder, as a wheel names them."""
     folder = PACKAGE / package
     return [f"{package}/{file.name}" for file in folder.iterdir() if file.is_file()]
 
@@ -93,18 +93,18 @@ def test_a_wheel_has_the_packages_and_the_library(wheel: Path) -> None:
     assert sorted(printed(run("unzip", "-Z1", wheel)).split()) == sorted(files)
 
 
-def test_a_wheel_is_of_one_processor(wheel: Path) -> None:
+def test_a_wheel_is_for_one_processor(wheel: Path) -> None:
     lines = printed(run("unzip", "-p", wheel, "mkpasswd-*/WHEEL")).splitlines()
     assert lines[2] == "Root-Is-Purelib: false"
 
 
-def test_the_commands_of_the_document_install_it(wheel: Path, tmp_path: Path) -> None:
+def test_the_documents_commands_install_the_wheel(wheel: Path, tmp_path: Path) -> None:
     commands = recipe("into a venv", "sh")
     assert "--no-index" in commands
     shutil.copy(wheel, tmp_path)
     environment: dict[str, str | None] = {**ELSEWHERE, "PATH": "/usr/bin:/bin"}
-    made = printed(run("sh", "-ec", commands, cwd=tmp_path, env=environment)).splitlines()[-1]
-    assert made.startswith("$6$") and mkpasswd.login("x", field=made)
+    stored = printed(run("sh", "-ec", commands, cwd=tmp_path, env=environment)).splitlines()[-1]
+    assert stored.startswith("$6$") and mkpasswd.login("x", field=stored)
     place_of_library = printed(run("v/bin/python", "-c", TRY, cwd=tmp_path, env=ELSEWHERE))
     assert place_of_library.startswith(str(tmp_path / "v/lib"))
     assert place_of_library.endswith("site-packages/mkpasswd/libmkpasswd.so.3")
@@ -114,7 +114,7 @@ def test_the_commands_of_the_document_install_it(wheel: Path, tmp_path: Path) ->
     "python",
     [pytest.param(each.path, id=str(each)) for each in interpreters() if each.minor >= OLDEST],
 )
-def test_each_python_takes_it(wheel: Path, python: str, tmp_path: Path) -> None:
+def test_each_python_can_install_the_wheel(wheel: Path, python: str, tmp_path: Path) -> None:
     place = tmp_path / "there"
     pip = ("-m", "pip", "install", "--quiet", "--no-index", "--no-compile", "--target")
     result = run(python, *pip, place, wheel, env=ELSEWHERE)

@@ -168,7 +168,7 @@ def test_the_library_makes_all_calls_with_sanitizers(
     )
     numbers = b"".join(number.to_bytes(8, "little") for number in (1, 2, 3))
     driver = Driver((program,))
-    driver.assert_by_the_rules(calls_of_each_kind(), System(refused, numbers), threads=8)
+    driver.assert_matches_model(calls_of_each_kind(), System(refused, numbers), threads=8)
 
 
 def test_the_module_is_loaded_with_sanitizers(sanitized: Tree) -> None:

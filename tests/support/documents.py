@@ -136,7 +136,7 @@ def marked(mark: str, language: str) -> Block:
 
 
 @functools.cache
-def shown_manual(path: Path) -> str:
+def rendered_manual(path: Path) -> str:
     """Returns a manual as mandoc renders it, without margins."""
     output = run("mandoc", "-T", "utf8", "-O", "width=200", path).required().stdout.decode()
     plain = re.sub(r".\x08", "", output)  # mandoc overstrikes bold and underlined characters
@@ -182,7 +182,7 @@ def examples_of_console(block: Block) -> Iterator[Example]:
 
 def examples_of_manual(path: Path) -> Iterator[Example]:
     """Yields the examples of a manual, each with its line in the manual's source."""
-    blocks = re.findall(r"^\$ .*?\n(?=\n|\Z)", shown_manual(path), re.MULTILINE | re.DOTALL)
+    blocks = re.findall(r"^\$ .*?\n(?=\n|\Z)", rendered_manual(path), re.MULTILINE | re.DOTALL)
     texts = [text for block in blocks for text in texts_of_examples(block)]
     for text, place in zip(texts, prompts_of(path)):
         yield example_of(text, place)

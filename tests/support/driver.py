@@ -82,7 +82,7 @@ class Driver:
         command = shlex.join(str(word) for word in self.command)
         return f"the command: printf '%s\\n' {cut(rows)} | {command}"
 
-    def assert_by_the_rules(
+    def assert_matches_model(
         self, calls: Sequence[Call], system: System = System(), threads: int = 1
     ) -> list[Answer]:
         """Makes the calls, fails the test unless each answer is the model's, and returns them."""
