@@ -15,13 +15,13 @@ import pytest
 from support import ROOT
 from support.library import COMPILER
 from support.needs import built, needed
-from support.package import tested_package
+from support.package import package_under_test
 from support.policy_limits import SCRYPT, SHA256CRYPT, SHA512CRYPT, Policy, new_cost
 from support.process import Result, run
 from support.pwhash_copies import Copy
 from support.pwhash_runs import PWHASH, ended, pwhash, shell, started, wait_for, working_threads
 
-with tested_package():
+with package_under_test():
     import mkpasswd
 with needed("python3-pexpect"):
     import pexpect

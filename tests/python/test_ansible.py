@@ -6,11 +6,11 @@ import re
 import secrets
 
 import pytest
-from support.package import environment_of, recipe, tested_package
+from support.package import environment_of, recipe, package_under_test
 from support.process import run
 from support.stored_strings import MD5
 
-with tested_package():
+with package_under_test():
     import mkpasswd
 
 pytestmark = [

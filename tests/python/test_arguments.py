@@ -8,10 +8,10 @@ from dataclasses import dataclass
 from typing import Any
 
 import pytest
-from support.package import crypt, error_of, class_raised, tested_package
+from support.package import crypt, error_of, class_raised, package_under_test
 from support.stored_strings import COSTLY, MD5, SHA512
 
-with tested_package():
+with package_under_test():
     import mkpasswd
     from mkpasswd import Policy, Reason, Refused, cost, describe, needs_rehash
     from mkpasswd.crypt import crypt as crypt_call

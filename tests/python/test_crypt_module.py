@@ -8,10 +8,10 @@ from typing import Any
 import pytest
 from support import libxcrypt
 from support.needs import not_applicable
-from support.package import error_of, class_raised, tested_package
+from support.package import error_of, class_raised, package_under_test
 from support.stored_strings import MD5, SHA256
 
-with tested_package():
+with package_under_test():
     import mkpasswd
     from mkpasswd import crypt
 

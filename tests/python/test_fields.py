@@ -5,7 +5,7 @@ from pathlib import Path
 from typing import Any
 
 import pytest
-from support.package import crypt, error_of, class_raised, tested_package
+from support.package import crypt, error_of, class_raised, package_under_test
 from support.process import Word, run
 from support.stored_strings import (
     COSTLY,
@@ -19,7 +19,7 @@ from support.stored_strings import (
     title,
 )
 
-with tested_package():
+with package_under_test():
     from mkpasswd import Description, Policy, Reason, Refused, State, cost, describe, needs_rehash
 
 NO_BUDGET = 2**42  # more than any hash costs

@@ -13,10 +13,10 @@ from concurrent.futures import Future
 from typing import Any, NoReturn
 
 import pytest
-from support.package import crypt, error_of, run_python, tested_package
+from support.package import crypt, error_of, run_python, package_under_test
 from support.stored_strings import COSTLY, MD5, SHA512
 
-with tested_package():
+with package_under_test():
     from mkpasswd import Policy
     from mkpasswd.fixed_time import Busy, FixedTime
 

@@ -22,11 +22,11 @@ from support.package import (
     replace_lines,
     crypt,
     recipe,
-    tested_package,
+    package_under_test,
     whole_login_of_a_moving_service,
 )
 
-with tested_package():
+with package_under_test():
     from mkpasswd.fixed_time import FixedTime
 
 pytestmark = [

@@ -2,7 +2,7 @@
 from __future__ import annotations
 
 import pytest
-from support.package import class_raised, tested_package
+from support.package import class_raised, package_under_test
 from support.policy_limits import (
     LONGEST_PASSWORD,
     MD5CRYPT,
@@ -15,7 +15,7 @@ from support.policy_limits import (
     random_policies,
 )
 
-with tested_package():
+with package_under_test():
     import mkpasswd
     from mkpasswd import _library
 

@@ -4,10 +4,10 @@ from __future__ import annotations
 from typing import Any
 
 import pytest
-from support.package import crypt, class_raised, tested_package
+from support.package import crypt, class_raised, package_under_test
 from support.stored_strings import COSTLY, MD5, NEVER_OPEN, SHA512, title
 
-with tested_package():
+with package_under_test():
     import mkpasswd
     from mkpasswd import Policy, _library
 

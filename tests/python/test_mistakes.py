@@ -14,11 +14,11 @@ from pathlib import Path
 from typing import Any
 
 import pytest
-from support.package import PACKAGE, tested_package
+from support.package import PACKAGE, package_under_test
 from support.process import run
 from support.stored_strings import DEAD, LOCKED, MD5, title
 
-with tested_package():
+with package_under_test():
     from mkpasswd import Policy
 
 QUICK = Policy(rounds=1000)

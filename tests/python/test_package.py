@@ -9,10 +9,10 @@ from types import ModuleType
 
 import pytest
 from support import ROOT
-from support.package import PACKAGE, run_python, tested_package
+from support.package import PACKAGE, run_python, package_under_test
 from support.process import Result, assert_result, run
 
-with tested_package():
+with package_under_test():
     import mkpasswd
     from mkpasswd import _calls, _library, _loaded, _policy, crypt
 

@@ -6,10 +6,10 @@ import warnings
 from typing import Any
 
 import pytest
-from support.package import Cook, crypt, class_raised, tested_package
+from support.package import Cook, crypt, class_raised, package_under_test
 from support.stored_strings import MD5, SHA256, SHA512
 
-with tested_package():
+with package_under_test():
     import mkpasswd
 
 pytestmark = [

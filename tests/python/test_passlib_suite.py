@@ -12,9 +12,9 @@ from typing import Any
 
 import pytest
 from support.needs import needed
-from support.package import tested_package
+from support.package import package_under_test
 
-with tested_package():
+with package_under_test():
     import mkpasswd
 
 with needed("python3-passlib"), warnings.catch_warnings():

@@ -6,10 +6,10 @@ import pickle
 from typing import Any
 
 import pytest
-from support.package import crypt, error_of, class_raised, tested_package
+from support.package import crypt, error_of, class_raised, package_under_test
 from support.stored_strings import COSTLY, DEAD, LOCKED, MD5, REFUSED, SHA512, title
 
-with tested_package():
+with package_under_test():
     import mkpasswd
     from mkpasswd import Limit, Policy, Reason, State, TooCostly, cost
     from mkpasswd.crypt import crypt as crypt_call

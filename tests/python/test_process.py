@@ -8,11 +8,11 @@ from concurrent.futures import ThreadPoolExecutor
 from pathlib import Path
 
 import pytest
-from support.package import SONAME, environment_of, run_python, tested_package
+from support.package import SONAME, environment_of, run_python, package_under_test
 from support.process import assert_result
 from support.stored_strings import MD5
 
-with tested_package():
+with package_under_test():
     import mkpasswd
 
 COUNT = 40

@@ -22,13 +22,13 @@ from support.package import (
     class_raised,
     recipe,
     run_python,
-    tested_package,
+    package_under_test,
     whole_login,
     whole_login_of_a_moving_service,
 )
 from support.stored_strings import COSTLY, MD5, SHA512, title
 
-with tested_package():
+with package_under_test():
     import mkpasswd
     from mkpasswd import _library
 

@@ -6,10 +6,10 @@ from collections.abc import Callable
 from typing import Any
 
 import pytest
-from support.package import error_of, tested_package
+from support.package import error_of, package_under_test
 from support.stored_strings import COSTLY, MD5
 
-with tested_package():
+with package_under_test():
     import mkpasswd
     from mkpasswd import Policy
     from mkpasswd.crypt import crypt

@@ -7,12 +7,12 @@ from typing import Any
 
 import pytest
 from support.needs import needed
-from support.package import crypt, tested_package
+from support.package import crypt, package_under_test
 
 with needed("python3-hypothesis"):
     from hypothesis import configuration, given, settings
     from hypothesis import strategies as st
-with tested_package():
+with package_under_test():
     import mkpasswd
     from mkpasswd.crypt import METHOD_MD5, mksalt
     from mkpasswd.crypt import crypt as crypt_call

@@ -4,9 +4,9 @@ from __future__ import annotations
 from typing import Any
 
 import pytest
-from support.package import error_of, tested_package
+from support.package import error_of, package_under_test
 
-with tested_package():
+with package_under_test():
     import mkpasswd
     from mkpasswd import Policy, cost, needs_rehash
     from mkpasswd.crypt import crypt, mksalt

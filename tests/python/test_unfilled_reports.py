@@ -7,10 +7,10 @@ from collections.abc import Callable
 from typing import Any
 
 import pytest
-from support.package import error_of, tested_package
+from support.package import error_of, package_under_test
 from support.stored_strings import MD5, SHA512
 
-with tested_package():
+with package_under_test():
     import mkpasswd
     from mkpasswd import Policy, Refused, _library
     from mkpasswd.crypt import crypt, mksalt

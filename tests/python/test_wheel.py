@@ -9,11 +9,11 @@ import pytest
 from support import ROOT
 from support.interpreters import OLDEST, interpreters
 from support.needs import built
-from support.package import ELSEWHERE, LIBRARY, PACKAGE, recipe, tested_package
+from support.package import ELSEWHERE, LIBRARY, PACKAGE, recipe, package_under_test
 from support.process import Result, run
 from support.stored_strings import MD5
 
-with tested_package():
+with package_under_test():
     import mkpasswd
 
 # One worker runs these tests, so that the wheel is built once.

@@ -1,6 +1,6 @@
-"""The archive, as somebody meets it who unpacks it.
+"""The archive, as a user sees it who unpacks it.
 
-It has the same bytes whenever it is packed, right sums, and a README that is true.
+It is reproducible, and has right checksums and a README that is true.
 """
 from __future__ import annotations
 
@@ -25,24 +25,24 @@ pytestmark = pytest.mark.xdist_group("archive")  # so that it is packed once
 
 LIBRARY = "lib/libmkpasswd.so.3"
 MODULE = "lib/security/pam_mkpasswd.so"
-# The command of README.md that installs it, up to the next command.
+# Matches README.md's command that unpacks the archive, up to the next command.
 UNPACKS = r"(tar -?xzf mkpasswd-[^`\n]*-linux\.tar\.gz [^`&\n]*/usr/local\b[^`&\n]*)"
 
 
 def members(archive: Archive) -> list[tarfile.TarInfo]:
-    """What the archive has, as tar reads it."""
+    """Returns the archive's members."""
     with tarfile.open(archive.file) as file:
         return file.getmembers()
 
 
-# ---- How it is packed
+# ---- Packing
 
 
 @pytest.mark.parametrize(
     ("mask", "zone"),
     [
         pytest.param("022", "Asia/Tokyo", id="in another time zone"),
-        pytest.param("077", "UTC", id="with a umask that keeps others out"),
+        pytest.param("077", "UTC", id="with a umask that excludes others"),
     ],
 )
 def test_another_archive_has_the_same_bytes(
@@ -53,16 +53,16 @@ def test_another_archive_has_the_same_bytes(
     assert again.read_bytes() == archive.file.read_bytes()
 
 
-def test_all_belongs_to_the_superuser(archive: Archive) -> None:
+def test_every_member_belongs_to_root(archive: Archive) -> None:
     owners = {(member.uid, member.gid, member.uname, member.gname) for member in members(archive)}
     assert owners == {(0, 0, "", "")}
 
 
-def test_all_has_the_same_time(archive: Archive) -> None:
+def test_every_member_has_the_same_time(archive: Archive) -> None:
     assert len({member.mtime for member in members(archive)}) == 1
 
 
-def test_it_has_no_folders_so_that_those_of_a_prefix_keep_their_modes(archive: Archive) -> None:
+def test_it_has_no_folders_so_that_a_prefixs_folders_keep_their_modes(archive: Archive) -> None:
     assert [member.name for member in members(archive) if member.isdir()] == []
 
 
@@ -73,7 +73,7 @@ def test_everybody_may_read_each_file_and_run_each_command(archive: Archive) -> 
         expected = 0o755 if is_run else 0o644
         if member.mode != expected:
             wrong[member.name] = f"{member.mode:o}"
-    assert wrong == {}, "expected: 755 for commands and links, and 644 for others"
+    assert wrong == {}, "expected mode 755 for commands and links, and 644 for other files"
 
 
 def test_links_lead_to_the_library_and_the_program(archive: Archive) -> None:
@@ -86,7 +86,7 @@ def test_it_has_the_program_that_was_built(archive: Archive) -> None:
     assert (archive.tree / "bin/mkpasswd").read_bytes() == program.read_bytes()
 
 
-def test_no_file_names_the_folder_that_it_was_built_in(archive: Archive) -> None:
+def test_no_file_contains_the_name_of_the_build_folder(archive: Archive) -> None:
     place = f"{ROOT}/".encode()
     files = [archive.tree / name for name in files_below(archive.tree)]
     assert [str(path) for path in files if place in path.read_bytes()] == []
@@ -113,14 +113,14 @@ def test_each_manual_has_the_version(archive: Archive, version: str) -> None:
     assert without == []
 
 
-# ---- Sums
+# ---- Checksums
 
 
 def test_sha256sum_finds_each_file_as_it_was_packed(archive: Archive) -> None:
     assert_result(run("sha256sum", "--quiet", "-c", SUMS, cwd=archive.tree))
 
 
-def test_each_file_has_a_sum(archive: Archive) -> None:
+def test_each_file_has_a_checksum(archive: Archive) -> None:
     lines = (archive.tree / SUMS).read_text(encoding="utf-8").splitlines()
     summed = [line[66:] for line in lines if re.match("[0-9a-f]{64}  ", line)]
     files = [name for name in files_below(archive.tree) if not (archive.tree / name).is_symlink()]
@@ -135,25 +135,25 @@ def test_the_readme_begins_with_the_version(archive: Archive, version: str) -> N
     assert first_line == f"mkpasswd {version} for Linux on x86-64"
 
 
-def test_the_readme_has_no_place_left_to_be_filled(archive: Archive) -> None:
+def test_the_readme_has_no_placeholder_left(archive: Archive) -> None:
     assert "@" not in archive.readme
 
 
 def commands_of_readme(archive: Archive, prefix: Path) -> list[str]:
-    """The commands that the archive's README shows for /usr/local, for another prefix."""
-    shown = re.findall(r"^  (\S.*)", archive.readme, re.MULTILINE)
-    return [command.replace("/usr/local", str(prefix)) for command in shown]
+    """Returns the commands in the archive's README, with another prefix than /usr/local."""
+    commands = re.findall(r"^  (\S.*)", archive.readme, re.MULTILINE)
+    return [command.replace("/usr/local", str(prefix)) for command in commands]
 
 
 def command_with(archive: Archive, prefix: Path, part: str) -> str:
-    """The first command that the README shows for /usr/local with this in it."""
+    """Returns the README's first command that contains this."""
     commands = commands_of_readme(archive, prefix)
     found = [command for command in commands if part in command and str(prefix) in command]
-    assert found, f"expected: a command with `{part}` in\n" + "\n".join(commands)
+    assert found, f"expected a command with `{part}` in\n" + "\n".join(commands)
     return found[0]
 
 
-def test_the_commands_of_the_readme_install_check_and_remove_it(
+def test_the_commands_of_the_readme_install_check_and_remove_the_files(
     archive: Archive, tmp_path: Path
 ) -> None:
     prefix = tmp_path / "local"
@@ -162,7 +162,7 @@ def test_the_commands_of_the_readme_install_check_and_remove_it(
     assert_result(run("sh", "-c", installs, cwd=archive.file.parent))
     assert files_below(prefix) == files_below(archive.tree)
     assert_result(run("sh", "-c", command_with(archive, prefix, "sha256sum")))
-    compiled = prefix / "share/pwhash/pwhash/__pycache__"  # as Python does where root runs pwhash
+    compiled = prefix / "share/pwhash/pwhash/__pycache__"  # Python makes it if root runs pwhash
     compiled.mkdir()
     (compiled / "run.cpython-311.pyc").touch()
     assert_result(run("sh", "-c", command_with(archive, prefix, "rm -f")))
@@ -188,7 +188,7 @@ def test_the_program_needs_no_library(archive: Archive) -> None:
 
 @pytest.mark.needs("objdump")
 @pytest.mark.parametrize("file", [LIBRARY, MODULE])
-def test_the_readme_says_which_glibc_is_old_enough(archive: Archive, file: str) -> None:
+def test_the_readme_names_the_oldest_glibc(archive: Archive, file: str) -> None:
     glibc = oldest_glibc(archive.tree / file)
     rows = [line for line in archive.readme.splitlines() if os.path.basename(file) in line]
     assert re.match(rf"  \S+: +glibc {re.escape(glibc)} or later", rows[0]), rows
@@ -202,7 +202,7 @@ def test_the_readme_says_which_glibc_is_old_enough(archive: Archive, file: str) 
         pytest.param(".whl`", id="for the wheel"),
     ],
 )
-def test_readme_md_says_which_glibc_is_old_enough(archive: Archive, part: str) -> None:
+def test_readme_md_names_the_oldest_glibc(archive: Archive, part: str) -> None:
     glibc = oldest_glibc(archive.tree / LIBRARY)
     lines = (ROOT / "README.md").read_text(encoding="utf-8").splitlines()
     rows = [line for line in lines if line.startswith("|") and part in line]
@@ -210,7 +210,7 @@ def test_readme_md_says_which_glibc_is_old_enough(archive: Archive, part: str) -
 
 
 @pytest.mark.needs("objdump")
-def test_readme_md_says_which_glibc_the_pam_module_needs(archive: Archive) -> None:
+def test_readme_md_names_the_oldest_glibc_for_the_pam_module(archive: Archive) -> None:
     glibc = oldest_glibc(archive.tree / MODULE)
     assert f"(PAM module: x86-64 and glibc {glibc}+;" in (ROOT / "README.md").read_text("utf-8")
 
@@ -227,7 +227,7 @@ def test_the_readme_names_each_function_that_the_static_library_needs(archive: A
     assert sorted(re.split(r",\s+|\s+and\s+", found[1])) == sorted(needed)
 
 
-def test_each_link_of_the_documents_leads_to_a_file(archive: Archive) -> None:
+def test_each_link_in_the_documents_leads_to_a_file(archive: Archive) -> None:
     dead = []
     documents = list(archive.documents.glob("*.md"))
     for document in documents:

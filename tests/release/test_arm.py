@@ -1,6 +1,6 @@
-"""What make TARGET=aarch64 has built: what its archive and its wheel say of themselves.
+"""The build by make TARGET=aarch64: what its archive and its wheel say about themselves.
 
-Its program is run in test_elsewhere.py, and its library in tests/library.
+test_elsewhere.py runs its program, and tests/library its library.
 """
 from __future__ import annotations
 
@@ -33,12 +33,12 @@ def fixture_archive(tmp_path_factory: pytest.TempPathFactory) -> Archive:
         pytest.param(f"lib/{LIBRARY}", LIBRARY, id="the library"),
     ],
 )
-def test_the_archive_has_what_was_built(archive: Archive, packed_name: str, name: str) -> None:
+def test_the_archive_has_the_built_files(archive: Archive, packed_name: str, name: str) -> None:
     expected = (ROOT / "build" / PROCESSOR / name).read_bytes()
     assert (archive.tree / packed_name).read_bytes() == expected
 
 
-def test_the_readme_is_that_for_arm(archive: Archive) -> None:
+def test_the_readme_is_for_arm(archive: Archive) -> None:
     assert archive.readme.partition("\n")[0].endswith(" for Linux on aarch64")
 
 
@@ -49,21 +49,21 @@ def test_there_is_no_pam_module_and_the_readme_promises_none(archive: Archive) -
 
 
 @pytest.mark.needs("objdump")
-def test_the_readme_says_which_glibc_is_old_enough(archive: Archive) -> None:
+def test_the_readme_names_the_oldest_glibc(archive: Archive) -> None:
     glibc = oldest_glibc(archive.tree / "lib" / LIBRARY)
     row = rf"^  {re.escape(LIBRARY)}: +glibc {re.escape(glibc)} or later$"
     assert re.search(row, archive.readme, re.MULTILINE), archive.readme
 
 
 @pytest.mark.needs("objdump")
-def test_readme_md_says_which_glibc_is_old_enough(archive: Archive) -> None:
+def test_readme_md_names_the_oldest_glibc(archive: Archive) -> None:
     glibc = oldest_glibc(archive.tree / "lib" / LIBRARY)
     row = rf"^\| .*C libraries.* ARM \| glibc {re.escape(glibc)}\+ \|$"
     assert re.search(row, (ROOT / "README.md").read_text(encoding="utf-8"), re.MULTILINE)
 
 
 @pytest.mark.needs("objdump", "python3-build", "python3-setuptools", "python3-wheel")
-def test_the_name_of_the_wheel_says_which_glibc_is_old_enough(tmp_path: Path) -> None:
+def test_the_name_of_the_wheel_has_the_oldest_glibc(tmp_path: Path) -> None:
     library = built(f"build/{PROCESSOR}/{LIBRARY}", f"TARGET={PROCESSOR}")
     built("python/src/mkpasswd_version.py", "lib")
     run(ROOT / "tools/wheel", library, tmp_path).required()

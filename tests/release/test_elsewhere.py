@@ -1,6 +1,6 @@
-"""The programs of the archives pass the tests of the built one where there is nothing else.
+"""The programs of the archives pass tests/program in an empty root, and under qemu.
 
-These are runs of pytest in a test, so they are begun one after the other.
+Each of these tests runs pytest itself, so they don't run in parallel.
 """
 from __future__ import annotations
 
@@ -18,15 +18,15 @@ pytestmark = [pytest.mark.xdist_group("nested"), pytest.mark.slow]
 
 CHROOT: tuple[Word, ...] = ("chroot",)
 CHROOT_OF_A_USER: tuple[Word, ...] = ("unshare", "--user", "--map-root-user", "chroot")
-SOAKED_LINES = 2000  # of each kind; more take too long under qemu
+SOAKED_LINES = 2000  # of each kind; more would take too long under qemu
 
 
 def permitted_chroot() -> tuple[Word, ...]:
-    """A command that this user may enter another root with."""
+    """Returns a command by which this user can enter another root."""
     for command in (CHROOT, CHROOT_OF_A_USER):
         if run(*command, "/", "true").status == 0:
             return command
-    missing("a chroot that is permitted", "run the tests as root")
+    missing("permission to use chroot", "run the tests as root")
 
 
 def test_the_static_program_needs_nothing_but_the_kernel(tmp_path: Path) -> None:
@@ -41,7 +41,7 @@ def test_the_static_program_needs_nothing_but_the_kernel(tmp_path: Path) -> None
 
 @pytest.fixture(name="under_qemu")
 def fixture_under_qemu(tmp_path: Path) -> Path:
-    """The program for ARM, which qemu runs."""
+    """The program for ARM, run by qemu."""
     program = built("build/aarch64/mkpasswd", "TARGET=aarch64")
     return wrapper(tmp_path / "under qemu", "qemu-aarch64-static", program)
 
@@ -52,7 +52,7 @@ def test_the_program_for_arm_passes_the_tests_of_the_program(under_qemu: Path) -
 
 
 @pytest.mark.needs("aarch64-linux-gnu-gcc", "qemu-aarch64-static")
-def test_the_program_for_arm_answers_random_lines_by_the_rules(under_qemu: Path) -> None:
+def test_the_program_for_arm_answers_random_lines_like_the_model(under_qemu: Path) -> None:
     words = (ROOT / "tools/soak", "--lines", SOAKED_LINES, under_qemu)
     result = run(*words, timeout=HOUR)
     assert result.status == 0, f"{result.stdout.decode(errors='replace')}\n{result}"

@@ -1,6 +1,6 @@
-"""tools/evidence: what it measures again and what not, what an interruption leaves, and the page.
+"""tools/evidence: what it measures again, what an interruption leaves, and the page.
 
-Nothing is really measured: the repository is a tiny one, and rt and make are scripts.
+It measures a tiny repository, in which rt and make are scripts.
 """
 from __future__ import annotations
 
@@ -16,7 +16,7 @@ from support.process import started
 
 pytestmark = pytest.mark.needs("git")
 
-# Those that nobody but root measures.
+# The parts that only root can measure.
 AS_ROOT = {"check-12", "check-13", "artifacts"}
 OF_PROOFS = {"gate", "plant-low"}
 OF_PROGRAMS = {"soak", "fuzz-hash", "bench"}
@@ -32,7 +32,7 @@ def fixture_tree(tmp_path: Path) -> MeasuredTree:
 # ---- What is measured
 
 
-def test_a_part_that_was_measured_is_not_measured_again(tree: MeasuredTree) -> None:
+def test_a_measured_part_is_not_measured_again(tree: MeasuredTree) -> None:
     tree.evidence("--only", "soak").required()
     tree.evidence("--only", "soak").required()
     assert tree.calls() == ["make soak LINES=10000000"]
@@ -50,7 +50,7 @@ def test_the_next_run_measures_what_is_missing(tree: MeasuredTree) -> None:
     ]
 
 
-def test_a_part_that_failed_is_measured_again_and_others_meanwhile(tree: MeasuredTree) -> None:
+def test_a_failed_part_is_measured_again_and_others_go_on(tree: MeasuredTree) -> None:
     tree.prepare("soak", "soak: seed 11, 5 lines of each kind\nsoak: 2 differences\n")
     tree.prepare("soak.script", 'cat "$fakes/soak"; exit 1\n')
     result = tree.evidence("--only", "soak", "--only", "fuzz")
@@ -66,21 +66,21 @@ def test_a_part_that_failed_is_measured_again_and_others_meanwhile(tree: Measure
     assert [call.split()[1] for call in tree.calls()] == ["soak", "fuzz", "soak"]
 
 
-def test_the_input_at_which_a_fuzzer_stops_is_kept(tree: MeasuredTree) -> None:
+def test_the_input_that_stops_a_fuzzer_is_kept(tree: MeasuredTree) -> None:
     stops = "mkdir -p build/fuzz/hash.corpus && echo input > build/fuzz/hash.crash-1234; exit 1\n"
     tree.prepare("fuzz.script", stops)
     assert tree.evidence("--only", "fuzz").status == 1
     assert tree.kept("fuzz-hash.crash-*") == ["fuzz-hash.crash-1234"]
 
 
-def test_more_than_was_measured_is_measured_and_less_is_not(tree: MeasuredTree) -> None:
+def test_a_part_is_measured_again_only_with_a_larger_size(tree: MeasuredTree) -> None:
     for lines in (1000, 500, 2000):
         tree.evidence("--only", "soak", "--lines", lines).required()
     assert tree.calls() == ["make soak LINES=1000", "make soak LINES=2000"]
     assert "| soak | `make soak LINES=2000` in a clone |" in tree.page()
 
 
-def test_a_gate_that_took_earlier_proofs_is_no_gate_from_nothing(tree: MeasuredTree) -> None:
+def test_a_gate_that_reused_earlier_proofs_fails(tree: MeasuredTree) -> None:
     tree.prepare("gate.log", GATE.format(share="done in this run: 2 of the 9 proofs"))
     assert tree.evidence("--only", "gate").status == 1
     assert tree.states()["gate"] == "failed: the gate took what earlier runs had proved"
@@ -91,13 +91,13 @@ def test_the_page_says_what_the_gate_proved(tree: MeasuredTree) -> None:
     assert "proved 5 functions and those of the crates' tests, and refused 7 mutants" in tree.page()
 
 
-# ---- What is refused
+# ---- Refusals
 
 
 @pytest.mark.parametrize(
     "path", [pytest.param("README.md", id="changed"), pytest.param("c/new.c", id="new")]
 )
-def test_a_tree_with_a_file_that_no_commit_has_is_refused(tree: MeasuredTree, path: str) -> None:
+def test_a_tree_with_uncommitted_files_is_refused(tree: MeasuredTree, path: str) -> None:
     tree.write(path, "new")
     result = tree.evidence("--only", "soak")
     assert result.status == 1 and path in result.stderr.decode(), result
@@ -110,21 +110,21 @@ def test_the_page_itself_may_differ_from_the_commit(tree: MeasuredTree) -> None:
     assert tree.not_measured() == PARTS - {"soak", "fuzz-hash"}
 
 
-def test_a_part_that_there_is_not_is_refused(tree: MeasuredTree) -> None:
+def test_an_unknown_part_is_refused(tree: MeasuredTree) -> None:
     result = tree.evidence("--only", "soap")
     assert result.status == 1 and b"there is no part soap" in result.stderr, result
 
 
-# ---- What an interruption leaves
+# ---- Interruptions
 
 NAMED = 'echo {} > "$fakes/sleeper.part"; mv "$fakes/sleeper.part" "$fakes/sleeper"'
-# Scripts of make that leave a file and wait: for a process of their group, or by themselves.
+# Scripts for the fake make that leave a file and then wait, in a child or in themselves.
 WAITS = f"touch half-built; sleep 300 & {NAMED.format('$!')}; wait\n"
 WAITS_ITSELF = f"touch half-built; {NAMED.format('$$')}; exec sleep 300\n"
 
 
 def sleeps(tree: MeasuredTree) -> bool:
-    """Whether the process is there that a script waits for."""
+    """Returns whether the waiting process still exists."""
     number = (tree.fakes / "sleeper").read_text(encoding="ascii").strip()
     return Path(f"/proc/{number}").exists()
 
@@ -145,7 +145,7 @@ def test_an_interrupted_part_leaves_nothing(tree: MeasuredTree, number: int) -> 
     wait_for(lambda: not sleeps(tree))
 
 
-def test_the_run_after_an_interruption_goes_on(tree: MeasuredTree) -> None:
+def test_the_run_after_an_interruption_measures_the_rest(tree: MeasuredTree) -> None:
     tree.prepare("soak.script", WAITS)
     interrupt(tree, signal.SIGINT)
     tree.prepare("soak.script", "[ ! -e half-built ] || exit 1\n")
@@ -154,13 +154,13 @@ def test_the_run_after_an_interruption_goes_on(tree: MeasuredTree) -> None:
     assert tree.not_measured() == PARTS - {"gate", "soak"}
 
 
-def test_the_commands_of_a_run_that_is_killed_end(tree: MeasuredTree) -> None:
+def test_the_commands_of_a_killed_run_end(tree: MeasuredTree) -> None:
     tree.prepare("soak.script", WAITS_ITSELF)
     assert interrupt(tree, signal.SIGKILL) == -signal.SIGKILL
     wait_for(lambda: not sleeps(tree))
 
 
-def test_what_a_killed_run_left_does_not_disturb_the_next_one(tree: MeasuredTree) -> None:
+def test_leftovers_of_a_killed_run_do_not_disturb_the_next_one(tree: MeasuredTree) -> None:
     tree.prepare("gate.script", WAITS_ITSELF)
     interrupt(tree, signal.SIGKILL)
     (tree.fakes / "gate.script").unlink()
@@ -169,7 +169,7 @@ def test_what_a_killed_run_left_does_not_disturb_the_next_one(tree: MeasuredTree
     assert tree.kept("*.part") == []
 
 
-def test_a_second_run_is_refused_while_one_measures(tree: MeasuredTree) -> None:
+def test_a_second_run_is_refused_while_the_first_one_measures(tree: MeasuredTree) -> None:
     tree.prepare("soak.script", WAITS_ITSELF)
     with started(tree.command, "--only", "soak", env=tree.environment):
         wait_for((tree.fakes / "sleeper").exists)
@@ -186,13 +186,13 @@ def test_a_second_run_is_refused_while_one_measures(tree: MeasuredTree) -> None:
         pytest.param("crates/low/src/lib.rt", OF_PROOFS | OF_PROGRAMS, id="a crate"),
         pytest.param("c/heap.c", OF_PROGRAMS, id="C"),
         pytest.param("tests/c/fuzz_hash.c", {"fuzz-hash"}, id="a fuzzer"),
-        pytest.param("tests/support/process.py", {"soak", "bench"}, id="what tests share"),
+        pytest.param("tests/support/process.py", {"soak", "bench"}, id="a helper of the tests"),
         pytest.param("python/setup.py", {"bench"}, id="Python"),
         pytest.param("README.md", set(), id="a document"),
         pytest.param("docs/EVIDENCE.md", set(), id="the page"),
     ],
 )
-def test_a_change_counts_for_what_rests_on_it(
+def test_a_change_invalidates_the_parts_that_depend_on_it(
     tree: MeasuredTree, path: str, lost: set[str]
 ) -> None:
     tree.evidence(*BY_ANYBODY).required()
@@ -201,7 +201,7 @@ def test_a_change_counts_for_what_rests_on_it(
     assert tree.not_measured() == AS_ROOT | lost
 
 
-def test_another_toolchain_counts_for_all(tree: MeasuredTree) -> None:
+def test_another_toolchain_invalidates_all_parts(tree: MeasuredTree) -> None:
     tree.evidence(*BY_ANYBODY).required()
     tree.prepare("version", "another toolchain\n")
     assert tree.not_measured() == PARTS
@@ -215,7 +215,7 @@ def test_another_toolchain_counts_for_all(tree: MeasuredTree) -> None:
         pytest.param("docs/EVIDENCE.md", set(), id="the page"),
     ],
 )
-def test_a_change_of_any_file_but_the_page_counts_for_checks_and_artifacts(
+def test_a_change_of_any_file_but_the_page_invalidates_checks_and_artifacts(
     tree: MeasuredTree, path: str, lost: set[str]
 ) -> None:
     tree.evidence("--mirror", "http://mirror.invalid").required()
@@ -228,7 +228,7 @@ def test_a_change_of_any_file_but_the_page_counts_for_checks_and_artifacts(
 
 
 def without_times(page: str) -> str:
-    """A page without what a part took and when it was measured."""
+    """Returns a page without the parts' times and dates."""
     return re.sub(r"\d+ s \(\d+ s of processors\)|\d{4}-\d\d-\d\d", "", page)
 
 
@@ -247,7 +247,7 @@ def test_the_page_is_the_same_after_its_own_commit(tree: MeasuredTree) -> None:
     assert tree.page() == page
 
 
-def test_another_measurement_of_the_commit_differs_in_times_alone(tree: MeasuredTree) -> None:
+def test_another_measurement_of_the_commit_differs_only_in_times(tree: MeasuredTree) -> None:
     tree.evidence(*BY_ANYBODY).required()
     page = tree.page()
     for result in tree.folder.glob("build/evidence/*/*.json"):
@@ -342,7 +342,7 @@ def test_a_skipped_test_without_a_reason_fails_the_check(tree: MeasuredTree) -> 
 
 
 @pytest.mark.needs("root")
-def test_artifacts_that_two_clones_build_alike_are_kept(tree: MeasuredTree) -> None:
+def test_artifacts_that_two_clones_build_identically_are_kept(tree: MeasuredTree) -> None:
     tree.evidence("--only", "artifacts").required()
     (folder,) = tree.folder.glob("build/evidence/*/artifacts")
     checked = subprocess.run(["sha256sum", "--quiet", "-c", "SHA256SUMS"], cwd=folder, check=False)

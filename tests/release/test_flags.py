@@ -1,7 +1,6 @@
-"""make compiles and links the C code by a packager's flags, and hardens it by default.
+"""make compiles and links the C code with a packager's flags, and hardens it by default.
 
-The C code is compiled in a copy of the tree, over the objects of the proved code that this tree
-has built.
+The tests compile the C code in a copy of the tree, with this tree's objects of the proved code.
 """
 from __future__ import annotations
 
@@ -23,13 +22,13 @@ PROCESSOR = "x86-64-v2"
 PROVED = ("program.o", "libcrypt_c.a")
 FILES = ("mkpasswd", "libmkpasswd.a", "libmkpasswd.so.3", "pam_mkpasswd.so")
 STATIC = f"build/{PROCESSOR}/mkpasswd"
-# What make's own environment would tell another make.
+# Variables by which make would influence another make.
 NOTHING_OF_MAKE: dict[str, str | None] = {
     name: None
     for name in ("CC", "CFLAGS", "CPPFLAGS", "LDFLAGS", "CPU", "MAKEFLAGS", "MAKELEVEL", "TARGET")
 }
 SANITIZERS = "-fsanitize=address,undefined"
-# blhc reads what comes after this line.
+# blhc reads the commands after this line.
 BEGIN_OF_A_LOG = b"dpkg-buildpackage: info: source package mkpasswd\n"
 
 pytestmark = pytest.mark.needs("cc", "make", "/usr/include/security/pam_modules.h")
@@ -37,27 +36,27 @@ pytestmark = pytest.mark.needs("cc", "make", "/usr/include/security/pam_modules.
 
 @dataclass(frozen=True)
 class Tree:
-    """A copy of what make needs in order to compile the C code."""
+    """A copy of the files that make needs to compile the C code."""
 
     folder: Path
 
     def make(self, *words: Word) -> Result:
-        """Runs make, for which the proved objects are up to date."""
+        """Runs make, which takes the proved objects for up to date."""
         kept = [word for name in PROVED for word in ("-o", f"build/{PROCESSOR}/{name}")]
         return run("make", *kept, *words, cwd=self.folder, env=NOTHING_OF_MAKE)
 
     def commands(self, *words: Word) -> list[str]:
-        """The commands by which make would compile and link, each in one line."""
+        """Returns make's commands that compile and link, each in one line."""
         lines = self.make("--always-make", "--dry-run", *words, *FILES).required().stdout.decode()
         return lines.replace("\\\n", " ").splitlines()
 
 
 def copied(folder: Path) -> Tree:
-    """Copies what make needs."""
+    """Copies the files that make needs."""
     for name in ("c", "tools"):
         shutil.copytree(ROOT / name, folder / name)
     shutil.copy(ROOT / "Makefile", folder)
-    version = Path("crates/crypt_core/src/version.rt")  # which tools/version reads
+    version = Path("crates/crypt_core/src/version.rt")  # tools/version reads it
     for path in (version, Path("crates.txt"), Path("build/cpu")):
         (folder / path).parent.mkdir(parents=True, exist_ok=True)
         shutil.copy(ROOT / path, folder / path)
@@ -71,7 +70,7 @@ def copied(folder: Path) -> Tree:
 
 @pytest.fixture(scope="module", name="tree")
 def fixture_tree(tmp_path_factory: pytest.TempPathFactory) -> Tree:
-    """A copy in which nothing is compiled."""
+    """A copy in which make only prints its commands."""
     return copied(tmp_path_factory.mktemp("tree"))
 
 
@@ -92,7 +91,7 @@ def test_each_command_has_the_compiler_and_the_flags_of_a_packager(tree: Tree) -
     assert all("-Wl,-O2" in command for command in linked)
 
 
-def test_flags_of_the_environment_are_honoured(tree: Tree) -> None:
+def test_flags_in_the_environment_are_used(tree: Tree) -> None:
     kept = [word for name in PROVED for word in ("-o", f"build/{PROCESSOR}/{name}")]
     changes = NOTHING_OF_MAKE | {"CFLAGS": "-O1 -DFROM_ENVIRONMENT"}
     words = ("make", *kept, "--always-make", "--dry-run", "libmkpasswd.a")
@@ -105,16 +104,16 @@ def test_flags_of_the_environment_are_honoured(tree: Tree) -> None:
 
 @pytest.mark.needs("blhc")
 def test_blhc_finds_no_flag_missing(tree: Tree, tmp_path: Path) -> None:
-    """--debian: gcc makes programs independent of their place without being told."""
+    """With --debian, since Debian's gcc makes position-independent programs by default."""
     log = tmp_path / "log"
     lines = "\n".join(tree.commands(STATIC)).encode() + b"\n"
     log.write_bytes(BEGIN_OF_A_LOG + lines)
     assert_result(run("blhc", "--debian", "--bindnow", "--arch", "amd64", log))
 
 
-# What there is no need of, and hardening-check doesn't find: the proved code writes within its
-# bounds, and the compiler of the toolchain marks no target of a jump. A program's few C functions
-# have no array on the stack, and copy only what has a size that the compiler doesn't know.
+# Protections that hardening-check misses and that aren't needed: the proved code writes within
+# bounds, and the toolchain's compiler doesn't mark the targets of jumps. A program's few C
+# functions have no array on the stack, and copy only objects whose size the compiler doesn't know.
 PROVED_CODE = ("--nocfprotection",)
 NO_ARRAYS = ("--nostackprotector", "--nofortify")
 
@@ -140,7 +139,7 @@ def test_hardening_check_finds_nothing(tree: Tree, name: str, without: tuple[str
 
 @pytest.fixture(scope="module", name="sanitized")
 def fixture_sanitized(tmp_path_factory: pytest.TempPathFactory) -> Tree:
-    """A copy whose C code is compiled with gcc's sanitizers, and stops at what they find."""
+    """A copy whose C code is compiled with gcc's sanitizers, and stops at an error."""
     tree = copied(tmp_path_factory.mktemp("sanitized"))
     flags = f"CFLAGS=-g -O1 {SANITIZERS} -fno-sanitize-recover=all"
     result = tree.make(flags, "CPPFLAGS=", *FILES)
@@ -150,7 +149,7 @@ def fixture_sanitized(tmp_path_factory: pytest.TempPathFactory) -> Tree:
 
 def test_the_program_hashes_with_sanitizers(sanitized: Tree) -> None:
     words = ("-m", "md5crypt", "-S", "xxxxxxxx", "password")
-    printed = b"$1$xxxxxxxx$UYCIxa628.9qXjpQCjM4a.\n"  # libxcrypt's
+    printed = b"$1$xxxxxxxx$UYCIxa628.9qXjpQCjM4a.\n"  # libxcrypt's hash
     assert_result(run(sanitized.folder / "mkpasswd", *words), stdout=printed)
 
 
@@ -158,7 +157,7 @@ def test_the_program_hashes_with_sanitizers(sanitized: Tree) -> None:
 def test_the_library_makes_all_calls_with_sanitizers(
     sanitized: Tree, tmp_path: Path, refused: int
 ) -> None:
-    """Once with memory, and once with each allocation refused."""
+    """Once with enough memory, and once with each allocation failing."""
     program = tmp_path / "caller"
     words: list[Word] = ["gcc", "-std=c99", *WARNINGS, "-g", "-DSANITIZED", SANITIZERS]
     library = sanitized.folder / "libmkpasswd.a"
@@ -171,8 +170,8 @@ def test_the_library_makes_all_calls_with_sanitizers(
     driver.assert_matches_model(calls_of_each_kind(), System(refused, numbers), threads=8)
 
 
-def test_the_module_is_loaded_with_sanitizers(sanitized: Tree) -> None:
-    """Its calls are tested by fuzzing, with clang's sanitizers: make fuzz."""
+def test_the_module_loads_with_sanitizers(sanitized: Tree) -> None:
+    """make fuzz tests its calls with clang's sanitizers."""
     script = "import ctypes, sys; ctypes.CDLL(sys.argv[1]).pam_sm_authenticate"
     runtime = run("gcc", "-print-file-name=libasan.so").required().stdout.decode().strip()
     changes = {"LD_PRELOAD": os.path.realpath(runtime), "ASAN_OPTIONS": "detect_leaks=0"}

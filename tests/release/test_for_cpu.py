@@ -1,4 +1,4 @@
-"""tools/for-cpu: the options that rt gets, what is built, and that the default build stays."""
+"""tools/for-cpu: rt's options, the built files, and that the default build stays."""
 from __future__ import annotations
 
 import signal
@@ -9,12 +9,12 @@ from support.process import started, status_of
 from support.tool_trees import ToolTree, tool_tree, wait_for
 
 ARM = "logic=proved functions=3 axioms=14 target=aarch64-unknown-linux-gnu sum=dac8208d650f15bf"
-# What an rt of these tests does first: it tells its folder and arguments, and what is in out/.
-TELLS = """\
+# The first lines of a fake rt: it records its folder, its arguments, and the files in out/.
+RECORDS = """\
 (basename "$PWD"; echo "$@") > "$0.got"
 ls out > "$0.out"
 """
-BUILDS = f"{TELLS}echo new > out/program.o; echo new > out/libcrypt_c.a; echo new > out/stamp\n"
+BUILDS = f"{RECORDS}echo new > out/program.o; echo new > out/libcrypt_c.a; echo new > out/stamp\n"
 
 
 @pytest.fixture(name="tree")
@@ -31,17 +31,17 @@ def fixture_tree(tmp_path: Path) -> ToolTree:
 
 
 def content(folder: Path) -> dict[str, bytes]:
-    """The files below a folder."""
+    """Returns the files below a folder, by name."""
     paths = [path for path in folder.rglob("*") if path.is_file()]
     return {str(path.relative_to(folder)): path.read_bytes() for path in paths}
 
 
 def got(tree: ToolTree) -> list[str]:
-    """Where rt ran, and its arguments."""
+    """Returns the folder in which rt ran, and its arguments."""
     return tree.path("rt.got").read_text(encoding="ascii").splitlines()
 
 
-# ---- What is built
+# ---- Builds
 
 
 @pytest.mark.parametrize(
@@ -76,8 +76,8 @@ def test_rt_builds_for_the_processor(
     assert tree.path(f"build/log/{cpu}-{crate}.log").exists()
 
 
-def test_the_module_for_a_page_is_built_in_a_crate_without_an_earlier_build(tree: ToolTree) -> None:
-    tree.rt_is(f"{TELLS}echo new > out/libcrypt_web.a")
+def test_the_module_for_the_page_is_built_without_an_earlier_build(tree: ToolTree) -> None:
+    tree.rt_is(f"{RECORDS}echo new > out/libcrypt_web.a")
     tree.run("for-cpu", "wasm64", "libcrypt_web.a").required()
     assert got(tree) == ["crypt_web", "lib --target wasm64-unknown-unknown"]
     assert content(tree.path("build/wasm64")) == {"libcrypt_web.a": b"new\n"}
@@ -108,7 +108,7 @@ def test_an_rt_that_makes_no_file_is_a_failure(tree: ToolTree) -> None:
     assert result.stderr.count(b"\n") == 1, result
 
 
-def test_an_earlier_file_stays_where_rt_fails(tree: ToolTree) -> None:
+def test_an_earlier_file_stays_if_rt_fails(tree: ToolTree) -> None:
     tree.path("build/x86-64").mkdir(parents=True)
     tree.path("build/x86-64/program.o").write_bytes(b"earlier\n")
     tree.rt_is(f"{BUILDS}exit 1")
@@ -116,10 +116,10 @@ def test_an_earlier_file_stays_where_rt_fails(tree: ToolTree) -> None:
     assert content(tree.path("build/x86-64")) == {"program.o": b"earlier\n"}
 
 
-# ---- ARM, for whose programs rt has nothing to link them with
+# ---- ARM, for which rt can't link programs
 
 
-def test_a_program_for_arm_needs_its_proof_alone(tree: ToolTree) -> None:
+def test_a_program_for_arm_needs_only_its_proof(tree: ToolTree) -> None:
     tree.rt_is(f"{BUILDS}echo '{ARM}'; echo 'ld.lld: error: program.o is incompatible'; exit 1")
     result = tree.run("for-cpu", "aarch64", "program.o").required()
     assert b"error" not in result.stdout, result
@@ -148,12 +148,12 @@ def test_a_program_for_arm_needs_its_proof(tree: ToolTree, ending: str, status: 
     ("ending", "status"),
     [
         pytest.param("exit 0", 0, id="a build that succeeds"),
-        pytest.param("exit 1", 1, id="one that fails"),
-        pytest.param("kill -KILL $$", 137, id="one that is killed"),
-        pytest.param("rm -r out", 1, id="one that loses the folder"),
+        pytest.param("exit 1", 1, id="a build that fails"),
+        pytest.param("kill -KILL $$", 137, id="a build that is killed"),
+        pytest.param("rm -r out", 1, id="a build that removes the folder"),
     ],
 )
-def test_the_default_build_is_put_back(tree: ToolTree, ending: str, status: int) -> None:
+def test_the_default_build_is_restored(tree: ToolTree, ending: str, status: int) -> None:
     out = tree.path("crates/program/out")
     before = content(out)
     tree.rt_is(f"{BUILDS}{ending}")
@@ -165,15 +165,15 @@ def test_the_default_build_is_put_back(tree: ToolTree, ending: str, status: int)
     assert [path.name for path in tree.path("build").glob("default-*")] == []
 
 
-def test_the_default_build_is_put_back_where_rt_is_missing(tree: ToolTree) -> None:
+def test_the_default_build_is_restored_if_rt_is_missing(tree: ToolTree) -> None:
     before = content(tree.path("crates"))
     result = tree.run("for-cpu", "x86-64", "program.o", env={"RT": "/no/such/rt"})
     assert result.status == 1 and result.stderr.startswith(b"for-cpu: /no/such/rt "), result
     assert content(tree.path("crates")) == before
 
 
-def test_the_default_build_is_built_on_what_is_there(tree: ToolTree) -> None:
-    tree.rt_is(TELLS)
+def test_the_default_build_reuses_the_files_of_earlier_builds(tree: ToolTree) -> None:
+    tree.rt_is(RECORDS)
     tree.run("for-cpu", "x86-64-v2", "program.o").required()
     expected = "incremental\nprogram.o\nprogram.stamp\n"
     assert tree.path("rt.out").read_text(encoding="ascii") == expected
@@ -181,9 +181,7 @@ def test_the_default_build_is_built_on_what_is_there(tree: ToolTree) -> None:
 
 
 @pytest.mark.parametrize("name", ["INT", "TERM", "HUP", "QUIT"])
-def test_the_default_build_is_put_back_after_rt_has_ended_by_a_signal(
-    tree: ToolTree, name: str
-) -> None:
+def test_the_default_build_is_restored_after_a_signal_ends_rt(tree: ToolTree, name: str) -> None:
     out = tree.path("crates/program/out")
     before = content(out)
     tree.rt_is(

@@ -1,4 +1,4 @@
-"""tools/gate: what its user sees of rt, what fails it, and what it measures."""
+"""tools/gate: what its user sees, what fails it, its signals, and its times."""
 from __future__ import annotations
 
 import os
@@ -13,7 +13,7 @@ from support.process import Result, kill_group, run, started, status_of
 from support.pwhash_runs import GROUP_VERSION_1, GROUP_VERSION_2, available
 from support.tool_trees import ToolTree, tool_tree, wait_for
 
-# Lines of a run of rt ci from nothing, of which there are thousands.
+# Some of the thousands of lines that rt ci prints.
 PROVED = b"""\
 == prims_core
 empty contracts: 0 found; tried 91 of 91 functions
@@ -46,14 +46,14 @@ def fixture_tree(tmp_path: Path) -> ToolTree:
 
 
 def lines_of(result: Result) -> list[str]:
-    """What a command printed, by lines."""
+    """Returns the lines that a command printed."""
     return result.stdout.decode().splitlines()
 
 
-# ---- What the user sees
+# ---- Output
 
 
-def test_each_crate_has_a_line_where_there_is_no_terminal(tree: ToolTree) -> None:
+def test_each_crate_has_a_line_without_a_terminal(tree: ToolTree) -> None:
     tree.rt_prints(PROVED + TRIED)
     result = tree.run("gate").required()
     subjects = [re.split("[: ]", line)[0] for line in lines_of(result)]
@@ -67,7 +67,7 @@ def test_each_crate_has_a_line_that_changes_at_a_terminal(tree: ToolTree) -> Non
 
     tree.rt_prints(PROVED + TRIED)
     child = pexpect.spawn(
-        str(tree.path("tools/gate")), env=tree.whole_environment(), dimensions=(24, 50), timeout=60
+        str(tree.path("tools/gate")), env=tree.full_environment(), dimensions=(24, 50), timeout=60
     )
     child.expect(pexpect.EOF)
     screen = child.before.decode()
@@ -79,7 +79,7 @@ def test_each_crate_has_a_line_that_changes_at_a_terminal(tree: ToolTree) -> Non
     assert "kdf_core: 39 functions proved" in screen, screen
 
 
-def test_a_character_that_the_encoding_lacks_stops_nothing(tree: ToolTree) -> None:
+def test_a_character_outside_the_encoding_stops_nothing(tree: ToolTree) -> None:
     tree.rt_prints("src/lib.rt:1:1: error: a \u2264 b\n".encode() + PROVED)
     result = tree.run("gate", env={"PYTHONIOENCODING": "ascii"}).required()
     assert b"src/lib.rt:1:1: error: a \\u2264 b\n" in result.stdout, result
@@ -103,7 +103,7 @@ def test_the_first_lines_that_fail_are_shown(tree: ToolTree) -> None:
     assert LOG.encode() in result.stdout, result
 
 
-def test_the_last_lines_are_shown_where_none_says_what_fails(tree: ToolTree) -> None:
+def test_the_last_lines_are_shown_if_none_says_what_fails(tree: ToolTree) -> None:
     lines = [f"line {number}" for number in range(1, 31)]
     tree.rt_prints("\n".join(lines).encode(), status=1)
     result = tree.run("gate")
@@ -111,17 +111,17 @@ def test_the_last_lines_are_shown_where_none_says_what_fails(tree: ToolTree) -> 
     assert LOG.encode() in result.stdout, result
 
 
-# ---- What the log has
+# ---- The log
 
 
-def test_all_that_rt_writes_is_kept(tree: ToolTree) -> None:
+def test_the_log_has_everything_that_rt_writes(tree: ToolTree) -> None:
     tree.path("rt.lines").write_bytes(PROVED + TRIED)
     tree.rt_is('cat "$0.lines"; echo "an error of rt" >&2')
     tree.run("gate").required()
     assert tree.path(LOG).read_bytes() == PROVED + TRIED + b"an error of rt\n"
 
 
-def test_a_full_disk_only_costs_the_log(tree: ToolTree) -> None:
+def test_a_full_disk_only_truncates_the_log(tree: ToolTree) -> None:
     tree.path(LOG).parent.mkdir(parents=True)
     tree.path(LOG).symlink_to("/dev/full")
     tree.rt_prints(PROVED + TRIED)
@@ -131,7 +131,7 @@ def test_a_full_disk_only_costs_the_log(tree: ToolTree) -> None:
 
 
 def test_a_log_that_cannot_be_made_is_named_before_rt_runs(tree: ToolTree) -> None:
-    tree.path("build").write_bytes(b"")  # where the folder should be
+    tree.path("build").write_bytes(b"")  # in place of the folder
     tree.rt_is('> "$0.ran"')
     result = tree.run("gate")
     assert result.status == 1 and b"build/log" in result.stderr, result
@@ -139,7 +139,7 @@ def test_a_log_that_cannot_be_made_is_named_before_rt_runs(tree: ToolTree) -> No
     assert not tree.path("rt.ran").exists()
 
 
-def test_a_full_disk_behind_standard_output_ends_rt(tree: ToolTree) -> None:
+def test_a_full_standard_output_ends_rt(tree: ToolTree) -> None:
     tree.path("rt.lines").write_bytes(PROVED)
     tree.rt_is(
         "trap 'echo it still writes; touch \"$0.ended\"; exit 143' TERM\n"
@@ -153,17 +153,17 @@ def test_a_full_disk_behind_standard_output_ends_rt(tree: ToolTree) -> None:
     assert tree.path("rt.ended").exists()
 
 
-# ---- What fails the gate
+# ---- Failures
 
 
 @pytest.mark.parametrize("status", [1, 2, 3])
-def test_the_status_is_that_of_rt(tree: ToolTree, status: int) -> None:
+def test_the_status_is_rts(tree: ToolTree, status: int) -> None:
     tree.rt_prints(PROVED, status)
     result = tree.run("gate")
     assert result.status == status, result
 
 
-def test_a_mutant_that_cannot_be_tried_is_a_failure_though_rt_passes(tree: ToolTree) -> None:
+def test_a_mutant_that_cannot_be_tried_is_a_failure_even_if_rt_passes(tree: ToolTree) -> None:
     tree.rt_prints(PROVED + BAD_EDIT)
     result = tree.run("gate")
     assert result.status == 1, result
@@ -171,7 +171,7 @@ def test_a_mutant_that_cannot_be_tried_is_a_failure_though_rt_passes(tree: ToolT
     assert result.stderr.startswith(b"gate: 1 "), result
 
 
-def test_an_rt_that_is_killed_is_a_failure_that_names_the_signal(tree: ToolTree) -> None:
+def test_a_killed_rt_is_a_failure_that_names_the_signal(tree: ToolTree) -> None:
     tree.rt_is("echo '== prims_core'; kill -KILL $$")
     result = tree.run("gate")
     assert result.status == 128 + signal.SIGKILL, result
@@ -201,8 +201,8 @@ def test_an_rt_that_the_system_cannot_run_is_named(tree: ToolTree) -> None:
 
 # ---- Signals
 
-# It notes each signal, and ends once the test lets it, or once its gate is gone.
-NOTES_SIGNALS = """\
+# A fake rt that records each signal, and ends when the test allows it or its gate is gone.
+RECORDS_SIGNALS = """\
 for name in INT TERM HUP QUIT TSTP CONT; do
     trap "echo $name >> '$0.signals'" $name
 done
@@ -213,25 +213,25 @@ exit 3
 
 
 def has_begun(tree: ToolTree) -> bool:
-    """Whether the gate has read what rt has written."""
+    """Returns whether the gate has read a line from rt."""
     return tree.path(LOG).exists() and tree.path(LOG).read_bytes() != b""
 
 
 def noted(tree: ToolTree) -> str:
-    """The signals that rt has got."""
+    """Returns the signals that rt has received."""
     path = tree.path("rt.signals")
     return path.read_text(encoding="ascii") if path.exists() else ""
 
 
 @pytest.mark.parametrize("name", ["INT", "TERM", "HUP", "QUIT"])
-def test_a_signal_goes_on_to_rt_and_the_gate_ends_after_it(tree: ToolTree, name: str) -> None:
-    tree.rt_is(NOTES_SIGNALS)
+def test_the_gate_forwards_a_signal_to_rt_and_ends_after_it(tree: ToolTree, name: str) -> None:
+    tree.rt_is(RECORDS_SIGNALS)
     number = signal.Signals[f"SIG{name}"]
     with started(tree.path("tools/gate"), env=tree.environment()) as process:
         wait_for(lambda: has_begun(tree))
         process.send_signal(number)
         wait_for(lambda: noted(tree) != "")
-        assert process.poll() is None, "rt hasn't ended yet"
+        assert process.poll() is None, "the gate ended before rt"
         tree.path("rt.may-end").touch()
         process.wait(60)
     assert noted(tree) == f"{name}\n"
@@ -240,11 +240,11 @@ def test_a_signal_goes_on_to_rt_and_the_gate_ends_after_it(tree: ToolTree, name:
 
 
 @pytest.mark.needs("python3-pexpect")
-def test_the_interruption_of_a_terminal_reaches_rt_once(tree: ToolTree) -> None:
+def test_an_interrupt_from_a_terminal_reaches_rt_once(tree: ToolTree) -> None:
     import pexpect
 
-    tree.rt_is(NOTES_SIGNALS)
-    child = pexpect.spawn(str(tree.path("tools/gate")), env=tree.whole_environment(), timeout=60)
+    tree.rt_is(RECORDS_SIGNALS)
+    child = pexpect.spawn(str(tree.path("tools/gate")), env=tree.full_environment(), timeout=60)
     wait_for(lambda: has_begun(tree))
     child.sendintr()
     wait_for(lambda: noted(tree) != "")
@@ -255,16 +255,16 @@ def test_the_interruption_of_a_terminal_reaches_rt_once(tree: ToolTree) -> None:
 
 
 def is_stopped(process: int) -> bool:
-    """Whether a process is stopped, as by ^Z."""
+    """Returns whether a process is stopped, as by ^Z."""
     status = Path(f"/proc/{process}/status").read_text(encoding="utf-8")
     return "State:\tT (stopped)" in status
 
 
-def test_rt_pauses_and_goes_on_with_the_gate(tree: ToolTree) -> None:
-    tree.rt_is(NOTES_SIGNALS)
-    # A process can only be stopped where another one of its session could let it go on.
+def test_rt_stops_and_continues_with_the_gate(tree: ToolTree) -> None:
+    tree.rt_is(RECORDS_SIGNALS)
+    # A process can be stopped only if another one in its session could continue it.
     with subprocess.Popen(
-        [tree.path("tools/gate")], env=tree.whole_environment(), process_group=0
+        [tree.path("tools/gate")], env=tree.full_environment(), process_group=0
     ) as gate:
         try:
             wait_for(lambda: has_begun(tree))
@@ -279,8 +279,8 @@ def test_rt_pauses_and_goes_on_with_the_gate(tree: ToolTree) -> None:
     assert status_of(gate) == 3
 
 
-def test_a_signal_that_is_ignored_ends_nothing(tree: ToolTree) -> None:
-    tree.rt_is(NOTES_SIGNALS)
+def test_an_ignored_signal_ends_nothing(tree: ToolTree) -> None:
+    tree.rt_is(RECORDS_SIGNALS)
     command = ("nohup", tree.path("tools/gate"))
     with started(*command, env=tree.environment()) as process:
         wait_for(lambda: has_begun(tree))
@@ -290,11 +290,11 @@ def test_a_signal_that_is_ignored_ends_nothing(tree: ToolTree) -> None:
     assert (noted(tree), status_of(process)) == ("", 3)
 
 
-# ---- What rt gets
+# ---- Arguments of rt
 
 
 def arguments(tree: ToolTree, *words: str, help_text: str = "", env: str | None = None) -> str:
-    """The arguments of rt, and its RT_JOBS."""
+    """Runs the gate, and returns rt's RT_JOBS and arguments."""
     tree.rt_is(f"[ $1 != --help ] || {{ echo '{help_text}'; exit 2; }}\necho $RT_JOBS: $* > $0.got")
     tree.run("gate", *words, env={"RT_JOBS": env}).required()
     return tree.path("rt.got").read_text(encoding="ascii").strip()
@@ -305,17 +305,17 @@ def arguments(tree: ToolTree, *words: str, help_text: str = "", env: str | None 
     [
         pytest.param((), "rt ci [--anew]", "2: ci", id="without the option"),
         pytest.param(("--anew",), "rt ci [--anew]", "2: ci --anew", id="with it"),
-        pytest.param(("--anew",), "rt ci", "2: ci", id="an rt that keeps nothing"),
+        pytest.param(("--anew",), "rt ci", "2: ci", id="an rt without the option"),
     ],
 )
-def test_rt_proves_anew_where_it_can_and_shall(
+def test_rt_proves_everything_anew_if_it_is_asked_to_and_can(
     tree: ToolTree, words: tuple[str, ...], help_text: str, expected: str
 ) -> None:
     assert arguments(tree, *words, help_text=help_text, env="2") == expected
 
 
 @pytest.mark.parametrize("value", ["0", "-1", "two", "1.5"])
-def test_a_number_of_checks_that_is_none_is_refused(tree: ToolTree, value: str) -> None:
+def test_an_invalid_number_of_checks_is_refused(tree: ToolTree, value: str) -> None:
     tree.rt_is('> "$0.ran"')
     result = tree.run("gate", env={"RT_JOBS": value})
     assert result.status == 1 and b"RT_JOBS" in result.stderr, result
@@ -330,14 +330,14 @@ def test_a_number_of_checks_that_is_none_is_refused(tree: ToolTree, value: str) 
         pytest.param(available(2000), 1, id="memory for none"),
         pytest.param(f"{GROUP_VERSION_2} echo 100000 100000 > own/cpu.max", 1, id="a quota of one"),
         pytest.param(
-            f"{GROUP_VERSION_1} echo 100000 > cpu/own/cpu.cfs_quota_us", 1, id="one by version 1"
+            f"{GROUP_VERSION_1} echo 100000 > cpu/own/cpu.cfs_quota_us", 1, id="a version 1 quota"
         ),
         pytest.param(
             f"{GROUP_VERSION_2} echo 4000000000 > own/memory.max", 1, id="a group's memory for one"
         ),
     ],
 )
-def test_as_many_checks_run_at_once_as_the_machine_has_room_for(
+def test_as_many_checks_run_at_once_as_the_machine_allows(
     tree: ToolTree, tmp_path: Path, script: str, expected: int
 ) -> None:
     need("unshare", "namespaces")
@@ -360,14 +360,14 @@ def test_a_wrong_option_is_a_usage_error(tree: ToolTree) -> None:
     assert not tree.path("rt.ran").exists()
 
 
-# ---- What is measured
+# ---- Times
 
 TIMES = "build/log/gate.times"
 HEADINGS = ["Proved", "Its tests proved", "First mutant", "Mutants", "Run"]
 
 
 def shown_times(tree: ToolTree) -> dict[str, dict[str, str]]:
-    """What the gate shows of its last run: a crate's cells by their headings."""
+    """Returns the gate's table of its last run: for each crate, the cells by heading."""
     rows = []
     for line in lines_of(tree.run("gate", "--times").required()):
         if line.startswith("|"):
@@ -376,7 +376,7 @@ def shown_times(tree: ToolTree) -> dict[str, dict[str, str]]:
     return {row[0]: dict(zip(HEADINGS, row[1:])) for row in rows[2:]}
 
 
-def test_the_times_of_a_run_are_shown_by_crates(tree: ToolTree) -> None:
+def test_the_times_of_a_run_are_shown_by_crate(tree: ToolTree) -> None:
     first, second = PROVED.split(b"== kdf_core\n")
     tree.path("first").write_bytes(first)
     tree.path("second").write_bytes(second + b"rt: kdf_core: its tests are proved\n" + TRIED)
@@ -398,7 +398,7 @@ def test_a_crate_that_an_earlier_run_proved_has_no_time(tree: ToolTree) -> None:
     assert shown_times(tree)["kdf_core"]["Proved"] == "kept"
 
 
-def test_the_times_of_a_run_that_fails_are_shown_too(tree: ToolTree) -> None:
+def test_the_times_of_a_failed_run_are_shown_too(tree: ToolTree) -> None:
     tree.rt_prints(b"rt: kdf_core NOT PROVED\n3 passed, 1 failed\n", status=1)
     tree.run("gate")
     assert shown_times(tree)["kdf_core"]["Proved"] != ""
@@ -434,7 +434,7 @@ def test_times_that_cannot_be_read_are_named(tree: ToolTree, content: bytes | No
     assert result.stderr.count(b"\n") == 1, result
 
 
-def test_times_that_cannot_be_kept_fail_no_gate(tree: ToolTree) -> None:
+def test_times_that_cannot_be_saved_fail_no_gate(tree: ToolTree) -> None:
     tree.path(TIMES).mkdir(parents=True)
     tree.rt_prints(PROVED + TRIED)
     result = tree.run("gate")

@@ -1,4 +1,4 @@
-"""The image for containers: it has the same bytes whenever it is made, and holds the program."""
+"""The container image: it is reproducible, and contains the program."""
 from __future__ import annotations
 
 import re
@@ -21,7 +21,7 @@ pytestmark = [
 NAME = "mkpasswd:test"
 LOADED = f"localhost/{NAME}"
 HASHED = ("-m", "md5crypt", "-S", "xxxxxxxx", "password")
-HASH = b"$1$xxxxxxxx$UYCIxa628.9qXjpQCjM4a.\n"  # as libxcrypt makes it
+HASH = b"$1$xxxxxxxx$UYCIxa628.9qXjpQCjM4a.\n"  # libxcrypt's hash
 NOTHING_RUNS = rb"^Error: .*OCI (?:permission denied|runtime error)"
 
 
@@ -34,7 +34,7 @@ def make_image(archive: Archive, file: Path, mask: str = "022", zone: str = "UTC
 
 @pytest.fixture(scope="module", name="image")
 def fixture_image(archive: Archive, tmp_path_factory: pytest.TempPathFactory) -> Path:
-    """The image, made once."""
+    """The image."""
     return make_image(archive, tmp_path_factory.mktemp("image") / "image.tar")
 
 
@@ -44,38 +44,38 @@ def test_another_image_has_the_same_bytes(archive: Archive, image: Path, tmp_pat
 
 
 def test_it_is_an_image_for_linux_on_amd64(image: Path) -> None:
-    shown = "{{.Os}} {{.Architecture}}"
-    result = run("skopeo", "inspect", "--format", shown, f"docker-archive:{image}")
+    template = "{{.Os}} {{.Architecture}}"
+    result = run("skopeo", "inspect", "--format", template, f"docker-archive:{image}")
     assert_result(result, stdout=b"linux amd64\n")
 
 
-def test_a_file_that_is_no_program_gives_no_image(tmp_path: Path) -> None:
+def test_a_file_that_is_not_a_program_gives_no_image(tmp_path: Path) -> None:
     file = tmp_path / "image.tar"
     result = run(ROOT / "tools/image", ROOT / "README.md", NAME, file)
     assert result.status == 1 and b"README.md" in result.stderr, str(result)
     assert not file.exists()
 
 
-# ---- By podman
+# ---- With podman
 
 
 @dataclass(frozen=True)
 class Podman:
-    """Podman with a storage of its own."""
+    """Podman with its own storage."""
 
     folder: Path
 
     def run(self, *words: Word) -> Result:
-        """Runs one of its commands."""
+        """Runs a command of podman."""
         storage = ("--root", self.folder / "storage", "--runroot", self.folder / "run")
         return run("podman", *storage, "--storage-driver", "vfs", *words)
 
 
 @pytest.fixture(scope="module", name="podman")
 def fixture_podman(image: Path) -> Iterator[Podman]:
-    """Podman with the image, until the tests with it are done.
+    """Podman with the image.
 
-    It takes no path of more than 50 characters for its state, and pytest's are longer.
+    Its folder is not pytest's: podman refuses paths of more than 50 characters for its state.
     """
     with tempfile.TemporaryDirectory() as folder:
         podman = Podman(Path(folder))
@@ -85,7 +85,7 @@ def fixture_podman(image: Path) -> Iterator[Podman]:
 
 
 @pytest.mark.needs("podman")
-def test_podman_finds_the_program_in_it(podman: Podman, archive: Archive) -> None:
+def test_podman_finds_the_program_in_the_image(podman: Podman, archive: Archive) -> None:
     folder = Path(podman.run("image", "mount", LOADED).required().stdout.decode().strip())
     program = folder / "bin/mkpasswd"
     assert program.stat().st_mode & 0o111 == 0o111
@@ -93,7 +93,7 @@ def test_podman_finds_the_program_in_it(podman: Podman, archive: Archive) -> Non
 
 
 @pytest.mark.needs("podman")
-def test_podman_runs_it(podman: Podman) -> None:
+def test_podman_runs_the_program(podman: Podman) -> None:
     options = ("--rm", "--network", "none", "--ulimit", "host")
     result = podman.run("run", *options, LOADED, *HASHED)
     if re.search(NOTHING_RUNS, result.stderr, re.MULTILINE):

@@ -1,4 +1,4 @@
-"""tools/install: where files go, who may use them, and that an uninstallation takes them away."""
+"""tools/install: where it puts files, their modes, and that it can remove them."""
 from __future__ import annotations
 
 import shlex
@@ -15,26 +15,26 @@ from support.release import Archive, files_below
 pytestmark = pytest.mark.xdist_group("archive")  # so that it is packed once
 
 LIBRARIES = "usr/lib/x86_64-linux-gnu"
-# Which files of the archive say what only holds for that.
+# Files that are about the archive, and aren't installed.
 OF_ARCHIVES = ("share/doc/mkpasswd/README", "share/doc/mkpasswd/SHA256SUMS")
 HASHED = ("-m", "md5crypt", "-S", "xxxxxxxx")
-HASH = b"$1$xxxxxxxx$UYCIxa628.9qXjpQCjM4a.\n"  # of `password`, as libxcrypt makes it
+HASH = b"$1$xxxxxxxx$UYCIxa628.9qXjpQCjM4a.\n"  # libxcrypt's hash of "password"
 
 
 def places(**given: str) -> dict[str, str | None]:
-    """The variables of tools/install, of which none but these are set."""
+    """Returns the variables of tools/install, with all others unset."""
     names = ("DESTDIR", "PREFIX", "LIBDIR", "PAMDIR", "FROM")
     return {**{name: None for name in names}, **given}
 
 
 @dataclass(frozen=True)
 class Destination:
-    """A folder to install below, as a package does."""
+    """A folder below which to install, as packagers do."""
 
     folder: Path
 
     def install(self, *words: Word, mask: str = "022") -> Result:
-        """Installs what is built, or with --remove takes it away."""
+        """Installs the built files, or removes them with --remove."""
         environment = places(DESTDIR=str(self.folder), PREFIX="/usr", LIBDIR=f"/{LIBRARIES}")
         script = f'umask {mask} && exec "$0" "$@"'
         return run("sh", "-c", script, ROOT / "tools/install", *words, env=environment)
@@ -44,9 +44,9 @@ class Destination:
 def fixture_installation(
     archive: Archive, tmp_path_factory: pytest.TempPathFactory
 ) -> tuple[Path, Result]:
-    """What is installed with a umask that keeps others out, and how the command ended.
+    """A folder with the installed files, and the result of the command.
 
-    All that the archive has is built then.
+    The umask excludes others. The archive is packed first, so that everything is built.
     """
     assert archive.tree.is_dir()
     destination = Destination(tmp_path_factory.mktemp("installed"))
@@ -55,41 +55,41 @@ def fixture_installation(
 
 @pytest.fixture(scope="module", name="installed")
 def fixture_installed(installation: tuple[Path, Result]) -> Path:
-    """The folder below which it was installed."""
+    """The folder with the installed files."""
     folder, result = installation
     result.required()
     return folder
 
 
-def test_it_is_installed_and_nothing_is_printed(installation: tuple[Path, Result]) -> None:
+def test_installing_prints_nothing(installation: tuple[Path, Result]) -> None:
     assert_result(installation[1])
 
 
 def mode_of(path: Path) -> int:
-    """The bits that say who may do what."""
+    """Returns a file's permission bits."""
     return stat.S_IMODE(path.stat().st_mode)
 
 
-def test_everybody_may_look_into_each_folder(installed: Path) -> None:
+def test_everybody_may_read_each_folder(installed: Path) -> None:
     folders = [path for path in installed.rglob("*") if path.is_dir() and not path.is_symlink()]
     modes = {str(path): oct(mode_of(path)) for path in folders if mode_of(path) != 0o755}
-    assert modes == {}, "expected: folders with the mode 755"
+    assert modes == {}, "expected folders with mode 755"
 
 
 def test_everybody_may_run_each_command(installed: Path) -> None:
     commands = list((installed / "usr/bin").iterdir())
     modes = {path.name: oct(mode_of(path)) for path in commands if mode_of(path) != 0o755}
     assert commands != []
-    assert modes == {}, "expected: commands with the mode 755"
+    assert modes == {}, "expected commands with mode 755"
 
 
 def test_everybody_may_read_each_file(installed: Path) -> None:
     files = [installed / name for name in files_below(installed)]
     modes = {str(path): oct(mode_of(path)) for path in files if mode_of(path) & 0o644 != 0o644}
-    assert modes == {}, "expected: files that all may read"
+    assert modes == {}, "expected files that everybody can read"
 
 
-def test_it_has_the_files_of_the_archive_below_the_prefix_and_the_folder_for_libraries(
+def test_the_archives_files_are_below_the_prefix_and_the_folder_for_libraries(
     installed: Path, archive: Archive
 ) -> None:
     expected = []
@@ -101,19 +101,19 @@ def test_it_has_the_files_of_the_archive_below_the_prefix_and_the_folder_for_lib
     assert files_below(installed) == sorted(expected)
 
 
-def test_it_has_each_manual(installed: Path) -> None:
+def test_each_manual_is_installed(installed: Path) -> None:
     manuals = [f"man{path.suffix[1:]}/{path.name}" for path in ROOT.glob("man/*.?")]
     found = files_below(installed / "usr/share/man")
     assert manuals != []
     assert [name for name in manuals if name not in found] == []
 
 
-def test_pkg_config_gets_the_places(installed: Path) -> None:
+def test_pkg_config_has_the_installed_paths(installed: Path) -> None:
     lines = (installed / LIBRARIES / "pkgconfig/mkpasswd.pc").read_text("utf-8").splitlines()
     assert lines[:2] == ["prefix=/usr", f"libdir=/{LIBRARIES}"]
 
 
-def test_an_uninstallation_leaves_what_was_not_installed(tmp_path: Path) -> None:
+def test_removing_leaves_files_that_were_not_installed(tmp_path: Path) -> None:
     destination = Destination(tmp_path)
     destination.install().required()
     notes = "usr/share/doc/mkpasswd/notes"
@@ -122,7 +122,7 @@ def test_an_uninstallation_leaves_what_was_not_installed(tmp_path: Path) -> None
     assert files_below(tmp_path) == [notes]
 
 
-def test_a_second_uninstallation_does_nothing(tmp_path: Path) -> None:
+def test_removing_twice_does_nothing(tmp_path: Path) -> None:
     destination = Destination(tmp_path)
     destination.install().required()
     destination.install("--remove").required()
@@ -139,12 +139,12 @@ def test_a_program_is_replaced_while_it_runs(tmp_path: Path) -> None:
     assert hashed == HASH
 
 
-# ---- A prefix that shells, pkg-config and sed take for something else
+# ---- A prefix with characters that are special to shells, pkg-config and sed
 
 
 @pytest.fixture(scope="module", name="prefix")
 def fixture_prefix(archive: Archive, tmp_path_factory: pytest.TempPathFactory) -> Path:
-    """A prefix with all that was installed there, and nowhere below it."""
+    """Such a prefix, with the files installed there."""
     assert archive.tree.is_dir()
     prefix = tmp_path_factory.mktemp("local") / r"""a "b" & c|d's \1"""
     run(ROOT / "tools/install", env=places(PREFIX=str(prefix))).required()
@@ -156,7 +156,7 @@ def test_pwhash_runs_below_a_prefix_with_blanks_and_quotes(prefix: Path) -> None
 
 
 @pytest.mark.needs("pkg-config")
-def test_pkg_config_says_a_prefix_with_blanks_and_quotes(prefix: Path) -> None:
+def test_pkg_config_prints_a_prefix_with_blanks_and_quotes(prefix: Path) -> None:
     folder = str(prefix / "lib/pkgconfig")
     command = ("pkg-config", "--cflags", "--libs", "mkpasswd")
     result = run(*command, env={"PKG_CONFIG_PATH": folder}).required()
@@ -164,7 +164,7 @@ def test_pkg_config_says_a_prefix_with_blanks_and_quotes(prefix: Path) -> None:
     assert shlex.split(result.stdout.decode()) == expected
 
 
-# ---- What is refused
+# ---- Refusals
 
 
 def test_a_prefix_with_a_line_feed_is_refused(tmp_path: Path) -> None:
@@ -174,7 +174,7 @@ def test_a_prefix_with_a_line_feed_is_refused(tmp_path: Path) -> None:
     assert files_below(tmp_path) == []
 
 
-def test_what_is_installed_stays_where_something_is_not_built(tmp_path: Path) -> None:
+def test_installed_files_stay_if_something_is_not_built(tmp_path: Path) -> None:
     destination = Destination(tmp_path / "installed")
     destination.install().required()
     program = destination.folder / "usr/bin/mkpasswd"
@@ -189,7 +189,7 @@ def test_what_is_installed_stays_where_something_is_not_built(tmp_path: Path) ->
 
 
 @pytest.mark.parametrize("name", ["PREFIX", "LIBDIR", "PAMDIR"])
-def test_a_place_that_does_not_begin_at_the_root_is_refused(name: str, tmp_path: Path) -> None:
+def test_a_relative_path_is_refused(name: str, tmp_path: Path) -> None:
     result = run(ROOT / "tools/install", env={"DESTDIR": str(tmp_path), name: "usr"})
     assert result.status == 2, str(result)
     assert files_below(tmp_path) == []

@@ -1,4 +1,4 @@
-"""The libraries of the archive: Python and C programs find them where they were unpacked."""
+"""The archive's libraries: Python and C programs find them where they are unpacked."""
 from __future__ import annotations
 
 import re
@@ -13,7 +13,7 @@ from support.release import Archive, processor_of_build
 
 pytestmark = pytest.mark.xdist_group("archive")  # so that it is packed once
 
-FIELD = "$1$xxxxxxxx$UYCIxa628.9qXjpQCjM4a."  # of `password`, as libxcrypt hashes it
+FIELD = "$1$xxxxxxxx$UYCIxa628.9qXjpQCjM4a."  # libxcrypt's hash of "password"
 SOURCE = SOURCES / "log_in.c"
 IN_PYTHON = "import sys, mkpasswd; sys.exit(not mkpasswd.login(sys.argv[1], field=sys.argv[2]))"
 STRICT = ("-Wall", "-Wextra", "-Werror")
@@ -33,7 +33,7 @@ SETTINGS = [
 
 
 def environment(archive: Archive) -> dict[str, str]:
-    """What finds the libraries in the unpacked tree, as the README sets it."""
+    """Returns the README's environment, by which programs find the libraries."""
     return {
         "PKG_CONFIG_PATH": str(archive.tree / "lib/pkgconfig"),
         "LD_LIBRARY_PATH": str(archive.tree / "lib"),
@@ -54,7 +54,7 @@ def test_python_logs_in_with_the_library(archive: Archive, password: str, status
 
 
 def pkg_config(archive: Archive, *words: str) -> list[str]:
-    """What pkg-config prints of the library."""
+    """Returns what pkg-config prints about the library."""
     result = run("pkg-config", *words, "mkpasswd", env=environment(archive)).required()
     return result.stdout.decode().split()
 
@@ -65,7 +65,7 @@ def test_pkg_config_has_the_version(archive: Archive, version: str) -> None:
 
 
 @pytest.mark.needs("pkg-config")
-def test_pkg_config_finds_the_tree_that_it_is_in(archive: Archive) -> None:
+def test_pkg_config_finds_the_unpacked_tree(archive: Archive) -> None:
     (prefix,) = pkg_config(archive, "--variable=prefix")
     assert Path(prefix).resolve() == archive.tree.resolve()
 
@@ -85,12 +85,12 @@ def test_a_program_builds_over_a_library_and_logs_in(
     assert_result(run(program, "passwort", FIELD, env=environment(archive)), status=1)
 
 
-# ---- The library for x86-64-v3, which glibc takes by itself. With AVX2 hidden it takes the other.
+# ---- The library for x86-64-v3, which glibc chooses by itself, unless AVX2 is hidden
 
 
 @pytest.fixture(scope="module", name="program")
 def fixture_program(archive: Archive, tmp_path_factory: pytest.TempPathFactory) -> Path:
-    """A program over the shared library."""
+    """A program that uses the shared library."""
     program = tmp_path_factory.mktemp("login") / "login"
     include = f"-I{archive.tree}/include"
     run(COMPILER, include, "-o", program, SOURCE, archive.tree / "lib" / SHARED).required()
@@ -100,7 +100,7 @@ def fixture_program(archive: Archive, tmp_path_factory: pytest.TempPathFactory) 
 def assert_loads(
     archive: Archive, program: Path, library: Path, setting: bytes, tunables: str | None
 ) -> None:
-    """Fails the test unless glibc loads this library, and that takes the hash of a setting."""
+    """Fails the test unless glibc loads this library, which then verifies a hash."""
     changes: Changes = {
         **environment(archive),
         "LD_DEBUG": "libs",
@@ -119,7 +119,7 @@ def test_the_library_for_newer_processors_has_other_code(archive: Archive) -> No
 
 @pytest.mark.needs("cc")
 @pytest.mark.parametrize("setting", SETTINGS)
-def test_the_default_library_is_loaded_where_there_is_no_avx2(
+def test_the_default_library_is_loaded_without_avx2(
     archive: Archive, program: Path, setting: bytes
 ) -> None:
     library = archive.tree / "lib" / SHARED
@@ -128,7 +128,7 @@ def test_the_default_library_is_loaded_where_there_is_no_avx2(
 
 @pytest.mark.needs("cc")
 @pytest.mark.parametrize("setting", SETTINGS)
-def test_the_library_for_newer_processors_is_loaded_where_there_is_avx2(
+def test_the_library_for_newer_processors_is_loaded_with_avx2(
     archive: Archive, program: Path, setting: bytes
 ) -> None:
     processor = Path("/proc/cpuinfo").read_text(encoding="utf-8")

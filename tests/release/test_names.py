@@ -1,8 +1,8 @@
-"""Beside whois: its command stays mkpasswd, whatever of ours is installed, upgraded or purged.
+"""The name mkpasswd belongs to whois, even if our packages are installed, upgraded or purged.
 
-In 2.0.1, mkpasswd-default took the name from whois. An upgrade removes that package, the files of
-whois come back, and what is an administrator's stays as it was. Each test begins in a root that
-other tests don't change.
+In 2.0.1, mkpasswd-default took the name from whois. An upgrade removes that package and restores
+whois' files, and leaves an administrator's own files alone. Each test begins in a root that no
+other test changes.
 """
 from __future__ import annotations
 
@@ -23,20 +23,20 @@ PROGRAM = "/debs/mkpasswd_*.deb"
 ALL = " ".join(f"/debs/{name}_*.deb" for name in PACKAGES)
 PROGRAM_2_0_1 = "/changed/mkpasswd/changed.deb"
 DEFAULT_2_0_1 = "/changed/mkpasswd-default/changed.deb"
-# dpkg fails, as it should.
+# dpkg must fail.
 FAILS = "if dpkg -i /changed/broken/changed.deb; then exit 1; fi"
 IS_REFUSED = f'if dpkg -i {DEFAULT_2_0_1}; then exit 1; fi; test -z "$(dpkg --audit)"'
 COMMAND = "/usr/bin/mkpasswd"
-SET_ASIDE = "/usr/bin/mkpasswd.whois"  # where 2.0.1 put whois' command
+SET_ASIDE = "/usr/bin/mkpasswd.whois"  # 2.0.1 moved whois' command there
 LOCAL = "/usr/local/bin/mkpasswd"
 UPGRADES = f"{APT} install {PROGRAM}"
-PURGES = "dpkg --purge mkpasswd mkpasswd-default"  # also where there is no mkpasswd-default
+PURGES = "dpkg --purge mkpasswd mkpasswd-default"  # works even without mkpasswd-default
 PURGES_ALL = f"{APT} purge {' '.join(PACKAGES)}"
 
 OURS = "ours"
 OF_WHOIS = "whois"
 OF_NOBODY = "nobody"
-# The holder of a file is the package with its sum. A link of ours leads to the program's file.
+# The holder of a file is the package with its checksum. Our links lead to the program's file.
 HOLDERS = """
 cd /usr
 for file in bin/mkpasswd share/man/man1/mkpasswd.1.gz share/bash-completion/completions/mkpasswd
@@ -55,17 +55,17 @@ dpkg-divert --list '*mkpasswd*' | wc -l
 
 @dataclass(frozen=True)
 class Names:
-    """Whose the three files are that both have, and what stands beside them."""
+    """The holders of the three files that both packages have, and what is beside these files."""
 
     command: str
     manual: str
     completion: str
-    aside: int  # files with both names, where those of whois are set aside
+    aside: int  # how many files of whois are set aside
     diverted: int
 
 
 def all_of(holder: str, aside: int = 0, diverted: int = 0) -> Names:
-    """The three files are one package's, or nobody's."""
+    """Returns the names if one package, or nobody, holds all three files."""
     return Names(holder, holder, holder, aside, diverted)
 
 
@@ -74,19 +74,19 @@ OURS_OVER_WHOIS = all_of(OURS, aside=3, diverted=3)
 
 
 def names_in(root: Root) -> Names:
-    """Whose the files are now."""
+    """Returns the current holders of the files."""
     *holders, aside, diverted = root.output_of(HOLDERS).split()
     packages = {"mkpasswd": OURS, "mkpasswd-default": OURS}
     command, manual, completion = (packages.get(holder, holder) for holder in holders)
     return Names(command, manual, completion, int(aside), int(diverted))
 
 
-# ---- Roots to begin in
+# ---- Roots
 
 
 @pytest.fixture(name="copy_of")
 def fixture_copy_of(tmp_path: Path) -> Iterator[CopyOf]:
-    """Copies roots for this test."""
+    """A function that copies a root for this test."""
     with ExitStack() as layers:
 
         def copy_of(root: Root) -> Root:
@@ -97,7 +97,7 @@ def fixture_copy_of(tmp_path: Path) -> Iterator[CopyOf]:
 
 @pytest.fixture(scope="module", name="beside_whois")
 def fixture_beside_whois(base: Path, tmp_path_factory: pytest.TempPathFactory) -> Iterator[Root]:
-    """All of ours."""
+    """A root with whois and all of our packages."""
     with layer_over(base, folder=tmp_path_factory.mktemp("beside")) as root:
         root.output_of(f"{APT} install {ALL}")
         yield root
@@ -105,7 +105,7 @@ def fixture_beside_whois(base: Path, tmp_path_factory: pytest.TempPathFactory) -
 
 @pytest.fixture(scope="module", name="with_2_0_1")
 def fixture_with_2_0_1(base: Path, tmp_path_factory: pytest.TempPathFactory) -> Iterator[Root]:
-    """The program of 2.0.1."""
+    """A root with 2.0.1's program."""
     with layer_over(base, folder=tmp_path_factory.mktemp("older")) as root:
         root.output_of(f"{APT} install {PROGRAM_2_0_1}")
         yield root
@@ -115,20 +115,20 @@ def fixture_with_2_0_1(base: Path, tmp_path_factory: pytest.TempPathFactory) -> 
 def fixture_with_default(
     with_2_0_1: Root, tmp_path_factory: pytest.TempPathFactory
 ) -> Iterator[Root]:
-    """The program of 2.0.1 and mkpasswd-default."""
+    """A root with 2.0.1's program and mkpasswd-default."""
     with above(with_2_0_1, tmp_path_factory.mktemp("default")) as root:
         root.output_of(f"{APT} install {DEFAULT_2_0_1}")
         yield root
 
 
-# ---- Installed for the first time
+# ---- First installations
 
 
-def test_whois_has_the_name_at_first(root: Root) -> None:
+def test_whois_has_the_name_in_the_beginning(root: Root) -> None:
     assert names_in(root) == BEFORE
 
 
-def test_whois_keeps_the_name_beside_all_of_ours(beside_whois: Root) -> None:
+def test_whois_keeps_the_name_beside_all_of_our_packages(beside_whois: Root) -> None:
     assert names_in(beside_whois) == BEFORE
 
 
@@ -137,13 +137,13 @@ def test_the_program_has_another_name(copy_of: CopyOf, beside_whois: Root) -> No
     assert root.output_of("mkpasswd.proved -m md5crypt -S xxxxxxxx password").startswith("$1$")
 
 
-def test_the_name_is_nobodys_once_whois_is_removed(copy_of: CopyOf, beside_whois: Root) -> None:
+def test_nobody_has_the_name_once_whois_is_removed(copy_of: CopyOf, beside_whois: Root) -> None:
     root = copy_of(beside_whois)
     root.output_of(f"{APT} remove whois")
     assert names_in(root) == all_of(OF_NOBODY)
 
 
-def test_a_whois_that_comes_later_has_the_name(copy_of: CopyOf, beside_whois: Root) -> None:
+def test_a_whois_that_is_installed_later_has_the_name(copy_of: CopyOf, beside_whois: Root) -> None:
     root = copy_of(beside_whois)
     root.output_of(f"{APT} remove whois; {APT} install whois")
     assert names_in(root) == BEFORE
@@ -178,15 +178,17 @@ def test_mkpasswd_default_had_the_name(with_default: Root) -> None:
     "upgrade",
     [
         pytest.param(UPGRADES, id="by apt"),
-        pytest.param(f"{APT} install {ALL}", id="by apt of all packages"),
+        pytest.param(f"{APT} install {ALL}", id="by apt, with all packages"),
         pytest.param(f"dpkg -i {PROGRAM}", id="by dpkg"),
-        pytest.param(f"{APT} remove mkpasswd-default; {UPGRADES}", id="once it is removed"),
-        pytest.param(f"{APT} purge mkpasswd-default; {UPGRADES}", id="once it is purged"),
-        pytest.param(f"{APT} install --reinstall whois; {UPGRADES}", id="once whois came again"),
-        pytest.param(f"{UPGRADES}; {APT} install --reinstall whois", id="before whois comes again"),
-        pytest.param(f"{UPGRADES}; {PURGES}", id="and a purge"),
-        pytest.param(f"dpkg --unpack {PROGRAM}; dpkg --purge mkpasswd", id="purged half way"),
-        pytest.param(f"{FAILS}; {UPGRADES}", id="after one that failed"),
+        pytest.param(f"{APT} remove mkpasswd-default; {UPGRADES}", id="after it is removed"),
+        pytest.param(f"{APT} purge mkpasswd-default; {UPGRADES}", id="after it is purged"),
+        pytest.param(f"{APT} install --reinstall whois; {UPGRADES}", id="after reinstalling whois"),
+        pytest.param(
+            f"{UPGRADES}; {APT} install --reinstall whois", id="before reinstalling whois"
+        ),
+        pytest.param(f"{UPGRADES}; {PURGES}", id="followed by a purge"),
+        pytest.param(f"dpkg --unpack {PROGRAM}; dpkg --purge mkpasswd", id="purged halfway"),
+        pytest.param(f"{FAILS}; {UPGRADES}", id="after a failed one"),
     ],
 )
 def test_whois_gets_the_name_back_from_mkpasswd_default_in_an_upgrade(
@@ -197,13 +199,13 @@ def test_whois_gets_the_name_back_from_mkpasswd_default_in_an_upgrade(
     assert names_in(root) == BEFORE
 
 
-def test_the_command_that_comes_back_is_that_of_whois(copy_of: CopyOf, with_default: Root) -> None:
+def test_the_restored_command_is_whois(copy_of: CopyOf, with_default: Root) -> None:
     root = copy_of(with_default)
     root.output_of(UPGRADES)
     assert root.output_of("mkpasswd -m yescrypt x").startswith("$y$")
 
 
-def test_an_upgrade_that_fails_leaves_the_name_to_mkpasswd_default(
+def test_a_failed_upgrade_leaves_the_name_to_mkpasswd_default(
     copy_of: CopyOf, with_default: Root
 ) -> None:
     root = copy_of(with_default)
@@ -211,7 +213,7 @@ def test_an_upgrade_that_fails_leaves_the_name_to_mkpasswd_default(
     assert names_in(root) == OURS_OVER_WHOIS
 
 
-def test_mkpasswd_default_is_not_installed_beside_the_new_program(
+def test_mkpasswd_default_cannot_be_installed_beside_the_new_program(
     copy_of: CopyOf, with_default: Root
 ) -> None:
     root = copy_of(with_default)
@@ -219,7 +221,7 @@ def test_mkpasswd_default_is_not_installed_beside_the_new_program(
     assert names_in(root) == BEFORE
 
 
-def test_mkpasswd_default_has_the_name_when_2_0_1_comes_back(
+def test_mkpasswd_default_has_the_name_after_a_downgrade_to_2_0_1(
     copy_of: CopyOf, with_default: Root
 ) -> None:
     root = copy_of(with_default)
@@ -227,7 +229,7 @@ def test_mkpasswd_default_has_the_name_when_2_0_1_comes_back(
     assert names_in(root) == OURS_OVER_WHOIS
 
 
-def test_the_name_is_nobodys_after_an_upgrade_without_whois(
+def test_nobody_has_the_name_after_an_upgrade_without_whois(
     copy_of: CopyOf, with_default: Root
 ) -> None:
     root = copy_of(with_default)
@@ -243,7 +245,7 @@ def test_the_name_is_nobodys_after_an_upgrade_without_whois(
         pytest.param(f"{UPGRADES}; {PURGES}; {APT} install whois", id="after the purge"),
     ],
 )
-def test_a_whois_that_went_has_the_name_when_it_comes(
+def test_a_whois_that_was_removed_has_the_name_when_it_is_installed(
     copy_of: CopyOf, with_default: Root, steps: str
 ) -> None:
     root = copy_of(with_default)
@@ -251,7 +253,7 @@ def test_a_whois_that_went_has_the_name_when_it_comes(
     assert names_in(root) == BEFORE
 
 
-# ---- What is an administrator's
+# ---- An administrator's own files
 
 STATE = f"ls -l --full-time {COMMAND}; cat {COMMAND} || true"
 
@@ -273,11 +275,11 @@ STATE = f"ls -l --full-time {COMMAND}; cat {COMMAND} || true"
 @pytest.mark.parametrize(
     "steps",
     [
-        pytest.param((f"{APT} install {ALL}", PURGES_ALL), id="when ours come and go"),
+        pytest.param((f"{APT} install {ALL}", PURGES_ALL), id="when ours are installed and purged"),
         pytest.param((f"{APT} install {PROGRAM_2_0_1}", UPGRADES, PURGES), id="in an upgrade"),
     ],
 )
-def test_what_an_administrator_has_by_the_name_stays(
+def test_an_administrators_own_file_with_the_name_stays(
     root: Root, put: str, prepare: str, steps: tuple[str, ...]
 ) -> None:
     root.output_of(f"{prepare}; {put}")
@@ -287,7 +289,7 @@ def test_what_an_administrator_has_by_the_name_stays(
         assert root.output_of(STATE) == before, step
 
 
-def test_a_program_in_the_place_of_whois_stays_in_an_upgrade(
+def test_a_program_in_place_of_whois_stays_in_an_upgrade(
     copy_of: CopyOf, with_default: Root
 ) -> None:
     root = copy_of(with_default)
@@ -314,7 +316,7 @@ def test_a_local_command_stays(copy_of: CopyOf, with_default: Root) -> None:
     assert root.output_of(f"cat {LOCAL}") == "mine\n"
 
 
-# ---- Nothing of ours is left
+# ---- Leftovers
 
 
 @pytest.mark.parametrize(
@@ -328,7 +330,7 @@ def test_a_local_command_stays(copy_of: CopyOf, with_default: Root) -> None:
         pytest.param(
             f"{APT} install {PROGRAM_2_0_1} {DEFAULT_2_0_1}; {APT} remove whois; {UPGRADES};"
             f"{PURGES}; {APT} install whois",
-            id="an upgrade is purged and whois went and came back",
+            id="an upgrade is purged, and whois was removed and installed again",
         ),
     ],
 )

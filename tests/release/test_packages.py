@@ -1,6 +1,6 @@
-"""The Debian packages: the same bytes wherever they are built, the code that was proved, documents.
+"""The Debian packages: they are reproducible, and have the proved code and their documents.
 
-They are tried in roots of Debian 12 and 13, which have no toolchain.
+They are installed in roots of Debian 12 and 13, which have no toolchain.
 """
 from __future__ import annotations
 
@@ -25,12 +25,12 @@ from support.process import Result, run
 pytestmark = [
     pytest.mark.needs("root", "mmdebstrap", "dpkg-checkbuilddeps"),
     pytest.mark.slow,
-    pytest.mark.xdist_group(RELEASES[OLDEST]),  # whose worker has the packages
+    pytest.mark.xdist_group(RELEASES[OLDEST]),  # its worker builds the packages
 ]
 
 NEWER_LIBRARY = "build/x86-64-v3/libmkpasswd.so.3"
 LIBRARIES = "usr/lib/x86_64-linux-gnu"
-LEAST_CODE = 10_000  # bytes; with less, the sections are not found
+LEAST_CODE = 10_000  # bytes; with less, the sections haven't been found
 OWN_TESTS = ("program", "library", "python", "pam")
 COPY = 'umask 077; mkdir "$1"; cd "$0"; tar -c --exclude=./.git --exclude=out . | tar -x -C "$1"'
 BUILD = 'umask 077; "$1/tools/deb" "$1/packages"'
@@ -40,9 +40,9 @@ def test_each_package_is_built_and_no_other(packages: Packages) -> None:
     assert packages.names() == sorted(PACKAGES)
 
 
-def test_they_have_the_version(packages: Packages, version: str) -> None:
+def test_each_package_has_the_version(packages: Packages, version: str) -> None:
     versions = {packages.field(name, "Version") for name in PACKAGES}
-    # Between two releases, "+next" stands behind the version of the last one.
+    # Between two releases, the version is the last one with "+next".
     assert {found.removesuffix("+next") for found in versions} == {version}
 
 
@@ -56,7 +56,7 @@ def test_a_package_with_code_refuses_older_processors(packages: Packages, name: 
 
 @pytest.fixture(scope="module", name="again")
 def fixture_again(packages: Packages, tmp_path_factory: pytest.TempPathFactory) -> Packages:
-    """The packages of a copy of this tree, built elsewhere and otherwise, after the others."""
+    """The packages of a copy of this tree, built later, elsewhere and with other settings."""
     assert packages.names() != []
     clone = tmp_path_factory.mktemp("elsewhere") / "another clone"
     run("sh", "-euc", COPY, ROOT, clone).required()
@@ -77,7 +77,7 @@ def test_another_path_umask_time_zone_and_locale_give_the_same_bytes(
 
 @pytest.fixture(scope="module", name="unpacked")
 def fixture_unpacked(packages: Packages, tmp_path_factory: pytest.TempPathFactory) -> Path:
-    """A folder with a folder for each package, with what that has."""
+    """A folder with the unpacked packages, each in a folder of its name."""
     folder = tmp_path_factory.mktemp("unpacked")
     for name in PACKAGES:
         run("dpkg-deb", "-x", packages.file(name), folder / name).required()
@@ -123,7 +123,7 @@ def test_each_link_of_the_web_pages_leads_to_a_file(unpacked: Path) -> None:
 
 
 def code_of(file: Path, scratch: Path) -> bytes:
-    """The machine code of a file, and its constants."""
+    """Returns a file's machine code and constants."""
     run("objcopy", "-O", "binary", "-j", ".text", "-j", ".rodata", file, scratch).required()
     return scratch.read_bytes()
 
@@ -145,7 +145,7 @@ def code_of(file: Path, scratch: Path) -> bytes:
         ),
     ],
 )
-def test_the_packages_have_the_code_that_was_proved(
+def test_the_packages_have_the_proved_code(
     unpacked: Path, built_file: str, packed_file: str, tmp_path: Path
 ) -> None:
     proved = code_of(ROOT / built_file, tmp_path / "code")
@@ -153,7 +153,7 @@ def test_the_packages_have_the_code_that_was_proved(
     assert code_of(unpacked / packed_file, tmp_path / "code") == proved
 
 
-# ---- In roots
+# ---- In roots of Debian
 
 
 @pytest.mark.parametrize("base", [release(OLDEST)], indirect=True)
@@ -163,14 +163,14 @@ def test_lintian_has_no_error_and_no_warning(root: Root) -> None:
 
 @pytest.fixture(scope="module", name="own_tests")
 def fixture_own_tests(base: Path, tmp_path_factory: pytest.TempPathFactory) -> Iterator[Result]:
-    """How the packages' own tests ended, which install them."""
+    """The result of the packages' own tests, which install the packages."""
     command = "autopkgtest --no-built-binaries /debs/*.deb /source/ -- null 2>&1"
     with layer_over(base, folder=tmp_path_factory.mktemp("own-tests")) as root:
         yield root.run(command)
 
 
 def assert_in_log(result: Result, pattern: str) -> None:
-    """Fails the test unless a line of the log is this."""
+    """Fails the test unless a line of the log matches."""
     log = result.stdout.decode(errors="replace")
     assert re.search(rf"^{pattern}$", log, re.MULTILINE), f"expected: {pattern}\nits log: {log}"
 

@@ -1,6 +1,6 @@
-"""tools/sums: the sums of what is released, and an SBOM of each artifact in the form of SPDX 2.3.
+"""tools/sums: checksums of what is released, and an SBOM in SPDX 2.3 for each artifact.
 
-The artifacts are small ones that the tests make in each form, in a copy of what the command reads.
+The tests make small artifacts of each form, in a copy of the files that the command reads.
 """
 from __future__ import annotations
 
@@ -32,7 +32,7 @@ READ = (
     "tools/version",
 )
 TOOLCHAIN = "#!/bin/sh\necho 'a toolchain'\n"
-# The sum of a package by the sums of its files, as the standard has it (7.9).
+# The verification code of a package, computed from its files' checksums (SPDX 2.3, section 7.9).
 VERIFICATION_CODE = "sha1sum -- $(find . -type f) | cut -c 1-40 | sort | tr -d '\\n' | sha1sum"
 PROGRAM = "int main(void) { return 0; }\n"
 LIBRARY = "#include <stdlib.h>\nvoid *mkpasswd_new(void) { return malloc(1); }\n"
@@ -40,7 +40,7 @@ LIBRARY = "#include <stdlib.h>\nvoid *mkpasswd_new(void) { return malloc(1); }\n
 
 @dataclass(frozen=True)
 class Place:
-    """A tree with the command, and a folder with artifacts."""
+    """A tree with the command, and a folder of artifacts."""
 
     tree: Path
     folder: Path
@@ -51,11 +51,11 @@ class Place:
         return run(self.tree / "tools/sums", self.folder, env=environment)
 
     def artifact(self, end: str) -> Path:
-        """The path of an artifact of this version."""
+        """Returns the path of an artifact of this version."""
         return self.folder / f"mkpasswd-{version()}{end}"
 
     def sbom(self, artifact: Path) -> dict[str, Any]:
-        """The SBOM of an artifact, once the command has written it."""
+        """Returns the SBOM of an artifact, which the command must have written."""
         self.sums().required()
         text = artifact.with_name(f"{artifact.name}.spdx.json").read_text(encoding="utf-8")
         found: dict[str, Any] = json.loads(text)
@@ -77,7 +77,7 @@ def fixture_place(tmp_path: Path) -> Place:
 
 
 def compiled(scratch: Path, name: str, code: str, *options: str) -> bytes:
-    """The machine code of a program or a library."""
+    """Compiles a program or a library, and returns its bytes."""
     source, file = scratch / "source.c", scratch / name
     source.write_text(code, encoding="ascii")
     run("cc", *options, source, "-o", file).required()
@@ -88,7 +88,7 @@ def compiled(scratch: Path, name: str, code: str, *options: str) -> bytes:
 
 
 def tar_of(files: dict[str, bytes]) -> bytes:
-    """A tar archive of files."""
+    """Returns a tar archive of files."""
     out = io.BytesIO()
     with tarfile.open(fileobj=out, mode="w") as archive:
         for name, content in files.items():
@@ -164,24 +164,24 @@ FILES = {"share/b": b"second\n", "bin/a": b"first\n"}
 
 
 def names_in(document: dict[str, Any]) -> list[str]:
-    """The names of the files that an SBOM lists."""
+    """Returns the names of the files that an SBOM lists."""
     return [file["fileName"] for file in document["files"]]
 
 
 def sums_in(element: dict[str, Any]) -> dict[str, str]:
-    """The sums of a file or a package."""
+    """Returns the checksums of a file or a package."""
     return {row["algorithm"]: row["checksumValue"] for row in element["checksums"]}
 
 
 def sum_by(command: str, path: Path) -> str:
-    """The sum of a file by a command."""
+    """Returns a file's checksum by a command."""
     return run(command, path).required().stdout.decode().split()[0]
 
 
 # ---- SHA256SUMS
 
 
-def test_the_sums_are_right_and_of_all_files(place: Place) -> None:
+def test_the_checksums_are_right_and_cover_all_files(place: Place) -> None:
     write_archive(place, FILES)
     write_wheel(place, FILES)
     place.sums().required()
@@ -191,7 +191,7 @@ def test_the_sums_are_right_and_of_all_files(place: Place) -> None:
     assert names == {path.name for path in place.folder.iterdir()} - {"SHA256SUMS"}
 
 
-def test_artifacts_of_other_versions_are_left_alone(place: Place) -> None:
+def test_artifacts_of_other_versions_are_ignored(place: Place) -> None:
     write_archive(place, FILES)
     (place.folder / "mkpasswd-0.0.1-x86_64-linux.tar.gz").write_bytes(b"old")
     place.sums().required()
@@ -204,7 +204,7 @@ def test_a_folder_without_artifacts_is_an_error(place: Place) -> None:
 
 
 @pytest.mark.parametrize("end", ["-x86_64-linux.tar.gz", "-py3-none-any.whl", "-x86_64-image.tar"])
-def test_a_damaged_artifact_is_named_and_gets_no_sum(place: Place, end: str) -> None:
+def test_a_damaged_artifact_is_named_and_gets_no_checksum(place: Place, end: str) -> None:
     path = place.artifact(end)
     path.write_bytes(b"damaged")
     result = place.sums()
@@ -216,7 +216,7 @@ def test_a_damaged_artifact_is_named_and_gets_no_sum(place: Place, end: str) -> 
 
 
 @pytest.mark.parametrize("write_artifact", FORMS)
-def test_the_files_of_each_form_are_listed_with_their_sums(
+def test_the_files_of_each_form_are_listed_with_their_checksums(
     place: Place, write_artifact: Any, tmp_path: Path
 ) -> None:
     document = place.sbom(write_artifact(place, FILES))
@@ -230,14 +230,14 @@ def test_the_files_of_each_form_are_listed_with_their_sums(
 
 
 @pytest.mark.needs("npm")
-def test_the_package_of_npm_is_packed_and_described(place: Place) -> None:
+def test_the_npm_package_is_packed_and_described(place: Place) -> None:
     package = write_package_of_npm(place, {"mkpasswd.mjs": b"export {};\n"})
     names = ["./package/mkpasswd.mjs", "./package/package.json"]
     assert names_in(place.sbom(package)) == names
 
 
 @pytest.mark.needs("npm")
-def test_the_package_of_npm_has_the_same_bytes_whatever_the_umask_was(place: Place) -> None:
+def test_the_npm_package_has_the_same_bytes_with_every_umask(place: Place) -> None:
     package = write_package_of_npm(place, {"mkpasswd.mjs": b"export {};\n"})
     place.sums().required()
     packed = package.read_bytes()
@@ -246,7 +246,7 @@ def test_the_package_of_npm_has_the_same_bytes_whatever_the_umask_was(place: Pla
     assert package.read_bytes() == packed
 
 
-def test_an_sbom_names_its_artifact_by_its_sum(place: Place) -> None:
+def test_an_sbom_identifies_its_artifact_by_its_checksum(place: Place) -> None:
     path = write_archive(place, FILES)
     document = place.sbom(path)
     (artifact, *_) = document["packages"]
@@ -282,7 +282,7 @@ def test_another_run_writes_the_same_bytes(place: Place, changes: dict[str, str]
     assert sbom.read_bytes() == written
 
 
-def test_the_time_is_that_of_the_release(place: Place) -> None:
+def test_the_time_is_the_releases(place: Place) -> None:
     write_archive(place, FILES)
     place.sums({"SOURCE_DATE_EPOCH": "86400"}).required()
     (sbom,) = place.folder.glob("*.spdx.json")
@@ -294,7 +294,7 @@ def test_the_time_is_that_of_the_release(place: Place) -> None:
 
 
 def components_of(document: dict[str, Any], name: str) -> set[str]:
-    """The components that an SBOM says are linked into a file."""
+    """Returns the components that are linked into a file, by its SBOM."""
     identifiers = {file["fileName"]: file["SPDXID"] for file in document["files"]}
     names = {package["SPDXID"]: package["name"] for package in document["packages"]}
     return {
@@ -326,7 +326,7 @@ def test_a_program_has_the_c_library_only_if_it_is_static(
     assert ("glibc" in found) == has_libc
 
 
-def test_a_file_that_is_no_code_of_ours_has_no_components(place: Place) -> None:
+def test_a_file_without_our_code_has_no_components(place: Place) -> None:
     completion = {"share/bash-completion/completions/mkpasswd": b"complete -W x mkpasswd\n"}
     document = place.sbom(write_archive(place, completion))
     assert len(document["packages"]) == 1
@@ -335,7 +335,7 @@ def test_a_file_that_is_no_code_of_ours_has_no_components(place: Place) -> None:
 # ---- The standard
 
 
-def test_an_sbom_has_what_spdx_wants(place: Place, tmp_path: Path) -> None:
+def test_an_sbom_has_everything_that_spdx_requires(place: Place, tmp_path: Path) -> None:
     program = compiled(tmp_path, "mkpasswd", PROGRAM, "-static-pie", "-fPIE")
     document = place.sbom(write_archive(place, {"bin/mkpasswd": program, **FILES}))
     assert (document["spdxVersion"], document["dataLicense"]) == ("SPDX-2.3", "CC0-1.0")

@@ -1,4 +1,4 @@
-"""tools/version: where it reads the version, and that it never prints none."""
+"""tools/version: where it reads the version, and that it fails without one."""
 from __future__ import annotations
 
 import shutil
@@ -10,7 +10,7 @@ from support.process import Result, assert_result, run
 
 
 def version_of(folder: Path, module: str | None) -> Result:
-    """What the tool says in a tree with this module."""
+    """Runs the tool in a tree with this module."""
     (folder / "tools").mkdir()
     shutil.copy(ROOT / "tools/version", folder / "tools")
     path = folder / "crates/crypt_core/src/version.rt"
@@ -20,7 +20,7 @@ def version_of(folder: Path, module: str | None) -> Result:
     return run(folder / "tools/version")
 
 
-def test_the_version_is_that_of_the_module(tmp_path: Path) -> None:
+def test_the_version_is_the_modules(tmp_path: Path) -> None:
     module = '//! The version.\npub const VERSION: &str = "12.0.3";\npub const OTHER: &str = "1";\n'
     assert_result(version_of(tmp_path, module), stdout=b"12.0.3\n")
 

@@ -1,4 +1,4 @@
-"""pam_unix takes the hashes that its recipe in GUIDE gives to accounts."""
+"""pam_unix accepts the hashes that GUIDE's recipe gives to accounts."""
 from __future__ import annotations
 
 import functools

@@ -1,4 +1,4 @@
-"""Ansible gives an account the hash of a file, by the recipe in GUIDE."""
+"""Ansible gives an account a hash from a file, by GUIDE's recipe."""
 from __future__ import annotations
 
 from dataclasses import dataclass, replace
@@ -23,7 +23,7 @@ NOT_A_HASH = b"appears not to have been hashed"
 
 @dataclass(frozen=True)
 class Played:
-    """How a play ended, and the accounts before and after it."""
+    """The result of a play, and the accounts before and after it."""
 
     result: Result
     before: bytes
@@ -39,7 +39,7 @@ def play(site: Site, *options: str) -> Played:
 
 @pytest.fixture(scope="module", name="prepared")
 def fixture_prepared(site: Site) -> Site:
-    """A site with accounts, and with all that the play reads."""
+    """A site with accounts, and with everything that the play reads."""
     site = replace(site, environment={**site.environment, **SETTINGS})
     site.add_accounts()
     site.machine.write("/etc/pam.d/pam_unix", STACK)
@@ -51,7 +51,7 @@ def fixture_prepared(site: Site) -> Site:
 
 @dataclass(frozen=True)
 class Plays:
-    """The recipe's play, first where it only says what it would change."""
+    """The recipe's play, first with --check, so that it only says what it would change."""
 
     checked: Played
     played: Played
@@ -74,7 +74,7 @@ def test_the_play_says_that_it_would_change_the_password(plays: Plays) -> None:
     assert b"changed=1" in result.stdout.split(), result
 
 
-def test_the_play_changes_nothing_where_it_only_checks(plays: Plays) -> None:
+def test_the_play_changes_nothing_if_it_only_checks(plays: Plays) -> None:
     assert plays.checked.after == plays.checked.before
 
 
@@ -83,7 +83,7 @@ def test_the_play_changes_the_password(plays: Plays) -> None:
     assert b"changed=1" in result.stdout.split(), result
 
 
-def test_ansible_takes_the_hash_for_one(plays: Plays) -> None:
+def test_ansible_recognizes_the_hash(plays: Plays) -> None:
     for result in (plays.checked.result, plays.played.result):
         printed = b" ".join((result.stdout + result.stderr).split())
         assert NOT_A_HASH not in printed, result

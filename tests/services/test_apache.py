@@ -1,4 +1,4 @@
-"""Apache takes the file that its recipe in GUIDE installs, and asks PAM by mod_authnz_pam."""
+"""Apache reads the file that GUIDE's recipe installs, and asks PAM through mod_authnz_pam."""
 from __future__ import annotations
 
 import contextlib
@@ -43,13 +43,13 @@ Require valid-user
 
 
 def loading(name: str) -> str:
-    """The line that loads a module of Apache's."""
+    """Returns the line that loads a module of Apache."""
     return f"LoadModule {name}_module {MODULES}/mod_{name}.so\n"
 
 
 @contextlib.contextmanager
 def apache(site: Site, folder: Path, lines: str, *modules: str) -> Iterator[Door]:
-    """Runs Apache, where a page has these lines for its `Location`."""
+    """Runs Apache with these lines in a page's `Location`."""
     configuration = folder / "apache.conf"
     loads = "".join(map(loading, (*LOADED, *modules)))
     configuration.write_text(loads + CONFIGURATION % (PORT, lines), encoding="ascii")
@@ -78,7 +78,7 @@ class TestLoginsByPam(PamLoginTests):
     def fixture_door(
         self, site_with_module: Site, tmp_path_factory: pytest.TempPathFactory
     ) -> Iterator[Door]:
-        # Apache's workers run unprivileged.
+        # Apache's workers are unprivileged.
         file = site_with_module.machine.path("/etc/example.passwords")
         shutil.chown(file, group="www-data")
         file.chmod(0o640)

@@ -1,4 +1,4 @@
-"""Dovecot takes the file that its recipe in GUIDE installs, and asks PAM."""
+"""Dovecot reads the file that GUIDE's recipe installs, and asks PAM."""
 from __future__ import annotations
 
 import contextlib
@@ -17,8 +17,8 @@ from support.services import serving
 pytestmark = [pytest.mark.needs("namespaces", "dovecot"), pytest.mark.xdist_group("services")]
 
 PORT = 8080
-REFUSED = 77  # doveadm's status
-# The name of a setting, and the first lines, are those of a version.
+REFUSED = 77  # doveadm's status for a refused login
+# The first lines, and the name of a setting, depend on the version.
 CONFIGURATION = """\
 %s
 protocols =
@@ -41,16 +41,16 @@ service anvil {
 
 @dataclass(frozen=True)
 class Version:
-    """How a version is configured. GUIDE has a recipe for each."""
+    """The configuration of a version. GUIDE has a recipe for each."""
 
     name: str
     first_lines: str
-    listens_on: str  # the setting
+    listens_on: str  # the name of the setting for the address
     by_pam: str
 
     @property
     def by_file(self) -> str:
-        """The lines of the recipe."""
+        """The recipe's lines."""
         return marked(f"Dovecot {self.name}", "dovecot").code
 
 
@@ -85,7 +85,7 @@ passdb pam {
 
 @pytest.fixture(scope="module", name="version")
 def fixture_version() -> Version:
-    """The version that is installed."""
+    """The installed version."""
     printed = run("dovecot", "--version").required().stdout.decode()
     for version in VERSIONS:
         if printed.startswith(f"{version.name}."):

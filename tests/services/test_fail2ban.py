@@ -1,4 +1,4 @@
-"""fail2ban's own filter finds pam_mkpasswd's failed logins in the log, by the recipe of GUIDE."""
+"""fail2ban's own filter finds pam_mkpasswd's failed logins in the log, by GUIDE's recipe."""
 from __future__ import annotations
 
 import re
@@ -21,14 +21,14 @@ FORGED = "192.0.2.1"
 
 @pytest.fixture(scope="module", autouse=True)
 def _recipe(pam: Pam) -> None:
-    """The recipe, and a file with two users."""
+    """Follows the recipe, and writes a file with two users."""
     pam.machine.write(RECIPE, marked("fail2ban", "ini").code)
     pam.machine.write(FILE, b"ann:" + SHA512 + b"\nb c:" + SHA512 + b"\n")
     pam.set_arguments(CURRENT)
 
 
 def logged(pam: Pam, name: str, password: bytes, *items: str) -> str:
-    """What a login from the host writes to the log, as a file of syslog has it."""
+    """Logs in from the host, and returns what syslog writes to its file."""
     pam.log.entries()
     words = [word for item in (f"rhost={HOST}", *items) for word in ("-I", item)]
     pam.machine.run("pamtester", *words, "example", name, "authenticate", stdin=password + b"\n")
@@ -37,7 +37,7 @@ def logged(pam: Pam, name: str, password: bytes, *items: str) -> str:
 
 
 def banned(pam: Pam, log: str, folder: Path) -> list[str]:
-    """The addresses that the filter finds."""
+    """Returns the addresses that the filter finds."""
     file = folder / "log"
     file.write_text(log, "ascii")
     result = pam.machine.run("fail2ban-regex", "-o", "ip", file, "pam-generic").required()
@@ -54,6 +54,6 @@ def test_a_right_password_is_not_found(pam: Pam, tmp_path: Path) -> None:
     assert banned(pam, logged(pam, "ann", PASSWORD), tmp_path) == []
 
 
-def test_a_remote_user_can_not_forge_another_address(pam: Pam, tmp_path: Path) -> None:
+def test_a_remote_user_cannot_forge_another_address(pam: Pam, tmp_path: Path) -> None:
     log = logged(pam, "ann", WRONG, f"ruser=x rhost={FORGED}")
     assert banned(pam, log, tmp_path) == [HOST], log

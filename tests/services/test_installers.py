@@ -1,4 +1,4 @@
-"""Installers read the lines that pwhash makes for them by the recipes in GUIDE."""
+"""Installers read the lines that pwhash makes for them by GUIDE's recipes."""
 from __future__ import annotations
 
 import re
@@ -19,7 +19,7 @@ NEEDS_DEBCONF = pytest.mark.needs("debconf-set-selections", "debconf-communicate
 
 @pytest.fixture(scope="module", name="preseed")
 def fixture_preseed(site: Site) -> Site:
-    """The site where each command of the recipe was run alone, since each asks for a password."""
+    """The site after each command of the recipe ran alone, since each asks for a password."""
     (site.folder / "preseed.cfg").write_text(PRESEED, encoding="ascii")
     for command in marked("preseed", "sh").code.splitlines():
         result = site.answer(command)
@@ -28,7 +28,7 @@ def fixture_preseed(site: Site) -> Site:
 
 
 @NEEDS_DEBCONF
-def test_debconf_has_nothing_to_say_of_a_preseed_file(preseed: Site) -> None:
+def test_debconf_accepts_a_preseed_file_without_a_message(preseed: Site) -> None:
     assert_result(preseed.run("debconf-set-selections", "--checkonly", "preseed.cfg"))
 
 
@@ -58,7 +58,7 @@ def test_a_kickstart_file_gets_a_line_with_a_hash(site: Site) -> None:
 
 @pytest.fixture(scope="module", name="user_data")
 def fixture_user_data(site: Site) -> Path:
-    """The file that the recipe has made, and that cloud-init has taken."""
+    """The file that the recipe makes, once cloud-init has read it."""
     site.follow("cloud-init")
     return site.folder / "user-data"
 

@@ -1,4 +1,4 @@
-"""nginx takes the file that its recipe in GUIDE installs."""
+"""nginx reads the file that GUIDE's recipe installs."""
 from __future__ import annotations
 
 import functools
@@ -34,7 +34,7 @@ http {
 
 @pytest.fixture(scope="module", name="loaded")
 def fixture_loaded(site: Site) -> Site:
-    """The site where the recipe was followed."""
+    """The site after following the recipe."""
     site.install_hashes("nginx", "/etc/nginx/passwords")
     return site
 
@@ -49,7 +49,7 @@ def fixture_door(loaded: Site, tmp_path_factory: pytest.TempPathFactory) -> Iter
         yield Door(loaded, functools.partial(http_verdict, loaded.machine, PORT), service)
 
 
-def test_not_everybody_reads_the_hashes(loaded: Site) -> None:
+def test_other_users_cannot_read_the_hashes(loaded: Site) -> None:
     mode = loaded.machine.path("/etc/nginx/passwords").stat().st_mode
     assert stat.S_IMODE(mode) == 0o640
 
@@ -58,7 +58,7 @@ class TestLogins(LoginTests):
     """Logins to nginx."""
 
 
-def test_a_password_that_pwhash_sets_counts_while_the_service_runs(door: Door) -> None:
+def test_a_password_set_by_pwhash_works_while_the_service_runs(door: Door) -> None:
     command = ("pwhash", "set", "-m", "md5crypt", "/etc/nginx/passwords", "eve")
     door.site.run(*command, stdin="first\n").required()
     door.assert_verdict("eve", "first", Verdict.ACCEPTED)
@@ -69,7 +69,7 @@ def test_a_password_that_pwhash_sets_counts_while_the_service_runs(door: Door) -
     assert stat.S_IMODE(mode) == 0o640
 
 
-def test_a_name_that_pwhash_locks_gets_in_no_more(door: Door) -> None:
+def test_a_name_locked_by_pwhash_is_refused(door: Door) -> None:
     path = "/etc/nginx/passwords"
     door.site.run("pwhash", "set", "-m", "md5crypt", path, "tom", stdin="first\n").required()
     door.site.run("pwhash", "set", "--lock", path, "tom").required()

@@ -1,4 +1,4 @@
-"""OpenLDAP takes the hashes that its recipe in GUIDE stores in entries."""
+"""OpenLDAP accepts the hashes that GUIDE's recipe stores in entries."""
 from __future__ import annotations
 
 import contextlib
@@ -20,7 +20,7 @@ PORT = 8080
 URL = f"ldap://127.0.0.1:{PORT}"
 SUFFIX = "dc=example,dc=org"
 SECRET = "secret"  # the administrator's password
-REFUSED = 49  # invalid credentials
+REFUSED = 49  # LDAP's code for invalid credentials
 CONFIGURATION = f"""\
 include /etc/ldap/schema/core.schema
 include /etc/ldap/schema/cosine.schema
@@ -71,7 +71,7 @@ def openldap(site: Site, folder: Path) -> Iterator[Service]:
 
 
 def changes(site: Site) -> str:
-    """The file `changes` of the recipe: its entry for each user."""
+    """Returns the recipe's file `changes`, with its entry repeated for each user."""
     entry = marked("OpenLDAP", "ldif").code
     entries = []
     for name, field in site.hashes().items():
@@ -81,7 +81,7 @@ def changes(site: Site) -> str:
 
 @pytest.fixture(scope="module", name="loaded")
 def fixture_loaded(site: Site, folder: Path) -> Site:
-    """The site where the recipe was followed. It keeps the hashes."""
+    """The site after following the recipe, with the file of hashes."""
     owned = ("install", "-d", "-o", "openldap", "-g", "openldap", "/run/slapd", "/var/lib/ldap")
     site.machine.run(*owned).required()
     with openldap(site, folder):

@@ -1,4 +1,4 @@
-"""pam_mkpasswd.so by pamtester: its arguments, and what a service gets that has invalid ones."""
+"""pam_mkpasswd.so with pamtester: its arguments, and what invalid ones do to a service."""
 from __future__ import annotations
 
 from dataclasses import dataclass
@@ -11,14 +11,14 @@ from support.pam_fields import CURRENT, FILE, PASSWORD, SHA512
 pytestmark = [pytest.mark.needs("namespaces", "pamtester"), pytest.mark.xdist_group("pam")]
 
 RECOMMENDED = b"$6$rounds=656000$abcdefghijklmnop"
-MOST_BYTES = 168  # that the default budget admits
+MOST_BYTES = 168  # the longest password that the default budget admits
 NEEDS_64_MIB = b"$7$CU..../....abcdefgh"
 TOO_LITTLE_MEMORY = ("prlimit", "--as=60000000")
 
 
 @dataclass(frozen=True)
 class InvalidArguments:
-    """Arguments by which nobody gets in, and what is logged of them."""
+    """Arguments with which all logins are refused, and the log entry."""
 
     arguments: str
     answer: Answer
@@ -29,25 +29,25 @@ class InvalidArguments:
 
 
 def invalid(argument: str) -> InvalidArguments:
-    """One argument that is invalid behind a file."""
+    """Returns an invalid argument, after a valid file."""
     log = f"invalid argument: {argument}"
     return InvalidArguments(f"file={FILE} {argument}", Answer.BROKEN, log)
 
 
 def invalid_together(arguments: str, reason: str) -> InvalidArguments:
-    """Arguments behind a file that allow no new hash."""
+    """Returns arguments that allow no new hash, after a valid file."""
     log = f"invalid arguments: {reason}"
     return InvalidArguments(f"file={FILE} {arguments}", Answer.BROKEN, log)
 
 
 def shadow(path: str) -> InvalidArguments:
-    """The system's own file, which the module doesn't serve."""
+    """Returns a name of the system's own file, which the module refuses."""
     log = f"invalid argument: file={path} is /etc/shadow"
     return InvalidArguments(f"file={path}", Answer.BROKEN, log)
 
 
 def unreadable(path: str, reason: str) -> InvalidArguments:
-    """A file that can't be read."""
+    """Returns the name of a file that can't be read."""
     return InvalidArguments(f"file={path}", Answer.UNAVAILABLE, f"{path}: {reason}")
 
 
@@ -83,7 +83,7 @@ INVALID = [
     invalid("nullok"),
     invalid("use_authtok=1"),
     invalid("debug1"),
-    invalid("file=passwords"),  # for the second time
+    invalid("file=passwords"),  # file= is given twice
     invalid("file="),
     invalid(f"file={FILE}"),
     shadow("/etc/shadow"),
@@ -96,25 +96,25 @@ INVALID = [
 
 @pytest.fixture(autouse=True)
 def _file(pam: Pam) -> None:
-    """The file has a line for the user `six`."""
+    """Writes a file with a line for the user `six`."""
     pam.machine.write(FILE, b"six:" + SHA512 + b"\n")
 
 
 @pytest.fixture(scope="module", autouse=True)
 def _other_names_of_shadow(pam: Pam) -> None:
-    """A symbolic and a hard link to the system's own file."""
+    """Makes a symbolic and a hard link to the system's own file."""
     pam.machine.run("ln", "-s", "/etc/shadow", "/srv/shadow").required()
     pam.machine.run("ln", "/etc/shadow", "/etc/other").required()
 
 
 @pytest.mark.parametrize("arguments", [pytest.param(words, id=words or "none") for words in VALID])
-def test_the_password_gets_in_by_a_file_with_valid_arguments(pam: Pam, arguments: str) -> None:
+def test_the_password_is_accepted_with_valid_arguments(pam: Pam, arguments: str) -> None:
     pam.set_arguments(f"file={FILE} {arguments}")
     assert pam.login("six", PASSWORD) == Login(Answer.ACCEPTED)
 
 
 @pytest.mark.parametrize("invalid_arguments", INVALID, ids=str)
-def test_nobody_gets_in_by_invalid_arguments_which_the_log_names(
+def test_invalid_arguments_refuse_every_login_and_are_logged(
     pam: Pam, invalid_arguments: InvalidArguments
 ) -> None:
     pam.set_arguments(invalid_arguments.arguments)

@@ -1,7 +1,7 @@
-"""pwhash set beside pam_mkpasswd.so: both replace one file, and many of both are killed.
+"""pwhash set and pam_mkpasswd.so change the same file, and many runs of both are killed.
 
 Users log in, which renews their hashes, and change their passwords. Meanwhile an administrator
-locks some of them, adds names and deletes others.
+locks some names, adds some and deletes others.
 """
 from __future__ import annotations
 
@@ -30,29 +30,29 @@ pytestmark = [
 ]
 
 SEED = int(os.environ.get("SEED", "1"))
-ROUNDS = range(1001, 1009)  # by each of which the hashes of those before are outdated
+ROUNDS = range(1001, 1009)  # hashes with earlier ones are outdated by later ones
 USERS = [f"user{number}" for number in range(10, 30)]
 TO_LOCK = [f"lock{number}" for number in range(10, 25)]
 TO_ADD = [f"new{number}" for number in range(10, 25)]
 TO_DELETE = [f"gone{number}" for number in range(10, 25)]
 LOGINS_AT_ONCE, CHANGES_AT_ONCE = 6, 2
 SHARE_OF_KILLED = 0.4
-LONGEST_LOGIN = 0.03  # seconds of a login or a change that is killed
-LONGEST_RUN = 0.4  # seconds of a run of pwhash that is killed
+LONGEST_LOGIN = 0.03  # seconds until a login or a change is killed
+LONGEST_RUN = 0.4  # seconds until a run of pwhash is killed
 PAUSE = 0.0005  # seconds between two looks at the file
 ADDED = b"secret of the administrator\n"
-# Where somebody else changed the password or the file, or locked the account.
+# The answers if somebody else changed the password or the file, or locked the account.
 OTHERS = (Answer.REFUSED, Answer.DENIED, Answer.IN_USE)
 
 
 def passwords_of(name: str) -> tuple[bytes, bytes]:
-    """The two passwords of a user, each of which takes the other's place."""
+    """Returns a user's two passwords, which alternate."""
     return (f"secret of {name}".encode(), f"other secret of {name}".encode())
 
 
 @dataclass
 class Watcher:
-    """Looks at the file all the time, for lines that are lost, doubled or torn, or unlocked."""
+    """Watches the file for lost, duplicate, torn and unlocked lines."""
 
     path: Path
     is_over: threading.Event = field(default_factory=threading.Event)
@@ -60,14 +60,14 @@ class Watcher:
     problems: list[str] = field(default_factory=list)
 
     def watch(self) -> None:
-        """Looks until it is over."""
+        """Watches until the end of the test."""
         while not self.is_over.is_set():
-            locked = set(self.locked)  # before the look
-            self.problems += self.wrong(self.path.read_bytes(), locked)
+            locked = set(self.locked)  # copied before the file is read
+            self.problems += self.problems_in(self.path.read_bytes(), locked)
             time.sleep(PAUSE)
 
-    def wrong(self, content: bytes, locked: set[str]) -> list[str]:
-        """What is wrong with the file."""
+    def problems_in(self, content: bytes, locked: set[str]) -> list[str]:
+        """Returns what is wrong with the file's content."""
         lines = re.findall(rb"(\w+):(!?)\$[16]\$[\w./$=]+\n", content)
         names = [name.decode() for name, _ in lines]
         wrong = [name for name in USERS + TO_LOCK if names.count(name) != 1]
@@ -79,22 +79,22 @@ class Watcher:
 
 
 @dataclass(frozen=True)
-class Beside:
-    """What logins and the administrator did beside each other."""
+class Outcome:
+    """What the logins and the administrator did, and the file at the end."""
 
     watcher: Watcher
     logins: list[Result]
-    runs: list[Result]  # of pwhash
+    runs: list[Result]  # the runs of pwhash
     content: bytes
 
     def fields(self) -> dict[bytes, bytes]:
-        """The fields of the file in the end."""
+        """Returns the fields of the file at the end, by name."""
         return dict(re.findall(rb"(?m)^(\w+):(.*)$", self.content))
 
 
 @dataclass
 class Administrator:
-    """Changes lines by pwhash. A run that is killed is begun again."""
+    """Changes lines with pwhash, and repeats runs that are killed."""
 
     machine: Namespaces
     watcher: Watcher
@@ -102,7 +102,7 @@ class Administrator:
     results: list[Result] = field(default_factory=list)
 
     def change(self, words: Sequence[str], name: str) -> None:
-        """Changes a line, and kills some of the runs before."""
+        """Changes a line, after some runs that are killed."""
         command = self.machine.entering(PWHASH, "set", *words, FILE, name)
         while self.randoms.random() < SHARE_OF_KILLED:
             life = self.randoms.uniform(0.1, LONGEST_RUN)
@@ -116,7 +116,7 @@ class Administrator:
             self.watcher.locked.add(name)
 
     def work(self) -> None:
-        """Locks, adds and deletes names, in any order."""
+        """Locks, adds and deletes names in random order."""
         tasks = [(["--lock"], name) for name in TO_LOCK]
         tasks += [(["--delete"], name) for name in TO_DELETE]
         tasks += [(["-m", "md5crypt"], name) for name in TO_ADD]
@@ -127,7 +127,7 @@ class Administrator:
 
 
 def visit(machine: Namespaces, randoms: random.Random, turn: int) -> list[Result]:
-    """A login and a change of each user, in any order, of which some are killed."""
+    """Has each user log in and change the password, in random order. Kills some of that."""
     visits = []
     for name in USERS + TO_LOCK:
         old, new = passwords_of(name)
@@ -156,7 +156,7 @@ def fixture_with_file(with_module: Namespaces) -> Namespaces:
 
 
 @pytest.fixture(scope="module", name="beside")
-def fixture_beside(with_file: Namespaces) -> Beside:
+def fixture_beside(with_file: Namespaces) -> Outcome:
     machine, randoms = with_file, random.Random(SEED)
     watcher = Watcher(machine.path(FILE))
     administrator = Administrator(machine, watcher, random.Random(SEED + 1))
@@ -172,11 +172,11 @@ def fixture_beside(with_file: Namespaces) -> Beside:
         finally:
             watcher.is_over.set()
         working[0].result()
-    return Beside(watcher, logins, administrator.results, machine.read(FILE))
+    return Outcome(watcher, logins, administrator.results, machine.read(FILE))
 
 
-def test_each_run_of_pwhash_that_is_not_killed_succeeds(beside: Beside) -> None:
-    # A run that was killed may have deleted the name before.
+def test_each_run_of_pwhash_that_is_not_killed_succeeds(beside: Outcome) -> None:
+    # A run that was killed may have deleted the name already.
     failed = [
         result
         for result in beside.runs
@@ -185,7 +185,7 @@ def test_each_run_of_pwhash_that_is_not_killed_succeeds(beside: Beside) -> None:
     assert not failed, "\n".join(map(str, failed[:3]))
 
 
-def test_each_login_that_is_not_killed_succeeds_or_meets_somebody_else(beside: Beside) -> None:
+def test_each_login_that_is_not_killed_succeeds_or_meets_another_change(beside: Outcome) -> None:
     failed = [
         result
         for result in beside.logins
@@ -196,11 +196,11 @@ def test_each_login_that_is_not_killed_succeeds_or_meets_somebody_else(beside: B
     assert not failed, "\n".join(map(str, failed[:3]))
 
 
-def test_the_file_is_whole_at_each_moment_and_no_lock_is_undone(beside: Beside) -> None:
+def test_the_file_is_complete_at_each_moment_and_no_lock_is_undone(beside: Outcome) -> None:
     assert beside.watcher.problems == []
 
 
-def test_in_the_end_each_change_is_there(beside: Beside) -> None:
+def test_in_the_end_the_file_has_each_change(beside: Outcome) -> None:
     fields = beside.fields()
     expected = sorted(USERS + TO_LOCK + TO_ADD)
     assert sorted(name.decode() for name in fields) == expected
@@ -209,7 +209,7 @@ def test_in_the_end_each_change_is_there(beside: Beside) -> None:
     assert [stored for stored in added if crypt(ADDED.rstrip(b"\n"), stored) != stored] == []
 
 
-def test_in_the_end_each_hash_is_of_one_of_its_owners_passwords(beside: Beside) -> None:
+def test_in_the_end_each_hash_matches_one_of_its_users_passwords(beside: Outcome) -> None:
     fields = beside.fields()
     for name in USERS + TO_LOCK:
         stored = fields[name.encode()].lstrip(b"!")
@@ -217,5 +217,5 @@ def test_in_the_end_each_hash_is_of_one_of_its_owners_passwords(beside: Beside) 
         assert stored in hashes, f"{name}: {stored!r}"
 
 
-def test_hashes_were_renewed_meanwhile(beside: Beside) -> None:
+def test_most_hashes_were_renewed(beside: Outcome) -> None:
     assert beside.content.count(f"rounds={ROUNDS[-1]}$".encode()) > len(USERS) / 2

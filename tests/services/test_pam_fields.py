@@ -1,6 +1,6 @@
-"""pam_mkpasswd.so by pamtester: what it says of each name and field of a file.
+"""pam_mkpasswd.so with pamtester: its answer to each name and field of a file.
 
-Nobody learns from the log which password was given: it is the same for all of them.
+The log is the same for all wrong passwords, so that it doesn't give them away.
 """
 from __future__ import annotations
 
@@ -16,20 +16,20 @@ pytestmark = [pytest.mark.needs("namespaces", "pamtester"), pytest.mark.xdist_gr
 
 @dataclass(frozen=True)
 class Line:
-    """A line of the file, and what a login gets by it."""
+    """A line of the file, and what a login with it gets."""
 
     title: str
     name: str
     field: bytes
-    accepts: bool = False  # the password
-    reason: str | None = None  # why no password can match, in the log
+    accepts: bool = False  # whether the password matches
+    reason: str | None = None  # in the log, if no password can match
 
     def __str__(self) -> str:
         return self.title
 
 
 def lines_of_schemes() -> Iterator[Line]:
-    """A line for each scheme. Those of others are for other modules, which read no such file."""
+    """Yields a line for each scheme. The module refuses other schemes than ours."""
     for scheme in OURS:
         yield Line(scheme, scheme, HASHES[scheme], accepts=True)
     for scheme in OTHERS:
@@ -41,7 +41,7 @@ LINES = [
     Line("a name with a blank", "a b", SHA512, accepts=True),
     Line("a name that others begin with", "last", SHA512, accepts=True),
     Line("a name like a setting", "$5$x", SHA512, accepts=True),
-    Line("more fields behind the hash", "more", SHA512 + b":19000:0:", accepts=True),
+    Line("more fields after the hash", "more", SHA512 + b":19000:0:", accepts=True),
     Line("a locked hash", "locked", b"!" + SHA512),
     Line("a star", "starred", b"*"),
     Line("an empty field", "empty", b""),
@@ -54,37 +54,37 @@ LINES = [
     Line("a prefix", "prefix", b"$6", reason="unknown scheme"),
     Line("a prefix glued to more", "glued", b"$5x" + SHA512[3:], reason="unknown scheme"),
     Line("a hash over the budget", "costly", HOSTILE, reason="over budget"),
-    Line("a hash that is cut", "cut", CUT, reason="dead"),
+    Line("a truncated hash", "cut", CUT, reason="dead"),
     Line("a zero byte", "zero", SHA512 + b"\0", reason="bad character"),
     Line("a carriage return", "carriage", SHA512 + b"\r", reason="bad character"),
     Line("a byte that is no character", "bytes", b"$y$j75$\xff", reason="bad character"),
     Line("a long field", "long", SHA512 + b"a" * 384, reason="setting too long"),
     Line("scrypt out of its range", "range", b"$7$.6..../....abcd", reason="scrypt range"),
-    Line("rounds that are no number", "rounds", b"$6$rounds=x$", reason="bad rounds"),
+    Line("rounds that aren't a number", "rounds", b"$6$rounds=x$", reason="bad rounds"),
 ]
 UNKNOWN_NAMES = [
     pytest.param("nobody", id="another name"),
     pytest.param("mor", id="the beginning of a name"),
-    pytest.param("last\n", id="a name with a line feed behind it"),
+    pytest.param("last\n", id="a name with a line feed after it"),
 ]
 NOT_THE_PASSWORD = [
     pytest.param(PASSWORD[1:], id="without its first character"),
     pytest.param(b"", id="empty"),
     pytest.param(SHA512, id="the hash itself"),
-    pytest.param(b"a" * 500, id="of 500 bytes"),
+    pytest.param(b"a" * 500, id="500 bytes"),
 ]
 
 
 @pytest.fixture(scope="module", autouse=True)
 def _file(pam: Pam) -> None:
-    """The file has all lines. The last one doesn't end."""
+    """Writes a file with all lines, the last one without a line feed."""
     lines = [line.name.encode() + b":" + line.field for line in LINES]
     pam.machine.write(FILE, b"\n".join(lines))
     pam.set_arguments(CURRENT)
 
 
 def expected_log(line: Line) -> tuple[str, ...]:
-    """What each failed login by a line logs."""
+    """Returns the log entries of a failed login with this line."""
     names_before = [other.name for other in LINES[: LINES.index(line)]]
     is_unknown = line.name == "" or ":" in line.name
     failure = failure_of(None if is_unknown else line.name.replace(" ", "?"))
@@ -94,7 +94,7 @@ def expected_log(line: Line) -> tuple[str, ...]:
 
 
 @pytest.mark.parametrize("line", LINES, ids=str)
-def test_the_password_gets_in_by_a_hash_of_ours_alone(pam: Pam, line: Line) -> None:
+def test_the_password_matches_only_a_supported_hash(pam: Pam, line: Line) -> None:
     expected = Login(Answer.REFUSED, expected_log(line))
     if line.accepts:
         expected = Login(Answer.ACCEPTED)
@@ -111,7 +111,5 @@ def test_another_password_is_refused_with_the_same_log(
 
 @pytest.mark.parametrize("password", [pytest.param(PASSWORD, id="the one"), *NOT_THE_PASSWORD])
 @pytest.mark.parametrize("name", UNKNOWN_NAMES)
-def test_no_password_gets_in_by_a_name_that_no_line_has(
-    pam: Pam, name: str, password: bytes
-) -> None:
+def test_an_unknown_name_is_refused(pam: Pam, name: str, password: bytes) -> None:
     assert pam.login(name, password) == Login(Answer.REFUSED, (failure_of(None),))

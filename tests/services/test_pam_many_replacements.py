@@ -1,8 +1,8 @@
-"""pam_mkpasswd.so by pamtester: a thousand renewals and a thousand changed passwords at once.
+"""pam_mkpasswd.so with pamtester: a thousand renewals and a thousand password changes in parallel.
 
 Many of them are killed. Meanwhile an administrator locks accounts, by a script that follows the
-manual's protocol and is killed too, and by a file that takes the other's place, and changes the
-file's mode.
+manual's protocol and is killed too, and by renaming an edited file over the old one, and changes
+the file's mode.
 """
 from __future__ import annotations
 
@@ -34,35 +34,33 @@ pytestmark = [
 ]
 
 SEED = int(os.environ.get("SEED", "1"))
-ROUNDS = range(1001, 1021)  # by each of which the hashes of those before are outdated
+ROUNDS = range(1001, 1021)  # hashes with earlier ones are outdated by later ones
 NAMES = [f"user{number}" for number in range(10, 60)]
-TO_LOCK = [f"other{number}" for number in range(10, 90)]  # by the administrator, one by one
+TO_LOCK = [f"other{number}" for number in range(10, 90)]  # the administrator locks them in turn
 AT_ONCE = 12
 SHARE_OF_KILLED = 0.4
-LONGEST_LIFE = 0.03  # seconds of a login or a change that is killed
-LONGEST_SCRIPT = 0.1  # seconds of a script that is killed
+LONGEST_LIFE = 0.03  # seconds until a login or a change is killed
+LONGEST_SCRIPT = 0.1  # seconds until a script is killed
 PAUSE = 0.0005  # seconds between two looks at the file
 CHANGE = "chauthtok"
 OTHERS = (Answer.REFUSED, Answer.DENIED, Answer.IN_USE)
-NOT_REPLACED = 1  # the script's status where somebody else came first
+NOT_REPLACED = 1  # the script's status if another change came first
 
 
 def passwords_of(name: str) -> tuple[bytes, bytes]:
-    """The two passwords of a user, each of which takes the other's place."""
+    """Returns a user's two passwords, which alternate."""
     return (f"secret of {name}".encode(), f"other secret of {name}".encode())
 
 
 @dataclass
 class Judge:
-    """Says what is wrong with the file. It remembers which lines are right."""
+    """Finds what is wrong with the file. It remembers which lines are right."""
 
     right: set[bytes] = field(default_factory=set)
-    locked: set[str] = field(
-        default_factory=set
-    )  # those whose account the administrator has locked
+    locked: set[str] = field(default_factory=set)  # the names that the administrator has locked
 
     def is_right(self, line: bytes, name: str) -> bool:
-        """Whether a line has its name, and a hash of one of its owner's passwords."""
+        """Returns whether a line has its name, and a hash of one of its user's passwords."""
         found = re.fullmatch(rb"(\w+):!?(\S+)\n", line)
         if found is None or found[1] != name.encode():
             return False
@@ -74,7 +72,7 @@ class Judge:
         return True
 
     def problems(self, content: bytes, locked: set[str]) -> list[str]:
-        """What is missing, in another place, torn, or not locked any more."""
+        """Returns the names whose lines are missing, misplaced, torn, or no longer locked."""
         lines = content.splitlines(keepends=True)
         names = NAMES + TO_LOCK
         if len(lines) != len(names):
@@ -88,18 +86,18 @@ class Judge:
 
 @dataclass
 class Watcher:
-    """Looks at the file all the time."""
+    """Watches the file."""
 
     path: Path
     judge: Judge
     is_over: threading.Event = field(default_factory=threading.Event)
     looks: int = 0
-    problems: list[str] = field(default_factory=list)  # of the first look that found some
+    problems: list[str] = field(default_factory=list)  # from the first look that found some
 
     def watch(self) -> None:
-        """Looks until it is over."""
+        """Watches until the end of the test."""
         while not self.is_over.is_set():
-            locked = set(self.judge.locked)  # before the look
+            locked = set(self.judge.locked)  # copied before the file is read
             problems = self.judge.problems(self.path.read_bytes(), locked)
             self.problems = self.problems or problems
             self.looks += 1
@@ -108,7 +106,7 @@ class Watcher:
 
 @dataclass
 class Administrator:
-    """Locks accounts in each way, and changes the file's mode."""
+    """Locks accounts in both ways, and changes the file's mode."""
 
     path: Path
     judge: Judge
@@ -119,7 +117,7 @@ class Administrator:
     problems: list[str] = field(default_factory=list)
 
     def work(self) -> None:
-        """Works until it is over, or nobody is left to be locked."""
+        """Locks accounts until the end of the test, or until all are locked."""
         for number, name in enumerate(TO_LOCK):
             if self.is_over.is_set():
                 break
@@ -131,7 +129,7 @@ class Administrator:
             time.sleep(self.randoms.uniform(0, 0.2))
 
     def field_of(self, name: str) -> str:
-        """The field that a name has now."""
+        """Returns the current field of a name."""
         found = re.search(rf"^{name}:(.*)$", self.path.read_text("ascii"), re.MULTILINE)
         assert found, f"{name} is missing"
         return found[1]
@@ -152,28 +150,28 @@ class Administrator:
             self.judge.locked.add(name)
 
     def lock_by_file(self, name: str) -> None:
-        """Locks an account by a file of the administrator's, which takes the other's place."""
+        """Locks an account by renaming an edited file over the old one."""
         new = self.path.with_name("administrator")
         content = re.sub(rf"^{name}:", f"{name}:!", self.path.read_text("ascii"), flags=re.M)
         new.write_text(content, "ascii")
         new.chmod(self.mode)
-        # Whoever was locked is so in this version too, since nobody else locks.
+        # Only the administrator locks names, so this version has all locks.
         new.rename(self.path)
         self.judge.locked.add(name)
 
     def change_mode(self) -> None:
-        """Changes the mode, with the lock, and looks whether the one before was kept."""
+        """Changes the mode under the lock, and checks that the previous mode was kept."""
         with contextlib.suppress(replacing.NotReplaced), replacing.locked(self.path):
             found = stat.S_IMODE(self.path.stat().st_mode)
             if found != self.mode:
-                self.problems.append(f"the mode is {found:o} and not {self.mode:o}")
+                self.problems.append(f"the mode is {found:o}, not {self.mode:o}")
             self.mode = 0o640 if self.mode == 0o600 else 0o600
             self.path.chmod(self.mode)
 
 
 @dataclass(frozen=True)
 class Visit:
-    """A login or a change, and after how many seconds it is killed, if it is."""
+    """A login or a change of password, and the seconds until it is killed, if it is."""
 
     name: str
     operation: str
@@ -183,7 +181,7 @@ class Visit:
 
 @dataclass(frozen=True)
 class Replaced:
-    """What two thousand visits did."""
+    """What two thousand visits did, and the file at the end."""
 
     watcher: Watcher
     administrator: Administrator
@@ -192,7 +190,7 @@ class Replaced:
 
     @property
     def ended_badly(self) -> list[Result]:
-        """Visits that nobody killed, and that failed otherwise than because of somebody else."""
+        """The visits that weren't killed, and failed without another change in the way."""
         return [
             result
             for result in self.results
@@ -201,12 +199,12 @@ class Replaced:
 
 
 def was_in_the_way(result: Result) -> bool:
-    """Whether somebody else changed the password or the file, or locked the account."""
+    """Returns whether somebody else changed the password or the file, or locked the account."""
     return any(answer.value.encode() in result.stderr for answer in OTHERS)
 
 
 def visits_of(randoms: random.Random, turn: int) -> list[Visit]:
-    """A login and a change of each user, in any order."""
+    """Returns a login and a change of password for each user, in random order."""
     visits = []
     for name in NAMES + TO_LOCK[: len(TO_LOCK) // 8]:
         old, new = passwords_of(name)
@@ -221,14 +219,14 @@ def visits_of(randoms: random.Random, turn: int) -> list[Visit]:
 
 
 def visit_machine(machine: Namespaces, visit: Visit) -> Result:
-    """Makes a visit, and kills it in between."""
+    """Makes a visit, and kills it after its seconds."""
     command = machine.entering("pamtester", "example", visit.name, visit.operation)
     return run(*command, stdin=visit.typed, timeout=visit.life or 300)
 
 
 @contextlib.contextmanager
 def beside(watcher: Watcher, administrator: Administrator) -> Iterator[None]:
-    """Watches and administers beside the block."""
+    """Runs the watcher and the administrator while the block runs."""
     with ThreadPoolExecutor(2) as pool:
         ended = [pool.submit(watcher.watch), pool.submit(administrator.work)]
         try:
@@ -241,7 +239,7 @@ def beside(watcher: Watcher, administrator: Administrator) -> Iterator[None]:
 
 @pytest.fixture(scope="module", name="with_file")
 def fixture_with_file(with_module: Namespaces) -> Namespaces:
-    """A machine without a system log, which would have to be read meanwhile."""
+    """A machine without a system log, which the test would have to read."""
     names = NAMES + TO_LOCK
     hashes = [crypt(passwords_of(name)[0], b"$6$rounds=1000$abcdefgh") for name in names]
     lines = [b"%b:%b\n" % (name.encode(), field) for name, field in zip(names, hashes)]
@@ -267,24 +265,24 @@ def fixture_replaced(with_file: Namespaces) -> Replaced:
     return Replaced(watcher, administrator, results, machine.read(FILE))
 
 
-def test_whatever_is_not_killed_succeeds_or_meets_somebody_else(replaced: Replaced) -> None:
+def test_each_visit_that_is_not_killed_succeeds_or_meets_another_change(replaced: Replaced) -> None:
     assert replaced.ended_badly == [], "\n".join(map(str, replaced.ended_badly[:3]))
 
 
-def test_most_changes_and_renewals_are_made(replaced: Replaced) -> None:
-    made = [result for result in replaced.results if result.status == 0]
-    assert len(made) > len(replaced.results) / 4
+def test_most_changes_and_renewals_succeed(replaced: Replaced) -> None:
+    succeeded = [result for result in replaced.results if result.status == 0]
+    assert len(succeeded) > len(replaced.results) / 4
 
 
-def test_the_file_is_whole_at_each_moment_and_no_lock_is_undone(replaced: Replaced) -> None:
+def test_the_file_is_complete_at_each_moment_and_no_lock_is_undone(replaced: Replaced) -> None:
     assert replaced.watcher.problems == [], f"SEED={SEED}"
 
 
-def test_each_mode_that_the_administrator_gives_it_stays(replaced: Replaced) -> None:
+def test_each_mode_set_by_the_administrator_stays(replaced: Replaced) -> None:
     assert replaced.administrator.problems == [], f"SEED={SEED}"
 
 
-def test_the_file_is_whole_at_the_end(replaced: Replaced) -> None:
+def test_the_file_is_complete_at_the_end(replaced: Replaced) -> None:
     judge = replaced.watcher.judge
     assert Judge().problems(replaced.content, judge.locked) == [], f"SEED={SEED}"
 

@@ -1,6 +1,6 @@
-"""pam_mkpasswd.so by pamtester: what a login leaves in the memory of a service.
+"""pam_mkpasswd.so with pamtester: a login leaves no hash in the memory of a service.
 
-A service goes on after a login, so a hash that stays in its memory can leak later.
+A service keeps running after a login, so a hash in its memory could leak later.
 """
 from __future__ import annotations
 
@@ -17,43 +17,43 @@ MEMORY = "/srv/memory"
 ARGUMENTS = f"file={FILE} rounds=1001 budget=1000000 renew"
 WITH_OLD = "chauthtok(PAM_CHANGE_EXPIRED_AUTHTOK)"
 NEW = b"another password"
-# Other accounts, so many that no later allocation takes all of the memory.
+# So many other accounts that no later allocation overwrites all of the file's memory.
 OTHERS = b"".join(b"other%d:%b\n" % (number, HASHES["sha256crypt"]) for number in range(100))
-LEAST_FOUND = 16  # characters of a digest in a row
+LEAST_FOUND = 16  # consecutive characters of a digest
 
 
 @pytest.fixture(scope="module", name="looked_at")
 def fixture_looked_at(tmp_path_factory: pytest.TempPathFactory) -> tuple[str, ...]:
-    """The command that has a service's memory written to a file before it ends its use of PAM."""
+    """The command that writes a service's memory to a file before the service ends PAM."""
     library = preload_library("memory_at_end", tmp_path_factory.mktemp("memory"))
-    # A call that is bound only when it is made has the dynamic linker save all registers on the
-    # stack, and in one may be what a strlen has just read.
+    # With lazy binding the dynamic linker saves all registers on the stack, and one of them may
+    # hold what strlen has just read.
     return ("env", "LD_BIND_NOW=1", f"LD_PRELOAD={library}", f"MEMORY={MEMORY}")
 
 
 @pytest.fixture(autouse=True)
 def _file(pam: Pam) -> None:
-    """Two users' lines, and others'."""
+    """Writes a file with two users' lines and the other accounts."""
     pam.machine.write(FILE, OTHERS + b"ann:" + SHA512 + b"\n" + OTHERS, 0o600)
     pam.set_arguments(ARGUMENTS)
 
 
 def digest_of(field: bytes) -> bytes:
-    """What follows the salt."""
+    """Returns the part of a hash after the salt."""
     return field.rpartition(b"$")[2]
 
 
 def field_of_ann(pam: Pam) -> bytes:
-    """The field that the file has now."""
+    """Returns Ann's current field."""
     found = re.search(rb"^ann:(.*)$", pam.machine.read(FILE), re.MULTILINE)
     assert found
     return found[1]
 
 
 def assert_no_hash_left(pam: Pam) -> None:
-    """Fails the test if a part of a hash, an old one or a new one, is in the memory."""
+    """Fails the test if a part of the old or the new hash is in the memory."""
     memory = pam.machine.read(MEMORY)
-    assert f"MEMORY={MEMORY}".encode() in memory, "the environment isn't in it, so it isn't whole"
+    assert f"MEMORY={MEMORY}".encode() in memory, "the memory lacks the environment"
     for field in (SHA512, HASHES["sha256crypt"], field_of_ann(pam)):
         digest = digest_of(field)
         parts = [digest[start : start + LEAST_FOUND] for start in range(len(digest))]

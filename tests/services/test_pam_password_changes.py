@@ -1,4 +1,4 @@
-"""pam_mkpasswd.so by pamtester: changes of passwords, and what users and the log are told."""
+"""pam_mkpasswd.so with pamtester: changes of passwords, and their messages and log entries."""
 from __future__ import annotations
 
 import re
@@ -16,7 +16,7 @@ pytestmark = [pytest.mark.needs("namespaces", "pamtester"), pytest.mark.xdist_gr
 
 ARGUMENTS = f"file={FILE} rounds=1000 budget=1000000"
 NEW = b"another password"
-WITH_OLD = "chauthtok(PAM_CHANGE_EXPIRED_AUTHTOK)"  # as also users' own services have to ask
+WITH_OLD = "chauthtok(PAM_CHANGE_EXPIRED_AUTHTOK)"  # asks for the old password, as for users
 BEFORE = b"one:x\n"
 BEHIND = b":19000:\0\nann:!\nno line"
 CONTENT = BEFORE + b"ann:" + SHA512 + BEHIND
@@ -27,31 +27,31 @@ OTHER_USER = ("setpriv", "--reuid=4242", "--regid=4242", "--clear-groups")
 
 @pytest.fixture(autouse=True)
 def _file(pam: Pam) -> None:
-    """Ann's line, between others."""
+    """Writes a file with Ann's line among others."""
     pam.machine.write(FILE, CONTENT, 0o600)
     pam.set_arguments(ARGUMENTS)
 
 
 def assert_changed(pam: Pam, password: bytes) -> None:
-    """Fails the test unless Ann's field alone has changed, to a hash of the password."""
+    """Fails the test unless only Ann's field has changed, to a hash of the password."""
     content = pam.machine.read(FILE)
     found = CHANGED.fullmatch(content)
     assert found and crypt(password, found[1]) == found[1], content
 
 
-def test_a_user_changes_a_password(pam: Pam) -> None:
+def test_a_user_can_change_the_password(pam: Pam) -> None:
     call = pam.call("ann", WITH_OLD, PASSWORD, NEW, NEW)
     assert call == Login(Answer.ACCEPTED, ("password changed for ann",))
     assert_changed(pam, NEW)
 
 
-def test_the_superuser_sets_a_password_without_the_old_one(pam: Pam) -> None:
+def test_root_can_set_a_password_without_the_old_one(pam: Pam) -> None:
     call = pam.call("ann", "chauthtok", NEW, NEW)
     assert call == Login(Answer.ACCEPTED, ("password changed for ann",))
     assert_changed(pam, NEW)
 
 
-def test_the_new_password_gets_in_and_the_old_one_no_longer(pam: Pam) -> None:
+def test_the_new_password_is_accepted_and_the_old_one_refused(pam: Pam) -> None:
     pam.call("ann", WITH_OLD, PASSWORD, NEW, NEW)
     answers = [pam.login("ann", password).answer for password in (NEW, PASSWORD)]
     assert answers == [Answer.ACCEPTED, Answer.REFUSED]
@@ -71,59 +71,61 @@ def test_a_refused_change_leaves_the_file(pam: Pam, lines: tuple[bytes, ...]) ->
     assert pam.machine.read(FILE) == CONTENT
 
 
-def test_a_wrong_old_password_is_logged_as_a_failed_login_is(pam: Pam) -> None:
+def test_a_wrong_old_password_is_logged_like_a_failed_login(pam: Pam) -> None:
     call = pam.call("ann", WITH_OLD, WRONG)
     assert call == Login(Answer.REFUSED, (failure_of("ann"),))
 
 
-def said(pam: Pam, operation: str, *lines: bytes, through: tuple[str, ...] = ()) -> str:
-    """What a change of Ann's password shows."""
+def messages_of_change(
+    pam: Pam, operation: str, *lines: bytes, through: tuple[str, ...] = ()
+) -> str:
+    """Changes Ann's password, and returns what the user sees."""
     pam.log.entries()
     stdin = b"".join(line + b"\n" for line in lines)
     result = pam.machine.run(*through, "pamtester", "example", "ann", operation, stdin=stdin)
     return (result.stdout + result.stderr).decode()
 
 
-def test_a_user_is_asked_in_pams_usual_words(pam: Pam) -> None:
-    shown = said(pam, WITH_OLD, PASSWORD, NEW, NEW)
-    assert "Current password: New password: Retype new password: " in shown
+def test_the_prompts_are_pams_usual_ones(pam: Pam) -> None:
+    messages = messages_of_change(pam, WITH_OLD, PASSWORD, NEW, NEW)
+    assert "Current password: New password: Retype new password: " in messages
 
 
-def test_a_user_is_told_to_supply_a_password(pam: Pam) -> None:
-    assert "No password has been supplied." in said(pam, "chauthtok", b"", b"")
+def test_a_message_asks_the_user_to_supply_a_password(pam: Pam) -> None:
+    assert "No password has been supplied." in messages_of_change(pam, "chauthtok", b"", b"")
 
 
-def test_a_silent_service_tells_nothing(pam: Pam) -> None:
-    shown = said(pam, "chauthtok(PAM_SILENT)", b"", b"")
-    assert "No password has been supplied." not in shown
+def test_a_silent_service_shows_no_message(pam: Pam) -> None:
+    messages = messages_of_change(pam, "chauthtok(PAM_SILENT)", b"", b"")
+    assert "No password has been supplied." not in messages
 
 
-def test_a_user_is_told_to_try_again_after_a_second_of_another_ones_lock(pam: Pam) -> None:
+def test_a_message_asks_the_user_to_try_again_if_the_lock_is_held_for_a_second(pam: Pam) -> None:
     lock = f"{FILE}.mkpasswd.lock"
     words = ["pamtester", "example", "ann", "chauthtok"]
     begin = time.monotonic()
     result = pam.machine.run("flock", lock, *words, stdin=NEW + b"\n" + NEW + b"\n")
-    shown = (result.stdout + result.stderr).decode()
-    assert "The password file is in use. Please try again." in shown, result
+    messages = (result.stdout + result.stderr).decode()
+    assert "The password file is in use. Please try again." in messages, result
     assert time.monotonic() - begin > 0.9
     assert pam.machine.read(FILE) == CONTENT
 
 
-def test_a_service_that_cannot_write_says_so_before_it_asks(pam: Pam) -> None:
+def test_a_service_that_cannot_write_says_so_before_it_prompts(pam: Pam) -> None:
     pam.machine.path(FILE).chmod(0o644)
-    shown = said(pam, "chauthtok", PASSWORD, NEW, NEW, through=OTHER_USER)
-    assert "This service can't change passwords." in shown
-    assert "Current password" not in shown
+    messages = messages_of_change(pam, "chauthtok", PASSWORD, NEW, NEW, through=OTHER_USER)
+    assert "This service can't change passwords." in messages
+    assert "Current password" not in messages
     assert pam.log.entries() == (f"{FILE}: passwords can't be changed: Permission denied",)
 
 
-def test_a_service_of_the_file_s_owner_changes_passwords(pam: Pam) -> None:
+def test_a_service_of_the_files_owner_can_change_passwords(pam: Pam) -> None:
     folder = "/srv/owned"
     pam.machine.make_folder(folder)
     pam.machine.write(f"{folder}/passwords", b"ann:" + SHA512 + b"\n", 0o600)
     pam.set_arguments(ARGUMENTS.replace(FILE, f"{folder}/passwords"))
     pam.machine.run("chown", "-R", "4242:4242", folder).required()
-    # The superuser comes first, and makes the lock.
+    # Root comes first, and creates the lock.
     assert pam.call("ann", "chauthtok", WRONG, WRONG).answer is Answer.ACCEPTED
     call = pam.call("ann", "chauthtok", WRONG, NEW, NEW, through=OTHER_USER)
     assert call.answer is Answer.ACCEPTED, call.log
@@ -140,7 +142,7 @@ def test_a_service_of_the_file_s_owner_changes_passwords(pam: Pam) -> None:
 )
 def test_pam_pwquality_may_refuse_a_password(pam: Pam, new: bytes, answer: Answer) -> None:
     stack = stacks_of_manual().with_pwquality.replace("/etc/example.passwords", FILE)
-    # Debian's dictionary is in a package of its own.
+    # Debian has the dictionary in a separate package.
     stack = stack.replace("retry=3", "retry=1 dictcheck=0 enforce_for_root")
     pam.set_stack(stack)
     call = pam.call("ann", WITH_OLD, PASSWORD, new, new)
@@ -158,4 +160,4 @@ def test_the_program_of_guide_changes_a_password(pam: Pam, tmp_path: Path) -> No
     typed = b"\n".join((PASSWORD, NEW, NEW)) + b"\n"
     pam.machine.run(program, "ann", stdin=typed).required()
     assert_changed(pam, NEW)
-    assert pam.machine.run(program, "ann", stdin=typed).status == 1  # that was the old password
+    assert pam.machine.run(program, "ann", stdin=typed).status == 1  # the old password

@@ -1,6 +1,6 @@
-"""pam_mkpasswd.so by pamtester: a renewal changes one field, and loses nothing.
+"""pam_mkpasswd.so with pamtester: a renewal changes one field, and loses nothing.
 
-Logins find hashes of 1000 rounds outdated.
+Hashes with 1000 rounds are outdated.
 """
 from __future__ import annotations
 
@@ -33,7 +33,7 @@ NAME_OF_LOCK = Path(LOCK).name
 
 @pytest.fixture(autouse=True)
 def _arguments(pam: Pam) -> None:
-    """The service renews, and nothing is left of the test before."""
+    """Sets the service's arguments, and removes leftovers of the previous test."""
     pam.set_arguments(ARGUMENTS)
     for name in others_beside(pam.machine):
         pam.machine.path(FILE).with_name(name).unlink()
@@ -41,24 +41,24 @@ def _arguments(pam: Pam) -> None:
 
 @pytest.fixture(scope="module", name="between")
 def fixture_between(tmp_path_factory: pytest.TempPathFactory) -> tuple[str, str]:
-    """The command that has a login meet somebody else, by a library between it and the system."""
+    """A command that runs a login over a library that changes the file meanwhile."""
     library = preload_library("between", tmp_path_factory.mktemp("between"))
     return ("env", f"LD_PRELOAD={library}")
 
 
 def is_renewed(line: bytes) -> bool:
-    """Whether a line has a new hash of the password."""
+    """Returns whether a line has a new hash of the password."""
     found = RENEWED.match(line)
     return found is not None and crypt(PASSWORD, found[1]) == found[1]
 
 
 def others_beside(machine: Namespaces) -> list[str]:
-    """What logins have left beside the file and its lock."""
+    """Returns the files beside the password file and its lock."""
     names = [file.name for file in machine.path(FILE).parent.glob("passwords.*")]
     return sorted(name for name in names if name != NAME_OF_LOCK)
 
 
-# ---- What a renewal keeps
+# ---- What stays
 
 LINES = b"one:x\n\ntwo:%b:19000:\0\nsix:!%b\nno line\nsix:%b" % (SHA512, SHA512, SHA512)
 LINK = "/srv/link"
@@ -67,7 +67,7 @@ OWNER, GROUP, MODE = 65534, 4242, 0o640
 
 @pytest.fixture(name="through_link")
 def fixture_through_link(pam: Pam) -> Login:
-    """The login of the user `two`, whose stack names a link to the file."""
+    """A login of the user `two` with a link to the file in the stack."""
     pam.machine.write(FILE, LINES, MODE)
     os.chown(pam.machine.path(FILE), OWNER, GROUP)
     pam.machine.run("ln", "-sf", FILE, LINK).required()
@@ -75,12 +75,12 @@ def fixture_through_link(pam: Pam) -> Login:
     return pam.login("two", PASSWORD)
 
 
-def test_a_user_gets_in_through_a_link(through_link: Login) -> None:
+def test_a_login_through_a_link_is_accepted(through_link: Login) -> None:
     assert through_link == Login(Answer.ACCEPTED)
 
 
 @pytest.mark.usefixtures("through_link")
-def test_the_hash_is_a_new_one(pam: Pam) -> None:
+def test_the_hash_is_new(pam: Pam) -> None:
     line = pam.machine.read(FILE).splitlines(keepends=True)[2]
     assert is_renewed(line), line
 
@@ -104,11 +104,11 @@ def test_the_link_stays(pam: Pam) -> None:
     assert pam.machine.path(FILE).is_file() and not pam.machine.path(FILE).is_symlink()
 
 
-# ---- What a new file has besides its bytes
+# ---- Attributes
 
 
 @pytest.mark.needs("setfacl", "setfattr")
-def test_acls_and_attributes_stay_and_no_others_come(pam: Pam) -> None:
+def test_acls_and_attributes_stay_and_none_are_added(pam: Pam) -> None:
     folder = "/srv/attributes"
     file = f"{folder}/passwords"
     pam.machine.make_folder(folder)
@@ -126,7 +126,7 @@ def test_acls_and_attributes_stay_and_no_others_come(pam: Pam) -> None:
 
 
 @pytest.mark.needs("setfacl", "setfattr")
-def test_a_file_with_an_attribute_that_the_service_may_not_set_stays(pam: Pam) -> None:
+def test_a_file_with_an_attribute_that_the_service_may_not_set_is_not_renewed(pam: Pam) -> None:
     folder = "/srv/unprivileged"
     file = f"{folder}/passwords"
     pam.machine.make_folder(folder)
@@ -142,7 +142,7 @@ def test_a_file_with_an_attribute_that_the_service_may_not_set_stays(pam: Pam) -
 
 
 @pytest.mark.parametrize("missing", ["NO_TMPFILE=1"])
-def test_a_hash_is_renewed_where_files_without_a_name_are_missing(
+def test_a_hash_is_renewed_without_o_tmpfile(
     pam: Pam, between: tuple[str, str], missing: str
 ) -> None:
     pam.machine.write(FILE, LINE)
@@ -151,12 +151,12 @@ def test_a_hash_is_renewed_where_files_without_a_name_are_missing(
     assert others_beside(pam.machine) == []
 
 
-# ---- Somebody else renames files over it, as the new file takes its place
+# ---- Other changes at the moment of the exchange
 
 
 @dataclass(frozen=True)
 class Met:
-    """A login that met so many changes of somebody else."""
+    """A login during which somebody else changes the file this many times."""
 
     changes: int
     login: Login
@@ -174,11 +174,11 @@ def fixture_met(pam: Pam, between: tuple[str, str], request: pytest.FixtureReque
     return Met(changes, login, pam.machine.read(FILE), others_beside(pam.machine))
 
 
-def test_a_user_gets_in_while_somebody_changes_the_file(met: Met) -> None:
+def test_a_login_is_accepted_while_somebody_changes_the_file(met: Met) -> None:
     assert met.login == Login(Answer.ACCEPTED)
 
 
-def test_the_newest_change_of_somebody_else_stays(met: Met) -> None:
+def test_the_newest_change_by_somebody_else_stays(met: Met) -> None:
     if met.changes == 0:
         assert is_renewed(met.content), met.content
     else:
@@ -189,7 +189,7 @@ def test_a_login_leaves_nothing_beside_the_file(met: Met) -> None:
     assert met.others == []
 
 
-def test_a_login_that_is_killed_before_its_file_is_whole_changes_nothing(
+def test_a_login_killed_before_its_file_is_complete_changes_nothing(
     pam: Pam, between: tuple[str, str]
 ) -> None:
     pam.machine.write(FILE, LINE)
@@ -198,7 +198,7 @@ def test_a_login_that_is_killed_before_its_file_is_whole_changes_nothing(
     assert (pam.machine.read(FILE), others_beside(pam.machine)) == (LINE, [])
 
 
-# ---- A login that is killed, and the next one that ends what it began
+# ---- Killed logins, and the next one
 
 KILLED = 128 + 9
 SECOND = b"six:" + SHA512 + b"\n"
@@ -206,18 +206,18 @@ MOMENTS = ["fsync", "linkat", "exchange", "unlinkat"]
 
 
 def kill_login(pam: Pam, between: tuple[str, ...], moment: str) -> None:
-    """Has the user `two` log in, and kills that at a moment of the renewal."""
+    """Logs in as the user `two`, and kills that at a moment of the renewal."""
     killed = pam.login_result("two", PASSWORD, through=(*between, f"KILL={moment}"))
     assert killed.status == KILLED, killed
 
 
 @pytest.mark.parametrize("no_tmpfile", [(), ("NO_TMPFILE=1",)], ids=["without a name", "named"])
 @pytest.mark.parametrize("moment", MOMENTS)
-def test_the_next_renewal_clears_up_after_one_that_was_killed(
+def test_the_next_renewal_cleans_up_after_a_killed_one(
     pam: Pam, between: tuple[str, str], moment: str, no_tmpfile: tuple[str, ...]
 ) -> None:
     if no_tmpfile and moment == "linkat":
-        moment = "fsync"  # such a file has its name from the beginning
+        moment = "fsync"  # without O_TMPFILE the file has its name from the beginning
     pam.machine.write(FILE, LINE + SECOND)
     kill_login(pam, (*between, *no_tmpfile), moment)
     assert len(pam.machine.read(FILE).splitlines()) == 2
@@ -228,7 +228,7 @@ def test_the_next_renewal_clears_up_after_one_that_was_killed(
     assert others_beside(pam.machine) == []
 
 
-def test_the_next_renewal_puts_back_what_one_took_out_that_was_killed(
+def test_the_next_renewal_puts_back_the_file_that_a_killed_one_took_out(
     pam: Pam, between: tuple[str, str]
 ) -> None:
     locked = b"two:!" + SHA512 + b"\n"
@@ -242,7 +242,7 @@ def test_the_next_renewal_puts_back_what_one_took_out_that_was_killed(
     assert others_beside(pam.machine) == []
 
 
-def test_a_version_of_somebody_stays_while_nobody_can_read_what_was_exchanged(
+def test_another_version_stays_while_the_note_cannot_be_read(
     pam: Pam, between: tuple[str, str]
 ) -> None:
     locked = b"two:!" + SHA512 + b"\n"
@@ -257,7 +257,7 @@ def test_a_version_of_somebody_stays_while_nobody_can_read_what_was_exchanged(
     assert others_beside(pam.machine) == []
 
 
-def test_a_version_of_somebody_that_two_have_met_stays_until_somebody_looks(
+def test_another_version_beside_a_newer_file_stays_for_the_administrator(
     pam: Pam, between: tuple[str, str]
 ) -> None:
     version, newer = LINE + SECOND + b"# 1\n", LINE + SECOND + b"# 2\n"
@@ -272,9 +272,7 @@ def test_a_version_of_somebody_that_two_have_met_stays_until_somebody_looks(
     assert pam.machine.read(FILE) == newer
 
 
-def test_a_mode_that_somebody_changes_at_the_last_moment_stays(
-    pam: Pam, between: tuple[str, str]
-) -> None:
+def test_a_mode_that_changes_at_the_last_moment_stays(pam: Pam, between: tuple[str, str]) -> None:
     pam.machine.write(FILE, LINE, 0o600)
     login = pam.login("two", PASSWORD, through=(*between, "CHMOD=1"))
     assert login == Login(Answer.ACCEPTED)
@@ -282,9 +280,7 @@ def test_a_mode_that_somebody_changes_at_the_last_moment_stays(
     assert others_beside(pam.machine) == []
 
 
-def test_a_file_that_somebody_removes_at_the_last_moment_is_missed(
-    pam: Pam, between: tuple[str, str]
-) -> None:
+def test_a_file_removed_at_the_last_moment_is_reported(pam: Pam, between: tuple[str, str]) -> None:
     pam.machine.write(FILE, LINE)
     login = pam.login_result("two", PASSWORD, through=(*between, f"REMOVED={FILE}"))
     entry = f"{FILE}: not renewed: No such file or directory"
@@ -292,16 +288,16 @@ def test_a_file_that_somebody_removes_at_the_last_moment_is_missed(
     assert others_beside(pam.machine) == []
 
 
-# ---- What keeps a file as it is
+# ---- Obstacles
 
 LONG = LINE + b"# more\n" * 5000
-SIZE_OF_SALT = 16  # a new one's
+SIZE_OF_SALT = 16  # of a new hash
 NEW_SIZE = len(LONG) - len(b"abcdefgh") + SIZE_OF_SALT
 Blocking = Callable[[Namespaces], AbstractContextManager[None]]
 
 
 def between_commands(block: Sequence[Word], unblock: Sequence[Word]) -> Blocking:
-    """What is in the way from one command until another."""
+    """Returns an obstacle that one command sets up, and another one removes."""
 
     @contextlib.contextmanager
     def blocking(machine: Namespaces) -> Iterator[None]:
@@ -315,19 +311,19 @@ def between_commands(block: Sequence[Word], unblock: Sequence[Word]) -> Blocking
 
 
 def remounted(blocking: str, usual: str) -> Blocking:
-    """A file system with another option."""
+    """Returns an obstacle: the file system is remounted with another option."""
     block, unblock = (["mount", "-o", f"remount,{option}", "/srv"] for option in (blocking, usual))
     return between_commands(block, unblock)
 
 
 def nothing(_: Namespaces) -> AbstractContextManager[None]:
-    """Nothing but what the login runs through."""
+    """Is no obstacle by itself: the command around the login is one."""
     return contextlib.nullcontext()
 
 
 @contextlib.contextmanager
 def lock_is_link(machine: Namespaces) -> Iterator[None]:
-    """A link that somebody made in the lock's place."""
+    """Puts a link in place of the lock."""
     lock = machine.path(LOCK)
     lock.unlink(missing_ok=True)
     lock.symlink_to("x")
@@ -339,24 +335,24 @@ def lock_is_link(machine: Namespaces) -> Iterator[None]:
 
 @contextlib.contextmanager
 def lock_is_held(machine: Namespaces) -> Iterator[None]:
-    """Another process that keeps the lock."""
+    """Holds the lock in another process."""
     with machine.started("flock", LOCK, "sleep", "infinity"):
         wait_until(
             lambda: machine.run("flock", "-n", LOCK, "true").status != 0,
-            what="a process that keeps the lock",
+            what="a process that holds the lock",
         )
         yield
 
 
 @dataclass(frozen=True)
 class Obstacle:
-    """What keeps a renewal from being made, and the reason that is logged."""
+    """What prevents a renewal, and the reason in the log."""
 
     title: str
     reason: str
     blocking: Blocking
     through: tuple[Word, ...] = ()
-    variables: tuple[str, ...] = ()  # for the library between
+    variables: tuple[str, ...] = ()  # for the library of `between`
 
     def __str__(self) -> str:
         return self.title
@@ -364,10 +360,10 @@ class Obstacle:
 
 FULL = Obstacle("a full disk", "No space left on device", remounted("size=60k", "size=10m"))
 READ_ONLY = Obstacle("a read-only disk", "Read-only file system", remounted("ro", "rw"))
-LINKED_LOCK = Obstacle("a link for a lock", "Too many levels of symbolic links", lock_is_link)
-HELD_LOCK = Obstacle("a lock that is held", "another process keeps the lock", lock_is_held)
+LINKED_LOCK = Obstacle("a link as the lock", "Too many levels of symbolic links", lock_is_link)
+HELD_LOCK = Obstacle("a held lock", "another process keeps the lock", lock_is_held)
 LIMITED = Obstacle(
-    "a limit of a file's size that is one byte too small",
+    "a file size limit that is one byte too small",
     "File too large",
     nothing,
     ("prlimit", f"--fsize={NEW_SIZE - 1}"),
@@ -385,18 +381,18 @@ NO_LOCKS = Obstacle(
 OBSTACLES = [FULL, READ_ONLY, LINKED_LOCK, HELD_LOCK, LIMITED, NO_EXCHANGE, NO_LOCKS]
 
 
-def without_nameless_files(obstacle: Obstacle) -> Obstacle:
-    """The same on a file system that has no files without a name."""
-    title = f"{obstacle.title}, and no files without a name"
+def without_tmpfile(obstacle: Obstacle) -> Obstacle:
+    """Returns the same obstacle on a file system without O_TMPFILE."""
+    title = f"{obstacle.title}, without O_TMPFILE"
     return replace(obstacle, title=title, variables=(*obstacle.variables, "NO_TMPFILE=1"))
 
 
-OBSTACLES += [without_nameless_files(obstacle) for obstacle in (FULL, LIMITED, NO_EXCHANGE)]
+OBSTACLES += [without_tmpfile(obstacle) for obstacle in (FULL, LIMITED, NO_EXCHANGE)]
 
 
 @dataclass(frozen=True)
 class Blocked:
-    """A login that met an obstacle, what it left, and the file after a later login."""
+    """A login with an obstacle, what it left, and the file after a later login."""
 
     obstacle: Obstacle
     login: Login
@@ -419,16 +415,16 @@ def fixture_blocked(pam: Pam, between: tuple[str, str], request: pytest.FixtureR
     return Blocked(obstacle, login, content, others, pam.machine.read(FILE))
 
 
-def test_a_user_gets_in_without_a_renewal_and_the_log_says_why(blocked: Blocked) -> None:
+def test_the_login_is_accepted_without_a_renewal_and_the_log_says_why(blocked: Blocked) -> None:
     entry = f"{FILE}: not renewed: {blocked.obstacle.reason}"
     assert blocked.login == Login(Answer.ACCEPTED, (entry,))
 
 
-def test_a_file_that_can_not_be_renewed_stays_as_it_is(blocked: Blocked) -> None:
+def test_a_file_that_cannot_be_renewed_stays_unchanged(blocked: Blocked) -> None:
     assert blocked.content == LONG
 
 
-def test_a_renewal_that_is_not_made_leaves_nothing_beside_the_file(blocked: Blocked) -> None:
+def test_a_failed_renewal_leaves_nothing_beside_the_file(blocked: Blocked) -> None:
     assert blocked.others == []
 
 

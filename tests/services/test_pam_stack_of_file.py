@@ -1,6 +1,6 @@
-"""pam_mkpasswd.so by pamtester: the stack of its manual for users without accounts.
+"""pam_mkpasswd.so with pamtester: its manual's stack for users without accounts.
 
-A module before or behind that lets everybody in changes nothing.
+A module before or after it that accepts everybody changes nothing.
 """
 from __future__ import annotations
 
@@ -40,45 +40,45 @@ RENEWED_FILE = "/srv/example/passwords"
 
 @dataclass(frozen=True)
 class Stack:
-    """The manual's stack, perhaps with a renewal, and what surrounds it."""
+    """The manual's stack, perhaps with renewals, and the lines around it."""
 
     title: str
     before: str = ""
-    behind: str = ""
+    after: str = ""
     renews: bool = False
 
     def __str__(self) -> str:
         return f"{self.title}, with renew" if self.renews else self.title
 
     def lines(self) -> str:
-        """All lines."""
+        """Returns all lines."""
         stack = stacks_of_manual().of_file
         if self.renews:
             stack = re.sub(r"file=\S+", f"file={RENEWED_FILE} renew", stack)
-        return self.before + stack + self.behind
+        return self.before + stack + self.after
 
     def file(self) -> str:
-        """The file whose lines let users in."""
+        """Returns the stack's file."""
         found = re.search(r"file=(\S+)", self.lines())
         assert found, self.lines()
         return found[1]
 
 
 def stacks() -> list[Stack]:
-    """The manual's stack alone, and after and before a module that lets everybody in."""
+    """Returns the manual's stack alone, and after and before a module that accepts everybody."""
     found = []
     for renews in (False, True):
         found += [
             Stack("the stack alone", renews=renews),
             Stack("pam_permit before it", before=OPEN, renews=renews),
-            Stack("pam_permit behind it", behind=OPEN, renews=renews),
+            Stack("pam_permit after it", after=OPEN, renews=renews),
         ]
     return found
 
 
 @dataclass(frozen=True)
 class Visited:
-    """How each name's login with the password ended, and what the file is afterwards."""
+    """The result of each name's login with the password, and the file afterwards."""
 
     stack: Stack
     logins: dict[str, Login] = field(default_factory=dict)
@@ -97,7 +97,7 @@ def fixture_visited(pam: Pam, request: pytest.FixtureRequest) -> Visited:
 
 
 @pytest.mark.parametrize("name", ["nobodyhere", *FIELDS])
-def test_a_hash_of_ours_alone_lets_in(visited: Visited, name: str) -> None:
+def test_only_a_supported_hash_is_accepted(visited: Visited, name: str) -> None:
     answer = Answer.ACCEPTED if name in GET_IN else Answer.REFUSED
     assert visited.logins[name].answer is answer
 

@@ -1,7 +1,7 @@
-"""pam_mkpasswd.so by pamtester: the table of its manual, row by row.
+"""pam_mkpasswd.so with pamtester: its manual's table, row by row.
 
-A row says what each call returns for a line, or for what keeps the call from being made. Each is
-tried as a service of the superuser and as one of another user.
+A row says what each call returns for a line, or for something that prevents the call. The tests
+try each row with a service of root and with one of another user.
 """
 from __future__ import annotations
 
@@ -23,7 +23,7 @@ FOLDER = "/srv/table"
 FILE = f"{FOLDER}/passwords"
 ARGUMENTS = f"file={FILE} rounds=1000 budget=300000"
 NEW = b"another password"
-TOO_LONG = b"a" * 1000  # for the budget
+TOO_LONG = b"a" * 1000  # over the budget
 OWNER = 4242
 
 ANSWERS = {
@@ -42,31 +42,31 @@ Blocking = Callable[[Namespaces], AbstractContextManager[object]]
 
 
 def nothing(_: Namespaces) -> AbstractContextManager[None]:
-    """Nothing in the way."""
+    """Is no obstacle."""
     return contextlib.nullcontext()
 
 
 @contextlib.contextmanager
 def lock_is_held(machine: Namespaces) -> Iterator[None]:
-    """Another process that keeps the lock."""
+    """Holds the lock in another process."""
     lock = f"{FILE}.mkpasswd.lock"
     machine.write(lock, b"")
     with machine.started("flock", lock, "sleep", "infinity"):
         wait_until(
             lambda: machine.run("flock", "-n", lock, "true").status != 0,
-            what="a process that keeps the lock",
+            what="a process that holds the lock",
         )
         yield
-    # While a process still ends, the disk isn't read-only: a removed file is open there.
+    # The disk can't be remounted read-only while a process that is ending has a removed file open.
     wait_until(
         lambda: machine.run("flock", "-n", lock, "true").status == 0,
-        what="the end of the process that kept the lock",
+        what="the end of the process that held the lock",
     )
 
 
 @contextlib.contextmanager
 def disk_is_read_only(machine: Namespaces) -> Iterator[None]:
-    """A file system that can be read alone."""
+    """Makes the file system read-only."""
     machine.run("mount", "-o", "remount,ro", "/srv").required()
     try:
         yield
@@ -76,7 +76,7 @@ def disk_is_read_only(machine: Namespaces) -> Iterator[None]:
 
 @contextlib.contextmanager
 def file_is_gone(machine: Namespaces) -> Iterator[None]:
-    """A folder in the file's place."""
+    """Puts a folder in place of the file."""
     machine.path(FILE).unlink()
     machine.make_folder(FILE)
     try:
@@ -87,26 +87,26 @@ def file_is_gone(machine: Namespaces) -> Iterator[None]:
 
 @dataclass(frozen=True)
 class Row:
-    """What is tried for a row of the table: a line, what is typed, and what is in the way."""
+    """How to try a row of the table: a line, what is typed, and an obstacle."""
 
     title: str
-    field: bytes | None = SHA512  # None where the name has no line
-    old: bytes | None = PASSWORD  # None where nothing is typed
+    field: bytes | None = SHA512  # None if the name has no line
+    old: bytes | None = PASSWORD  # None if nothing is typed
     new: tuple[bytes, bytes] = (NEW, NEW)
     blocking: Blocking = nothing
     arguments: str = ARGUMENTS
-    is_of_line: bool = False  # and not of what keeps the call from being made
+    is_of_line: bool = False  # whether the row is about the line, not about an obstacle
 
     def __str__(self) -> str:
         return self.title
 
 
 def of_line(title: str, field: bytes | None, old: bytes = PASSWORD) -> Row:
-    """A row for what the name's line has."""
+    """Returns a row about the name's line."""
     return Row(title, field, old, is_of_line=True)
 
 
-NO_NAME = "no name given"  # which pamtester can't try
+NO_NAME = "no name given"  # pamtester can't try this row
 ROWS = [
     of_line("hash of the password", SHA512),
     of_line("hash of another one", SHA512, WRONG),
@@ -130,7 +130,7 @@ ROWS = [
 
 @dataclass(frozen=True)
 class Expected:
-    """What the manual says of a row. None stands for what doesn't happen in a call."""
+    """The manual's answers in a row. None means that a call doesn't get there."""
 
     auth: Answer | None
     account: Answer | None
@@ -138,7 +138,7 @@ class Expected:
 
 
 def table_of_manual() -> dict[str, Expected]:
-    """The rows of the manual's table, by their titles."""
+    """Returns the rows of the manual's table by title."""
     (table,) = [display for display in displays_of_manual() if "AUTH_ERR" in display]
     rows = {}
     for line in table.splitlines()[1:]:
@@ -152,7 +152,7 @@ TABLE = table_of_manual()
 
 @dataclass(frozen=True)
 class Service:
-    """Who runs a service, and how it asks for a change of password that needs the old one."""
+    """A service's user, and its call for a change of password that asks for the old one."""
 
     title: str
     through: tuple[Word, ...]
@@ -163,7 +163,7 @@ class Service:
 
 
 SERVICES = [
-    Service("the superuser's service", (), "chauthtok(PAM_CHANGE_EXPIRED_AUTHTOK)"),
+    Service("root's service", (), "chauthtok(PAM_CHANGE_EXPIRED_AUTHTOK)"),
     Service(
         "another user's service",
         ("setpriv", f"--reuid={OWNER}", f"--regid={OWNER}", "--clear-groups"),
@@ -180,7 +180,7 @@ def test_the_table_has_a_row_for_each_case() -> None:
 
 @pytest.fixture(name="prepared")
 def fixture_prepared(pam: Pam, request: pytest.FixtureRequest) -> Iterator[Row]:
-    """The row, with the file as it says, in a folder of the other user's."""
+    """The row, with its file and its obstacle, in a folder of the other user."""
     row: Row = request.param
     machine = pam.machine
     machine.run("rm", "-rf", FOLDER).required()
@@ -194,14 +194,14 @@ def fixture_prepared(pam: Pam, request: pytest.FixtureRequest) -> Iterator[Row]:
 
 
 def typed(*lines: bytes | None) -> list[bytes]:
-    """What is typed until nothing is."""
+    """Returns the typed lines, or none if one of them isn't typed."""
     if None in lines:
         return []
     return [line for line in lines if line is not None]
 
 
 def answered_rows(column: str) -> pytest.MarkDecorator:
-    """The rows for which a column of the table says something."""
+    """Returns a parameter for the rows in which a column of the table has an answer."""
     rows = [row for row in ROWS if getattr(TABLE[row.title], column) is not None]
     return pytest.mark.parametrize("prepared", rows, ids=str, indirect=True)
 

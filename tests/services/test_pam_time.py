@@ -1,6 +1,6 @@
-"""pam_mkpasswd.so under cachegrind: a refused login takes as long for each field and name.
+"""pam_mkpasswd.so under cachegrind: a refused login takes the same time for each field and name.
 
-What is counted is instructions of the processor, which another machine's load doesn't change.
+The tests count instructions, which don't depend on the machine's load.
 """
 from __future__ import annotations
 
@@ -18,7 +18,7 @@ pytestmark = [
     pytest.mark.xdist_group("pam stacks"),
 ]
 
-ROUNDS = 200_000  # so many that what surrounds a hash is less than the tolerance
+ROUNDS = 200_000  # so many that the work around a hash is below the tolerance
 ARGUMENTS = f"rounds={ROUNDS} debug"
 TOLERANCE = 0.0002
 TOLERANCE_OF_UNREADABLE = 0.01
@@ -43,7 +43,7 @@ LINES = 20_000
 
 @dataclass(frozen=True)
 class Counted:
-    """How PAM answered a login with a wrong password, and after how many instructions."""
+    """PAM's answer to a login with a wrong password, and the number of instructions."""
 
     answer: Answer
     instructions: int
@@ -61,14 +61,14 @@ def counted(pam: Pam, name: str) -> Counted:
 
 @pytest.fixture(scope="module", autouse=True)
 def _file(pam: Pam) -> None:
-    """The file has all fields."""
+    """Writes a file with all fields."""
     lines = [b"%b:%b\n" % (name.encode(), field) for name, field in FIELDS.items()]
     pam.machine.write(FILE, b"".join(lines))
 
 
 @pytest.fixture(scope="module", name="expected")
 def fixture_expected(pam: Pam) -> int:
-    """The instructions of a login by a current hash."""
+    """The number of instructions of a login with a current hash."""
     pam.set_arguments(f"file={FILE} {ARGUMENTS}")
     return counted(pam, "current").instructions
 
@@ -76,7 +76,7 @@ def fixture_expected(pam: Pam) -> int:
 @pytest.mark.parametrize(
     "name", [*FIELDS, *[pytest.param(name, id=name or "empty name") for name in UNKNOWN]]
 )
-def test_a_wrong_password_takes_as_long_for_each_field_and_unknown_name(
+def test_a_wrong_password_takes_the_same_time_for_each_field_and_an_unknown_name(
     pam: Pam, expected: int, name: str
 ) -> None:
     pam.set_arguments(f"file={FILE} {ARGUMENTS}")
@@ -86,7 +86,7 @@ def test_a_wrong_password_takes_as_long_for_each_field_and_unknown_name(
 
 
 @pytest.mark.parametrize("path", UNREADABLE)
-def test_it_takes_as_long_while_the_file_can_not_be_read(
+def test_a_login_takes_the_same_time_if_the_file_cannot_be_read(
     pam: Pam, expected: int, path: str
 ) -> None:
     pam.set_arguments(f"file={path} {ARGUMENTS}")
@@ -95,7 +95,7 @@ def test_it_takes_as_long_while_the_file_can_not_be_read(
     assert found.instructions == pytest.approx(expected, rel=TOLERANCE_OF_UNREADABLE)
 
 
-def test_it_takes_as_long_wherever_a_name_is_in_a_long_file(pam: Pam) -> None:
+def test_a_login_takes_the_same_time_wherever_the_name_is_in_a_long_file(pam: Pam) -> None:
     others = b"".join(b"user%05d:!\n" % number for number in range(LINES))
     line = b":" + CURRENT + b"\n"
     pam.machine.write(LONG_FILE, b"user_first" + line + others + b"user_final" + line)

@@ -1,4 +1,4 @@
-"""The Debian package of the PAM module isn't upgraded where nobody could log in afterwards."""
+"""The PAM module's Debian package refuses an upgrade after which nobody could log in."""
 from __future__ import annotations
 
 import pytest
@@ -24,20 +24,20 @@ FAULTY = [
     pytest.param("auth requisite pam_mkpasswd.so\n", id="no argument"),
     pytest.param("-auth [success=1 ignore=1] /lib/security/pam_mkpasswd.so debug\n", id="a path"),
     pytest.param("auth required pam_mkpasswd.so # file=/srv/a\n", id="a file in a comment"),
-    pytest.param("auth required pam_mkpasswd.so xfile=/srv/a\n", id="another word"),
+    pytest.param("auth required pam_mkpasswd.so xfile=/srv/a\n", id="an unknown argument"),
     pytest.param("auth required pam_mkpasswd.so file=/etc/shadow\n", id="shadow"),
     pytest.param("auth required pam_mkpasswd.so \\\n debug\n", id="two lines"),
 ]
 
 
 def upgraded(machine: Namespaces, stack: str) -> Result:
-    """Runs what dpkg runs first, where a service has a stack."""
+    """Runs the package's preinst on a machine with a service's stack."""
     machine.write(STACK, stack)
     return machine.run("sh", SCRIPT, "upgrade", "2.0.1")
 
 
 @pytest.mark.parametrize("stack", FAITHFUL)
-def test_an_upgrade_goes_on_where_each_line_names_a_file(machine: Namespaces, stack: str) -> None:
+def test_an_upgrade_goes_on_if_each_line_names_a_file(machine: Namespaces, stack: str) -> None:
     result = upgraded(machine, stack)
     assert (result.status, result.stderr) == (0, b""), result
 

@@ -1,6 +1,6 @@
 """pam_mkpasswd.so under valgrind, with each kind of field, call and arguments.
 
-`make fuzz` has the sanitizers.
+`make fuzz` runs it with sanitizers.
 """
 from __future__ import annotations
 
@@ -29,7 +29,7 @@ FIELDS = {
 }
 ARGUMENTS = f"file={FILE} rounds=1000 renew debug budget=300000000"
 NEW = b"another password"
-ERROR = 99  # valgrind's status where it finds something
+ERROR = 99  # valgrind's status if it finds an error
 VALGRIND = (
     *("valgrind", "-q", "--leak-check=full", "--show-leak-kinds=definite"),
     f"--error-exitcode={ERROR}",
@@ -38,13 +38,13 @@ VALGRIND = (
 
 @pytest.fixture(autouse=True)
 def _file(pam: Pam) -> None:
-    """The file has all fields. The last line doesn't end."""
+    """Writes a file with all fields, the last line without a line feed."""
     lines = [b"%b:%b" % (name.encode(), field) for name, field in FIELDS.items()]
     pam.machine.write(FILE, b"\n".join(lines))
 
 
 def assert_nothing_found(pam: Pam, folder: Path, *words: str, typed: tuple[bytes, ...]) -> None:
-    """Fails the test where valgrind finds something while pamtester runs."""
+    """Runs pamtester under valgrind, and fails the test if that finds an error."""
     found = folder / "found"
     pam.log.entries()
     stdin = b"".join(line + b"\n" for line in typed)
@@ -55,13 +55,13 @@ def assert_nothing_found(pam: Pam, folder: Path, *words: str, typed: tuple[bytes
 
 
 @pytest.mark.parametrize("name", [UNKNOWN, *FIELDS])
-def test_valgrind_finds_nothing_in_a_login(pam: Pam, name: str, tmp_path: Path) -> None:
+def test_valgrind_finds_no_error_in_a_login(pam: Pam, name: str, tmp_path: Path) -> None:
     pam.set_arguments(ARGUMENTS)
     assert_nothing_found(pam, tmp_path, name, "authenticate", "acct_mgmt", typed=(PASSWORD,))
 
 
 @pytest.mark.parametrize("name", [UNKNOWN, *FIELDS])
-def test_valgrind_finds_nothing_in_a_change_of_a_password(
+def test_valgrind_finds_no_error_in_a_change_of_password(
     pam: Pam, name: str, tmp_path: Path
 ) -> None:
     pam.set_arguments(ARGUMENTS)
@@ -70,7 +70,7 @@ def test_valgrind_finds_nothing_in_a_change_of_a_password(
 
 @pytest.mark.parametrize("operation", ["authenticate", "chauthtok"])
 @pytest.mark.parametrize("arguments", ["file=/gone", f"file={FILE} rounds=x", "debug"])
-def test_valgrind_finds_nothing_in_a_call_that_reads_no_field(
+def test_valgrind_finds_no_error_in_a_call_that_reads_no_field(
     pam: Pam, arguments: str, operation: str, tmp_path: Path
 ) -> None:
     pam.set_arguments(arguments)

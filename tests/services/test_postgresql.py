@@ -1,4 +1,4 @@
-"""PostgreSQL asks the PAM module, as an unprivileged service."""
+"""PostgreSQL, an unprivileged service, asks the PAM module."""
 from __future__ import annotations
 
 import shutil
@@ -18,14 +18,14 @@ pytestmark = [
 ]
 
 PORT = 8080
-REFUSED = 2  # psql's status
+REFUSED = 2  # psql's status for a refused login
 FOLDER = "/srv/postgresql"
 ACCESS = "local all all trust\nhost all all 127.0.0.1/32 pam pamservice=example\n"
 AS_POSTGRES = ("runuser", "-u", "postgres", "--")
 
 
 def create_roles(site: Site, programs: Path) -> None:
-    """Makes a database with a role for each name, by the program that needs no server."""
+    """Makes a database with a role for each name, in single-user mode."""
     names = [*(user.name for user in USERS), *CLOSED, "a b", "a:b"]
     roles = "".join(f'CREATE ROLE "{name}" LOGIN;\n' for name in names)
     site.machine.make_folder(FOLDER)

@@ -1,4 +1,4 @@
-"""sshd asks the PAM module, by the stack of its recipe, for users who have accounts."""
+"""sshd asks the PAM module about users with accounts, by the recipe's stack."""
 from __future__ import annotations
 
 from collections.abc import Iterator
@@ -16,7 +16,7 @@ pytestmark = [
 ]
 
 PORT = 8080
-REFUSED = 255  # ssh's status
+REFUSED = 255  # ssh's status for a refused login
 CONFIGURATION = """\
 Port {port}
 ListenAddress 127.0.0.1
@@ -35,7 +35,7 @@ OPTIONS = (
 
 @pytest.fixture(scope="module", name="folder")
 def fixture_folder(tmp_path_factory: pytest.TempPathFactory) -> Path:
-    """A folder with the configuration, and with what types a password."""
+    """A folder with the configuration, and with a program that types a password."""
     folder = tmp_path_factory.mktemp("sshd")
     (folder / "sshd_config").write_text(CONFIGURATION.format(port=PORT, folder=folder))
     asked = folder / "askpass"
@@ -53,7 +53,7 @@ def fixture_door(site_with_module: Site, folder: Path) -> Iterator[Door]:
     site.machine.make_folder("/run/sshd")
     site.run("ssh-keygen", "-q", "-t", "ed25519", "-N", "", "-f", f"{folder}/key").required()
     options = [f"-o{option}" for option in OPTIONS]
-    # OpenSSH 9.8 and later turn an address away for a while where a login has failed.
+    # OpenSSH 9.8 and later refuse an address for a while after a failed login.
     addresses = (f"127.0.0.{number}" for number in range(2, 255))
 
     def log_in(name: str, password: str) -> Verdict:

@@ -1,4 +1,4 @@
-"""vsftpd asks the PAM module, which renews outdated hashes in its file and loses nothing."""
+"""vsftpd asks the PAM module, which renews outdated hashes in its file and loses no change."""
 from __future__ import annotations
 
 import contextlib
@@ -47,12 +47,12 @@ secure_chroot_dir=/run/vsftpd/empty
 COMMENT = b"# more\n"
 LONG_TAIL = COMMENT * 5_000
 LONGER_TAIL = COMMENT * 1_000_000
-# A second's work: logins meet, and there is time to change the file once it was read.
+# About a second of work: logins overlap, and the file can change after it is read.
 SLOW = b"$5$rounds=1500000$abcdefgh"
 
 
 def ftp_verdict(machine: Namespaces, name: str, password: str) -> Verdict:
-    """Logs in by FTP."""
+    """Logs in by FTP, and returns the verdict."""
     client = ftplib.FTP(timeout=SECONDS)
     with machine.network():
         client.connect("127.0.0.1", PORT)
@@ -98,7 +98,7 @@ class TestLogins(PamLoginTests):
 
 
 def lines_by_name(content: bytes) -> dict[bytes, bytes]:
-    """The first line of each name."""
+    """Returns the first line of each name."""
     lines: dict[bytes, bytes] = {}
     for line in content.splitlines():
         name, _, field = line.partition(b":")
@@ -113,20 +113,20 @@ def assert_renewed(door: Door, user: User) -> None:
 
 
 def slow_line(user: User) -> bytes:
-    """A line whose hash takes a second."""
+    """Returns a line whose hash takes a second."""
     return user.name.encode() + b":" + crypt(user.password.encode(), SLOW) + b"\n"
 
 
-# ---- Renewals that somebody meets
+# ---- Renewals that overlap with other changes
 
 
 @pytest.fixture(scope="module", name="slow_lines")
 def fixture_slow_lines() -> dict[User, bytes]:
-    """A line of each of two users, whose hash takes a second."""
+    """Lines of two users, whose hashes take a second each."""
     return {user: slow_line(user) for user in (ONE, SIX)}
 
 
-def test_three_logins_at_once_get_in_and_are_all_renewed(
+def test_three_simultaneous_logins_are_accepted_and_renewed(
     door: Door, slow_lines: dict[User, bytes]
 ) -> None:
     door.site.machine.write(FILE, b"".join(slow_lines.values()))
@@ -140,9 +140,9 @@ def test_three_logins_at_once_get_in_and_are_all_renewed(
 def log_in_while(
     door: Door, content: bytes, meanwhile: Callable[[Future[Verdict]], None]
 ) -> Verdict:
-    """Logs in the user `six` by a file with this content, while something else is done."""
+    """Logs in as the user `six` with this file, while something else happens."""
     door.site.machine.write(FILE, content)
-    # Whoever reads it sets the time of the last access.
+    # Reading the file updates its access time.
     os.utime(door.site.machine.path(FILE), (1, door.site.machine.path(FILE).stat().st_mtime))
     with ThreadPoolExecutor(1) as pool:
         login = pool.submit(door.log_in, SIX.name, SIX.password)
@@ -152,7 +152,7 @@ def log_in_while(
 
 @dataclass(frozen=True)
 class Replacement:
-    """A file that takes the place of one with a slow line, and what the login gets by it."""
+    """A file that replaces one with a slow line during a login, and the verdict."""
 
     title: str
     is_locked: bool
@@ -162,20 +162,20 @@ class Replacement:
         return self.title
 
     def content(self, slow_lines: dict[User, bytes]) -> bytes:
-        """The lines of the file."""
+        """Returns the lines of the file."""
         if self.is_locked:
             return slow_lines[SIX].replace(b":", b":!", 1)
         return slow_lines[ONE] + slow_lines[SIX]
 
 
 REPLACEMENTS = [
-    Replacement("where the user is locked", is_locked=True, verdict=Verdict.REFUSED),
+    Replacement("with the user locked", is_locked=True, verdict=Verdict.REFUSED),
     Replacement("with another line", is_locked=False, verdict=Verdict.ACCEPTED),
 ]
 
 
 @pytest.mark.parametrize("replacement", REPLACEMENTS, ids=str)
-def test_a_file_that_replaces_it_meanwhile_stays_but_for_the_hash_that_was_checked(
+def test_a_file_that_replaces_the_old_one_keeps_all_but_the_checked_hash(
     door: Door, slow_lines: dict[User, bytes], replacement: Replacement
 ) -> None:
     machine, new = door.site.machine, replacement.content(slow_lines)
@@ -201,7 +201,7 @@ def test_a_file_that_replaces_it_meanwhile_stays_but_for_the_hash_that_was_check
 
 @pytest.fixture(scope="module", name="short_line")
 def fixture_short_line(door: Door) -> bytes:
-    """The line of the user `six` that the recipe has made."""
+    """The line of the user `six`, from the recipe."""
     return f"{SIX.name}:{door.site.hashes()[SIX.name]}\n".encode()
 
 
@@ -210,7 +210,9 @@ def remount(door: Door, size: str) -> None:
     door.site.machine.run("mount", "-o", f"remount,size={size}", "/srv").required()
 
 
-def test_a_user_gets_in_on_a_full_disk_and_the_file_stays(door: Door, short_line: bytes) -> None:
+def test_a_login_on_a_full_disk_is_accepted_and_the_file_stays(
+    door: Door, short_line: bytes
+) -> None:
     content = short_line + LONG_TAIL
     remount(door, "60k")
     try:
@@ -222,7 +224,7 @@ def test_a_user_gets_in_on_a_full_disk_and_the_file_stays(door: Door, short_line
 
 
 def new_files_of(number: int) -> list[str]:
-    """The files without a name that a process writes."""
+    """Returns the unnamed files that a process writes."""
     links = []
     with contextlib.suppress(FileNotFoundError, ProcessLookupError):
         for descriptor in Path(f"/proc/{number}/fd").iterdir():
@@ -231,13 +233,13 @@ def new_files_of(number: int) -> list[str]:
 
 
 def descendants_of(number: int) -> list[int]:
-    """The numbers of all processes below one."""
+    """Returns the ids of all descendants of a process."""
     children = children_of(number)
     return children + [below for child in children for below in descendants_of(child)]
 
 
 def kill_as_it_renews(service: Service, login: Future[Verdict]) -> None:
-    """Kills what serves a client once that writes a new file."""
+    """Kills the service's process for a client once it writes a new file."""
 
     def is_renewing() -> bool:
         return any(map(new_files_of, descendants_of(service.number)))
@@ -249,7 +251,7 @@ def kill_as_it_renews(service: Service, login: Future[Verdict]) -> None:
 
 @pytest.fixture(name="killed_content")
 def fixture_killed_content(door: Door, short_line: bytes) -> bytes:
-    """What a login leaves of a long file that is killed while it renews a hash there."""
+    """What is left of a long file after a login that is killed during its renewal."""
     service = door.service
     assert service is not None
     kill = functools.partial(kill_as_it_renews, service)
@@ -258,7 +260,7 @@ def fixture_killed_content(door: Door, short_line: bytes) -> bytes:
     return door.site.machine.read(FILE)
 
 
-def test_the_file_is_whole_after_a_kill(
+def test_the_file_is_complete_after_a_kill(
     door: Door, short_line: bytes, killed_content: bytes
 ) -> None:
     with_old_hash = re.sub(rb"\Asix:\S+\n", lambda _: short_line, killed_content)

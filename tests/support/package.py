@@ -2,7 +2,7 @@
 
 A module of tests imports the package like this, so that mypy knows its types:
 
-    with tested_package():
+    with package_under_test():
         import mkpasswd
 
 PACKAGE names a folder with a package mkpasswd, by default python/src, and LIBRARY a file named
@@ -34,7 +34,7 @@ PACKAGE = Path(os.environ.get("PACKAGE", ROOT / "python/src")).absolute()
 
 
 @contextlib.contextmanager
-def tested_package() -> Iterator[None]:
+def package_under_test() -> Iterator[None]:
     """Lets the block import the package. Skips the module's tests if the library isn't built.
 
     The package loads its library by name, and finds the one of that name that is loaded here by
