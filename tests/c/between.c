@@ -1,17 +1,17 @@
-/* Loaded before the C library: somebody else, or another file system, between a program that
-   replaces a file and the system. Before PATH is exchanged with another file, somebody renames
-   PATH.1 over it, the second time PATH.2, and so on, where they are there.
+/* Loaded before the C library, it plays somebody else, or another file system, to a program that
+   replaces a file. Before the program exchanges PATH with another file, somebody renames PATH.1
+   over it, the second time PATH.2, and so on, as long as these exist.
 
    NO_EXCHANGE=1   the file system can't exchange files
-   NO_TMPFILE=1    it has no files without a name
+   NO_TMPFILE=1    it has no O_TMPFILE
    NO_LOCKS=1      it has no locks
-   NO_LINKS=1      what a link says can't be read from the disk
+   NO_LINKS=1      reading a symbolic link fails
    CHMOD=1         somebody changes PATH's mode before the first exchange
-   REMOVED=PATH    somebody removes PATH before the program notes what it exchanges
+   REMOVED=PATH    somebody removes PATH before the program writes its note of the exchange
    KILL=fsync      the program is killed before its file is on the disk
-   KILL=linkat     when the file has its name
-   KILL=exchange   when it is in PATH's place
-   KILL=unlinkat   when what came out would be removed */
+   KILL=linkat     after the file has got its name
+   KILL=exchange   after the exchange
+   KILL=unlinkat   before it removes the old file */
 #define _GNU_SOURCE
 #include <errno.h>
 #include <fcntl.h>
@@ -71,7 +71,7 @@ int openat(int folder, const char *path, int flags, ...)
     return (int)syscall(SYS_openat, folder, path, flags, mode);
 }
 
-/* Python calls it by this name. */
+/* Python calls openat by this name. */
 int openat64(int folder, const char *path, int flags, ...) __attribute__((alias("openat")));
 
 int flock(int file, int operation)

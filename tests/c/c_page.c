@@ -1,16 +1,16 @@
-/* What the service of docs/C.md has of its own: one user, ann, or none. `c_page FIELD PASSWORD
- * [NEW]` logs her in, who has this field, or nobody if it is `-`. It prints the field that she has
- * afterwards, and on standard error what is logged; then it hashes a new password. The status is 0
- * if she is in. With LOCKED in its environment somebody locks the account meanwhile. */
+/* The service around the code of docs/C.md. `c_page FIELD PASSWORD [NEW]` has one user, ann, with
+ * this field, or no user if it is `-`. It logs ann in, prints her field afterwards, and the log on
+ * standard error, and then hashes the new password. The status is 0 if she is logged in. With
+ * LOCKED in the environment somebody locks the account during the login. */
 #include <mkpasswd.h>
 #include <stdio.h>
 #include <stdlib.h>
 
-/* The page's. */
+/* Functions of the page. */
 bool log_in(const char *name, const char *typed);
 bool hash_new_password(const char *typed, char *hash, const char **sentence);
 
-/* What the page needs. */
+/* Functions that the page needs. */
 bool find_field(const char *name, char *field);
 bool replace_field(const char *name, const char *old, const char *hash);
 void log_login(const char *name, const char *what);

@@ -5,23 +5,22 @@
  *
  *     verify_bytes password=70617373 stored=24312461 budget=150000000
  *
- * Bytes are hexadecimal, or `null`. For the calls that the header has itself they go to
- * mkpasswd_password_bytes() and mkpasswd_field_bytes(), and with `text:` before them, as a string,
- * to mkpasswd_password() and mkpasswd_field(). What a row leaves out is empty, or 0.
- * `out_size=null` stands for a null `out`. `new_over` is mkpasswd_new_bytes with a password that
- * stands in `out`.
+ * Bytes are hexadecimal, or `null`. For the inline calls they go to mkpasswd_password_bytes() and
+ * mkpasswd_field_bytes(), or with `text:` before them, as a string, to mkpasswd_password() and
+ * mkpasswd_field(). Missing arguments are empty, or 0. `out_size=null` means a null `out`.
+ * `new_over` is mkpasswd_new_bytes with the password in `out`.
  *
- * The rows `set threads=N` (so many threads make calls), `set refused=N` (this allocation fails,
- * from 1) and `set entropy=HEX`, `entropy=none` or `entropy=real` hold for the rows that follow.
+ * The rows `set threads=N` (the number of threads that make calls), `set refused=N` (the allocation
+ * that fails, from 1) and `set entropy=HEX`, `entropy=none` or `entropy=real` apply to the rows
+ * after them.
  *
- * A line has the result, the numbers of the report, the counts of counted_calls.h, and what the
- * call left in `out`: its string, `unchanged`, or `SPILT` if another byte was written.
+ * A line has the result, the numbers of the report, the counts of counted_calls.h, and the content
+ * of `out`: its string, `unchanged`, or `SPILT` if the call wrote other bytes.
  *
- * Input ends where a page begins that nobody may touch, and is read-only; `out` and the report end
- * at such a page too. Each call is made twice, with 26 KiB of stack left above such a page (not
- * with -DSANITIZED), and has to leave the same both times: first with a report full of 0xff, then
- * with one full of 0 or, if the header has the call itself, with none, and with a null policy in
- * place of one of zeros. */
+ * Input is read-only and ends at an inaccessible page, and so do `out` and the report. Each call is
+ * made twice, with 26 KiB of stack left above such a page (not with -DSANITIZED), and must give the
+ * same both times: first with a report full of 0xff, then with one full of 0. For an inline call
+ * the second time has no report, and a null policy in place of one of zeros. */
 #ifndef _GNU_SOURCE
 #define _GNU_SOURCE
 #endif
@@ -30,7 +29,7 @@
 #include <inttypes.h>
 #include <pthread.h>
 #include <stdio.h>
-/* From here on all is hidden, but the header's calls are to be found in a shared library. */
+/* The calls of the header come from a shared library; all names after this are hidden. */
 #pragma GCC visibility push(hidden)
 #include <mkpasswd.h>
 
@@ -48,26 +47,26 @@ static void *allocated(void *block)
     return block;
 }
 
-/* ---- rows */
+/* ---- Rows */
 
 /* Bytes that a call reads. */
 struct input {
-    uint8_t *page; /* at whose end they are */
+    uint8_t *page; /* they are at its end */
     const uint8_t *bytes;
     size_t length;
-    bool is_text; /* so that a zero byte follows */
+    bool is_text; /* whether a zero byte follows */
 };
 
 /* The arguments of a call. */
 struct arguments {
-    struct input password, stored; /* the latter is called stored, field, setting or salt */
-    struct mkpasswd_policy policy; /* whose budget is also that of a call without a policy */
+    struct input password, stored; /* a row calls the second one stored, field, setting or salt */
+    struct mkpasswd_policy policy; /* its budget is also that of calls without a policy */
     uint32_t error, scheme;
     size_t password_length, out_size;
     bool has_out;
 };
 
-/* The value of a name in a row, up to the next space; NULL if the row doesn't have it. */
+/* Returns the value of a name in a row, up to the next space, or NULL if the row lacks it. */
 static const char *value_of(const char *row, const char *name)
 {
     size_t length = strlen(name);
@@ -101,7 +100,7 @@ static uint8_t digit_of(char hex)
     return (uint8_t)(hex <= '9' ? hex - '0' : hex - 'a' + 10);
 }
 
-/* The bytes that a value has in hexadecimal digits. */
+/* Reads the bytes of a value in hexadecimal digits. */
 static size_t bytes_of(const char *value, uint8_t *bytes)
 {
     size_t length = 0;
@@ -152,12 +151,12 @@ static void read_row(struct arguments *given, const char *row)
     given->out_size = given->has_out ? (size_t)number_of(row, "out_size") : 100;
 }
 
-/* ---- calls */
+/* ---- Calls */
 
-/* What a call gets, and where it writes. */
+/* A call's arguments, and where it writes. */
 struct call {
     struct arguments given;
-    bool has_null_policy; /* in place of one of zeros */
+    bool has_null_policy; /* instead of a policy of zeros */
     uint8_t *out;
     char *text_out;
     struct mkpasswd_report *report;
@@ -403,7 +402,7 @@ static const struct kind kinds[] = {
     {"version", version, false, false},
 };
 
-/* The kind of a row's call; what isn't known ends the program. */
+/* Returns the kind of a row's call. An unknown call ends the program. */
 static const struct kind *kind_of(const char *row)
 {
     size_t place;
@@ -415,7 +414,7 @@ static const struct kind *kind_of(const char *row)
     abort();
 }
 
-/* ---- one call in one thread */
+/* ---- One call in one thread */
 
 struct job {
     const struct kind *kind;
@@ -424,7 +423,7 @@ struct job {
     char line[2 * PAGE], first[2 * PAGE];
 };
 
-/* What the call left in `out`; whether it wrote nothing else. Quotes stand around a string. */
+/* Returns what the call left in `out`, and the quotes for a string. Checks the bytes around it. */
 static const char *left_in(const struct job *job, const char **quote)
 {
     const uint8_t *page = job->out_page, *out = job->call.out, *byte, *end = NULL;
@@ -457,7 +456,7 @@ static void print_answer(struct job *job, int32_t result)
         work->table, work->scratch, allocations, blocks_kept, bytes_drawn, quote, left, quote);
 }
 
-/* Makes the call of a job. The report is full of a byte before, or isn't given. */
+/* Makes the call of a job. The report is filled with a byte before, or is null. */
 static int32_t make(struct job *job, bool has_report, int byte)
 {
     struct call *call = &job->call;
@@ -494,7 +493,7 @@ __attribute__((noinline)) static void perform(struct job *job)
     *(volatile uint8_t *)__builtin_alloca(stack_above - STACK_LEFT) = 0;
 #endif
     print_answer(job, make(job, true, kind->has_report ? 0xff : 0));
-    if (is_drawn) /* no salt comes twice */
+    if (is_drawn) /* the second salt would differ */
         return;
     memcpy(job->first, job->line, sizeof job->first);
     print_answer(job, make(job, !kind->takes_nulls, 0));
@@ -505,13 +504,13 @@ __attribute__((noinline)) static void perform(struct job *job)
         job->line + length, sizeof job->line - length, " DIFFERS FROM %.4000s", job->first);
 }
 
-/* ---- threads, which share the rows out among them */
+/* ---- Threads, which share the rows */
 
 static pthread_mutex_t lock = PTHREAD_MUTEX_INITIALIZER;
-static char **rows, **lines; /* up to the next row that sets something */
+static char **rows, **lines; /* up to the next row `set` */
 static size_t row_count, next_row, room_for_rows;
 
-/* Makes calls until all rows are taken. */
+/* Makes calls until no row is left. */
 static void *run(void *argument)
 {
     struct job *job = (struct job *)argument;

@@ -1,8 +1,8 @@
-/* Counts what a call of the library asks of the C library, for tests/c/calls.c: allocations, of
- * which one can be refused, and random bytes, which can be given.
+/* Counts the allocations and random bytes of a library call, for tests/c/calls.c. It can make one
+ * allocation fail, and choose the random bytes.
  *
- * With -DWRAP this is linked with --wrap for malloc, realloc, free and getentropy; with -DREPLACE
- * it stands in the place of the C library's functions. With neither all counts stay 0. */
+ * With -DWRAP, link with --wrap for malloc, realloc, free and getentropy. With -DREPLACE these
+ * functions replace the C library's. With neither all counts stay 0. */
 #include <stdint.h>
 #include <stdlib.h>
 #include <string.h>
@@ -15,12 +15,12 @@ enum entropy {
     ENTROPY_GIVEN
 };
 
-/* What holds for the calls that follow. */
+/* The settings for the next calls. */
 static long refused_allocation; /* from 1; 0 for none */
 static enum entropy entropy = ENTROPY_REAL;
 static uint8_t given_entropy[24];
 
-/* What the call of this thread did. */
+/* The counts of this thread's call. */
 static __thread int is_counting;
 static __thread long allocations, blocks_kept, bytes_drawn;
 

@@ -1,13 +1,13 @@
-/* What a compiler can say of mkpasswd.h without running anything: method 0, rounds 0 and a budget
- * of 0 are what a policy of zeros has, and for clang++ no exported call throws. g++ doesn't count
- * the attribute nothrow here. */
+/* What a compiler can check in mkpasswd.h without running anything: a policy of zeros has method 0,
+ * rounds 0 and a budget of 0, and for clang++ no exported call throws. g++ ignores the attribute
+ * nothrow here. */
 #include <mkpasswd.h>
 
 extern struct mkpasswd_policy zeros;
 struct mkpasswd_policy zeros = {0, 0, 0};
 
 #if defined __clang__ && defined __cplusplus && __cplusplus >= 201103L
-extern const uint8_t *bytes; /* none of them is used */
+extern const uint8_t *bytes; /* these are never used */
 extern uint8_t *out;
 extern struct mkpasswd_report *report;
 

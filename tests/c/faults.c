@@ -1,9 +1,9 @@
-/* Loaded before the C library, it makes one call of a program fail, and writes of each call that it
-   sees a line to the file FAULT_LOG: its kind, its bytes, its file descriptor (0 for a call without
-   one), and whether it failed.
+/* Loaded before the C library, it makes one call of a program fail, and writes a line for each call
+   to the file FAULT_LOG: its kind, its bytes, its file descriptor (0 for a call without one), and
+   whether it failed.
 
    FAULT is the kind of the call that fails (memory, read, write or random) and its number, as in
-   `read 2`; or `short`, for reads and writes that handle one byte each. */
+   `read 2`, or `short` for reads and writes of one byte each. */
 #define _GNU_SOURCE
 #include <errno.h>
 #include <fcntl.h>
@@ -20,7 +20,7 @@ extern void *__libc_calloc(size_t count, size_t size);
 
 static int log_file = -1;
 
-/* Whether this call, the next one of its kind, has to fail. */
+/* Counts and logs a call, and returns whether it must fail. */
 static int fails(const char *kind, unsigned long *calls, size_t bytes, int file)
 {
     const char *path = getenv("FAULT_LOG"), *fault = getenv("FAULT");
@@ -38,7 +38,7 @@ static int fails(const char *kind, unsigned long *calls, size_t bytes, int file)
     return is_it;
 }
 
-/* How many bytes a read or write handles. */
+/* Returns how many bytes a read or write may transfer. */
 static size_t handled(size_t size)
 {
     const char *fault = getenv("FAULT");
@@ -74,7 +74,7 @@ void *calloc(size_t count, size_t size)
     return __libc_calloc(count, size);
 }
 
-/* Not every allocator can be asked. */
+/* Not every allocator has this call, so the program must not use it. */
 size_t malloc_usable_size(void *block)
 {
     (void)block;

@@ -1,5 +1,4 @@
-/* What fuzzing targets of the library share: pages that nobody may touch, and what each report and
- * each `out` must be. */
+/* Helpers for fuzzing the library: inaccessible pages, and checks of each report and each `out`. */
 #include <crypt.h>
 #include <mkpasswd.h>
 #include <sys/mman.h>
@@ -8,7 +7,7 @@
 #define PATTERN 0xa5 /* of `out` before a call */
 #define LONGEST_CRYPTED 511
 
-/* Memory between two pages that nobody may touch. */
+/* Memory between two inaccessible pages. */
 enum place {
     PASSWORD_PAGE,
     FIELD_PAGE,
@@ -18,7 +17,7 @@ enum place {
 
 int LLVMFuzzerTestOneInput(const uint8_t *data, size_t size);
 
-/* The library is as it is built, without counters: the fuzzer goes by methods and errors. */
+/* The library has no coverage counters, so the fuzzer is guided by methods and errors. */
 __attribute__((section("__libfuzzer_extra_counters"))) static uint8_t seen[8 * 32];
 static uint8_t *pages[PAGES];
 
@@ -48,7 +47,7 @@ static uint8_t *at_end(enum place place, const void *bytes, size_t length)
     return end - length;
 }
 
-/* The place for a string, with so many bytes up to the end of a page. */
+/* Returns the place for a string of this size at the end of a page. */
 static char *new_out(size_t room)
 {
     uint8_t *page = page_of(OUT_PAGE);
@@ -57,7 +56,7 @@ static char *new_out(size_t room)
     return (char *)page + PAGE - room;
 }
 
-/* A report that no call has filled. */
+/* Returns a report that no call has filled. */
 static struct mkpasswd_report unfilled_report(void)
 {
     struct mkpasswd_report report;
@@ -66,8 +65,8 @@ static struct mkpasswd_report unfilled_report(void)
     return report;
 }
 
-/* Returns the result of a call with a report, of which each must hold: an error is a known one, and
- * means no; and whether a hash is outdated is 0 or 1. */
+/* Returns the result of a call, after checking its report: an error is known and means no, and
+ * `outdated` is 0 or 1. */
 static bool checked(bool result, const struct mkpasswd_report *report)
 {
     char message[MKPASSWD_TEXT_SIZE];
@@ -78,8 +77,8 @@ static bool checked(bool result, const struct mkpasswd_report *report)
     return result;
 }
 
-/* Tests that `out` has a string of the reported length, or after an error the token as far as it
- * fits, and that no other byte of the page was written. */
+/* Checks that `out` has a string of the reported length, or after an error the token as far as it
+ * fits, and that the call wrote no other byte of the page. */
 static void check_out(const struct mkpasswd_report *report, size_t room, const char *token)
 {
     const uint8_t *page = pages[OUT_PAGE];
@@ -98,7 +97,7 @@ static void check_out(const struct mkpasswd_report *report, size_t room, const c
         must((uint8_t)out[place] == PATTERN);
 }
 
-/* What libxcrypt makes of a password and a setting, or NULL if it doesn't take them. */
+/* Returns libxcrypt's hash of a password with a setting, or NULL if it refuses them. */
 static const char *crypted(struct mkpasswd_password password, const char *setting)
 {
     static struct crypt_data crypt_data;

@@ -1,5 +1,5 @@
-/* Each call that hashes or reads a stored hash, with any password, any field and some policies.
- * What it does must be what libxcrypt does, and what the other calls say of the same field. */
+/* Fuzzes each call that hashes or reads a stored hash, with any password, any field and some
+ * policies. The results must agree with libxcrypt, and with those of the other calls. */
 #include "fuzz.h"
 
 #define HEAD ((size_t)5) /* bytes of the input before the password */
@@ -7,7 +7,7 @@
 #define LONGEST_FIELD 2048
 #define CHEAP 300000 /* a cost that takes little time */
 
-/* What the input of the fuzzer stands for. */
+/* What the fuzzer's input means. */
 struct chosen {
     struct mkpasswd_password password;
     struct mkpasswd_field field;
@@ -29,7 +29,7 @@ static const struct mkpasswd_policy policies[] = {
     {2, 0, 0},
 };
 
-/* With these many fields begin, since no chance finds them. */
+/* Many fields begin like this, which chance wouldn't find. */
 static const char *const fronts[] = {"", "$1$", "$5$", "$6$", "$5$rounds=", "$6$rounds=1000$",
     "$7$", "$7$2/..../....", "*0", "$1$xxxxxxxx$UYCIxa628.9qXjpQCjM4a.", "$7$4/....0....", "!$1$"};
 
@@ -38,8 +38,8 @@ static struct mkpasswd_field field_of(const char *text)
     return mkpasswd_field_bytes(at_end(FIELD_PAGE, text, strlen(text)), strlen(text));
 }
 
-/* The input is a budget, a room with a policy, the password's length in two bytes, a front, the
- * password and the rest of the field. */
+/* Reads the input: a budget, the size of `out` and a policy, the password's length in two bytes, a
+ * front, the password, and the rest of the field. */
 static void choose(struct chosen *chosen, const uint8_t *data, size_t size)
 {
     size_t length = (data[2] * 256u + data[3]) % (size - HEAD);
@@ -89,7 +89,7 @@ static bool is_invalid_policy(const struct mkpasswd_report *report)
     return report->error == MKPASSWD_ERROR_UNKNOWN_METHOD || report->error == MKPASSWD_ERROR_ROUNDS;
 }
 
-/* Whether an audit may report this error of a field without a setting. */
+/* Returns whether an audit may report this error for a field without a setting. */
 static bool is_explained(const struct mkpasswd_report *audit, const struct mkpasswd_report *bound)
 {
     switch (audit->error) {
@@ -104,7 +104,7 @@ static bool is_explained(const struct mkpasswd_report *audit, const struct mkpas
     }
 }
 
-/* An audit hashes nothing, and finds what mkpasswd_bound and mkpasswd_needs_rehash do. */
+/* Checks that an audit hashes nothing, and agrees with mkpasswd_bound and mkpasswd_needs_rehash. */
 static void audit(const struct chosen *chosen)
 {
     struct mkpasswd_policy policy = chosen->policy;
@@ -133,8 +133,8 @@ static void audit(const struct chosen *chosen)
         must((report.error == MKPASSWD_ERROR_OVER_BUDGET) == (bound.cost > policy.budget));
 }
 
-/* What a login by this policy may cost: what mkpasswd_limit reports, but without a budget of its
- * own nothing if a new hash of this password costs more. */
+/* Returns what a login by this policy may cost: the limit from mkpasswd_limit, or 0 if there is no
+ * budget and a new hash of this password costs more. */
 static uint64_t limit_of(const struct mkpasswd_policy *policy, size_t length)
 {
     struct mkpasswd_report report = unfilled_report();
@@ -147,8 +147,8 @@ static uint64_t limit_of(const struct mkpasswd_policy *policy, size_t length)
     return has_limit && length <= report.length ? report.cost : 0;
 }
 
-/* A login does what mkpasswd_verify, mkpasswd_needs_rehash and mkpasswd_audit say, and where there
- * is nothing to compare with, the work of a login of an unknown name. */
+/* Checks that a login agrees with mkpasswd_verify, mkpasswd_needs_rehash and mkpasswd_audit, and
+ * does the work for an unknown name if there is nothing to compare with. */
 static void check_login(const struct chosen *chosen, uint64_t limit,
     const struct mkpasswd_report *login, const struct mkpasswd_report *unknown)
 {
@@ -169,8 +169,8 @@ static void check_login(const struct chosen *chosen, uint64_t limit,
     must(memcmp(&login->work, &same_work->work, sizeof login->work) == 0);
 }
 
-/* A login hashes if it isn't refused: within the limit, and for a field that can't be checked as
- * much as for an unknown name. */
+/* Checks that a login that isn't refused hashes within the limit, and does the same work for a
+ * field that can't be checked as for an unknown name. */
 static void log_in(const struct chosen *chosen, const struct mkpasswd_policy *policy)
 {
     struct mkpasswd_report login = unfilled_report(), unknown = unfilled_report();
@@ -189,13 +189,13 @@ static void log_in(const struct chosen *chosen, const struct mkpasswd_policy *po
     must(login.cost == 0 && login.work.digests == 0);
 }
 
-/* A hash that was made is libxcrypt's, lets its password in for its cost and for no less, and no
- * longer after a bit of it was changed. */
+/* Checks that a hash is libxcrypt's, that it matches its password with its cost as the budget and
+ * not with less, and that it doesn't match once one of its bits has changed. */
 static void check_hash(const struct chosen *chosen, const char *hash, uint64_t cost)
 {
     const char *by_crypt = crypted(chosen->password, chosen->text);
     const char *end = hash[1] == '7' ? strchr(chosen->text + 3, '$') : NULL;
-    /* libxcrypt's salt of $7$ goes on to the last dollar sign. */
+    /* For libxcrypt a salt of $7$ extends to the last dollar sign. */
     bool has_other_salt = end && end != strrchr(chosen->text, '$');
     struct mkpasswd_report report = unfilled_report();
     char changed[MKPASSWD_TEXT_SIZE];
@@ -252,12 +252,12 @@ int LLVMFuzzerTestOneInput(const uint8_t *data, size_t size)
         return 0;
     choose(&chosen, data, size);
     hash(&chosen);
-    choose(&chosen, data, size); /* hash() has used its page */
+    choose(&chosen, data, size); /* again, since hash() has used its page */
     verify(&chosen);
     audit(&chosen);
     policy = chosen.policy;
     policy.budget = chosen.budget;
-    /* A budget of 0 is the policy's limit, within which a hash can take long. */
+    /* A budget of 0 means the policy's limit, within which a hash can take long. */
     if (policy.budget == 0 && bound_of(&chosen, chosen.password.length).cost > CHEAP)
         policy.budget = 1;
     log_in(&chosen, &policy);

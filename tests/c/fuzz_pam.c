@@ -1,6 +1,6 @@
-/* pam_mkpasswd.so with any file, conversation and arguments: who gets in, and what a renewal or a
- * change of password leaves. PAM itself is played here: what users type and services say is input
- * too. */
+/* Fuzzes pam_mkpasswd.so with any file, conversation and arguments, and checks which logins it
+ * accepts, and what a renewal or a change of password leaves. This file plays PAM: what users type
+ * and services pass is part of the input. */
 #define _GNU_SOURCE /* for memmem */
 #include <mkpasswd.h>
 #include <security/pam_ext.h>
@@ -25,10 +25,10 @@ struct input {
     char old_password[PART_SIZE];
     char new_password[PART_SIZE];
     char argument[PART_SIZE];
-    char item[PART_SIZE]; /* of PAM, such as the remote host */
+    char item[PART_SIZE]; /* a PAM item, such as the remote host */
 };
 
-/* The password file, and where ann's field is in it. */
+/* The password file, and the place of ann's field in it. */
 struct content {
     char text[4 * PART_SIZE];
     size_t before;
@@ -83,7 +83,7 @@ int pam_prompt(pam_handle_t *pam, int style, char **response, const char *format
     return PAM_SUCCESS;
 }
 
-/* No entry for a failed login has a blank or line feed of somebody's: its words are counted. */
+/* Checks by counting words that an entry for a failed login has no blank or line feed of input. */
 void pam_syslog(const pam_handle_t *pam, int priority, const char *format, ...)
 {
     char entry[8 * PART_SIZE];
@@ -100,12 +100,12 @@ void pam_syslog(const pam_handle_t *pam, int priority, const char *format, ...)
     MUST(strchr(entry, '\n') == NULL);
     for (const char *place = entry; *place != '\0'; place++)
         words += *place == ' ';
-    MUST(words == 10); /* two of them, one empty, are before user= */
+    MUST(words == 10); /* two of them, one empty, precede user= */
 }
 
 /* ---- The input */
 
-/* Cuts the input into its parts, in which no zero byte can be. */
+/* Splits the input into its parts, which contain no zero byte. */
 static void cut_into_parts(const uint8_t *data, size_t size)
 {
     char *part = (char *)&input;
@@ -123,7 +123,7 @@ static void cut_into_parts(const uint8_t *data, size_t size)
     }
 }
 
-/* Makes the field a hash of the old password, which no chance finds. */
+/* Makes the field a hash of the old password, which chance wouldn't find. */
 static void make_matching_field(uint8_t kind)
 {
     static const char *const settings[] = {
@@ -161,7 +161,7 @@ static void read_file(char *text, size_t size)
     (void)fclose(file);
 }
 
-/* ---- What must hold */
+/* ---- Checks */
 
 static int is_password(const char *password, const char *field, size_t len)
 {
@@ -169,7 +169,7 @@ static int is_password(const char *password, const char *field, size_t len)
         mkpasswd_password(password), mkpasswd_field_bytes(field, len), UINT64_MAX, NULL);
 }
 
-/* All but the field stays, and the new one is a hash of the password. */
+/* Checks that only the field has changed, to a hash of the password. */
 static void check_file(const struct content *before, int may_change, const char *password)
 {
     char text[sizeof before->text + MKPASSWD_TEXT_SIZE];
@@ -240,7 +240,7 @@ static void log_in_without_file(pam_handle_t *pam, int count, const char **argum
     MUST(status == PAM_SERVICE_ERR || status == PAM_AUTHINFO_UNAVAIL);
 }
 
-/* A folder of its own in memory, where no renewal of another process is. */
+/* Makes a folder in memory for this process, where no other process renews hashes. */
 static void make_folder(void)
 {
     char folder[] = "/dev/shm/fuzz_pam.XXXXXX";

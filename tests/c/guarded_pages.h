@@ -1,4 +1,4 @@
-/* Memory between two pages that nobody may touch, for tests/c/calls.c. */
+/* Memory between two inaccessible pages, for tests/c/calls.c. */
 #include <stdint.h>
 #include <stdlib.h>
 #include <string.h>
@@ -6,7 +6,7 @@
 
 #define PAGE ((size_t)4096)
 
-/* So many bytes, a multiple of a page. */
+/* Returns this many bytes, a multiple of a page. */
 static uint8_t *new_pages(size_t size)
 {
     int flags = MAP_PRIVATE | MAP_ANONYMOUS;
@@ -19,7 +19,7 @@ static uint8_t *new_pages(size_t size)
     return pages + PAGE;
 }
 
-/* Puts bytes at the end of a page, which is read-only then. */
+/* Puts bytes at the end of a page, and makes it read-only. */
 static uint8_t *at_end_of(uint8_t *page, const uint8_t *bytes, size_t len)
 {
     uint8_t *place = page + PAGE - len;

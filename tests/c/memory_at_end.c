@@ -1,5 +1,5 @@
-/* Loaded before PAM: before a service ends its use of PAM, writes all private memory that the
- * service can write into the file MEMORY. */
+/* Loaded before PAM, it writes all private, writable memory of a service to the file MEMORY before
+ * the service calls pam_end. */
 #define _GNU_SOURCE /* for RTLD_NEXT */
 #include <dlfcn.h>
 #include <fcntl.h>
@@ -11,7 +11,7 @@
 
 int pam_end(void *pam, int status);
 
-/* Static: with a block of malloc or more of the stack this would write over what it looks for. */
+/* Static, since a block of malloc or a larger stack could overwrite what the test looks for. */
 static char maps[1 << 20];
 
 static void read_maps(void)
@@ -36,7 +36,7 @@ static void write_part(int file, const char *start, const char *end)
     }
 }
 
-/* Writes the memory of a line of maps, such as `7f.. 7f.. rw-p`, if that is private. */
+/* Writes the memory of a line of /proc/self/maps, such as `7f.. 7f.. rw-p`, if it is private. */
 static void write_line(int file, const char *line)
 {
     char *rest;
@@ -61,7 +61,7 @@ static void write_memory(void)
     (void)close(file);
 }
 
-/* A service's call, before which everything that PAM keeps for a login is there. */
+/* Replaces pam_end, before which all that PAM holds for a login is still in memory. */
 int pam_end(void *pam, int status)
 {
     int (*end)(void *, int);

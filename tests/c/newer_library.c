@@ -1,11 +1,11 @@
-/* A login of a later library than the Python package knows. It is linked over the calls of this
- * tree's own library, whose login has another name then. The environment says what it answers:
- * NEWER_ANSWER is what the call returns, NEWER_ERROR the number in its report. */
+/* mkpasswd_login of a newer library than the Python package knows. It is linked with this tree's
+ * calls, whose own login gets another name. The environment sets the answer: NEWER_ANSWER is the
+ * result, and NEWER_ERROR the error in the report. */
 #include <mkpasswd.h>
 #include <stdlib.h>
 #include <string.h>
 
-/* The number in a variable of the environment. */
+/* Returns the number in an environment variable. */
 static long number_of(const char *name)
 {
     const char *digits = getenv(name);

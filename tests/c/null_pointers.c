@@ -1,12 +1,12 @@
-/* Null pointers in each place of the header's own calls, which take them: no compiler may warn. The
- * program returns 0 if each call did with them what the header says, and otherwise the line of the
- * call that did not. */
+/* Null pointers in each argument of the inline calls, which accept them: no compiler may warn. The
+ * program returns 0 if each call does what the header says, and otherwise the line of the first one
+ * that doesn't. */
 #include <mkpasswd.h>
 
 #define EXPECT(holds) expect((holds), __LINE__)
 
 static const char stored[] = "$1$xxxxxxxx$UYCIxa628.9qXjpQCjM4a.";
-static int failed_line; /* of the first call that did something else */
+static int failed_line; /* the line of the first wrong call */
 
 static void expect(bool holds, int line)
 {
@@ -24,7 +24,7 @@ static struct mkpasswd_field field(void)
     return mkpasswd_field(stored);
 }
 
-/* A null password is refused by each call, made of a string or of bytes. */
+/* Each call refuses a null password, as a string and as bytes. */
 static void try_null_passwords(void)
 {
     const struct mkpasswd_password nulls[] = {mkpasswd_password(NULL),
@@ -44,7 +44,7 @@ static void try_null_passwords(void)
     }
 }
 
-/* A null field is an unknown name, or as a setting none, however long it is said to be. */
+/* A null field is an unknown name, and a null setting is empty, whatever its length argument. */
 static void try_null_fields(void)
 {
     const struct mkpasswd_field nulls[] = {
@@ -69,7 +69,7 @@ static void try_null_fields(void)
     }
 }
 
-/* A null policy is the recommended one, and a null report changes no answer. */
+/* A null policy is the recommended one, and a null report changes no result. */
 static void try_null_policies_and_reports(void)
 {
     const struct mkpasswd_policy cheap = {MKPASSWD_MD5CRYPT, 0, 0};
@@ -93,8 +93,8 @@ static void try_null_policies_and_reports(void)
     EXPECT(strcmp(out, "$6$rounds=656000$salt") == 0);
 }
 
-/* A null `out` has no room, whatever its size is said to be; a compiler that sees both may warn, so
- * here none can. */
+/* A null `out` has no room, whatever its size argument. A compiler that sees both may warn, so
+ * these functions hide them. */
 static void try_null_outs(char *null)
 {
     const struct mkpasswd_policy cheap = {MKPASSWD_MD5CRYPT, 0, 0};

@@ -1,5 +1,5 @@
-/* A caller's own test for a null pointer behind a call, which a compiler could drop if the header
- * called the pointer nonnull. Without arguments `field` is null, and the program returns 0. */
+/* A caller's own test for a null pointer after a call, which a compiler could remove if the header
+ * declared the pointer nonnull. Without arguments `field` is null, and the program returns 0. */
 #include <mkpasswd.h>
 
 int main(int count, char **arguments)

@@ -1,6 +1,6 @@
-/* Writes the bytes of four reports, so that a test sees which field is where: of a hash, whose N is
- * 64 and r is 8, so that each count has a value of its own; of a limit, which has rounds; of an
- * audit, which has a scheme, N, r and p, and an outdated hash; and of a setting that is none. */
+/* Writes the bytes of four reports, so that a test sees where each field is: of a hash with N = 64
+ * and r = 8, so that each count has a different value; of a limit, which has rounds; of an audit of
+ * an outdated hash, which has a scheme, N, r and p; and of an invalid setting. */
 #include <mkpasswd.h>
 #include <stdio.h>
 

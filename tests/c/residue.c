@@ -1,11 +1,11 @@
-/* Makes a call three times and stops after each, so that a test can look at the memory of the
- * process. The third time the password has another byte at each place.
+/* Makes a call three times and stops after each, so that a test can read the memory of the process.
+ * The third password differs in every byte.
  *
  * usage: residue CALL TEXT METHOD ROUNDS LENGTH LOCKED
  *
- * CALL is verify, login, hash or new; TEXT is what is stored, or the setting; LENGTH is that of the
- * password; with 1 for LOCKED no memory is swapped. All that a caller holds is in a page that is
- * shared. */
+ * CALL is verify, login, hash or new; TEXT is the stored hash or the setting; LENGTH is the
+ * password's; with 1 for LOCKED all memory is locked. All that the caller itself holds is in a
+ * shared page, which the test ignores. */
 #define _GNU_SOURCE
 #include <mkpasswd.h>
 #include <stdlib.h>
@@ -39,7 +39,7 @@ static void write_password(struct held *held, size_t length, size_t offset)
         held->password[place] = (uint8_t)('!' + (place * place + place / 7 + offset) % 90);
 }
 
-/* Whatever the call returns, it did its work. */
+/* The result doesn't matter: the call has done its work. */
 static void make(const struct call *call, struct held *held)
 {
     struct mkpasswd_password password = mkpasswd_password_bytes(

@@ -1,5 +1,5 @@
-/* A service around the login that README shows, which is compiled beside it: `service PASSWORD
- * [FIELD]`, with `null` for no password. It returns 0 for who gets in. */
+/* A service around README's login, which is compiled with it: `service PASSWORD [FIELD]`, with
+ * `null` for no password. It returns 0 if the login is accepted. */
 #include "service.h"
 #include <string.h>
 

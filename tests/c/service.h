@@ -1,5 +1,5 @@
-/* What the login that README shows finds in its service: where hashes go, and a library that counts
- * its work. A compiler reads this first (-include), since README's code stays as it is. */
+/* What README's login needs from its service: a function that stores hashes, and a library that
+ * prints its work. A compiler reads this first (-include), since README's code isn't changed. */
 #ifndef SERVICE_H
 #define SERVICE_H
 
@@ -9,10 +9,10 @@
 
 bool login(const char *password, const char *field);
 
-/* Prints the field that is replaced, and the new hash. */
+/* Prints the replaced field and the new hash. */
 void replace(const char *field, const char *hash);
 
-/* Prints on standard error how many digests a login of the library made. */
+/* Prints on standard error how many digests the library computed for a login. */
 static inline bool counted_login(struct mkpasswd_password password, struct mkpasswd_field field,
     const struct mkpasswd_policy *policy, struct mkpasswd_report *report)
 {

@@ -1,5 +1,5 @@
-/* Comparisons of what a call returns that always hold or never do, since it is a bool. A compiler
- * has to warn about each line that says so. */
+/* Comparisons of a call's result that are always or never true, since it is a bool. A compiler must
+ * warn about each marked line. */
 #include <mkpasswd.h>
 
 static bool login(void)

@@ -1,5 +1,5 @@
-/* Calls of exported functions with a null pointer in each place that has to have an object. A
- * compiler has to warn about each line that says so. */
+/* Calls of exported functions with a null pointer in each argument that needs an object. A compiler
+ * must warn about each marked line. */
 #include <mkpasswd.h>
 
 int main(void)

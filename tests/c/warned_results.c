@@ -1,4 +1,4 @@
-/* Calls whose result is ignored. A compiler has to warn about each line that says so. */
+/* Calls whose result is ignored. A compiler must warn about each marked line. */
 #include <mkpasswd.h>
 
 static void ignore_the_headers_own(struct mkpasswd_password password, struct mkpasswd_field field)
@@ -16,7 +16,7 @@ static void ignore_the_headers_own(struct mkpasswd_password password, struct mkp
     mkpasswd_hash(password, field, 1, out, sizeof out, &report); /* NOLINT: warns */
     mkpasswd_setting(NULL, "salt", out, sizeof out, &report);    /* NOLINT: warns */
     mkpasswd_bound(field, 1, &report);                           /* NOLINT: warns */
-    mkpasswd_message(1, out, sizeof out);                        /* a message may be thrown away */
+    mkpasswd_message(1, out, sizeof out);                        /* a message may be ignored */
     mkpasswd_scheme_name(1, out, sizeof out);
 }
 

@@ -1,5 +1,4 @@
-/* Calls that say of `out` that it has more bytes than it has. gcc has to warn about each line that
- * says so. */
+/* Calls with a larger size than `out` has. gcc must warn about each marked line. */
 #include <mkpasswd.h>
 
 int main(void)

@@ -1,5 +1,6 @@
-// Has 200 clients log in at once at a server, every fourth with a wrong password, while another
-// asks for its health. Reports whether they got what they should, and how long the server blocked.
+// Lets 200 clients log in to a server at once, every fourth with a wrong password, while another
+// client asks for its health. Reports whether the answers were right, and how long the server's
+// event loop was blocked.
 import http from 'node:http';
 import { text } from 'node:stream/consumers';
 import { setTimeout } from 'node:timers/promises';

@@ -1,5 +1,5 @@
-// Kills a worker among calls. Reports what became of each, of later ones and of those that are
-// refused, and how many workers were started. Then it has nothing to do but to end.
+// Kills a worker during calls. Reports the results of these calls, of later and of refused ones,
+// and how many workers were started. Then the process must end by itself.
 import os from 'node:os';
 import { syncBuiltinESMExports } from 'node:module';
 import threads from 'node:worker_threads';

@@ -1,12 +1,12 @@
-// Reads rows of JSON, [password, field], and reports for each what a policy's login, loginAsync,
-// verify, needsRehash, describe and passwordProblem say, how many digests login made by the
-// module's reports, what it gave to store, and whether the module's memory is then as it was before
-// the first call. tests/web/test_npm.py knows the answers.
+// Reads rows as JSON, [password, field]. Reports for each the results of a policy's login,
+// loginAsync, verify, needsRehash, describe and passwordProblem, how many digests login did by the
+// module's reports, its new hash, and whether the module's memory is as it was before the first
+// call. tests/web/test_npm.py has the expected reports.
 import { readFileSync } from 'node:fs';
 
-const PLACE_OF_DIGESTS = 40; // in a report
+const PLACE_OF_DIGESTS = 40; // the offset in a report
 const WITHOUT_REPORT = ['web_scheme_name', 'web_message', 'web_need', 'web_login_need'];
-const memories = []; // of the instance that is kept, and then of those that lend memory to scrypt
+const memories = []; // of the permanent instance, and then of those with memory for scrypt
 let digests = 0n;
 const { Instance } = WebAssembly;
 WebAssembly.Instance = function (compiled) {
@@ -29,14 +29,14 @@ WebAssembly.Instance = function (compiled) {
 };
 const { Policy } = await import('mkpasswd');
 
-// Whether a memory is as it was, and what it has grown by has zeros alone.
+// Returns whether a memory is as it was in the beginning, and has only zeros where it has grown.
 function isWiped({ memory, initial }) {
     const bytes = Buffer.from(memory.buffer);
     const grown = bytes.subarray(initial.length);
     return bytes.subarray(0, initial.length).equals(initial) && grown.equals(grown.map(() => 0));
 }
 
-// Each is called without its policy.
+// The methods are called without their policy, as functions.
 const { login, loginAsync, verify, needsRehash, describe, passwordProblem } = new Policy({
     rounds: 5000,
 });

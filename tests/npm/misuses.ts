@@ -1,5 +1,5 @@
-// Misuses the package; tsc has to refuse each line that has a comment for it above, and complains
-// where it doesn't.
+// Misuses the package. tsc must refuse each line after a comment @ts-expect-error, and complains if
+// it accepts one.
 import {
     LoginQueue, Policy, cost, crypt, describe, hash, hashAsync, login, loginAsync, needsRehash,
     passwordProblem, setting, verify,

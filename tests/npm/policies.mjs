@@ -1,4 +1,4 @@
-// Reports what becomes of policies that are made from these values, by their titles.
+// Reports the policies, or errors, that these values give, by title.
 import { Policy, limit, passwordProblem } from 'mkpasswd';
 
 class Config {

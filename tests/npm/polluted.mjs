@@ -1,4 +1,4 @@
-// Sets properties of Object.prototype, as a flaw of another library does, and reports what the
+// Sets properties on Object.prototype, as a flaw in another library can do, and reports what the
 // calls return then.
 import { LoginQueue, Policy } from 'mkpasswd';
 
@@ -7,7 +7,7 @@ const queue = new LoginQueue({ policy, failureTime: 0 });
 const stored = policy.hash('right');
 const old = '$1$xxxxxxxx$UYCIxa628.9qXjpQCjM4a.';
 
-// What a call returns while all objects have these properties, or the message of its error.
+// Returns a call's result while all objects have these properties, or the message of its error.
 async function polluted(properties, call) {
     Object.assign(Object.prototype, properties);
     try {

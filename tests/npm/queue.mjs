@@ -1,5 +1,5 @@
-// Reports what a LoginQueue does. test_npm.py gives it a password with its hashes, and the fields
-// of failures, and knows what it has to report.
+// Reports what a LoginQueue does. test_npm.py provides a password with its hashes and the fields of
+// failures, and has the expected report.
 import { readFileSync } from 'node:fs';
 import { LoginQueue, Policy } from 'mkpasswd';
 
@@ -21,8 +21,8 @@ async function outcomeOf(call) {
     }
 }
 
-// The least that was measured in some tries, until it is at most so much: the machine may have
-// other work.
+// Measures until a result is small enough, and returns the least of some tries: the machine may be
+// busy.
 async function leastOf(measure, enough) {
     let least = Infinity;
     for (let count = 0; count < TRIES && least > enough; count++) {
@@ -31,7 +31,7 @@ async function leastOf(measure, enough) {
     return least;
 }
 
-// How long each failure takes, if all are called at once.
+// Returns how long each failure takes if all are called at once.
 async function timesOfFailures(failureTime) {
     const queue = new LoginQueue({ policy, failureTime });
     const calls = failures.map(([typed, field]) => () => queue.login(typed, field));
@@ -48,12 +48,12 @@ async function measureFailures(failureTime) {
     return { earliest, spread };
 }
 
-// How long a login takes while a hundred failures wait, by how long it takes in a queue of its own.
+// Returns how much longer a login takes while a hundred failures wait than in an empty queue.
 async function slowdown() {
     const alone = new LoginQueue({ policy });
     const beside = new LoginQueue({ policy, failureTime: 1_000_000 });
     for (let count = 0; count < 100; count++) beside.login('wrong', stored);
-    await beside.login(password, costly); // was behind them
+    await beside.login(password, costly); // comes after all of them
     return leastOf(async () => {
         const time = await timeOf(() => alone.login(password, costly));
         return await timeOf(() => beside.login(password, costly)) / time;
@@ -64,7 +64,7 @@ function median(numbers) {
     return numbers.toSorted((one, other) => one - other)[numbers.length >> 1];
 }
 
-// By how much most failures miss a multiple of their time, which is shorter than the queue.
+// Returns by how much most failures miss a multiple of the failure time in a long queue.
 async function lateness() {
     const failureTime = 100;
     const queue = new LoginQueue({ policy, failureTime });
@@ -83,8 +83,8 @@ async function full() {
         await outcomeOf(() => hash('password')),
     ];
     await first[1];
-    const made = await hash('password');
-    return { refused, later: await login('password', made) };
+    const later = await hash('password');
+    return { refused, later: await login('password', later) };
 }
 
 const OPTIONS = [
@@ -107,4 +107,4 @@ console.log(JSON.stringify({
     options: await Promise.all(OPTIONS.map((given) => outcomeOf(() => new LoginQueue(given)))),
     slowdown: await slowdown(),
 }));
-process.exit(); // while failures wait
+process.exit(); // some failures still wait

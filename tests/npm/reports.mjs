@@ -1,5 +1,5 @@
-// Reports what calls make of a module whose calls all report the same: an error of a newer module,
-// or zeros. The arguments are what each call returns, and the error in its report.
+// Reports the results of calls over a module that always reports the same: an error of a newer
+// module, or zeros. The arguments are the module's result and the error in its report.
 const [returned, error] = process.argv.slice(2).map(Number);
 const REPORT_SIZE = 80;
 const WITHOUT_REPORT = ['web_scheme_name', 'web_message', 'web_need', 'web_login_need'];
@@ -30,7 +30,7 @@ const policy = new Policy({ rounds: 1000 });
 const stored = policy.hash('password');
 isLying = true;
 
-// What a call returns, or that it throws what a caller expects.
+// Returns a call's result, or its error.
 function outcomeOf(call) {
     try {
         return call();

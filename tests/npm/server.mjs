@@ -1,6 +1,6 @@
-// A server with logins at /login and a health check at /health. At /blocked it tells for how much
-// of the time of a hash its event loop is blocked, but for one time in a hundred, when the machine
-// may be.
+// A server with logins at /login and a health check at /health. /blocked reports how long its event
+// loop was blocked, as a fraction of a hash's time: the 99th percentile, since the machine may be
+// busy.
 import http from 'node:http';
 import { monitorEventLoopDelay } from 'node:perf_hooks';
 import { text } from 'node:stream/consumers';

@@ -1,5 +1,5 @@
-// Reads fields of JSON, and reports for each how many steps a login took in the module of
-// logged/mkpasswd.mjs, which wasm-opt made count them.
+// Reads fields as JSON, and reports for each how many steps a login took in the module of
+// logged/mkpasswd.mjs, which wasm-opt has instrumented to count them.
 import { readFileSync } from 'node:fs';
 
 let steps = 0;

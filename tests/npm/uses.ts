@@ -1,4 +1,4 @@
-// Uses every call of the package; tsc has to accept it.
+// Uses every call of the package. tsc must accept it.
 import {
     Busy, LoginQueue, Policy, Refused, TooCostly, cost, crypt, describe, hash, hashAsync, limit,
     login, loginAsync, needsRehash, passwordProblem, setting, verify, version,

@@ -49,7 +49,7 @@ def pytest_runtest_call(item: pytest.Function) -> None:
     """Shows how the script of a test was run, if the test fails."""
     for value in item.funcargs.values():
         if isinstance(value, Report):
-            item.add_report_section("call", "script", value.how)
+            item.add_report_section("call", "script", value.origin)
 
 
 # ---- Browsers

@@ -1,11 +1,11 @@
-// Reads policies of JSON, [method, rounds, budget, isHashed], and reports for each its rounds, the
-// bytes of its limit and the longest password, as mkpasswd.mjs says. Where told so, it also hashes
-// a password of that length and one of a byte more. test_limits.py knows the answers.
+// Reads policies as JSON, [method, rounds, budget, isHashed], and reports for each the rounds, the
+// limit in bytes and the longest password, by mkpasswd.mjs. If isHashed is true, it also hashes a
+// password of that length and one that is a byte longer. test_limits.py has the expected report.
 import { readFileSync } from 'node:fs';
 
 const { Policy } = await import(process.argv[2]);
 
-// Whether a policy hashes a password of so many bytes, or why not.
+// Returns whether a policy hashes a password of this length, or the error.
 function hashes(policy, length) {
     try { return policy.hash('x'.repeat(length)).startsWith('$'); } catch ({ name, message }) {
         return `${name}: ${message}`;

@@ -1,6 +1,6 @@
-// Runs mkpasswd.mjs and the page's worker in node, and reports what they say: to the rows, to each
-// line of standard input, which has a password and its hash in hexadecimal, and to other passwords,
-// what a hash of scrypt costs, and what audits find. test_node.py knows the answers.
+// Runs mkpasswd.mjs and the page's worker in node, and reports their results: for the rows, for
+// each line of standard input (a password and its hash in hexadecimal), for other passwords, for
+// the cost of a scrypt hash, and for audits. test_node.py has the expected results.
 import { readFileSync } from 'node:fs';
 import vm from 'node:vm';
 
@@ -31,7 +31,7 @@ function audited([stored, method, rounds, budget]) {
     return outcomeOf(() => String(new Policy({ method, rounds, budget }).describe(stored)));
 }
 
-// By default, and by the module's own recommended rounds.
+// With the defaults, and with the module's recommended rounds.
 const longest = 'x'.repeat(168);
 const longer = 'x'.repeat(169);
 const standard = hash(longest);
@@ -42,9 +42,9 @@ const defaults = [
     outcomeOf(() => hash(longer)),
     outcomeOf(() => verify(longer, standard)),
 ];
-const made = {};
+const hashes = {};
 for (const [method, rounds] of Object.entries(ROUNDS)) {
-    made[method] = new Policy({ method, rounds }).hash('password');
+    hashes[method] = new Policy({ method, rounds }).hash('password');
 }
 
 // ---- Checks by the page's worker and by the module
@@ -54,7 +54,7 @@ let posted;
 globalThis.postMessage = (data) => { posted.push(data); };
 vm.runInThisContext(script.split('</script>')[0]);
 
-// What the page's worker posts of a check.
+// Returns what the page's worker posts for a check.
 function postedFor(password, stored) {
     posted = [];
     onmessage({ data: { job: 'check', password, stored, budget: Infinity } });
@@ -78,9 +78,9 @@ const lines = readFileSync(0, 'utf8').trimEnd().split('\n').map(checked);
 
 // ---- The end of the stack
 
-// Calls with ever more of the stack left, from none on, and compiled by now, so that it can end in
-// the module.
-const texts = ['password', made.md5crypt];
+// Calls verify with more and more of the stack left, beginning with none, so that the stack also
+// overflows inside the module. The calls before make sure that verify is compiled.
+const texts = ['password', hashes.md5crypt];
 const [word, md5crypt] = texts.map((text) => Uint8Array.from(Buffer.from(text)));
 for (let count = 0; count < 3000; count++) verify(word, md5crypt);
 let calls = 0;
@@ -98,9 +98,9 @@ callDeeper();
 console.log(JSON.stringify({
     refused: refusedCalls.map(outcomeOf),
     defaults,
-    made,
-    after: outcomeOf(() => verify('password', made.md5crypt)),
+    hashes,
+    after: outcomeOf(() => verify('password', hashes.md5crypt)),
     audited: JSON.parse(audits).map(audited),
-    costs: [postedFor('password', made.md5crypt)[0].cost, cost(costly, 8)],
+    costs: [postedFor('password', hashes.md5crypt)[0].cost, cost(costly, 8)],
     checked: lines,
 }));

@@ -1,7 +1,7 @@
-// Does what a visitor does, as the body of a function that a browser evaluates in the page: makes
-// and checks hashes, has others refused, stops one, and tries to send something. It reports what
-// the page showed. test_page.py defines ROWS, CURRENT, SCRYPT and SERVER before it, returns visit()
-// behind it, and knows what the page should show.
+// Acts like a visitor, as the body of a function that a browser evaluates in the page: makes and
+// checks hashes, tries some that the page refuses, stops one, and tries to send something. It
+// reports what the page shows. test_page.py defines ROWS, CURRENT, SCRYPT and SERVER before this
+// code, appends a call of visit(), and has the expected report.
 
 const PASSWORD = 'K\u00e4se \u{1f40e}';
 const WRONG_PASSWORD = 'K\u00e4se';
@@ -31,7 +31,7 @@ function start(form, values) {
     element(form).requestSubmit();
 }
 
-// What the page says once a form's job has ended.
+// Submits a form, and returns the page's message once the job has ended.
 async function ended(form, values) {
     start(form, values);
     await until(() => /^(?!Hashing)./.test(status(form)));
@@ -40,19 +40,19 @@ async function ended(form, values) {
 
 // ---- Making and checking
 
-// The hashes by which a stored one was damaged: without its digest, without its end, with more
-// behind it, and with other characters.
+// Returns damaged copies of a hash: without its digest, without its end, with more after it, and
+// with other characters.
 function damaged(stored) {
     const [front, digest] = stored.split(/\$(?=[^$]*$)/);
     return [front, stored.slice(0, -9), `${stored}$x`, `${front}$${digest.slice(1)}z`];
 }
 
-// Makes a hash with a method, and checks it: rightly, wrongly and damaged.
+// Makes a hash with a method, and checks it with the right password, a wrong one, and damaged.
 async function makeAndCheck(method) {
     set({ password: PASSWORD, repeat: PASSWORD, method });
     const isHashLeft = isShown(element('made'));
     if (ROUNDS[method]) set({ rounds: ROUNDS[method] });
-    const made = await ended('make', {});
+    const message = await ended('make', {});
     const stored = element('snippet').textContent;
     const right = await ended('check', { stored: ` ${stored} `, guess: PASSWORD }); // as pasted
     set({ guess: '' });
@@ -60,7 +60,7 @@ async function makeAndCheck(method) {
     const wrong = await ended('check', { guess: WRONG_PASSWORD });
     const dead = [];
     for (const hash of damaged(stored)) dead.push(await ended('check', { stored: hash }));
-    return { row: [stored, right, wrong, made], dead, left: isHashLeft || isAnswerLeft };
+    return { row: [stored, right, wrong, message], dead, left: isHashLeft || isAnswerLeft };
 }
 
 async function visitMethods() {
@@ -73,7 +73,7 @@ async function visitMethods() {
     ];
     set({ method: 'sha512crypt' });
     return {
-        made: visits.map(({ row }) => row),
+        hashes: visits.map(({ row }) => row),
         dead: visits.flatMap(({ dead }) => dead),
         left: visits.some(({ left }) => left),
         fixed,
@@ -81,7 +81,7 @@ async function visitMethods() {
     };
 }
 
-// What the page says of scrypt's rounds, and of a hash with the program's default cost.
+// Returns the page's messages about scrypt's rounds, and about a hash with the default cost.
 async function visitScrypt() {
     set({ method: 'scrypt' });
     await until(() => element('estimate').textContent.includes('MiB'));
@@ -98,7 +98,7 @@ async function visitScrypt() {
 
 // ---- Where a hash goes
 
-// What the page says where the name of a place is copied that isn't valid.
+// Returns the page's messages when a text with an invalid name is copied.
 function refusedNames() {
     return ['', 'a b', '1ann'].map((name) => {
         set({ name });
@@ -111,10 +111,10 @@ function copied() {
     let text;
     document.addEventListener('copy', () => { text = getSelection().toString(); }, { once: true });
     button('copy=snippet').click();
-    return text ?? getSelection().toString(); // where no person clicked
+    return text ?? getSelection().toString(); // browsers may refuse to copy without a real click
 }
 
-// What stands in the box for each place, what is copied, and what is said of names.
+// Returns for each place the text in the box, the copied text, and the messages about names.
 function visitPlaces() {
     const places = {};
     for (const { id, index } of element('place').options) {
@@ -129,7 +129,7 @@ function visitPlaces() {
     return places;
 }
 
-// What the page makes of lines that have the hash.
+// Returns the page's answers to lines that contain the hash.
 async function visitLines(places, stored) {
     const [, ...ofPlaces] = Object.values(places).map(([line]) => line); // not the hash alone
     const lines = [
@@ -146,13 +146,13 @@ async function visitLines(places, stored) {
     return answers;
 }
 
-// ---- What is refused, stopped and mistyped
+// ---- Refusals, stopping, and mistyped passwords
 
 async function visitRefusals() {
     const isClosed = !element('more').open;
     const refused = [];
     for (const [stored, guess] of ROWS) {
-        refused.push(await ended('check', { stored: stored || ' ', guess })); // empty isn't sent
+        refused.push(await ended('check', { stored: stored || ' ', guess })); // never empty
     }
     return { refused, hidden: isClosed && element('more').open };
 }
@@ -184,7 +184,7 @@ async function visitStop() {
 
 // ---- Generated passwords
 
-// How often each character is in generated passwords, if each byte comes equally often.
+// Counts each character in generated passwords, when each random byte comes equally often.
 function frequencies() {
     let byte = 0;
     crypto.getRandomValues = (bytes) => {
@@ -204,7 +204,7 @@ function frequencies() {
 
 async function visitGenerated() {
     const password = element('password').value;
-    const shown = [
+    const revealed = [
         button('show=password').textContent,
         element('password').type,
         element('repeat').disabled,
@@ -212,7 +212,7 @@ async function visitGenerated() {
     ];
     await ended('make', { rounds: 1000 });
     const stored = element('snippet').textContent;
-    const generated = [password, ...shown, await ended('check', { stored, guess: password })];
+    const generated = [password, ...revealed, await ended('check', { stored, guess: password })];
     button('show=password').click();
     const concealed = [
         button('show=password').textContent,
@@ -224,8 +224,8 @@ async function visitGenerated() {
 
 // ---- The page itself
 
-// How far the widest part of the page reaches beyond this width, and how high the page is and the
-// least of what can be pressed.
+// Returns how far the page reaches beyond this width, the height of the lowest control, and the
+// height of the page.
 function sizes(width) {
     document.documentElement.style.width = `${width}px`;
     const parts = [...document.querySelectorAll('body *')];
@@ -255,7 +255,7 @@ async function tryToSend() {
     return [sentByPage, sentByWorker];
 }
 
-// What is told of how long a hash takes, before one and after it.
+// Returns the page's estimate of a hash's time, before one and after it.
 async function visitSlowPage() {
     const before = element('estimate').textContent;
     await ended('make', { password: 'x', repeat: 'x' });

@@ -1,5 +1,5 @@
-// Reports what mkpasswd.mjs does with scrypt, by the part that is asked for. The arguments are the
-// module and the part; standard input has its rows in JSON. test_scrypt.py knows the answers.
+// Reports what mkpasswd.mjs does with scrypt. The arguments are the module and the name of a part;
+// standard input has the part's rows as JSON. test_scrypt.py has the expected reports.
 import { readFileSync } from 'node:fs';
 import { syncBuiltinESMExports } from 'node:module';
 import { setTimeout } from 'node:timers/promises';
@@ -10,9 +10,9 @@ const NO_LIMIT = 2 ** 42;
 const [file, part] = process.argv.slice(2);
 const given = JSON.parse(readFileSync(0, 'utf8'));
 
-// ---- Workers that are watched
+// ---- Watched workers
 
-// How many calls run at once that hash, and whether the device has memory for one of them alone.
+// Counts the hashing calls that run at once. isCrowded means that there is memory for only one.
 const watched = { running: 0, most: 0, started: 0, isCrowded: false };
 
 threads.Worker = class extends threads.Worker {
@@ -53,10 +53,10 @@ async function outcomeOf(call) {
 
 // ---- The parts
 
-// What each call makes of a password and its hash, and of a wrong password.
+// Reports each call's result for a password and its hash, and for a wrong password.
 async function checked([password, stored]) {
     const policy = new Policy({ method: 'scrypt', rounds: 6, budget: NO_LIMIT });
-    const report = { made: crypt(password, stored, NO_LIMIT) };
+    const report = { hash: crypt(password, stored, NO_LIMIT) };
     for (const [name, typed] of Object.entries({ right: password, wrong: `${password}.` })) {
         report[name] = {
             verify: policy.verify(typed, stored),
@@ -67,7 +67,7 @@ async function checked([password, stored]) {
     return report;
 }
 
-// What calls find where memory can't grow, by a hash of scrypt, a small one and another one.
+// Reports the results of calls if memory can't grow, for a scrypt hash, a small one, and others.
 async function withoutMemory([password, ...stored]) {
     const policy = new Policy({ method: 'scrypt' });
     const own = [
@@ -88,25 +88,25 @@ async function withoutMemory([password, ...stored]) {
     };
 }
 
-// The results of logins that are called at once, and how many of them ran at once.
+// Reports the results of simultaneous logins, and how many of them ran at once.
 async function atOnce(rows) {
     const results = await Promise.all(rows.map(([password, field]) => loginAsync(password, field)));
     return { matches: results.map((result) => result !== false), most: watched.most };
 }
 
-// The same where so many bytes of memory are free.
+// Does the same with this many bytes of free memory.
 async function inFreeMemory([free, ...rows]) {
     process.availableMemory = () => free;
     return atOnce(rows);
 }
 
-// The same where a call that isn't alone finds no memory.
+// Does the same if a call finds no memory while another one runs.
 async function crowded(rows) {
     watched.isCrowded = true;
     return atOnce(rows);
 }
 
-// How many workers are started for logins one after another, where nothing waits.
+// Reports how many workers are started for successive logins.
 async function oneAfterAnother(rows) {
     for (const [password, field] of rows) await loginAsync(password, field);
     return { started: watched.started };
@@ -128,8 +128,8 @@ async function growthBy(call) {
     return await residentMemory() - before;
 }
 
-// By how many MiB the resident memory grows by logins one after another and at once. The first row
-// is for one before them, which starts a worker.
+// Reports by how many MiB the resident memory grows through successive and simultaneous logins. The
+// first row is for a login before them, which starts a worker.
 async function growth([first, ...rows]) {
     await loginAsync(...first);
     const inTurn = await growthBy(() => rows.slice(0, 5).map((row) => login(...row)));

@@ -1,6 +1,6 @@
-"""What policies admit, as mkpasswd.mjs reports it in node, for policies that a generator makes.
+"""The limits of random policies, as mkpasswd.mjs reports them in node.
 
-The limits and the lengths are those of the formulas in docs/FORMATS.md, which the model has.
+The expected limits and lengths are the model's, by the formulas of docs/FORMATS.md.
 """
 from __future__ import annotations
 
@@ -28,7 +28,7 @@ SCRYPT_ROUNDS = range(6, 12)
 
 @dataclass(frozen=True)
 class Policy:
-    """A policy: rounds of 0 are the recommended ones, and no budget is the policy's own limit."""
+    """A policy. 0 means the recommended rounds, and no budget means the policy's own limit."""
 
     method: Method
     rounds: int
@@ -55,7 +55,7 @@ class Policy:
 
     @property
     def expected(self) -> dict[str, int | None]:
-        """What limits.mjs has to report."""
+        """The report that limits.mjs must give."""
         return {
             "rounds": self.rounds or self.method.recommended,
             "bytes": self.limit,
@@ -64,7 +64,7 @@ class Policy:
 
 
 def random_rounds(generator: random.Random, method: Method, most_rounds: int) -> int:
-    """Rounds that a method has, or 0."""
+    """Returns valid rounds of a method, or 0."""
     choices = (0, LEAST_ROUNDS, most_rounds, *[-1] * 9)
     rounds: int = generator.choice((0, *SCRYPT_ROUNDS) if method is SCRYPT else choices)
     if rounds == -1:
@@ -75,7 +75,7 @@ def random_rounds(generator: random.Random, method: Method, most_rounds: int) ->
 def random_policy(
     generator: random.Random, most_rounds: int, methods: tuple[Method, ...] = METHODS
 ) -> Policy:
-    """A policy whose budget is often just above or below what some password costs."""
+    """Returns a policy whose budget is often just above or below the cost of some password."""
     method = generator.choice(methods)
     rounds = random_rounds(generator, method, most_rounds)
     setting = recommended_setting(method, rounds)
@@ -85,14 +85,14 @@ def random_policy(
 
 
 def reports_of(node: str, web_build: Path, policies: list[Policy], *, is_hashed: bool) -> Report:
-    """What limits.mjs reports of policies."""
+    """Runs limits.mjs for these policies."""
     given = [[policy.method.name, policy.rounds, policy.budget, is_hashed] for policy in policies]
     script = ROOT / "tests/web/limits.mjs"
     module = web_build / "mkpasswd.mjs"
     return report_of_node(node, script, module, stdin=json.dumps(given).encode())
 
 
-def test_limits_of_random_policies(node: str, web_build: Path, seed: int) -> None:
+def test_random_policies_have_the_models_limits(node: str, web_build: Path, seed: int) -> None:
     generator = random.Random(seed)
     methods = (*METHODS, SCRYPT)
     policies = [random_policy(generator, MOST_ROUNDS, methods) for _ in range(POLICIES)]
@@ -107,13 +107,13 @@ def test_limits_of_random_policies(node: str, web_build: Path, seed: int) -> Non
 
 
 def refusal_of_longer_password(length: int) -> str:
-    """What a policy says to a password of a byte more than it admits."""
+    """Returns the error for a password one byte longer than a policy admits."""
     if length == LONGEST_PASSWORD:
         return "Refused: password too long: it may have 1024 bytes"
     return f"TooCostly: over budget: a password may have at most {length} bytes with these rounds"
 
 
-def test_longest_password_is_hashed_and_a_longer_one_is_refused(
+def test_the_longest_password_is_hashed_and_a_longer_one_refused(
     node: str, web_build: Path, seed: int
 ) -> None:
     generator = random.Random(seed)
@@ -138,7 +138,7 @@ def test_longest_password_is_hashed_and_a_longer_one_is_refused(
         pytest.param("md5crypt", 150_000_000, 1024, id="md5crypt"),
     ],
 )
-def test_limit_of_the_recommended_policy_is_the_documented_one(
+def test_the_recommended_policy_has_the_documented_limit(
     node: str, web_build: Path, method: str, limit: int, longest_password: int
 ) -> None:
     policy = Policy(BY_NAME[method], 0, None)

@@ -1,7 +1,7 @@
-"""mkpasswd.mjs and the page's worker in node, and the module of WebAssembly that both have.
+"""mkpasswd.mjs and the page's worker in node, and the WebAssembly module inside both.
 
-node.mjs runs them once with the tables below, and with random passwords whose hashes libxcrypt
-made. Each test is about one part of what it reports.
+node.mjs runs them once, with the tables below and with libxcrypt's hashes of random passwords.
+Each test checks one part of its report.
 """
 from __future__ import annotations
 
@@ -29,12 +29,12 @@ SALT_CHARACTERS = "./0123456789ABCDEFGHIJKLMNOPQRSTUVWXYZabcdefghijklmnopqrstuvw
 SCRYPT_SETTING = "$7$46..../....SodiumChloride"  # N is 64, r is 8
 
 
-# ---- Tables that node.mjs gets
+# ---- Tables for node.mjs
 
 
 @dataclass(frozen=True)
 class Refusal:
-    """A stored hash and a password, and what verify gives: false, or the reason of its error."""
+    """A stored hash, a password, and the result of verify: false, or the reason of its error."""
 
     title: str
     stored: str
@@ -62,7 +62,7 @@ REFUSALS = [
         reason="MKPASSWD_ERROR_SETTING_TOO_LONG",
     ),
     Refusal(
-        "a character of another alphabet",
+        "a non-ASCII character",
         stored="$6$s\u00e4lt$x",
         password="x",
         reason="MKPASSWD_ERROR_BAD_CHARACTER",
@@ -98,13 +98,13 @@ REFUSALS = [
 OLD_HASH = crypt(b"password", b"$1$xxxxxxxx").decode()
 NEW_HASH = crypt(b"password", b"$6$rounds=656000$saltsaltsaltsalt").decode()
 SCRYPT_HASH = "$7$CU..../....LzFEGmON4JIztNMS/Q/mbZ$jf5lUIMYwzPnralpdXTIZjbsGtiybQ9Ao3j4131xzaC"
-# Rounds whose lowest 32 bits are the number 5000.
+# Rounds whose lowest 32 bits are 5000.
 WRAPPED_ROUNDS = 2**32 + 5000
 
 
 @dataclass(frozen=True)
 class Audit:
-    """A field, a policy, and what `describe` says of the field, or the reason of its error."""
+    """A field, a policy, and `describe`'s text for the field, or the reason of its error."""
 
     title: str
     found: str
@@ -112,59 +112,59 @@ class Audit:
     policy: tuple[str | int, ...] = ()  # method, rounds and budget
 
 
-# What md5crypt digests of 1,024 bytes, what 656000 rounds of sha512crypt do, and what scrypt
-# digests and mixes with N = 2^14 and r = 32: 1927022, 1297572512 and 134246820 bytes.
+# The costs for 1,024 bytes: 1927022 with md5crypt, 1297572512 with 656000 rounds of sha512crypt,
+# and 134246820 with scrypt, N = 2^14 and r = 32.
 AUDITS = [
     Audit("a recommended hash", "sha512crypt:1297572512:current", NEW_HASH),
-    Audit("a hash of md5crypt", "md5crypt:1927022:outdated", OLD_HASH),
+    Audit("an md5crypt hash", "md5crypt:1927022:outdated", OLD_HASH),
     Audit(
-        "a hash of md5crypt, which is wanted",
+        "an md5crypt hash with an md5crypt policy",
         "md5crypt:1927022:current",
         OLD_HASH,
         policy=("md5crypt",),
     ),
     Audit(
-        "a hash with a round less than wanted",
+        "a hash with one round fewer than the policy",
         "sha512crypt:1297572512:outdated",
         NEW_HASH,
         policy=("sha512crypt", 656_001),
     ),
     Audit(
-        "a hash that costs a byte more than the budget",
+        "a hash that costs one byte more than the budget",
         "md5crypt:1927022:over budget",
         OLD_HASH,
         policy=("md5crypt", 0, 1_927_021),
     ),
-    Audit("a hash that was cut", "sha512crypt:1297572512:dead", NEW_HASH[:99]),
-    Audit("a hash with a character more", "md5crypt:1927022:dead", f"{OLD_HASH}."),
+    Audit("a truncated hash", "sha512crypt:1297572512:dead", NEW_HASH[:99]),
+    Audit("a hash with one more character", "md5crypt:1927022:dead", f"{OLD_HASH}."),
     Audit("a locked hash", "locked", f"!{OLD_HASH}"),
     Audit("an empty field", "none", ""),
     *(Audit(str(other), "unknown", other.text) for other in OTHER_HASHES),
-    Audit("a part of a hash of bcrypt", "unknown", "$2b$05$x"),
+    Audit("a part of a bcrypt hash", "unknown", "$2b$05$x"),
     Audit("Argon2", "unknown", "$argon2id$v=19$x"),
-    Audit("a hash of scrypt", "scrypt:134246820:outdated", SCRYPT_HASH),
+    Audit("a scrypt hash", "scrypt:134246820:outdated", SCRYPT_HASH),
     Audit(
-        "a hash of scrypt, which is wanted",
+        "a scrypt hash with a scrypt policy",
         "scrypt:134246820:current",
         SCRYPT_HASH,
         policy=("scrypt",),
     ),
     Audit(
-        "a hash of scrypt with half the rows that are wanted",
+        "a scrypt hash with half the policy's rows",
         "scrypt:134246820:outdated",
         SCRYPT_HASH,
         policy=("scrypt", 8),
     ),
     Audit(
-        "a hash of scrypt that costs a byte more than the budget",
+        "a scrypt hash that costs one byte more than the budget",
         "scrypt:134246820:over budget",
         SCRYPT_HASH,
         policy=("scrypt", 7, 134_246_819),
     ),
-    Audit("a hash of scrypt that was cut", "scrypt:134246820:dead", SCRYPT_HASH[:-1]),
+    Audit("a truncated scrypt hash", "scrypt:134246820:dead", SCRYPT_HASH[:-1]),
     Audit("scrypt without a cost", "malformed:bad cost", "$7$x"),
     Audit("a word", "no scheme", "hello"),
-    Audit("a word of thirteen letters, as descrypt has", "unknown", "battery.horse"),
+    Audit("a word of thirteen characters, like descrypt", "unknown", "battery.horse"),
     Audit("two words", "no scheme", "correct horse"),
     Audit("5000 letters", "no scheme", "x" * 5000),
     Audit("a hash without its prefix", "no scheme", OLD_HASH[3:]),
@@ -225,15 +225,16 @@ class Stored:
 
     @property
     def line(self) -> bytes:
-        """What node.mjs reads."""
+        """The line for node.mjs."""
         return f"{self.password.hex()} {self.text.hex()}\n".encode()
 
 
 def random_hash(generator: random.Random, number: int) -> Stored:
-    """The hash of a random password: short ones, and up to what libxcrypt takes."""
+    """Returns the hash of a random password, mostly short, at most as long as libxcrypt accepts."""
     longest = 39 if number % 9 else LONGEST_PASSWORD
     length = generator.randint(0, longest)
-    password = bytes(generator.randint(2, 255) for _ in range(length))  # 1 makes a wrong one
+    # A byte of 1 is left for node.mjs, which makes a wrong password with it.
+    password = bytes(generator.randint(2, 255) for _ in range(length))
     prefixes = ("$1$", "$5$", "$6$", "$5$rounds=1001$", "$6$rounds=1999$", "$7$46..../....")
     prefix = prefixes[number % len(prefixes)]
     salt = "".join(generator.choices(SALT_CHARACTERS, k=generator.randint(0, 17)))
@@ -241,7 +242,7 @@ def random_hash(generator: random.Random, number: int) -> Stored:
 
 
 def longest_hash() -> Stored:
-    """The hash of a password of 1,024 bytes, which libxcrypt doesn't take."""
+    """Returns the hash of a password of 1,024 bytes, which libxcrypt refuses."""
     password = b"x" * 1024
     text = hash_of(read_setting(b"$6$xxxxxxxx"), password)
     assert text is not None
@@ -258,8 +259,8 @@ def hashes(seed: int) -> list[Stored]:
 def report(
     node: str, web_build: Path, hashes: list[Stored], tmp_path_factory: pytest.TempPathFactory
 ) -> Report:
-    """What node.mjs reports."""
-    # Beside no package.json: a module of its own.
+    """The report of node.mjs."""
+    # In a folder without a package.json, as a user may copy it.
     module = tmp_path_factory.mktemp("module") / "mkpasswd.mjs"
     module.write_bytes((web_build / "mkpasswd.mjs").read_bytes())
     words = (
@@ -285,15 +286,15 @@ def report(
         ("md5crypt", "$1$"),
     ],
 )
-def test_new_hash_is_the_one_of_libxcrypt(report: Report, method: str, prefix: str) -> None:
-    made = report["made"][method]
-    assert made.startswith(prefix)
-    assert made == crypt(b"password", made.encode()).decode()
+def test_a_new_hash_is_libxcrypts(report: Report, method: str, prefix: str) -> None:
+    stored = report["hashes"][method]
+    assert stored.startswith(prefix)
+    assert stored == crypt(b"password", stored.encode()).decode()
 
 
 @dataclass(frozen=True)
 class Check:
-    """A check of a hash, by its place in a line of what node.mjs reports, and its result."""
+    """A check of a hash: its place in a line of node.mjs's report, and its result."""
 
     title: str
     place: int
@@ -318,87 +319,87 @@ def test_random_passwords_are_checked(
     assert wrong == [], f"SEED={seed}: {check.title}, but not for these"
 
 
-def test_random_passwords_are_hashed_as_by_libxcrypt(
+def test_random_passwords_get_libxcrypts_hashes(
     report: Report, hashes: list[Stored], seed: int
 ) -> None:
-    made = [line.split(" ")[4] for line in report["checked"]]
-    assert len(made) == len(hashes)
+    texts = [line.split(" ")[4] for line in report["checked"]]
+    assert len(texts) == len(hashes)
     wrong = [
         f"{stored}, not {text}"
-        for stored, text in zip(hashes, made)
+        for stored, text in zip(hashes, texts)
         if str(text) != stored.text.decode()
     ]
     assert wrong == [], f"SEED={seed}"
 
 
-def test_module_works_after_the_stack_has_overflowed_in_it(report: Report) -> None:
+def test_the_module_works_after_a_stack_overflow_inside_it(report: Report) -> None:
     assert report["after"] is True
 
 
 # ---- Refusals
 
-OTHER_REFUSALS = 4  # of node.mjs, before those of the table
+OTHER_REFUSALS = 4  # that node.mjs reports before those of the table
 
 
-def test_half_of_a_character_is_refused(report: Report) -> None:
+def test_a_lone_surrogate_is_refused(report: Report) -> None:
     assert "half of a character" in report["refused"][0]
 
 
 @pytest.mark.parametrize(
     ("place", "reason"),
     [
-        pytest.param(1, "MKPASSWD_ERROR_UNKNOWN_METHOD", id="a setting of bcrypt"),
-        pytest.param(2, "MKPASSWD_ERROR_ROUNDS", id="a setting of 12 rounds"),
-        pytest.param(3, "MKPASSWD_ERROR_OVER_BUDGET", id="a hash of the most rounds"),
+        pytest.param(1, "MKPASSWD_ERROR_UNKNOWN_METHOD", id="a bcrypt setting"),
+        pytest.param(2, "MKPASSWD_ERROR_ROUNDS", id="a setting with 12 rounds"),
+        pytest.param(3, "MKPASSWD_ERROR_OVER_BUDGET", id="a hash with the most rounds"),
     ],
 )
-def test_refusal_has_the_name_of_the_header(report: Report, place: int, reason: str) -> None:
+def test_a_refusal_has_the_headers_name(report: Report, place: int, reason: str) -> None:
     assert report["refused"][place] == reason
 
 
 @pytest.mark.parametrize("row", REFUSALS, ids=[row.title for row in REFUSALS])
-def test_check_is_refused(report: Report, row: Refusal) -> None:
+def test_a_check_is_refused(report: Report, row: Refusal) -> None:
     assert report["refused"][OTHER_REFUSALS + REFUSALS.index(row)] == row.reason
 
 
 # ---- Defaults
 
 
-def test_hash_has_the_recommended_rounds(report: Report) -> None:
+def test_a_hash_has_the_recommended_rounds(report: Report) -> None:
     assert report["defaults"][0] == "$6$rounds=656000$"
 
 
-def test_setting_has_the_recommended_rounds(report: Report) -> None:
+def test_a_setting_has_the_recommended_rounds(report: Report) -> None:
     assert report["defaults"][1] == "$6$rounds=656000$"
 
 
-def test_budget_admits_a_password_of_168_bytes(report: Report) -> None:
+def test_the_default_budget_admits_a_password_of_168_bytes(report: Report) -> None:
     assert report["defaults"][2] is True
 
 
 @pytest.mark.parametrize(
     "place", [pytest.param(3, id="to be hashed"), pytest.param(4, id="to be checked")]
 )
-def test_budget_refuses_a_password_of_169_bytes(report: Report, place: int) -> None:
+def test_the_default_budget_refuses_a_password_of_169_bytes(report: Report, place: int) -> None:
     assert report["defaults"][place] == "MKPASSWD_ERROR_OVER_BUDGET"
 
 
 # ---- Costs and audits
 
 
-def test_cost_is_read_from_the_report(report: Report) -> None:
-    """It is scrypt's, since there each other field of the report has another value."""
+def test_the_cost_is_read_from_the_report(report: Report) -> None:
+    """The test uses scrypt, whose report has a different value in each field."""
     expected = cost(read_setting(SCRYPT_SETTING.encode()), 8)
     assert report["costs"][1] == expected
 
 
-def test_worker_of_the_page_tells_what_a_check_can_cost(report: Report) -> None:
+def test_the_pages_worker_reports_what_a_check_can_cost(report: Report) -> None:
     expected = cost(read_setting(b"$1$xxxxxxxx"), len("password"))
     assert report["costs"][0] == expected
 
 
 @pytest.mark.parametrize("row", AUDITS, ids=[row.title for row in AUDITS])
-def test_audit_describes_a_field(report: Report, row: Audit) -> None:
+def test_an_audit_describes_a_field(report: Report, row: Audit) -> None:
     assert report["audited"][AUDITS.index(row)] == row.found
 
 
@@ -408,13 +409,13 @@ TAKES_ADDRESSES = "load|store|memory"
 
 
 def opcodes(module: Path) -> Counter[str]:
-    """How often each opcode is in a module."""
+    """Counts each opcode in a module."""
     listing = run("wasm-objdump", "-d", module).required().stdout.decode()
     return Counter(re.findall(r"^ \w+: [^|]*\| +([a-z][\w.]*)(?: |$)", listing, re.MULTILINE))
 
 
 def arguments_to_wrap(opcode: str) -> int:
-    """How many arguments of an opcode are addresses or lengths, which Binaryen wraps."""
+    """Returns how many arguments of an opcode are addresses or lengths, which Binaryen wraps."""
     if not re.search(TAKES_ADDRESSES, opcode):
         return 0
     if "copy" in opcode:
@@ -423,8 +424,8 @@ def arguments_to_wrap(opcode: str) -> int:
 
 
 @pytest.mark.needs("wasm-objdump")
-def test_binaryen_changes_nothing_but_addresses(web_build: Path) -> None:
-    """It wraps addresses and lengths, and marks code that is never reached."""
+def test_binaryen_changes_only_addresses(web_build: Path) -> None:
+    """Binaryen wraps addresses and lengths, and marks unreachable code."""
     before, after = opcodes(web_build / "wasm64/mkpasswd.wasm"), opcodes(
         web_build / "mkpasswd.wasm"
     )

@@ -1,7 +1,7 @@
-"""The package of npm, as its users have it: packed, installed, and used in TypeScript and node.
+"""The npm package as its users have it: packed, installed, and used in TypeScript and node.
 
-A folder of a user has the installed package and the scripts of tests/npm, each of which reports
-what it saw. Hashes are compared with libxcrypt's.
+A user's folder has the installed package and the scripts of tests/npm, which report what they
+see. Hashes are compared with libxcrypt's.
 """
 from __future__ import annotations
 
@@ -29,25 +29,25 @@ SALT_CHARACTERS = "./0123456789ABCDEFGHIJKLMNOPQRSTUVWXYZabcdefghijklmnopqrstuvw
 
 @dataclass(frozen=True)
 class Site:
-    """The folder of a user of the package."""
+    """A user's folder."""
 
     node: str
     folder: Path
 
     def run(self, *command: Word) -> Result:
-        """Runs a command in the folder, which has to succeed."""
+        """Runs a command in the folder. It must succeed."""
         environment = {"HOME": str(self.folder), "NODE_OPTIONS": None, "NODE_PATH": None}
         return run(*command, cwd=self.folder, env=environment).required()
 
     def report_of(self, script: str, *arguments: Word, given: Any = None) -> Report:
-        """What a script reports that gets these arguments, and JSON as its input."""
+        """Runs a script with these arguments and JSON on standard input, and returns its report."""
         stdin = b"" if given is None else json.dumps(given).encode()
         return report_of_node(self.node, script, *arguments, folder=self.folder, stdin=stdin)
 
 
 @pytest.fixture(scope="module")
 def site(node: str, tmp_path_factory: pytest.TempPathFactory) -> Site:
-    """A folder with the scripts."""
+    """A user's folder with the scripts."""
     folder = tmp_path_factory.mktemp("site")
     for script in (ROOT / "tests/npm").iterdir():
         shutil.copy(script, folder)
@@ -71,15 +71,15 @@ def archive(site: Site, web_build: Path, version: str) -> Path:
 
 @pytest.fixture(scope="module")
 def user(site: Site, archive: Path) -> Site:
-    """The folder, once the package is installed there."""
+    """The folder with the installed package."""
     site.run("npm", "install", "--offline", "--no-audit", "--no-fund", archive)
     return site
 
 
-# ---- What is packed
+# ---- The archive
 
 
-def test_archive_has_the_package_alone(archive: Path) -> None:
+def test_the_archive_has_only_the_package(archive: Path) -> None:
     names = run("tar", "-tzf", archive).required().stdout.decode().split()
     files = ["README.md", "mkpasswd.d.ts", "mkpasswd.mjs", "package.json"]
     assert sorted(names) == [f"package/{name}" for name in files]
@@ -96,11 +96,11 @@ console.log(JSON.stringify({ names: Object.keys(mkpasswd), version: mkpasswd.ver
     return user.report_of("exports.mjs")
 
 
-def test_module_has_the_version_of_this_tree(exports: Report, version: str) -> None:
+def test_the_module_has_the_version_of_this_tree(exports: Report, version: str) -> None:
     assert exports["version"] == version
 
 
-def test_module_exports_what_its_types_declare(exports: Report, web_build: Path) -> None:
+def test_the_module_exports_what_its_types_declare(exports: Report, web_build: Path) -> None:
     types = (web_build / "npm/mkpasswd.d.ts").read_text(encoding="utf-8")
     declared = re.findall(r"^export (?:class|const|function) (\w+)", types, re.MULTILINE)
     assert sorted(exports["names"]) == sorted(declared)
@@ -122,17 +122,17 @@ def test_typescript_accepts_uses_and_refuses_misuses(
     assert_result(run("tsc", *options, *resolved, "uses.ts", "misuses.ts", cwd=user.folder))
 
 
-# ---- The programs of README
+# ---- README's programs
 
 
 def program_of_readme(web_build: Path, heading: str, language: str = "js") -> str:
-    """The program below a heading in the README of the package."""
+    """Returns the program below a heading in the package's README."""
     readme = (web_build / "npm/README.md").read_text(encoding="utf-8")
     (section,) = [part for part in readme.split("\n## ") if part.startswith(f"{heading}\n")]
     return section.split(f"```{language}\n")[1].split("```\n")[0]
 
 
-# What stands before the first program: it is for a name and a password.
+# The code before the first program, which gets a name and a password.
 OF_A_SERVICE = """
 const [name, password] = process.argv.slice(2);
 const [users, entered] = [new Map([['old', '$1$xxxxxxxx$UYCIxa628.9qXjpQCjM4a.']]), []];
@@ -144,29 +144,29 @@ console.log(JSON.stringify({ entered, stored: users.get(name) }));
 
 
 def login_of_readme(user: Site, program: str, name: str, password: str) -> Report:
-    """Who is let in by the first program, and what is stored then."""
+    """Runs the first program, and returns who is logged in and what is stored."""
     text = OF_A_SERVICE + program + REPORT_OF_A_SERVICE
     (user.folder / "program.mjs").write_text(text, encoding="utf-8")
     return user.report_of("program.mjs", name, password)
 
 
 def faster(program: str) -> str:
-    """A program where a failure takes less than its five seconds."""
+    """Returns a program in which a failure takes less than five seconds."""
     changed = program.replace("new LoginQueue()", "new LoginQueue({ failureTime: 1000 })")
-    assert changed != program, "the program makes no queue with the usual time"
+    assert changed != program, "the program makes no queue with the default time"
     return changed
 
 
 @pytest.fixture(scope="module")
 def login_program(web_build: Path) -> str:
-    """The program with a login."""
+    """README's program with a login."""
     return faster(program_of_readme(web_build, "A first login"))
 
 
 @pytest.mark.parametrize(
     ("name", "password", "entered"),
     [
-        pytest.param("ann", "correct horse", ["ann"], id="lets in who knows the password"),
+        pytest.param("ann", "correct horse", ["ann"], id="accepts the right password"),
         pytest.param("ann", "wrong horse", [], id="refuses a wrong password"),
         pytest.param("nobody", "x", [], id="refuses an unknown name"),
     ],
@@ -187,7 +187,7 @@ def test_program_of_readme_renews_an_outdated_hash(user: Site, login_program: st
 
 
 @pytest.mark.parametrize("change", ["users.set(name, '!')", "users.delete(name)"])
-def test_program_of_readme_refuses_who_was_locked_meanwhile(
+def test_program_of_readme_refuses_a_user_who_is_locked_meanwhile(
     user: Site, login_program: str, change: str
 ) -> None:
     after = "const result = await queue.login(password, field);\n"
@@ -197,7 +197,7 @@ def test_program_of_readme_refuses_who_was_locked_meanwhile(
     assert report["entered"] == [], report
 
 
-def test_program_of_readme_lets_nobody_in_without_its_await(user: Site, login_program: str) -> None:
+def test_program_of_readme_without_its_await_refuses_all(user: Site, login_program: str) -> None:
     careless = login_program.replace("await queue.login", "queue.login")
     assert careless != login_program, "the program awaits no login"
     report = login_of_readme(user, careless, "ann", "wrong horse")
@@ -206,7 +206,7 @@ def test_program_of_readme_lets_nobody_in_without_its_await(user: Site, login_pr
 
 @pytest.fixture(scope="module")
 def reason_program(web_build: Path) -> str:
-    """The program that tells why a login failed, with the hash of `password`."""
+    """README's program that says why a login failed, with a hash of "password"."""
     field = crypt(b"password", b"$6$rounds=1000$saltsaltsaltsalt").decode()
     given = f"const [password, field] = [process.argv[2], '{field}'];\n"
     printed = "console.log(JSON.stringify({ reason }));\n"
@@ -220,7 +220,7 @@ def reason_program(web_build: Path) -> str:
         pytest.param("wrong", "outdated", id="a wrong password"),
     ],
 )
-def test_program_of_readme_tells_why_a_login_failed(
+def test_program_of_readme_says_why_a_login_failed(
     user: Site, reason_program: str, password: str, reason: str
 ) -> None:
     (user.folder / "reason.mjs").write_text(reason_program, encoding="utf-8")
@@ -243,7 +243,7 @@ console.log(JSON.stringify({ right, wrong, both }));
 """
 
 
-def test_program_of_readme_answers_by_statuses_of_http(user: Site, web_build: Path) -> None:
+def test_program_of_readme_answers_with_http_statuses(user: Site, web_build: Path) -> None:
     program = program_of_readme(web_build, "Too many logins")
     text = OF_A_BUSY_SERVICE + program + STATUSES
     (user.folder / "statuses.mjs").write_text(text, encoding="utf-8")
@@ -266,7 +266,7 @@ console.log(JSON.stringify({ wrong, kept, right, busy, stored: users.get('bob') 
 """
 
 
-def test_program_of_readme_moves_users_of_bcrypt(user: Site, web_build: Path) -> None:
+def test_program_of_readme_moves_users_with_bcrypt_hashes(user: Site, web_build: Path) -> None:
     statuses = program_of_readme(web_build, "Too many logins")
     moving = program_of_readme(web_build, "Users with hashes of bcrypt")
     text = OF_A_BUSY_SERVICE + OF_AN_OLD_SERVICE + statuses + moving + OLD_STATUSES
@@ -276,7 +276,7 @@ def test_program_of_readme_moves_users_of_bcrypt(user: Site, web_build: Path) ->
     assert report["busy"] == [403, 503] and report["stored"].startswith("$2b$"), report
 
 
-def test_program_of_readme_refuses_who_is_locked_meanwhile(user: Site, web_build: Path) -> None:
+def test_program_of_readme_heeds_a_lock_during_a_login(user: Site, web_build: Path) -> None:
     program = program_of_readme(web_build, "Too many logins")
     after = "const result = await queue.login(password, field);\n"
     changed = program.replace(after, f"{after}users.set(name, '!');\n")
@@ -287,22 +287,22 @@ def test_program_of_readme_refuses_who_is_locked_meanwhile(user: Site, web_build
 
 
 def test_program_of_readme_measures_the_costliest_login(user: Site, web_build: Path) -> None:
-    """With a policy that costs less."""
+    """The test replaces the policy by a cheaper one."""
     program = program_of_readme(web_build, "When a failure is answered")
     (user.folder / "measure.mjs").write_text(OF_A_BUSY_SERVICE + program, encoding="utf-8")
     printed = user.run(user.node, "measure.mjs").stdout.decode()
     assert re.fullmatch(r"the costliest login: [\d.]+m?s\n", printed), printed
 
 
-def test_program_of_readme_makes_hashes_by_another_policy(user: Site, web_build: Path) -> None:
+def test_program_of_readme_hashes_with_another_policy(user: Site, web_build: Path) -> None:
     program = program_of_readme(web_build, "Another policy")
-    printed = "console.log(JSON.stringify({ made: await queue.hash('password') }));\n"
+    printed = "console.log(JSON.stringify({ stored: await queue.hash('password') }));\n"
     (user.folder / "policy.mjs").write_text(program + printed, encoding="utf-8")
-    made = user.report_of("policy.mjs")["made"]
-    assert made.startswith("$7$") and made == crypt(b"password", made.encode()).decode(), made
+    stored = user.report_of("policy.mjs")["stored"]
+    assert stored.startswith("$7$") and stored == crypt(b"password", stored.encode()).decode()
 
 
-# What stands before the programs of README, in TypeScript.
+# Declarations before README's programs, in TypeScript.
 LET_IN = "declare function letIn(name: string): void;\n"
 USERS = "declare const users: Map<string, string>;\n"
 TYPED = "declare const name: string, password: string;\n"
@@ -331,7 +331,7 @@ def test_typescript_accepts_programs_of_readme(
     assert_result(run("tsc", *options, "readme.ts", cwd=user.folder))
 
 
-# What decides by a login in TypeScript: a password of any type, with the right hash and others.
+# Tries a function that decides about a login: passwords of any type, with right and wrong fields.
 DECISIONS = """
 const field = '$1$xxxxxxxx$UYCIxa628.9qXjpQCjM4a.';
 const tries = [['password', field], ['passwort', field], ['password', undefined], [5, field]];
@@ -355,24 +355,24 @@ def test_program_of_readme_in_typescript_decides(user: Site, web_build: Path) ->
 # ---- The queue of logins
 
 
-# A wrong password, and what can be stored; then passwords that no hash can have.
+# Fields for a wrong password. Passwords that no hash can have follow.
 FIELDS_OF_FAILURES = {
     "a hash": crypt(b"password", b"$6$rounds=5000$saltsaltsaltsalt").decode(),
-    "a hash of more rounds": crypt(b"password", b"$6$rounds=20000$saltsaltsaltsalt").decode(),
-    "a hash of md5crypt": crypt(b"password", b"$1$saltsalt").decode(),
+    "a hash with more rounds": crypt(b"password", b"$6$rounds=20000$saltsaltsaltsalt").decode(),
+    "an md5crypt hash": crypt(b"password", b"$1$saltsalt").decode(),
     "an unknown name": None,
     "an empty field": "",
     "a locked account": "!",
     "yescrypt": "$y$x",
     "scrypt": crypt(b"password", b"$7$46..../....SodiumChloride").decode(),
     "a malformed hash": "$5$rounds=$x",
-    "a cut hash": crypt(b"password", b"$6$rounds=5000$saltsaltsaltsalt").decode()[:40],
+    "a truncated hash": crypt(b"password", b"$6$rounds=5000$saltsaltsaltsalt").decode()[:40],
     "a hostile hash": "$6$rounds=999999999$s$x",
 }
 IMPOSSIBLE_PASSWORDS = ("x" * 1025, "x\0y", "\ud83d")
-FAILURE_MILLISECONDS = 1000  # of queue.mjs
-MOST_MILLISECONDS_APART = 5  # of failures that are called at once
-MOST_MILLISECONDS_LATE = 25  # of a hundred: without multiples it would be some fifty
+FAILURE_MILLISECONDS = 1000  # in queue.mjs
+MOST_MILLISECONDS_APART = 5  # between failures that are called at once
+MOST_MILLISECONDS_LATE = 25  # of a hundred: without multiples it would be about fifty
 GREATEST_SLOWDOWN = 1.2
 
 
@@ -403,7 +403,7 @@ def test_all_kinds_of_failures_are_answered_at_the_same_moment(queue: Report) ->
     assert queue["failures"]["spread"] <= MOST_MILLISECONDS_APART
 
 
-def test_failure_that_took_too_long_is_answered_at_a_multiple_of_its_time(queue: Report) -> None:
+def test_failure_that_takes_too_long_is_answered_at_a_multiple_of_its_time(queue: Report) -> None:
     assert queue["lateness"] <= MOST_MILLISECONDS_LATE
 
 
@@ -415,7 +415,7 @@ def test_full_queue_is_busy(queue: Report) -> None:
     assert queue["full"]["refused"] == ["Busy: 2 calls are in the queue: try again later"] * 2
 
 
-def test_failure_that_waits_has_no_place_in_the_queue(queue: Report) -> None:
+def test_waiting_failure_takes_no_place_in_the_queue(queue: Report) -> None:
     assert queue["full"]["later"] == {"matches": True}
 
 
@@ -434,7 +434,7 @@ def test_failure_that_waits_has_no_place_in_the_queue(queue: Report) -> None:
         pytest.param(9, "policy must be a Policy", id="another object as policy"),
     ],
 )
-def test_queue_refuses_other_options(queue: Report, place: int, refusal: str) -> None:
+def test_queue_refuses_invalid_options(queue: Report, place: int, refusal: str) -> None:
     assert refusal in queue["options"][place]
 
 
@@ -457,7 +457,7 @@ def policies(user: Site) -> Report:
         ("the most rounds of scrypt", "scrypt", 11),
     ],
 )
-def test_policy(policies: Report, title: str, method: str, rounds: int) -> None:
+def test_policy_is_accepted(policies: Report, title: str, method: str, rounds: int) -> None:
     expected = {"method": method, "rounds": rounds, "budget": None}
     assert policies["policies"][title] == expected
 
@@ -498,7 +498,7 @@ def test_policy_is_refused(policies: Report, title: str, error: str) -> None:
     assert str(policies["policies"][title]).startswith(error)
 
 
-def test_limit_of_the_recommended_policy(policies: Report) -> None:
+def test_recommended_policy_has_its_limit(policies: Report) -> None:
     assert policies["limit"] == {"bytes": 253_921_472, "passwordLength": 168}
 
 
@@ -510,11 +510,11 @@ def test_limit_of_the_recommended_policy(policies: Report) -> None:
         pytest.param(2, "too long", id="169 bytes, which the recommended policy refuses"),
         pytest.param(3, "too long", id="2000 bytes"),
         pytest.param(4, "zero byte", id="a zero byte"),
-        pytest.param(5, "lone surrogate", id="half of a horse"),
+        pytest.param(5, "lone surrogate", id="half of an emoji"),
         pytest.param(6, None, id="a horse"),
     ],
 )
-def test_password_problem(policies: Report, place: int, problem: str | None) -> None:
+def test_password_problem_is_named(policies: Report, place: int, problem: str | None) -> None:
     assert policies["problems"][place] == problem
 
 
@@ -522,7 +522,7 @@ def test_every_password_is_too_long_for_a_policy_that_admits_none(policies: Repo
     assert policies["ofNoPolicy"] == "too long"
 
 
-# ---- What the module may report
+# ---- Unexpected reports of the module
 
 
 UNKNOWN_ERROR = "9999"
@@ -531,18 +531,18 @@ ALL_CALLS = ("hash", "crypt", "setting", "cost", "policy")
 
 @pytest.fixture(scope="module")
 def zeros(user: Site) -> Report:
-    """What calls make of reports of zeros, by calls that return 0."""
+    """The results of calls if the module returns 0 and reports only zeros."""
     return user.report_of("reports.mjs", "0", "0")
 
 
 @pytest.fixture(scope="module")
 def unknown_error(user: Site) -> Report:
-    """What calls make of an error that mkpasswd.h doesn't have."""
+    """The results of calls if the module reports an error that mkpasswd.h doesn't have."""
     return user.report_of("reports.mjs", "0", UNKNOWN_ERROR)
 
 
 @pytest.mark.parametrize("call", ["login", "loginOfUnknownName", "verify"])
-def test_report_of_zeros_lets_nobody_in(zeros: Report, call: str) -> None:
+def test_report_of_zeros_refuses_every_login(zeros: Report, call: str) -> None:
     assert zeros[call] is False
 
 
@@ -552,7 +552,7 @@ def test_report_of_zeros_is_a_failed_call(zeros: Report, call: str) -> None:
 
 
 @pytest.mark.parametrize("call", ["login", "loginOfUnknownName"])
-def test_unknown_error_lets_nobody_in(unknown_error: Report, call: str) -> None:
+def test_unknown_error_refuses_every_login(unknown_error: Report, call: str) -> None:
     assert unknown_error[call] is False
 
 
@@ -565,46 +565,46 @@ def test_field_with_an_unknown_error_is_malformed(unknown_error: Report) -> None
     assert unknown_error["describe"] == "malformed"
 
 
-# ---- Logins by a policy of 5000 rounds of sha512crypt
+# ---- Logins with a policy of sha512crypt and 5000 rounds
 
 
 class Work(enum.Enum):
-    """What a login hashes."""
+    """Which work a login does."""
 
     OF_THE_FIELD = enum.auto()
-    OF_A_NEW_HASH = enum.auto()  # so that the time doesn't tell that the field can't be checked
+    OF_A_NEW_HASH = enum.auto()  # hides that the field can't be checked
     NONE = enum.auto()
 
 
 @dataclass(frozen=True)
 class Login:
-    """A password and a field, and what the calls have to say."""
+    """A password and a field, and the expected results of the calls."""
 
     title: str
     password: str
     field: str
     matches: bool = False
-    refusal: str | None = None  # by verify: the reason of its error, without MKPASSWD_ERROR_
+    refusal: str | None = None  # the reason of verify's error, without MKPASSWD_ERROR_
     work: Work = Work.OF_THE_FIELD
 
     @property
     def is_outdated(self) -> bool:
-        """Whether a hash by the policy would replace the one in the field."""
+        """Whether a new hash would replace the one in the field."""
         return bool(re.match(r"\$[157]\$|\$6\$rounds=1000\$", self.field))
 
     @property
     def result(self) -> dict[str, bool] | bool:
-        """What login returns, in JSON."""
+        """The result of login in JSON."""
         return {"matches": True} if self.matches else False
 
     @property
     def verified(self) -> str | bool:
-        """What verify returns, or the reason of its error."""
+        """The result of verify, or the reason of its error."""
         return self.matches if self.refusal is None else f"MKPASSWD_ERROR_{self.refusal}"
 
     @property
     def outdated(self) -> str | bool:
-        """What needsRehash returns, or the reason of its error."""
+        """The result of needsRehash, or the reason of its error."""
         if self.refusal and re.search("UNKNOWN|BAD|SETTING|CEILING", self.refusal):
             return f"MKPASSWD_ERROR_{self.refusal}"
         return self.is_outdated
@@ -613,18 +613,18 @@ class Login:
 CURRENT = crypt(b"password", b"$6$rounds=5000$saltsaltsaltsalt").decode()
 OLD = crypt(b"password", b"$1$saltsalt").decode()
 FEW_ROUNDS = crypt(b"password", b"$6$rounds=1000$saltsaltsaltsalt").decode()
-SCRYPT = crypt(b"password", b"$7$BU..../....SodiumChloride").decode()  # of 32 MiB
+SCRYPT = crypt(b"password", b"$7$BU..../....SodiumChloride").decode()  # takes 32 MiB
 HORSE = "K\u00e4se \U0001f40e"
 HASH_OF_HORSE = crypt(HORSE.encode(), b"$6$rounds=5000$saltsaltsaltsalt").decode()
 
 
 def hidden(title: str, field: str, refusal: str | None = None) -> Login:
-    """A login with a field that can't be checked."""
+    """Returns a login with a field that can't be checked."""
     return Login(title, "password", field, refusal=refusal, work=Work.OF_A_NEW_HASH)
 
 
 def impossible(title: str, password: str, field: str, refusal: str) -> Login:
-    """A login with a password that no hash can have."""
+    """Returns a login with a password that no hash can have."""
     return Login(title, password, field, refusal=refusal, work=Work.NONE)
 
 
@@ -632,28 +632,28 @@ LOGINS = [
     Login("the right password", "password", CURRENT, matches=True),
     Login("a wrong password", "passwort", CURRENT),
     Login("an empty password", "", CURRENT),
-    Login("the right password of a hash of md5crypt", "password", OLD, matches=True),
-    Login("a wrong password of a hash of md5crypt", "passwort", OLD),
-    Login("the right password of a hash of few rounds", "password", FEW_ROUNDS, matches=True),
+    Login("the right password of an md5crypt hash", "password", OLD, matches=True),
+    Login("a wrong password for an md5crypt hash", "passwort", OLD),
+    Login("the right password of a hash with few rounds", "password", FEW_ROUNDS, matches=True),
     Login("a password beyond ASCII", HORSE, HASH_OF_HORSE, matches=True),
     Login("a part of a password beyond ASCII", "K\u00e4se", HASH_OF_HORSE),
-    Login("the right password of a hash of scrypt", "password", SCRYPT, matches=True),
-    Login("a wrong password of a hash of scrypt", "passwort", SCRYPT),
-    Login("a hash of scrypt without its last character", "password", SCRYPT[:-1]),
-    Login("the setting of a hash of scrypt", "password", SCRYPT.rpartition("$")[0]),
+    Login("the right password of a scrypt hash", "password", SCRYPT, matches=True),
+    Login("a wrong password for a scrypt hash", "passwort", SCRYPT),
+    Login("a scrypt hash without its last character", "password", SCRYPT[:-1]),
+    Login("the setting of a scrypt hash", "password", SCRYPT.rpartition("$")[0]),
     Login("a hash without its last character", "password", CURRENT[:-1]),
-    Login("the begin of a hash", "password", CURRENT[:40]),
-    Login("a hash with a character more", "password", f"{CURRENT}."),
+    Login("the beginning of a hash", "password", CURRENT[:40]),
+    Login("a hash with one more character", "password", f"{CURRENT}."),
     hidden("an empty field", ""),
     hidden("a locked hash", f"!{CURRENT}"),
     hidden("a locked field", "!"),
-    hidden("a field of a star", "*"),
-    hidden("a field that Solaris locked", "*LK*"),
+    hidden("an asterisk", "*"),
+    hidden("a field locked by Solaris", "*LK*"),
     hidden("yescrypt", "$y$x", "UNKNOWN_SCHEME"),
     hidden("bcrypt", "$2b$05$x", "UNKNOWN_SCHEME"),
     hidden("descrypt", "abJnggxhB/yWI", "UNKNOWN_SCHEME"),
     hidden("the password itself", "password", "UNKNOWN_SCHEME"),
-    hidden("an animal in place of the salt", "$6$\U0001f40e$x", "BAD_CHARACTER"),
+    hidden("an emoji in place of the salt", "$6$\U0001f40e$x", "BAD_CHARACTER"),
     hidden("a letter beyond ASCII", "\u00e4", "BAD_CHARACTER"),
     hidden("two lines", "x\ny", "BAD_CHARACTER"),
     hidden("a hash with its line feed", f"{CURRENT}\n", "BAD_CHARACTER"),
@@ -663,16 +663,16 @@ LOGINS = [
     hidden("scrypt above its ceiling", "$7$M0..../....s", "ABOVE_CEILING"),
     hidden("scrypt without a cost", "$7$x", "BAD_COST"),
     impossible("1025 bytes", "x" * 1025, CURRENT, "PASSWORD_TOO_LONG"),
-    impossible("1025 bytes for an empty field", "x" * 1025, "", "PASSWORD_TOO_LONG"),
-    impossible("1025 bytes for a locked field", "x" * 1025, "!", "PASSWORD_TOO_LONG"),
+    impossible("1025 bytes with an empty field", "x" * 1025, "", "PASSWORD_TOO_LONG"),
+    impossible("1025 bytes with a locked field", "x" * 1025, "!", "PASSWORD_TOO_LONG"),
     impossible("a zero byte", "x\0y", CURRENT, "PASSWORD_ZERO_BYTE"),
-    impossible("a zero byte for an empty field", "x\0y", "", "PASSWORD_ZERO_BYTE"),
-    impossible("a zero byte for a locked field", "x\0y", "!", "PASSWORD_ZERO_BYTE"),
+    impossible("a zero byte with an empty field", "x\0y", "", "PASSWORD_ZERO_BYTE"),
+    impossible("a zero byte with a locked field", "x\0y", "!", "PASSWORD_ZERO_BYTE"),
 ]
 
 
 def random_logins(generator: random.Random) -> list[Login]:
-    """Logins with random passwords, right ones and wrong ones."""
+    """Returns logins with random passwords, right and wrong ones."""
     logins = []
     for prefix in ("$5$", "$6$", "$5$rounds=1001$", "$6$rounds=5999$", "$7$46..../....") * 25:
         length = generator.randint(0, 39)
@@ -686,17 +686,17 @@ def random_logins(generator: random.Random) -> list[Login]:
 
 @dataclass(frozen=True)
 class LoginReport(Report):
-    """What logins.mjs reports of the table, and of random logins."""
+    """The report of logins.mjs about the table and about random logins."""
 
     random_logins: list[Login]
 
     def of_login(self, login: Login) -> dict[str, Any]:
-        """What it reports of a login of the table."""
+        """Returns the report of a login in the table."""
         found: dict[str, Any] = self.value[LOGINS.index(login)]
         return found
 
     def of_random(self) -> list[tuple[Login, dict[str, Any]]]:
-        """Random logins with what it reports of them."""
+        """Returns the random logins with their reports."""
         reports = self.value[len(LOGINS) :]
         assert len(reports) == len(self.random_logins)
         return list(zip(self.random_logins, reports))
@@ -707,39 +707,39 @@ def logins(user: Site, seed: int) -> LoginReport:
     others = random_logins(random.Random(seed))
     given = [[login.password, login.field] for login in [*LOGINS, *others]]
     report = user.report_of("logins.mjs", given=given)
-    return LoginReport(report.how, report.value, others)
+    return LoginReport(report.origin, report.value, others)
 
 
 each_login = pytest.mark.parametrize("login", LOGINS, ids=[login.title for login in LOGINS])
 
 
 @each_login
-def test_login(logins: LoginReport, login: Login) -> None:
+def test_login_returns_the_verdict(logins: LoginReport, login: Login) -> None:
     assert logins.of_login(login)["result"] == login.result
 
 
 @each_login
-def test_login_in_a_worker_says_the_same(logins: LoginReport, login: Login) -> None:
+def test_login_in_a_worker_returns_the_same(logins: LoginReport, login: Login) -> None:
     assert logins.of_login(login)["alike"] is True
 
 
 @each_login
-def test_verify(logins: LoginReport, login: Login) -> None:
+def test_verify_returns_whether_the_password_matches(logins: LoginReport, login: Login) -> None:
     assert logins.of_login(login)["verified"] == login.verified
 
 
 @each_login
-def test_needs_rehash(logins: LoginReport, login: Login) -> None:
+def test_needs_rehash_knows_outdated_hashes(logins: LoginReport, login: Login) -> None:
     assert logins.of_login(login)["outdated"] == login.outdated
 
 
 @each_login
-def test_login_leaves_nothing_in_the_memory_it_hashed_in(logins: LoginReport, login: Login) -> None:
+def test_login_leaves_nothing_in_its_memory(logins: LoginReport, login: Login) -> None:
     assert logins.of_login(login)["wiped"] is True
 
 
 def assert_renewed(login: Login, renewed: str | None) -> None:
-    """Fails the test unless a login renews what it should, by a hash of the policy."""
+    """Fails the test unless a login renews exactly an outdated hash, by the policy."""
     if not (login.matches and login.is_outdated):
         assert renewed is None, login
         return
@@ -758,9 +758,7 @@ FAILED_LOGINS = [login for login in LOGINS if not login.matches]
 
 
 @pytest.mark.parametrize("login", FAILED_LOGINS, ids=[login.title for login in FAILED_LOGINS])
-def test_describe_tells_where_only_the_password_was_wrong(
-    logins: LoginReport, login: Login
-) -> None:
+def test_describe_shows_if_only_the_password_was_wrong(logins: LoginReport, login: Login) -> None:
     is_hash = logins.of_login(login)["state"] in ("current", "outdated")
     assert is_hash == (login.field in FIELDS_THAT_MATCH)
 
@@ -778,7 +776,7 @@ def test_field_that_cannot_be_checked_takes_the_work_of_a_new_hash(
 
 
 @each_login
-def test_password_problem_tells_what_no_hash_can_have(logins: LoginReport, login: Login) -> None:
+def test_password_problem_knows_what_no_hash_can_have(logins: LoginReport, login: Login) -> None:
     is_problem = logins.of_login(login)["problem"] is not None
     assert is_problem == (login.work is Work.NONE)
 
@@ -800,7 +798,7 @@ def test_password_that_no_hash_can_have_takes_no_work(logins: LoginReport, login
         pytest.param("wiped", lambda _: True, id="the memory"),
     ],
 )
-def test_random_logins(logins: LoginReport, seed: int, call: str, expected: Any) -> None:
+def test_random_logins_are_right(logins: LoginReport, seed: int, call: str, expected: Any) -> None:
     wrong = [
         f"expected {expected(login)}, got {report[call]}: {login}"
         for login, report in logins.of_random()
@@ -814,7 +812,7 @@ def test_random_logins_renew_outdated_hashes(logins: LoginReport) -> None:
         assert_renewed(login, report.get("renewed"))
 
 
-def test_describe_knows_random_hashes(logins: LoginReport, seed: int) -> None:
+def test_describe_recognizes_random_hashes(logins: LoginReport, seed: int) -> None:
     wrong = [
         login
         for login, report in logins.of_random()
@@ -823,12 +821,12 @@ def test_describe_knows_random_hashes(logins: LoginReport, seed: int) -> None:
     assert wrong == [], f"SEED={seed}"
 
 
-# ---- Logins with other arguments
+# ---- Logins with invalid arguments
 
 
 @dataclass(frozen=True)
 class Mistake:
-    """Arguments of a login in JSON, and what it returns, or how its error begins."""
+    """Arguments of a login in JSON, and its result, or the beginning of its error."""
 
     title: str
     password: Any
@@ -838,7 +836,7 @@ class Mistake:
 
 MISTAKES = [
     Mistake("an unknown name", "password", None, result=False),
-    Mistake("half of a character", "\ud83d", CURRENT, result=False),
+    Mistake("a lone surrogate", "\ud83d", CURRENT, result=False),
     Mistake("a number as field", "password", 5, result="TypeError: field must be a string"),
     Mistake("an object as field", "password", {}, result="TypeError: field must be a string"),
     Mistake("null as password", None, CURRENT, result="TypeError: password must be a string"),
@@ -854,7 +852,7 @@ def mistakes(user: Site) -> Report:
 
 
 @each_mistake
-def test_login_with_other_arguments(mistakes: Report, row: Mistake) -> None:
+def test_login_refuses_invalid_arguments(mistakes: Report, row: Mistake) -> None:
     result = mistakes.value[MISTAKES.index(row)]["result"]
     if isinstance(row.result, str):
         assert result.startswith(row.result)
@@ -863,7 +861,7 @@ def test_login_with_other_arguments(mistakes: Report, row: Mistake) -> None:
 
 
 @each_mistake
-def test_login_in_a_worker_with_other_arguments(mistakes: Report, row: Mistake) -> None:
+def test_login_in_a_worker_refuses_invalid_arguments(mistakes: Report, row: Mistake) -> None:
     assert mistakes.value[MISTAKES.index(row)]["alike"] is True
 
 
@@ -871,7 +869,7 @@ def test_unknown_name_takes_the_work_of_a_new_hash(logins: LoginReport, mistakes
     assert mistakes.value[0]["digests"] == logins.of_login(LOGINS[0])["digests"] > 5000
 
 
-# ---- The work of logins, as the module does it
+# ---- The work of logins, counted in the module
 
 
 UNCHECKED_FIELDS = {
@@ -884,9 +882,9 @@ UNCHECKED_FIELDS = {
 
 @pytest.fixture(scope="module")
 def steps(user: Site, web_build: Path) -> Report:
-    """How many steps logins take in a module that counts them: a wrong password, and the others.
+    """The steps of logins in a module that counts them: a wrong password, and the others.
 
-    No clause keeps a compiler from dropping a hash that nobody reads.
+    No clause keeps a compiler from removing a dummy hash.
     """
     module = user.folder / "logged.wasm"
     options = ("--enable-bulk-memory", "--log-execution")
@@ -899,12 +897,12 @@ def steps(user: Site, web_build: Path) -> Report:
 
 @pytest.mark.needs("wasm-opt")
 @pytest.mark.parametrize("what", UNCHECKED_FIELDS)
-def test_hash_that_hides_a_field_is_really_made(steps: Report, what: str) -> None:
+def test_dummy_hash_is_really_computed(steps: Report, what: str) -> None:
     of_a_wrong_password, *others = steps.value
     assert others[list(UNCHECKED_FIELDS).index(what)] > 0.9 * of_a_wrong_password
 
 
-# ---- A process in which another library has set properties of all objects
+# ---- A process in which another library has set properties on all objects
 
 
 @pytest.fixture(scope="module")
@@ -912,21 +910,21 @@ def polluted(user: Site) -> Report:
     return user.report_of("polluted.mjs")
 
 
-def test_wrong_password_throws_where_all_objects_match(polluted: Report) -> None:
-    """false has their properties too."""
+def test_wrong_password_throws_if_all_objects_match(polluted: Report) -> None:
+    """Even false has these properties."""
     errors = [message.split(",")[0] for message in polluted["wrong"]]
     assert errors == ["Object.prototype has matches or new"] * 8
 
 
-def test_forgotten_await_lets_nobody_in_where_all_objects_match(polluted: Report) -> None:
+def test_forgotten_await_refuses_every_login_if_all_objects_match(polluted: Report) -> None:
     assert polluted["forgotten"] == [None] * 4
 
 
-def test_match_is_what_it_was_where_all_objects_match(polluted: Report) -> None:
+def test_match_is_unchanged_if_all_objects_match(polluted: Report) -> None:
     assert polluted["right"] == [True] * 3 + [None] * 3
 
 
-def test_policy_and_queue_have_no_properties_of_all_objects(polluted: Report) -> None:
+def test_policy_and_queue_ignore_properties_of_all_objects(polluted: Report) -> None:
     recommended = {"method": "sha512crypt", "rounds": 656000, "budget": None}
     assert polluted["policies"] == [recommended, recommended, {}]
 
@@ -935,11 +933,11 @@ def test_match_has_no_hash_in_logs(polluted: Report) -> None:
     assert polluted["logged"] == '{"matches":true}'
 
 
-def test_new_hash_is_no_property_of_all_objects(polluted: Report) -> None:
+def test_new_hash_is_not_read_from_a_property_of_all_objects(polluted: Report) -> None:
     assert polluted["renewed"].startswith("$6$rounds=1000$")
 
 
-# ---- A worker that is killed
+# ---- A killed worker
 
 
 @pytest.fixture(scope="module")
@@ -947,7 +945,7 @@ def killed(user: Site) -> Report:
     return user.report_of("killed.mjs")
 
 
-def test_worker_that_is_killed_fails_its_own_call(killed: Report) -> None:
+def test_killed_worker_fails_only_its_own_call(killed: Report) -> None:
     assert killed["failed"] == [True]
 
 
@@ -955,7 +953,7 @@ def test_other_calls_are_answered_when_a_worker_is_killed(killed: Report) -> Non
     assert killed["matched"] == 3 * killed["cores"] - 1
 
 
-def test_later_calls_are_answered_when_a_worker_was_killed(killed: Report) -> None:
+def test_later_calls_are_answered_after_a_worker_was_killed(killed: Report) -> None:
     assert killed["later"] == [{"matches": True}, False]
 
 
@@ -972,7 +970,7 @@ def test_refusals_are_errors_of_their_calls(killed: Report) -> None:
 
 @pytest.fixture(scope="module")
 def clients(user: Site) -> Report:
-    """What the clients of a server report."""
+    """The report of the clients of a server."""
     with started(
         user.node,
         "server.mjs",
@@ -995,5 +993,5 @@ def test_health_checks_are_answered_during_logins(clients: Report) -> None:
 
 
 def test_hashing_does_not_block_the_event_loop(clients: Report) -> None:
-    """A login in the server's thread would block it for as long as a hash takes."""
+    """A login in the server's thread would block the loop for the time of a hash."""
     assert clients["blocked"] < 0.9

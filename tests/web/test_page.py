@@ -1,7 +1,7 @@
 """The page that makes and checks hashes, in Chromium, Firefox and WebKit.
 
 Each browser opens the page from a server on this machine and from a file, and evaluates page.js,
-which does what a visitor does and reports what the page shows. Each test is about one part of that
+which acts like a visitor and reports what the page shows. Each test checks one part of that
 report. Each browser also opens changed copies of the page, and a page with mkpasswd.mjs.
 """
 from __future__ import annotations
@@ -22,19 +22,19 @@ from support.other_hashes import OTHER_HASHES
 from support.reports import Report, read_report
 from support.web_server import WebServer
 
-pytestmark = pytest.mark.usefixtures("web_build")  # without which no browser needs to start
+pytestmark = pytest.mark.usefixtures("web_build")  # skips the tests before a browser starts
 
 PAGE_SCRIPT = ROOT / "tests/web/page.js"
-PASSWORD = "K\u00e4se \U0001f40e"  # what page.js types
-ROUNDS = "1234"  # and the rounds of SHA-crypt that it asks for
+PASSWORD = "K\u00e4se \U0001f40e"  # the password that page.js types
+ROUNDS = "1234"  # the rounds that it chooses for SHA-crypt
 
 METHODS = ("sha512crypt", "sha256crypt", "scrypt", "md5crypt")
 DIGEST_LENGTHS = {"sha512crypt": 86, "sha256crypt": 43, "scrypt": 43, "md5crypt": 22}
-# How a hash looks that has the rounds and a whole salt.
+# The form of a hash with the chosen rounds and a salt of full length.
 FORMS = {
     "sha512crypt": rf"\$6\$rounds={ROUNDS}\$[./\w]{{16}}\$\S+",
     "sha256crypt": rf"\$5\$rounds={ROUNDS}\$[./\w]{{16}}\$\S+",
-    "scrypt": r"\$7\$BU\.{4}/\.{4}[./\w]{22}\$\S+",  # of 6 rounds
+    "scrypt": r"\$7\$BU\.{4}/\.{4}[./\w]{22}\$\S+",  # with rounds = 6
     "md5crypt": r"\$1\$[./\w]{8}\$\S+",
 }
 
@@ -48,12 +48,12 @@ HOPELESS = "No password matches it: copy it again, or set a new password."
 each_method = pytest.mark.parametrize("method", METHODS)
 
 
-# ---- What the page says of hashes that it can't check
+# ---- Hashes that the page can't check
 
 
 @dataclass(frozen=True)
 class Unchecked:
-    """A stored hash, or the line that has it, with a password, and what the page answers."""
+    """A stored hash, or a line with one, a password, and the page's answer."""
 
     title: str
     stored: str
@@ -64,7 +64,7 @@ class Unchecked:
 SHA512_HASH = "$6$s$" + "." * 86
 DEAR_HASH = SHA512_HASH.replace("$6$", "$6$rounds=999999999$")
 COST_OF_DEAR_HASH = cost(read_setting(DEAR_HASH.encode()), len("x"))
-DEAR_SCRYPT_HASH = "$7$GU..../....s$" + "." * 43  # of 1 GiB
+DEAR_SCRYPT_HASH = "$7$GU..../....s$" + "." * 43  # takes 1 GiB
 COST_OF_DEAR_SCRYPT_HASH = cost(read_setting(DEAR_SCRYPT_HASH.encode()), len("x"))
 ELSEWHERE = "which can\u2019t be checked here. Log in on the system that stored it."
 NOT_A_HASH = "is not a hash of crypt(5). Paste one, or its whole line."
@@ -88,7 +88,7 @@ UNCHECKED = [
         answer="This is longer than any hash. Copy the hash alone, or its whole line.",
     ),
     Unchecked(
-        "a hash with a character of another alphabet",
+        "a hash with a non-ASCII character",
         stored="$6$s\u00e4lt$x",
         password="x",
         answer="This has a character that is in no hash. Copy the hash again.",
@@ -126,7 +126,7 @@ UNCHECKED = [
         f"If you trust it, raise the budget to {COST_OF_DEAR_HASH}.",
     ),
     Unchecked(
-        "a cut hash that would be above the budget",
+        "a truncated hash that would be above the budget",
         stored="$6$rounds=999999999$s$x",
         password="x",
         answer=f"This hash is cut: 1 of 86 characters. {HOPELESS}",
@@ -191,7 +191,7 @@ UNCHECKED = [
         answer=f"\u201chello\u201d {NOT_A_HASH}",
     ),
     Unchecked(
-        "several words, of which the page repeats few",
+        "several words, of which the page repeats only the first",
         stored="correct horse battery staple",
         password="x",
         answer=f"\u201ccorrect horse batter\u2026\u201d {NOT_A_HASH}",
@@ -199,22 +199,22 @@ UNCHECKED = [
 ]
 
 
-# ---- The pages that a browser opens
+# ---- The pages for the browsers
 
 
 @dataclass(frozen=True)
 class Pages:
-    """Copies of the page in which something was changed, and pages with mkpasswd.mjs."""
+    """Changed copies of the page, and pages with mkpasswd.mjs."""
 
-    without_webassembly: Path  # its policy refuses the module
-    without_script: Path  # its policy refuses the script
-    slow: Path  # it measures that a hash takes minutes
+    without_webassembly: Path  # its security policy refuses WebAssembly
+    without_script: Path  # its security policy refuses the script
+    slow: Path  # its measurement says that a hash takes minutes
     module: Path  # it calls mkpasswd.mjs
-    module_without_worker: Path  # the same with a policy that refuses workers
-    module_without_webassembly: Path  # and with one that refuses the module
+    module_without_worker: Path  # the same, but its security policy refuses workers
+    module_without_webassembly: Path  # the same, but its security policy refuses WebAssembly
 
 
-# The module and the script that uses it, whose title becomes what it reports.
+# The module and a script that uses it, and reports through the document's title.
 MODULE_PAGE = """<!DOCTYPE html><meta charset="utf-8"><title>running</title>
 <meta http-equiv="Content-Security-Policy" content="default-src 'none'; \
 script-src 'unsafe-inline' 'wasm-unsafe-eval'; worker-src blob:">
@@ -239,8 +239,8 @@ async function visit() {
 document.title = JSON.stringify(await visit().catch(String));
 </script>
 """
-# The same without a policy that allows WebAssembly. The module stands in a function, since WebKit
-# tells no event of a module that throws.
+# The same with a security policy that refuses WebAssembly. The module is inside a function, since
+# WebKit sends no event if a module throws.
 REFUSED_MODULE_PAGE = """<!DOCTYPE html><meta charset="utf-8"><title>running</title>
 <meta http-equiv="Content-Security-Policy" content="default-src 'none'; \
 script-src 'unsafe-inline'; worker-src blob:">
@@ -248,7 +248,7 @@ script-src 'unsafe-inline'; worker-src blob:">
 async function visit() {
 @MODULE@
 }
-visit().then(() => 'allowed', String).then((told) => { document.title = JSON.stringify(told); });
+visit().then(() => 'allowed', String).then((end) => { document.title = JSON.stringify(end); });
 </script>
 """
 TITLE_SCRIPT = """
@@ -259,8 +259,8 @@ return (async () => {
 """
 
 
-def changed(text: str, pattern: str, replacement: str) -> str:
-    """A page in which the first piece that matches is replaced."""
+def replace_first(text: str, pattern: str, replacement: str) -> str:
+    """Returns a page in which the first match is replaced."""
     result, count = re.subn(pattern, replacement, text, count=1)
     assert count == 1, f"the page has no {pattern}"
     return result
@@ -268,14 +268,14 @@ def changed(text: str, pattern: str, replacement: str) -> str:
 
 @pytest.fixture(scope="module")
 def pages(web_build: Path, tmp_path_factory: pytest.TempPathFactory) -> Pages:
-    """The changed pages, in a folder whose path is as where the page is installed."""
+    """The changed pages, in a folder with a path like the installed page's."""
     folder = tmp_path_factory.mktemp("installed") / "doc/mkpasswd"
     folder.mkdir(parents=True)
     text = (web_build / "mkpasswd.html").read_text(encoding="utf-8")
     module = (web_build / "mkpasswd.mjs").read_text(encoding="utf-8")
     module_page = MODULE_PAGE.replace("@MODULE@", module)
     without_exports = re.sub(r"^export ", "", module, flags=re.MULTILINE)
-    slow = changed(text, "return time / count;", "return 9000;")
+    slow = replace_first(text, "return time / count;", "return 9000;")
 
     def write(name: str, content: str) -> Path:
         path = folder / name
@@ -283,11 +283,13 @@ def pages(web_build: Path, tmp_path_factory: pytest.TempPathFactory) -> Pages:
         return path
 
     return Pages(
-        without_webassembly=write("1.html", changed(text, " 'wasm-unsafe-eval'", "")),
-        without_script=write("2.html", changed(text, "script-src [^;]*", "script-src 'none'")),
-        slow=write("3.html", changed(slow, "<title>.*?</title>", "<title>slow</title>")),
+        without_webassembly=write("1.html", replace_first(text, " 'wasm-unsafe-eval'", "")),
+        without_script=write(
+            "2.html", replace_first(text, "script-src [^;]*", "script-src 'none'")
+        ),
+        slow=write("3.html", replace_first(slow, "<title>.*?</title>", "<title>slow</title>")),
         module=write("4.html", module_page),
-        module_without_worker=write("5.html", changed(module_page, " worker-src blob:", "")),
+        module_without_worker=write("5.html", replace_first(module_page, " worker-src blob:", "")),
         module_without_webassembly=write(
             "6.html", REFUSED_MODULE_PAGE.replace("@MODULE@", without_exports)
         ),
@@ -296,7 +298,7 @@ def pages(web_build: Path, tmp_path_factory: pytest.TempPathFactory) -> Pages:
 
 @pytest.fixture(scope="module")
 def page_script(server: WebServer) -> str:
-    """The body of a function that is page.js, with what it asks for."""
+    """page.js as the body of a function, after the values that it needs."""
     values = {
         "SERVER": server.address,
         "ROWS": [[row.stored, row.password] for row in UNCHECKED],
@@ -310,39 +312,39 @@ def page_script(server: WebServer) -> str:
 
 
 def visit(browser: Browser, address: str, script: str) -> Report:
-    """Opens an address and returns what a script reports there."""
+    """Opens an address, runs a script there, and returns its report."""
     name = "the page's own" if script == TITLE_SCRIPT else str(PAGE_SCRIPT.relative_to(ROOT))
-    how = f"address: {address}\nscript: {name}"
-    report = read_report(how, browser.evaluate(address, script))
+    origin = f"address: {address}\nscript: {name}"
+    report = read_report(origin, browser.evaluate(address, script))
     if isinstance(report.value, str):
-        raise AssertionError(f"the script failed\n{how}\ngot: {report.value}")
+        raise AssertionError(f"the script failed\n{origin}\ngot: {report.value}")
     return report
 
 
 def visit_page(browser: Browser, address: str, script: str) -> Report:
-    """The same of a page that has to run."""
+    """Opens a page that must run, and returns the script's report."""
     report = visit(browser, address, script)
     if "unable" in report.value:
-        raise AssertionError(f"the page doesn't run\n{report.how}\ngot: {report['unable']}")
+        raise AssertionError(f"the page doesn't run\n{report.origin}\ngot: {report['unable']}")
     return report
 
 
 @pytest.fixture(scope="module")
 def served(browser: Browser, server: WebServer, page_script: str) -> Report:
-    """The visit to the page on the server."""
+    """The report about the page from the server."""
     return visit_page(browser, f"{server.address}/mkpasswd.html", page_script)
 
 
 @pytest.fixture(scope="module")
 def opened(browser: Browser, web_build: Path, page_script: str) -> Report:
-    """The visit to the page in a file."""
+    """The report about the page from a file."""
     return visit_page(browser, (web_build / "mkpasswd.html").as_uri(), page_script)
 
 
 @pytest.fixture(params=["served", "opened"], ids=["from a server", "from a file"])
 def page(request: pytest.FixtureRequest, browser: Browser) -> Report:
-    """Each of the two."""
-    del browser  # it is in both, and makes this fixture one for each browser
+    """Each of these two reports."""
+    del browser  # naming the fixture runs each test in each browser
     report: Report = request.getfixturevalue(request.param)
     return report
 
@@ -351,56 +353,56 @@ def page(request: pytest.FixtureRequest, browser: Browser) -> Report:
 
 
 @dataclass(frozen=True)
-class Made:
-    """A hash that the page made, and what it said of it."""
+class NewHash:
+    """A hash that the page made, and its messages about it."""
 
     stored: str
-    said_of_right_password: str
-    said_of_wrong_password: str
-    said_when_made: str
+    answer_to_right_password: str
+    answer_to_wrong_password: str
+    message_when_made: str
 
 
-def made(page: Report, method: str) -> Made:
-    """The hash that the page made with a method, and what it said."""
-    return Made(*page["made"][METHODS.index(method)])
+def new_hash(page: Report, method: str) -> NewHash:
+    """Returns the hash that the page made with a method, and its messages."""
+    return NewHash(*page["hashes"][METHODS.index(method)])
 
 
 def without_time(answer: str) -> str:
-    """What the page says, without how long it took."""
+    """Returns the page's answer without the time that it took."""
     return re.sub(r" Checked in .*\u00a0s\.$", "", answer)
 
 
 def of_libxcrypt(password: str, stored: str) -> str:
-    """The hash that libxcrypt makes with a setting or a hash."""
+    """Returns libxcrypt's hash with a setting or the setting of a hash."""
     return crypt(password.encode(), stored.encode()).decode()
 
 
 @each_method
-def test_hash_is_the_one_of_libxcrypt(page: Report, method: str) -> None:
-    stored = made(page, method).stored
+def test_hash_is_libxcrypts(page: Report, method: str) -> None:
+    stored = new_hash(page, method).stored
     assert stored == of_libxcrypt(PASSWORD, stored)
 
 
 @each_method
-def test_hash_has_the_chosen_method_and_rounds_and_a_whole_salt(page: Report, method: str) -> None:
-    assert re.fullmatch(FORMS[method], made(page, method).stored)
+def test_hash_has_the_chosen_method_and_rounds_and_a_full_salt(page: Report, method: str) -> None:
+    assert re.fullmatch(FORMS[method], new_hash(page, method).stored)
 
 
 def test_every_hash_has_another_salt(served: Report, opened: Report) -> None:
-    stored = [made(report, method).stored for report in (served, opened) for method in METHODS]
+    stored = [new_hash(report, method).stored for report in (served, opened) for method in METHODS]
     salts = [text.split("$")[-2] for text in stored]
     assert len(set(salts)) == len(salts), salts
 
 
 @each_method
 def test_page_says_how_long_a_hash_took(page: Report, method: str) -> None:
-    said = made(page, method).said_when_made
-    assert re.fullmatch(r"Made in (less than 0\.1|\d+\.\d)\u00a0s\.", said)
+    message = new_hash(page, method).message_when_made
+    assert re.fullmatch(r"Made in (less than 0\.1|\d+\.\d)\u00a0s\.", message)
 
 
 def test_page_says_how_long_a_hash_will_take(page: Report) -> None:
     some_seconds = r"(a|a quarter of a|half a|\d+) seconds?"
-    form = rf"Takes (a moment|about ({some_seconds}|\d+ (minutes|hours)))\."  # on a busy machine
+    form = rf"Takes (a moment|about ({some_seconds}|\d+ (minutes|hours)))\."  # hours if it's busy
     assert re.fullmatch(form, page["estimate"])
 
 
@@ -411,11 +413,11 @@ def test_page_says_how_long_a_hash_will_take(page: Report) -> None:
         pytest.param(1, 11, 1024, id="the most rounds"),
     ],
 )
-def test_page_says_what_time_and_memory_scrypt_will_take(
+def test_page_says_how_much_time_and_memory_scrypt_will_take(
     page: Report, place: int, rounds: int, memory: int
 ) -> None:
-    shown, estimate = page["scrypt"]["estimates"][place]
-    assert shown == str(rounds)
+    shown_rounds, estimate = page["scrypt"]["estimates"][place]
+    assert shown_rounds == str(rounds)
     assert re.fullmatch(rf"Takes (a|about) [\w ]+ and {memory}\u00a0MiB of memory\.", estimate)
 
 
@@ -440,15 +442,15 @@ def test_rounds_that_no_hash_has_are_refused(page: Report, place: int) -> None:
     "place", [pytest.param(0, id="5"), pytest.param(1, id="12"), pytest.param(2, id="SHA-crypt's")]
 )
 def test_rounds_that_scrypt_does_not_have_are_refused(page: Report, place: int) -> None:
-    said = page["scrypt"]["refused"][place]
-    assert said == "Give 6 to 11 rounds: one more doubles time and memory."
+    message = page["scrypt"]["refused"][place]
+    assert message == "Give 6 to 11 rounds: one more doubles time and memory."
 
 
-def test_rounds_of_md5crypt_are_fixed_and_the_page_warns_of_it(page: Report) -> None:
-    is_disabled, rounds, said = page["fixed"]
+def test_rounds_of_md5crypt_are_fixed_and_the_page_warns_about_it(page: Report) -> None:
+    is_disabled, rounds, warning = page["fixed"]
     assert is_disabled
     assert rounds == "1000"
-    assert said == "md5crypt is weak. Use it only where nothing else works."
+    assert warning == "md5crypt is weak. Use it only where nothing else works."
 
 
 def test_rounds_return_after_md5crypt(page: Report) -> None:
@@ -457,19 +459,19 @@ def test_rounds_return_after_md5crypt(page: Report) -> None:
     assert rounds == ROUNDS
 
 
-def test_password_that_is_typed_once_makes_no_hash(page: Report) -> None:
-    said_without_repeat, _, is_hash_shown = page["mistyped"]
-    assert said_without_repeat == "Type the password again, or show it."
+def test_password_typed_only_once_makes_no_hash(page: Report) -> None:
+    message_without_repeat, _, is_hash_shown = page["mistyped"]
+    assert message_without_repeat == "Type the password again, or show it."
     assert not is_hash_shown
 
 
-def test_password_that_is_repeated_wrongly_makes_no_hash(page: Report) -> None:
-    _, said_of_another, is_hash_shown = page["mistyped"]
-    assert said_of_another == "The two passwords differ. Type them again, or show the first."
+def test_password_repeated_wrongly_makes_no_hash(page: Report) -> None:
+    _, message_for_another, is_hash_shown = page["mistyped"]
+    assert message_for_another == "The two passwords differ. Type them again, or show the first."
     assert not is_hash_shown
 
 
-def test_what_a_form_showed_goes_when_its_fields_change(page: Report) -> None:
+def test_results_disappear_when_a_forms_fields_change(page: Report) -> None:
     assert page["left"] is False
 
 
@@ -514,15 +516,15 @@ def test_characters_of_generated_passwords_are_equally_probable(page: Report) ->
     assert sorted(page["frequencies"].values()) == [10] * 62
 
 
-# ---- What to do with a hash
+# ---- Places for a hash
 
 
 @dataclass(frozen=True)
 class Place:
-    """Where a hash of ann's password goes, and what the page shows for it."""
+    """A place for the hash of Ann's password, and the text that the page shows for it."""
 
     name: str
-    text: str  # with HASH
+    text: str  # with HASH for the hash
     has_user: bool = False
 
 
@@ -546,19 +548,19 @@ each_place = pytest.mark.parametrize("place", PLACES, ids=[place.name for place 
 
 
 @each_place
-def test_hash_is_shown_as_its_place_wants_it(page: Report, place: Place) -> None:
-    shown, _, _ = page["places"][place.name]
-    assert shown == place.text.replace("HASH", page["stored"])
+def test_hash_is_shown_in_the_form_for_its_place(page: Report, place: Place) -> None:
+    text, _, _ = page["places"][place.name]
+    assert text == place.text.replace("HASH", page["stored"])
 
 
 @each_place
-def test_what_is_copied_is_what_is_shown(page: Report, place: Place) -> None:
+def test_the_shown_text_is_copied(page: Report, place: Place) -> None:
     _, copied, _ = page["places"][place.name]
     assert copied == place.text.replace("HASH", page["stored"])
 
 
 @each_place
-def test_page_asks_for_a_name_where_the_place_has_one(page: Report, place: Place) -> None:
+def test_page_asks_for_a_name_if_the_place_needs_one(page: Report, place: Place) -> None:
     _, _, refused_names = page["places"][place.name]
     assert bool(refused_names) == place.has_user
 
@@ -571,10 +573,10 @@ def test_nothing_is_copied_without_a_valid_name(page: Report, place: Place) -> N
         "A name begins with a letter (A to Z) or _, "
         "and has only letters, digits and _.@- (at most 64)."
     )
-    _, _, (said_of_empty, said_of_blank, said_of_digit) = page["places"][place.name]
-    assert said_of_empty == "First type the user\u2019s name."
-    assert said_of_blank == rule
-    assert said_of_digit == rule
+    _, _, (message_for_empty, message_for_blank, message_for_digit) = page["places"][place.name]
+    assert message_for_empty == "First type the user\u2019s name."
+    assert message_for_blank == rule
+    assert message_for_digit == rule
 
 
 # ---- Checking a hash
@@ -582,12 +584,12 @@ def test_nothing_is_copied_without_a_valid_name(page: Report, place: Place) -> N
 
 @each_method
 def test_right_password_matches_an_outdated_hash(page: Report, method: str) -> None:
-    assert without_time(made(page, method).said_of_right_password) == OUTDATED
+    assert without_time(new_hash(page, method).answer_to_right_password) == OUTDATED
 
 
 @each_method
 def test_wrong_password_does_not_match(page: Report, method: str) -> None:
-    assert without_time(made(page, method).said_of_wrong_password) == NO_MATCH
+    assert without_time(new_hash(page, method).answer_to_wrong_password) == NO_MATCH
 
 
 @pytest.mark.parametrize(
@@ -597,7 +599,7 @@ def test_wrong_password_does_not_match(page: Report, method: str) -> None:
         pytest.param(1, NO_MATCH, id="a wrong password"),
     ],
 )
-def test_hash_of_scrypt_with_the_cost_of_the_program_is_checked(
+def test_scrypt_hash_with_the_programs_cost_is_checked(
     page: Report, place: int, answer: str
 ) -> None:
     assert without_time(page["scrypt"]["checked"][place]) == answer
@@ -609,16 +611,16 @@ def test_hash_with_the_recommended_rounds_is_not_outdated(page: Report) -> None:
 
 @dataclass(frozen=True)
 class Flaw:
-    """A hash that was damaged, in the order of page.js, and how the page calls it."""
+    """A way in which page.js damages a hash, in its order, and the page's name for it."""
 
     title: str
-    name: str  # with the length of the whole digest, and others that depend on it
+    name: str  # with placeholders for the lengths of the digest
 
 
 FLAWS = [
     Flaw("without its digest", "cut: 0 of {length} characters"),
     Flaw("without its end", "cut: {shorter} of {length} characters"),
-    Flaw("with more behind it", "too long: {longer} characters in place of {length}"),
+    Flaw("with more after it", "too long: {longer} characters in place of {length}"),
     Flaw("with other characters", "damaged"),
 ]
 
@@ -644,7 +646,7 @@ def test_budget_is_hidden_until_a_hash_is_above_it(page: Report) -> None:
 
 @dataclass(frozen=True)
 class Line:
-    """A line that has a hash, in the order of page.js, and what the page says of it."""
+    """A line with a hash, in the order of page.js, and the page's note about it."""
 
     title: str
     note: str = "From the line."
@@ -673,21 +675,21 @@ def test_page_finds_the_hash_in_a_line(page: Report, line: Line) -> None:
     assert note == line.note
 
 
-# ---- What the page is, and what it sends
+# ---- The page itself
 
 
-def test_script_can_send_nothing(page: Report) -> None:
+def test_script_cannot_send_anything(page: Report) -> None:
     sent_by_page, _ = page["sent"]
     assert sent_by_page == "refused"
 
 
-def test_worker_can_send_nothing(page: Report) -> None:
+def test_worker_cannot_send_anything(page: Report) -> None:
     _, sent_by_worker = page["sent"]
     assert sent_by_worker == "refused"
 
 
 @pytest.mark.usefixtures("served", "opened")
-def test_browser_requests_the_page_alone(server: WebServer) -> None:
+def test_browser_requests_only_the_page(server: WebServer) -> None:
     assert set(server.requests) == {"GET /mkpasswd.html"}
 
 
@@ -709,7 +711,7 @@ def test_page_is_not_too_long_on_a_telephone(page: Report) -> None:
     assert page["phone"]["height"] <= 2000
 
 
-def test_what_can_be_pressed_is_high_enough_for_a_thumb(page: Report) -> None:
+def test_controls_are_high_enough_for_a_thumb(page: Report) -> None:
     assert page["phone"]["least"] >= 44
 
 
@@ -717,7 +719,7 @@ def test_what_can_be_pressed_is_high_enough_for_a_thumb(page: Report) -> None:
 
 
 @pytest.mark.parametrize("refused", ["WebAssembly", "script"])
-def test_page_names_what_a_policy_refuses(
+def test_page_names_what_a_security_policy_refuses(
     browser: Browser, pages: Pages, page_script: str, refused: str
 ) -> None:
     path = pages.without_webassembly if refused == "WebAssembly" else pages.without_script
@@ -727,10 +729,10 @@ def test_page_names_what_a_policy_refuses(
     if refused == "WebAssembly":
         assert "allow 'wasm-unsafe-eval' in script-src" in report["unable"], report
     assert report["forms"] == 0, report
-    assert report["links"] == 4, report  # to the documents, which are beside an installed page
+    assert report["links"] == 4, report  # to the documents beside an installed page
 
 
-def test_estimate_is_corrected_by_what_the_last_hash_took(
+def test_estimate_is_corrected_by_the_time_of_the_last_hash(
     browser: Browser, pages: Pages, page_script: str
 ) -> None:
     report = visit_page(browser, pages.slow.as_uri(), page_script)
@@ -744,11 +746,11 @@ def test_estimate_is_corrected_by_what_the_last_hash_took(
 
 @pytest.fixture(scope="module")
 def module(browser: Browser, pages: Pages) -> Report:
-    """The visit to the page with the module."""
+    """The report about the page with the module."""
     return visit(browser, pages.module.as_uri(), TITLE_SCRIPT)
 
 
-def test_module_logs_in_by_the_right_password(module: Report) -> None:
+def test_module_accepts_the_right_password(module: Report) -> None:
     assert module["results"]["right"] == {"matches": True}
 
 
@@ -766,24 +768,24 @@ def test_module_renews_an_outdated_hash(module: Report) -> None:
     assert module["renewed"] == of_libxcrypt("password", module["renewed"])
 
 
-def test_module_makes_the_hash_of_libxcrypt(module: Report) -> None:
+def test_module_gives_libxcrypts_hash(module: Report) -> None:
     assert module["stored"] == of_libxcrypt("password", module["stored"])
 
 
-def test_module_makes_a_hash_of_scrypt_in_a_worker(module: Report) -> None:
+def test_module_makes_a_scrypt_hash_in_a_worker(module: Report) -> None:
     assert module["scrypt"].startswith("$7$BU..../....")
     assert module["scrypt"] == of_libxcrypt("password", module["scrypt"])
 
 
-def test_module_names_the_reason_of_a_refusal(module: Report) -> None:
+def test_module_names_the_reason_for_a_refusal(module: Report) -> None:
     assert module["refused"] == "MKPASSWD_ERROR_PASSWORD_ZERO_BYTE"
 
 
 def test_module_names_the_policy_that_refuses_its_worker(browser: Browser, pages: Pages) -> None:
-    told = browser.evaluate(pages.module_without_worker.as_uri(), TITLE_SCRIPT)
-    assert re.match("Error: .*Content-Security-Policy", json.loads(told))
+    title = browser.evaluate(pages.module_without_worker.as_uri(), TITLE_SCRIPT)
+    assert re.match("Error: .*Content-Security-Policy", json.loads(title))
 
 
 def test_module_names_the_policy_that_refuses_webassembly(browser: Browser, pages: Pages) -> None:
-    told = browser.evaluate(pages.module_without_webassembly.as_uri(), TITLE_SCRIPT)
-    assert re.match("Error: .*'wasm-unsafe-eval' in script-src of the Con", json.loads(told))
+    title = browser.evaluate(pages.module_without_webassembly.as_uri(), TITLE_SCRIPT)
+    assert re.match("Error: .*'wasm-unsafe-eval' in script-src of the Con", json.loads(title))

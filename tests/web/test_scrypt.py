@@ -1,7 +1,7 @@
-"""mkpasswd.mjs and scrypt in node: hashes, and the memory that they get.
+"""mkpasswd.mjs and scrypt in node: hashes, and their memory.
 
-scrypt.mjs reports what the calls do, in a process of its own for each of its parts. The hashes are
-those of libxcrypt and of hashlib.
+scrypt.mjs reports what the calls do. Each of its parts runs in a process of its own. The expected
+hashes are libxcrypt's and hashlib's.
 """
 from __future__ import annotations
 
@@ -22,27 +22,27 @@ pytestmark = pytest.mark.xdist_group("node scrypt")
 PASSWORD = "K\u00e4se \U0001f40e"
 SALT = "SodiumChloride12345678"
 MEBIBYTE = 1 << 20
-MEMORY_OF_DEFAULT = 64 * MEBIBYTE  # N = 2^14 and r = 32, as the program has by default
+MEMORY_OF_DEFAULT = 64 * MEBIBYTE  # with N = 2^14 and r = 32, the program's default
 MOST_GROWTH = 20  # MiB
 LOGINS = 20
-# node gives an instance at most 600 pages of 64 KiB then: too few for the default.
+# With this option node gives an instance at most 600 pages of 64 KiB, too few for the default.
 TOO_LITTLE_MEMORY = "--wasm-max-mem-pages=600"
 
 OUT_OF_MEMORY = "Refused: MKPASSWD_ERROR_OUT_OF_MEMORY"
 
 
 def scrypt_setting(log_n: int, r: int, p: int) -> str:
-    """A setting of scrypt."""
+    """Returns a scrypt setting."""
     return "$7$" + (numeral(log_n, 1) + numeral(r, 5) + numeral(p, 5)).decode() + SALT
 
 
 def of_libxcrypt(password: str, setting: str) -> str:
-    """The hash that libxcrypt makes."""
+    """Returns libxcrypt's hash."""
     return crypt(password.encode(), setting.encode()).decode()
 
 
 def of_hashlib(log_n: int, r: int, p: int) -> str:
-    """The hash of the password that OpenSSL makes."""
+    """Returns hashlib's hash of PASSWORD."""
     digest = hashlib.scrypt(
         PASSWORD.encode(),
         salt=SALT.encode(),
@@ -66,7 +66,7 @@ HASH_OF_SHA = of_libxcrypt(PASSWORD, "$6$rounds=656000$saltsaltsaltsalt")
 
 @pytest.fixture(scope="module")
 def report_of(node: str, web_build: Path) -> Callable[..., Report]:
-    """Runs a part of scrypt.mjs with its rows and with options of node."""
+    """A function that runs a part of scrypt.mjs with its rows and with options of node."""
 
     def run_part(part: str, rows: Any, *options: str) -> Report:
         script, module = ROOT / "tests/web/scrypt.mjs", web_build / "mkpasswd.mjs"
@@ -88,13 +88,13 @@ def report_of(node: str, web_build: Path) -> Callable[..., Report]:
         pytest.param(2, 1, 1, id="four rows of 128 bytes"),
     ],
 )
-def test_right_and_wrong_password(
+def test_right_password_matches_and_wrong_one_does_not(
     report_of: Callable[..., Report], log_n: int, r: int, p: int
 ) -> None:
     stored = of_libxcrypt(PASSWORD, scrypt_setting(log_n, r, p))
     assert stored == of_hashlib(log_n, r, p)
     report = report_of("checked", [PASSWORD, stored])
-    assert report["made"] == stored
+    assert report["hash"] == stored
     calls = ("verify", "login", "loginAsync")
     assert report["right"] == dict.fromkeys(calls, True)
     assert report["wrong"] == dict.fromkeys(calls, False)
@@ -105,7 +105,7 @@ def test_right_and_wrong_password(
 
 @pytest.fixture(scope="module")
 def without_memory(report_of: Callable[..., Report]) -> Report:
-    """What calls do where no instance can have as much memory as the default takes."""
+    """The results of calls if no instance can have the memory for the default cost."""
     rows = [PASSWORD, HASH_OF_DEFAULT, HASH_OF_SMALL, HASH_OF_SHA]
     return report_of("withoutMemory", rows, TOO_LITTLE_MEMORY)
 
@@ -119,13 +119,13 @@ def without_memory(report_of: Callable[..., Report]) -> Report:
         pytest.param(3, False, id="a login with an unknown name in a worker"),
     ],
 )
-def test_policy_of_scrypt_finds_no_memory(
+def test_policy_of_scrypt_reports_too_little_memory(
     without_memory: Report, place: int, outcome: str | bool
 ) -> None:
     assert without_memory["own"][place] == outcome
 
 
-def test_check_says_that_there_is_no_memory(without_memory: Report) -> None:
+def test_check_reports_too_little_memory(without_memory: Report) -> None:
     verified, _, _ = without_memory["others"][0]
     assert verified == OUT_OF_MEMORY
 
@@ -136,37 +136,37 @@ def test_login_without_memory_fails(without_memory: Report) -> None:
     assert result_in_worker is False
 
 
-def test_hash_is_described_where_there_is_no_memory_for_it(without_memory: Report) -> None:
+def test_hash_is_described_even_without_memory_for_it(without_memory: Report) -> None:
     assert without_memory["state"] == "outdated"
 
 
 @pytest.mark.parametrize(
     "place",
-    [pytest.param(1, id="scrypt that takes little"), pytest.param(2, id="sha512crypt")],
+    [pytest.param(1, id="cheap scrypt"), pytest.param(2, id="sha512crypt")],
 )
-def test_other_hashes_are_checked_where_memory_lacks_for_some(
+def test_other_hashes_are_checked_even_without_memory_for_some(
     without_memory: Report, place: int
 ) -> None:
     right = {"matches": True}
     assert without_memory["others"][place] == [True, right, right]
 
 
-# ---- Logins at once
+# ---- Simultaneous logins
 
 
 def workers() -> int:
-    """How many workers mkpasswd.mjs has at most."""
+    """Returns the most workers that mkpasswd.mjs starts."""
     return max(1, len(os.sched_getaffinity(0)) - 1)
 
 
 def logins_at_once(count: int) -> list[list[str]]:
-    """Passwords and hashes of logins, every fourth of which has a wrong password."""
+    """Returns passwords and hashes for logins. Every fourth password is wrong."""
     typed = [PASSWORD if number % 4 else "wrong" for number in range(count)]
     return [[password, HASH_OF_DEFAULT] for password in typed]
 
 
 def matches(rows: list[list[str]]) -> list[bool]:
-    """Which logins have the right password."""
+    """Returns for each login whether its password is right."""
     return [password == PASSWORD for password, _ in rows]
 
 
@@ -181,12 +181,12 @@ def test_twenty_logins_at_once_are_answered(report_of: Callable[..., Report]) ->
 @pytest.mark.parametrize(
     ("free", "most"),
     [
-        pytest.param(0, 1, id="where none is free, one"),
-        pytest.param(2 * MEMORY_OF_DEFAULT, 1, id="for a single one"),
-        pytest.param(5 * MEMORY_OF_DEFAULT, 2, id="for two"),
+        pytest.param(0, 1, id="one even if none is free"),
+        pytest.param(2 * MEMORY_OF_DEFAULT, 1, id="enough for one"),
+        pytest.param(5 * MEMORY_OF_DEFAULT, 2, id="enough for two"),
     ],
 )
-def test_no_more_logins_run_at_once_than_half_of_the_free_memory_holds(
+def test_simultaneous_logins_take_at_most_half_of_the_free_memory(
     report_of: Callable[..., Report], free: int, most: int
 ) -> None:
     rows = logins_at_once(6)
@@ -195,7 +195,7 @@ def test_no_more_logins_run_at_once_than_half_of_the_free_memory_holds(
     assert report["most"] == min(most, workers()), report
 
 
-def test_login_without_scrypt_passes_those_that_wait_for_memory(
+def test_login_without_scrypt_overtakes_those_that_wait_for_memory(
     report_of: Callable[..., Report],
 ) -> None:
     rows = [*logins_at_once(3), [PASSWORD, HASH_OF_SHA]]
@@ -204,7 +204,7 @@ def test_login_without_scrypt_passes_those_that_wait_for_memory(
     assert report["most"] == min(2, workers()), report
 
 
-def test_login_that_finds_no_memory_beside_others_is_tried_again(
+def test_login_without_memory_beside_others_is_tried_again(
     report_of: Callable[..., Report],
 ) -> None:
     rows = logins_at_once(6)
@@ -212,17 +212,17 @@ def test_login_that_finds_no_memory_beside_others_is_tried_again(
     assert report["matches"] == matches(rows), report
 
 
-# ---- Memory that goes back
+# ---- Memory that is released
 
 
-def test_worker_ends_after_scrypt_where_no_call_waits(report_of: Callable[..., Report]) -> None:
+def test_worker_ends_after_scrypt_if_no_call_waits(report_of: Callable[..., Report]) -> None:
     rows = logins_at_once(3)
     assert report_of("oneAfterAnother", rows)["started"] == len(rows)
 
 
 @pytest.fixture(scope="module")
 def growth(report_of: Callable[..., Report]) -> Report:
-    """By how many MiB the resident memory has grown by logins, once it was collected."""
+    """By how many MiB the resident memory grows through logins, after garbage collection."""
     rows = [[PASSWORD, HASH_OF_SHA], *logins_at_once(LOGINS)]
     return report_of("growth", rows, "--expose-gc")
 
@@ -235,5 +235,5 @@ def growth(report_of: Callable[..., Report]) -> Report:
         pytest.param("together", id="after twenty logins at once"),
     ],
 )
-def test_resident_memory_returns(growth: Report, logins: str) -> None:
+def test_resident_memory_is_released(growth: Report, logins: str) -> None:
     assert growth[logins] <= MOST_GROWTH, growth
