@@ -1,10 +1,10 @@
-"""How long the gate takes: measured while rt runs, kept in build/log/gate.times, and shown.
+"""The gate's times: measures them while rt runs, saves them in build/log/gate.times, shows them.
 
-rt tells no times, and works on several crates at once. So what is measured of a crate is when rt's
-lines on it came, in seconds after rt began; how long one crate takes by itself isn't known. rt
-prints that a crate or its tests are proved once they are, that it tries a crate's first mutant when
-it does, and the results of all mutants together, after the last one. After them it runs programs
-and tests one by one. Processor time is that of all processes of rt together.
+rt prints no times, and works on several crates at once. So the times of a crate are when rt's lines
+about it came, in seconds after rt started; how long a crate takes by itself isn't known. rt prints
+when a crate or its tests are proved, when it tries a crate's first mutant, and, after the last one,
+the results of all mutants. Then it runs programs and tests one by one. Processor time is that of
+all processes of rt together.
 """
 
 from __future__ import annotations
@@ -26,7 +26,7 @@ FILE = LOGS / "gate.times"
 
 
 class Part(enum.Enum):
-    """What a line of rt says of a crate."""
+    """What a line of rt says about a crate."""
 
     KEPT = "kept"
     PROVED = "proved"
@@ -36,7 +36,7 @@ class Part(enum.Enum):
     RUN = "run"
 
 
-# A pattern for each part. The name of the crate is the first group.
+# A pattern for each part. The first group is the name of the crate.
 PATTERNS = {
     # "rt: prims_core is kept: an earlier run on this machine proved the same files .."
     Part.KEPT: re.compile(r"rt: (\w+) is kept: "),
@@ -55,17 +55,17 @@ PATTERNS = {
 
 @dataclass(frozen=True)
 class Moment:
-    """When the last line on a part of a crate came, and how many there were."""
+    """When the last line about a part of a crate came, and how many lines there were."""
 
     crate: str
     part: Part
-    seconds: float  # after rt began
+    seconds: float  # after rt started
     lines: int
 
 
 @dataclass(frozen=True)
 class Times:
-    """What is measured of a run of the gate."""
+    """The times of a run of the gate."""
 
     date: str
     jobs: int  # RT_JOBS
@@ -83,13 +83,13 @@ class Times:
 
 
 def processor_seconds() -> float:
-    """Returns the processor time of all processes that this one has waited for, and of theirs."""
+    """Returns the processor time of all descendants that have ended and been waited for."""
     usage = resource.getrusage(resource.RUSAGE_CHILDREN)
     return usage.ru_utime + usage.ru_stime
 
 
 class Stopwatch:
-    """Measures a run of rt, from when the stopwatch is made."""
+    """Measures a run of rt, which starts when the stopwatch is created."""
 
     def __init__(self) -> None:
         self._date = datetime.datetime.now().astimezone().strftime("%Y-%m-%d %H:%M %Z")
@@ -99,7 +99,7 @@ class Stopwatch:
         self._moments: dict[tuple[str, Part], Moment] = {}
 
     def hear(self, line: str) -> None:
-        """Notes when a line came that says something of a part."""
+        """Records the time of a line that is about a part of a crate."""
         if TOTAL.match(line):
             self._result = line
         for part, pattern in PATTERNS.items():
@@ -116,7 +116,7 @@ class Stopwatch:
         return round(time.monotonic() - self._began, 1)
 
     def times(self, jobs: int) -> Times:
-        """Returns what was measured, once rt has ended."""
+        """Returns the times, once rt has ended."""
         return Times(
             date=self._date,
             jobs=jobs,
@@ -131,7 +131,7 @@ class Stopwatch:
 
 
 def write_times(times: Times) -> None:
-    """Keeps what was measured, in place of the run before."""
+    """Saves the times, in place of those of the last run."""
     moments = [{**vars(moment), "part": moment.part.value} for moment in times.moments]
     text = json.dumps({**vars(times), "moments": moments}, indent=1) + "\n"
     part = FILE.with_name(f"{FILE.name}.part")
@@ -143,7 +143,7 @@ def write_times(times: Times) -> None:
 
 
 def times_in(values: Any) -> Times:
-    """Returns the times that a file's JSON has; any error says that it has none."""
+    """Returns the times in a file's JSON. Raises some error if it has none."""
     return Times(
         date=str(values["date"]),
         jobs=int(values["jobs"]),
@@ -158,7 +158,7 @@ def times_in(values: Any) -> Times:
 
 
 def read_times() -> Times:
-    """Reads what the last run measured."""
+    """Reads the times of the last run."""
     try:
         content = FILE.read_bytes()
     except FileNotFoundError:
@@ -201,7 +201,7 @@ def cells_of(times: Times, crate: str) -> list[str]:
 
 
 def last_of(moments: Sequence[Moment]) -> float:
-    """Returns when the last line on any of these parts came."""
+    """Returns when the last line about any of these parts came."""
     return max(moment.seconds for moment in moments)
 
 

@@ -1,6 +1,6 @@
-"""What the tools that install and pack share: version, time, archives, and what code needs.
+"""Helpers for the tools that install and pack: version, time, archives, requirements of code.
 
-These tools run by `python3 -B`: root, who installs, leaves no compiled module in somebody's clone.
+These tools run by `python3 -B`, so that root leaves no compiled modules in a user's clone.
 """
 
 from __future__ import annotations
@@ -23,16 +23,16 @@ from types import FrameType
 ROOT = Path(__file__).resolve().parent.parent
 DATED_MANUAL = ROOT / "man/mkpasswd.1"
 ELF_MAGIC = b"\x7fELF"  # how a file of machine code begins
-MACHINE_OFFSET = 18  # of the field e_machine in its header, which has two bytes
-PLACE = re.compile(r"@([A-Z_]+)@")  # in a file to be filled, such as @VERSION@
+MACHINE_OFFSET = 18  # of the two bytes of e_machine in the header
+PLACE = re.compile(r"@([A-Z_]+)@")  # a placeholder in a template, such as @VERSION@
 
 
 class Stop(Exception):
-    """Why a tool stops: a sentence for the user."""
+    """A tool stops. The text says why."""
 
 
 class Machine(enum.Enum):
-    """A family of processors, by its number in the header of an ELF file."""
+    """A family of processors. The value is its number in an ELF header."""
 
     X86_64 = 62
     AARCH64 = 183
@@ -40,7 +40,7 @@ class Machine(enum.Enum):
 
 @contextlib.contextmanager
 def naming(file: Path) -> Iterator[None]:
-    """Names a file in front of why the block stops."""
+    """Puts a file's name before the reason if the block stops."""
     try:
         yield
     except Stop as stop:
@@ -49,7 +49,7 @@ def naming(file: Path) -> Iterator[None]:
 
 @contextlib.contextmanager
 def changing(path: Path) -> Iterator[None]:
-    """Stops with a sentence that names a file or folder where the block fails to change it."""
+    """Stops with a sentence that names a file or folder if the block fails to change it."""
     try:
         yield
     except OSError as error:
@@ -57,7 +57,7 @@ def changing(path: Path) -> Iterator[None]:
 
 
 def output_of(*command: str | Path) -> str:
-    """What a command prints; one that fails stops the tool."""
+    """Runs a command, and returns its output. Stops the tool if the command fails."""
     try:
         done = subprocess.run(
             command,
@@ -76,7 +76,7 @@ def output_of(*command: str | Path) -> str:
 
 
 def read_bytes(file: Path, made_by: str = "make") -> bytes:
-    """The content of a file that is built, or that the repository has."""
+    """Returns the content of a file that is built or in the repository."""
     try:
         return file.read_bytes()
     except FileNotFoundError:
@@ -86,7 +86,7 @@ def read_bytes(file: Path, made_by: str = "make") -> bytes:
 
 
 def version() -> str:
-    """The version of the tree."""
+    """Returns the version of the tree."""
     printed = output_of(ROOT / "tools/version").strip()
     if not printed:
         raise Stop("tools/version finds no version.")
@@ -94,10 +94,10 @@ def version() -> str:
 
 
 def time_of_files() -> int:
-    """The time of all that is packed, in seconds since 1970.
+    """Returns the timestamp for all packed files, in seconds since 1970.
 
-    It is SOURCE_DATE_EPOCH, or else the date of mkpasswd's manual, so that the same files have the
-    same bytes whenever they are packed.
+    That is SOURCE_DATE_EPOCH, or else the date of mkpasswd's manual, so that the same files give
+    the same bytes whenever they are packed.
     """
     given = os.environ.get("SOURCE_DATE_EPOCH")
     if given:
@@ -116,7 +116,7 @@ def time_of_files() -> int:
 
 
 def with_value(text: str, start: str, value: str) -> str:
-    """A text whose one line that begins so, such as `modules=`, goes on with this value."""
+    """Returns a text with a value in the one line that begins with `start`, such as `modules=`."""
     pattern = rf"^{re.escape(start)}.*$"
     changed, count = re.subn(pattern, lambda _: f"{start}{value}", text, flags=re.MULTILINE)
     if count != 1:
@@ -125,7 +125,7 @@ def with_value(text: str, start: str, value: str) -> str:
 
 
 def filled(template: str, values: Mapping[str, str | None]) -> str:
-    """A text whose places have values. A line with a place whose value is None is left out."""
+    """Fills a template's placeholders, and removes lines whose placeholder has the value None."""
 
     def value_of(place: re.Match[str]) -> str:
         return values[place[1]] or ""
@@ -142,7 +142,7 @@ def filled(template: str, values: Mapping[str, str | None]) -> str:
 
 
 def machine_of(file: Path) -> Machine:
-    """Which processors a file of machine code is for."""
+    """Returns the processors that a file of machine code is for."""
     header = read_bytes(file)[: MACHINE_OFFSET + 2]
     number = int.from_bytes(header[MACHINE_OFFSET:], "little")
     numbers = {machine.value for machine in Machine}
@@ -152,7 +152,7 @@ def machine_of(file: Path) -> Machine:
 
 
 def oldest_glibc(file: Path) -> str:
-    """The oldest version of glibc that has every symbol that a shared library needs."""
+    """Returns the oldest version of glibc that has every symbol that a shared library needs."""
     # `0x0020:   Name: GLIBC_2.25  Flags: none  Version: 3`
     found = re.findall(r"\bName: GLIBC_(\S+)", output_of("readelf", "--version-info", file))
     unknown = [name for name in found if not re.fullmatch(r"\d+(\.\d+)+", name)]
@@ -165,13 +165,13 @@ def oldest_glibc(file: Path) -> str:
 
 
 def files_below(folder: Path) -> list[str]:
-    """The names of all files and links below a folder, but of no folder, in the order of bytes."""
+    """Returns the names of all files and links below a folder, sorted by bytes."""
     paths = [path for path in folder.rglob("*") if path.is_symlink() or not path.is_dir()]
     return sorted(str(path.relative_to(folder)) for path in paths)
 
 
 def write_tar(archive: Path, folder: Path, time: int) -> None:
-    """Writes all files and links below a folder into an archive, whose bytes they alone determine.
+    """Writes all files and links below a folder into an archive, whose bytes depend only on them.
 
     Python's tarfile writes the same headers on Debian 12 and 13; those of GNU tar differ.
     """
@@ -189,7 +189,7 @@ def write_tar(archive: Path, folder: Path, time: int) -> None:
 
 
 def check_python_modules(source: Path) -> None:
-    """Stops where a module that make writes for the Python package is missing or outdated."""
+    """Stops if a module that make writes for the Python package is missing or outdated."""
     read_bytes(source / "src/mkpasswd/_reasons.py", "make lib")
     module = source / "src/mkpasswd_version.py"
     if f'"{version()}"' not in read_bytes(module, "make lib").decode():
@@ -197,7 +197,7 @@ def check_python_modules(source: Path) -> None:
 
 
 def copy_python(folder: Path, *packages: str) -> None:
-    """Copies into a folder what Python's tools need to build these packages of the tree."""
+    """Copies the files that Python's tools need to build these packages into a folder."""
     source = ROOT / "python"
     check_python_modules(source)
     names = ["pyproject.toml", "src/mkpasswd_version.py"]
@@ -211,7 +211,7 @@ def copy_python(folder: Path, *packages: str) -> None:
 
 
 def install_below(folder: Path, **places: str) -> None:
-    """Installs what make has built below a folder, by tools/install, whose variables are given."""
+    """Installs what make has built below a folder with tools/install and these variables."""
     environment = {**os.environ, **places, "DESTDIR": str(folder)}
     done = subprocess.run([ROOT / "tools/install"], env=environment, check=False)
     if done.returncode != 0:
@@ -219,7 +219,7 @@ def install_below(folder: Path, **places: str) -> None:
 
 
 def put_in_place(file: Path, target: Path) -> None:
-    """Copies what was made to its place, where it appears whole or not at all."""
+    """Copies a finished file to its place, where it appears complete or not at all."""
     part = target.with_name(f"{target.name}.part")
     with changing(target):
         target.parent.mkdir(parents=True, exist_ok=True)
@@ -232,18 +232,18 @@ def put_in_place(file: Path, target: Path) -> None:
 
 @contextlib.contextmanager
 def scratch_folder() -> Iterator[Path]:
-    """A folder that is removed at the end of the block."""
+    """Makes a folder that is removed at the end of the block."""
     with tempfile.TemporaryDirectory(prefix="mkpasswd-") as folder:
         yield Path(folder)
 
 
 def end_by_signal(number: int, _frame: FrameType | None) -> None:
-    """Ends the tool with the status that a shell has for it, once its blocks have cleaned up."""
+    """Ends the tool with the shell's status for the signal, after its blocks have cleaned up."""
     sys.exit(128 + number)
 
 
 def run_tool(main: Callable[[], None]) -> None:
-    """Runs a tool, and says why it stops. A signal leaves no scratch folder behind."""
+    """Runs a tool, and prints why it stops. A signal leaves no scratch folder."""
     tool = Path(sys.argv[0]).name
     for number in (signal.SIGINT, signal.SIGTERM, signal.SIGHUP):
         if signal.getsignal(number) is not signal.SIG_IGN:
@@ -252,6 +252,6 @@ def run_tool(main: Callable[[], None]) -> None:
         main()
     except Stop as stop:
         sys.exit(f"{tool}: {stop}")
-    except OSError as error:  # which no step expects, such as a full disk below /tmp
+    except OSError as error:  # an unexpected one, such as a full disk below /tmp
         place = error.filename or tempfile.gettempdir()
         sys.exit(f"{tool}: {place}: {error.strerror}.")

@@ -1,11 +1,11 @@
-"""Runs rt for tools/gate and tools/for-cpu, and deals with what it writes.
+"""Runs rt for tools/gate and tools/for-cpu, and handles its output.
 
-All of it goes to build/log/NAME.log. The user sees how far rt is, a line for each crate, and the
-first lines that say what fails. On a terminal a text replaces the one before about the same crate;
-elsewhere only the last text about a crate is printed.
+All of it goes to build/log/NAME.log. The user sees rt's progress, a line for each crate, and the
+first lines that say what fails. At a terminal a text replaces the previous one about the same
+crate; elsewhere only the last text about a crate is printed.
 
-A signal that asks a tool to end goes on to rt and interrupts nothing here, so a tool can put back
-what it moved once rt has ended.
+A signal that asks a tool to end is forwarded to rt and interrupts nothing here, so that a tool can
+put back what it moved once rt has ended.
 """
 
 from __future__ import annotations
@@ -46,7 +46,7 @@ FAILURE = re.compile(
     r"|FAILED|differ first|ended with status|panicked"
 )
 FAILURES_SHOWN = 20
-LAST_LINES_SHOWN = 20  # of a run that failed without a line that says so
+LAST_LINES_SHOWN = 20  # of a failed run without a line that says what fails
 LONGEST_FAILURE = 300  # characters
 
 ENDING_SIGNALS = (signal.SIGINT, signal.SIGTERM, signal.SIGHUP, signal.SIGQUIT)
@@ -55,26 +55,26 @@ Listener = Callable[[str], None]  # gets each line that rt writes
 
 
 class Stop(Exception):
-    """Why a tool ends early: a sentence for the user."""
+    """A tool ends early. The text says why."""
 
 
 @dataclass(frozen=True)
 class Command:
-    """A command of rt, and where its output is kept."""
+    """A command of rt, and the name of its log."""
 
     words: tuple[str, ...]
     folder: Path
-    log: str  # its name, without .log
-    # A line after which rt has done enough, so that neither its status nor later lines matter.
+    log: str  # the name of the log, without .log
+    # Matches a line after which neither rt's status nor later lines matter.
     enough: re.Pattern[str] | None = None
 
     def is_enough(self, line: str) -> bool:
-        """Whether rt has done enough once it has written this line."""
+        """Returns whether nothing that rt does after this line matters."""
         return self.enough is not None and self.enough.search(line) is not None
 
 
 def program_of_rt() -> str:
-    """Returns the path of rt, which RT can name in the environment."""
+    """Returns the path of rt, which RT in the environment can name."""
     name = os.environ.get("RT") or "rt"
     found = shutil.which(name)
     if found is None:
@@ -83,30 +83,30 @@ def program_of_rt() -> str:
 
 
 def shown_path(path: Path) -> str:
-    """Returns a path of this tree as one writes it in its top folder."""
+    """Returns a path of this tree relative to its root."""
     return os.path.relpath(path, ROOT)
 
 
 def say(text: str) -> None:
-    """Prints a text at once. Where its encoding lacks a character, the character's code appears."""
+    """Prints a text at once. A character outside the encoding appears as its code."""
     encoding = sys.stdout.encoding or "utf-8"
     try:
         print(text.encode(encoding, "backslashreplace").decode(encoding), end="", flush=True)
     except OSError as error:
-        # At its end Python would try again to print what is left, and fail with a traceback.
+        # When Python exits it would try again to print the rest, and fail with a traceback.
         os.dup2(os.open(os.devnull, os.O_WRONLY), sys.stdout.fileno())
         raise Stop(f"standard output: {error.strerror}") from None
 
 
 class Signals:
-    """The signals that ask a tool to end. They go on to rt, and the first of them is remembered."""
+    """Forwards the signals that ask a tool to end to rt, and remembers the first one."""
 
     def __init__(self) -> None:
         self.received: signal.Signals | None = None
         self._process: subprocess.Popen[bytes] | None = None
 
     def catch(self) -> None:
-        """Catches them from now on. What is ignored stays ignored, as nohup wants it."""
+        """Catches the signals from now on. Ignored ones stay ignored, as nohup needs."""
         handlers = {number: self._end for number in ENDING_SIGNALS}
         for number, handler in {**handlers, signal.SIGTSTP: self._pause}.items():
             if signal.getsignal(number) is not signal.SIG_IGN:
@@ -114,7 +114,7 @@ class Signals:
 
     @contextlib.contextmanager
     def going_to(self, process: subprocess.Popen[bytes]) -> Iterator[None]:
-        """Sends them on to a process and its group while the block runs."""
+        """Forwards the signals to a process and its group while the block runs."""
         self._process = process
         if self.received is not None:  # before there was a process
             self._send(self.received)
@@ -133,24 +133,24 @@ class Signals:
         self._send(signal.Signals(number))
 
     def _pause(self, _number: int, _frame: FrameType | None) -> None:
-        """Pauses rt with this tool: the terminal's ^Z reaches the tool alone."""
+        """Stops rt with this tool, since the terminal's ^Z only reaches the tool."""
         self._send(signal.SIGTSTP)
         signal.signal(signal.SIGTSTP, signal.SIG_DFL)
-        os.kill(os.getpid(), signal.SIGTSTP)  # returns when the tool goes on
+        os.kill(os.getpid(), signal.SIGTSTP)  # returns when the tool is continued
         signal.signal(signal.SIGTSTP, self._pause)
         self._send(signal.SIGCONT)
 
 
 class Log:
-    """The file that gets all that rt writes. Where it can't be written any more, rt goes on."""
+    """The file with rt's output. If it can't be written any more, rt goes on."""
 
     def __init__(self, file: BinaryIO, name: str) -> None:
-        self.problem = ""  # why the file lacks something
+        self.problem = ""  # why the file is incomplete
         self._file = file
         self._name = name
 
     def write(self, line: bytes) -> None:
-        """Writes a line at once, so that others can follow the file."""
+        """Writes a line at once, so that a user can follow the file."""
         if self.problem:
             return
         try:
@@ -161,7 +161,7 @@ class Log:
 
     def close(self) -> None:
         """Closes the file."""
-        with contextlib.suppress(OSError):  # which write has met
+        with contextlib.suppress(OSError):  # write() has reported it
             self._file.close()
 
     def __str__(self) -> str:
@@ -170,7 +170,7 @@ class Log:
 
 @contextlib.contextmanager
 def new_log(path: Path) -> Iterator[Log]:
-    """Makes a log in place of an earlier one."""
+    """Creates a log, in place of an earlier one."""
     try:
         path.parent.mkdir(parents=True, exist_ok=True)
         file = open(path, "wb")
@@ -184,7 +184,7 @@ def new_log(path: Path) -> Iterator[Log]:
 
 
 def progress_in(line: str, crate: str) -> str:
-    """Returns the progress that a line tells of, if any. Counts are of the crate that rt is at."""
+    """Returns the progress in a line, if there is any. Counts are of rt's current crate."""
     if TURNS_TO_A_CRATE.match(line):
         return f"{crate}: rt checks it"
     counted = COUNTS_FUNCTIONS.match(line)
@@ -198,7 +198,7 @@ def progress_in(line: str, crate: str) -> str:
 
 
 class Display:
-    """Shows the user how far rt is, and what fails."""
+    """Shows rt's progress, and what fails."""
 
     def __init__(self) -> None:
         self.failures = 0
@@ -208,7 +208,7 @@ class Display:
         self._text = ""
 
     def show_line(self, line: str) -> None:
-        """Shows what matters of a line that rt wrote."""
+        """Shows a line of rt if it matters."""
         crate = TURNS_TO_A_CRATE.match(line) or SUMS_UP_A_CRATE.match(line)
         if crate:
             self._crate = crate[1]
@@ -248,10 +248,10 @@ class Display:
 
 @contextlib.contextmanager
 def started(command: Command, signals: Signals) -> Iterator[subprocess.Popen[bytes]]:
-    """Starts rt. However the block ends, rt has ended after it.
+    """Starts rt, and waits for its end after the block, however the block ends.
 
-    rt leads a session of its own, since the terminal's ^C would otherwise reach it twice: from the
-    terminal and from this tool.
+    rt has its own session. Otherwise the terminal's ^C would reach it twice: from the terminal and
+    from this tool.
     """
     try:
         process = subprocess.Popen(
@@ -270,12 +270,12 @@ def started(command: Command, signals: Signals) -> Iterator[subprocess.Popen[byt
         except BaseException:
             with contextlib.suppress(ProcessLookupError):
                 os.killpg(process.pid, signal.SIGTERM)
-            process.communicate()  # rt may write while it tidies up
+            process.communicate()  # rt may still write while it ends
             raise
 
 
 def lines_of(process: subprocess.Popen[bytes], log: Log) -> Iterator[str]:
-    """Yields each line that rt writes, once it is in the log."""
+    """Yields each line from rt, after writing it to the log."""
     assert process.stdout is not None
     for line in process.stdout:
         log.write(line)
@@ -283,11 +283,11 @@ def lines_of(process: subprocess.Popen[bytes], log: Log) -> Iterator[str]:
 
 
 def nobody(_line: str) -> None:
-    """Listens to nothing."""
+    """Ignores a line."""
 
 
 def explain(code: int, display: Display, last_lines: Iterable[str]) -> None:
-    """Says what is known of a run that failed, unless the display has shown it."""
+    """Prints what is known about a failed run, unless the display has shown it."""
     if display.failures == 0:
         say("".join(f"{line}\n" for line in last_lines))
     if code < 0:
@@ -295,7 +295,7 @@ def explain(code: int, display: Display, last_lines: Iterable[str]) -> None:
 
 
 def run_rt(command: Command, signals: Signals, listener: Listener = nobody) -> int:
-    """Runs rt, and returns its status as a shell says it, or 0 after the line that is enough."""
+    """Runs rt, and returns its status as in a shell, or 0 after the line that is enough."""
     display = Display()
     last_lines: collections.deque[str] = collections.deque(maxlen=LAST_LINES_SHOWN)
     has_enough = False
@@ -306,7 +306,7 @@ def run_rt(command: Command, signals: Signals, listener: Listener = nobody) -> i
             if not has_enough:
                 display.show_line(line)
                 has_enough = command.is_enough(line)
-        code = process.wait()  # below 0 where a signal ended rt
+        code = process.wait()  # negative if a signal ended rt
     display.end_line()
     if code == 0 or (code > 0 and has_enough):
         if log.problem:
@@ -319,7 +319,7 @@ def run_rt(command: Command, signals: Signals, listener: Listener = nobody) -> i
 
 
 def status_of(tool: str, work: Callable[[Signals], int]) -> int:
-    """Does a tool's work, and returns the status that the tool ends with."""
+    """Runs a tool's work, and returns the tool's exit status."""
     signals = Signals()
     signals.catch()
     try:

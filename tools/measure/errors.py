@@ -1,12 +1,12 @@
-"""How a measurement ends early."""
+"""Exceptions that end a measurement early."""
 
 
 class Stop(Exception):
-    """Why nothing more is measured: a sentence for the user."""
+    """Nothing more is measured. The text says why."""
 
 
 class Failed(Exception):
-    """Why a part failed; others can still be measured."""
+    """A part failed. Others can still be measured. The text says why."""
 
 
 class Interrupted(Exception):

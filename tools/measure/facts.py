@@ -1,4 +1,4 @@
-"""What a part can find. Results keep it as JSON (results.py), and the page shows it (page.py)."""
+"""The facts that a part can find. results.py saves them as JSON, and page.py shows them."""
 
 from __future__ import annotations
 
@@ -7,17 +7,17 @@ from dataclasses import dataclass
 
 @dataclass(frozen=True)
 class Gate:
-    """A run of the gate that took nothing from earlier ones."""
+    """A run of the gate that reused nothing from earlier ones."""
 
     passed: int
     failed: int
-    functions: int  # that were proved, those of tests aside
-    mutants: int  # that were refused, among those that passed
+    functions: int  # proved ones, without those of tests
+    mutants: int  # refused ones, which are among the passed
 
 
 @dataclass(frozen=True)
 class Skip:
-    """Tests of a file that were skipped for the same reason."""
+    """Tests in one file that were skipped for the same reason."""
 
     reason: str
     file: str
@@ -27,18 +27,18 @@ class Skip:
 
 @dataclass(frozen=True)
 class Check:
-    """A run of everything that is checked."""
+    """A run of make check."""
 
     gate: Gate
     passed: int
     failed: int
     skips: tuple[Skip, ...]
-    unused_linters: tuple[str, ...]  # which tell nothing on this system
+    unused_linters: tuple[str, ...]  # those that don't count on this system
 
 
 @dataclass(frozen=True)
 class Soak:
-    """Random lines that were answered by the rules."""
+    """Random lines that got the model's answers."""
 
     seed: int
     lines: int  # of each kind
@@ -57,21 +57,21 @@ class Fuzz:
 class Plant:
     """A wrong body, as rt plant lists it."""
 
-    function: str  # its file, line and path
+    function: str  # the function's file, line and path
     body: str
     reason: str
 
 
 @dataclass(frozen=True)
 class Plants:
-    """What became of wrong bodies in the public functions of a crate."""
+    """The results for wrong bodies in the public functions of a crate."""
 
-    functions: int  # that got wrong bodies
-    counts: dict[str, int]  # of bodies, by rt plant's word for what became of them
+    functions: int  # with wrong bodies
+    counts: dict[str, int]  # of bodies, by rt plant's word for the result
     proved: tuple[Plant, ...]
     not_judged: tuple[Plant, ...]
     no_clause: tuple[str, ...]  # functions without one, so that any body passes
-    untested: tuple[str, ...]  # functions of which no wrong body could be judged
+    untested: tuple[str, ...]  # functions without a wrong body that could be judged
 
 
 @dataclass(frozen=True)
@@ -95,7 +95,7 @@ class Bench:
 
 @dataclass(frozen=True)
 class Artifact:
-    """A file that two clones built alike."""
+    """A file that two clones built identically."""
 
     name: str
     size: int

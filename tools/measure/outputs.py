@@ -1,4 +1,4 @@
-"""Reads what commands print, and fails where they don't say what they should."""
+"""Reads the output of commands, and fails if it isn't as it should be."""
 
 from __future__ import annotations
 
@@ -11,13 +11,13 @@ from collections.abc import Callable, Iterator
 from measure.errors import Failed
 from measure.facts import Bench, Fuzz, Gate, Plant, Plants, Skip, Soak, Timed
 
-# rt's words for that the run took nothing from earlier ones.
+# rt's words if a run reused nothing from earlier ones.
 FROM_NOTHING = "every proof and must-fail edit was done in this run"
-UNSEEN = ("no-ensures", "untested")  # rows of rt plant that are functions, and no wrong bodies
+UNSEEN = ("no-ensures", "untested")  # rows of rt plant about functions, not wrong bodies
 
 
 def last_match(pattern: str, log: str, what: str) -> re.Match[str]:
-    """The last match of a pattern in a log, which has to say this."""
+    """Returns the last match of a pattern in a log. Fails, naming `what`, if there is none."""
     found = None
     for found in re.finditer(pattern, log, re.MULTILINE):
         pass
@@ -30,7 +30,7 @@ def last_match(pattern: str, log: str, what: str) -> re.Match[str]:
 
 
 def read_gate(log: str) -> Gate:
-    """Reads the last line, `189 passed, 0 failed`, what rt says before, and a line of each crate.
+    """Reads the last line, `189 passed, 0 failed`, rt's verdict, and a line for each crate.
 
     These are `rt: ok; .. 179 refused; ..` and `logic=proved functions=91 ..`, or for a crate's
     tests `logic=proved tests=65 functions=111 ..`.
@@ -78,13 +78,13 @@ def skipped_tests(log: str) -> Iterator[tuple[str, str]]:
 
 
 def last_line_of_tests(lines: list[str]) -> int:
-    """How many lines follow the tests' last one, which read_tests found."""
+    """Returns the index of the tests' last line, which read_tests found, from the end."""
     pattern = re.compile(r"\d+ passed, \d+ failed, \d+ skipped")
     return next(after for after, line in enumerate(reversed(lines)) if pattern.fullmatch(line))
 
 
 def read_skips(log: str, purpose_of: Callable[[str], str]) -> tuple[Skip, ...]:
-    """Counts the tests that were skipped, by reason and file. Each has to have a reason."""
+    """Counts the skipped tests by reason and file. Each must have a reason."""
     skipped = read_tests(log)[2]
     counts = Counter(skipped_tests(log))
     if sum(counts.values()) != skipped:
@@ -96,13 +96,13 @@ def read_skips(log: str, purpose_of: Callable[[str], str]) -> tuple[Skip, ...]:
 
 
 def first_sentence(source: str) -> str:
-    """The first sentence of a module of Python: what it is for."""
+    """Returns the first sentence of a Python module's docstring."""
     text = " ".join((ast.get_docstring(ast.parse(source)) or "").split())
     return re.split(r"(?<=\.) ", text)[0]
 
 
 def read_unused_linters(log: str) -> tuple[str, ...]:
-    """Reads which tools make lint left out: lines `not applicable: black: REASON`."""
+    """Reads which tools make lint skipped: lines `not applicable: black: REASON`."""
     found = re.findall(r"^not applicable: ([\w-]+): .+$", log, re.MULTILINE)
     return tuple(sorted(set(found)))
 

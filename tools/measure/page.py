@@ -1,4 +1,4 @@
-"""docs/EVIDENCE.md, written from the results that are kept and from nothing else."""
+"""Writes docs/EVIDENCE.md from the saved results, and from nothing else."""
 
 from __future__ import annotations
 
@@ -26,7 +26,7 @@ git ls-tree -r HEAD | grep -v {PAGE} | git hash-object --stdin
 ```
 """
 NOT_MEASURED = "not measured"
-PLANT_COLUMNS = {  # of wrong bodies: rt plant's words, and ours
+PLANT_COLUMNS = {  # for wrong bodies: rt plant's words, and ours
     "refused": "refused",
     "same": "equivalent",
     "proves": "proved",
@@ -38,23 +38,23 @@ PLANT_COLUMNS = {  # of wrong bodies: rt plant's words, and ours
 Pair = tuple[Part, Result | None]
 
 
-# How things are shown
+# Formatting
 
 
 def table(head: Sequence[str], rows: Iterable[Sequence[str]], numbers: bool = False) -> str:
-    """A table in Markdown; numbers stand to the right, behind the first column."""
+    """Returns a table in Markdown. With `numbers`, all columns but the first are right-aligned."""
     rule = "---:" if numbers else "---"
     lines = [head, ["---", *[rule] * (len(head) - 1)], *rows]
     return "".join(f"| {' | '.join(map(in_cell, line))} |\n" for line in lines)
 
 
 def in_cell(text: str) -> str:
-    """A text in a cell of a table, whose columns a bar would end."""
+    """Returns a text for a cell of a table, with bars escaped."""
     return text.replace("|", "\\|").replace("\n", " ")
 
 
 def code(text: str) -> str:
-    """A text as code, also with backticks in it."""
+    """Returns a text as inline code, even if it contains backticks."""
     quotes = "``" if "`" in text else "`"
     space = " " if "`" in text else ""
     return f"{quotes}{space}{text}{space}{quotes}"
@@ -104,12 +104,12 @@ def row_of(part: Part, result: Result | None) -> list[str]:
 
 
 def shown_command(part: Part, sizes: dict[str, int]) -> str:
-    """What runs where."""
+    """Returns the command of a part, and where it runs."""
     return f"{code(part.shown_command(sizes))} {part.where}"
 
 
 def machines(pairs: Sequence[Pair]) -> str:
-    """Where the parts ran, and by which toolchain."""
+    """Returns sentences about the machines and the toolchain of the parts."""
     places: dict[Machine, list[str]] = {}
     for part, result in pairs:
         if result is not None:
@@ -120,7 +120,7 @@ def machines(pairs: Sequence[Pair]) -> str:
 
 
 def hashes(pairs: Sequence[Pair]) -> str:
-    """What the parts rest on."""
+    """Returns the table of the files that the parts depend on."""
     parts: dict[tuple[str, str], list[str]] = {}
     for part, result in pairs:
         for files, value in result.rests_on.items() if result is not None else ():
@@ -133,7 +133,7 @@ def hashes(pairs: Sequence[Pair]) -> str:
 
 
 def of_gate(gate: Gate) -> str:
-    """What the gate passed."""
+    """Returns the gate's counts."""
     return f"{gate.passed} passed, {gate.failed} failed"
 
 
@@ -151,7 +151,7 @@ def proofs(pairs: Sequence[Pair]) -> str:
 
 
 def checks(pairs: Sequence[Pair]) -> dict[str, Check]:
-    """What the checks found, by their systems."""
+    """Returns the results of the checks by system."""
     found = {part.name: result.found for part, result in pairs if result is not None}
     systems = {f"Debian {debian.number}": f"check-{debian.number}" for debian in RELEASES}
     all_found = {system: found.get(name) for system, name in systems.items()}
@@ -189,7 +189,7 @@ def tests(pairs: Sequence[Pair]) -> str:
 
 
 def skipped(found: dict[str, Check]) -> str:
-    """Which tests were skipped where, whose they are, and why."""
+    """Returns the table of skipped tests, with reasons and systems."""
     counts: dict[Skip, dict[str, int]] = {}
     for system, check in found.items():
         for skip in check.skips:
@@ -270,7 +270,7 @@ def plants(pairs: Sequence[Pair]) -> str:
 def bodies(
     title: str, found: dict[str, Plants], rows_of: Callable[[Plants], Sequence[Plant]]
 ) -> str:
-    """A list of wrong bodies, with one line for all of a function that have the same reason."""
+    """Returns a list of wrong bodies, with one line for those with the same function and reason."""
     grouped: dict[tuple[str, str, str], list[str]] = {}
     for crate, of_crate in found.items():
         for plant in rows_of(of_crate):
@@ -325,7 +325,7 @@ def rows_of_times(timed: Sequence[Timed]) -> Iterator[list[str]]:
 
 
 def ratio(side: Timed, first: Timed) -> str:
-    """A side's time by the first one's."""
+    """Returns a side's time divided by the first side's."""
     least = side.quartiles[0] / first.quartiles[1]
     most = side.quartiles[1] / first.quartiles[0]
     return f"{side.side} {side.median / first.median:.2f} ({least:.2f} to {most:.2f})"

@@ -1,7 +1,7 @@
 """The parts of the evidence, in the order in which they are measured.
 
-A part names the files that it rests on: its result counts as long as their hashes are the same.
-Everything rests on the toolchain too.
+A part names the files that it depends on: its result counts as long as their hashes stay the same.
+All parts depend on the toolchain too.
 """
 
 from __future__ import annotations
@@ -47,7 +47,7 @@ BUILT = ("crates", "crates.txt", "c", "Makefile")
 TIMED = ("bin", "python", "web", "tools", "tests/support")
 GATE_LOG = "build/log/gate.log"
 MOST_PLANTS = 100_000  # more than any crate has
-ARTIFACTS = "artifacts"  # the folder that keeps them, beside the results
+ARTIFACTS = "artifacts"  # the folder of the artifacts, beside the results
 OTHER_USER = "nobody"
 OTHER_ENVIRONMENT = {"LC_ALL": "C.UTF-8", "TZ": "Asia/Kathmandu"}
 GOALS = ("dist", "wheel", "image", "deb", "npm", "sums")
@@ -58,7 +58,7 @@ class Part:
     """A part of the evidence."""
 
     name: str
-    command: str  # what runs, with the sizes' names in braces
+    command: str  # with the names of sizes in braces
     where: str
     rests_on: tuple[str, ...]
     finds: type
@@ -66,7 +66,7 @@ class Part:
     sizes: dict[str, int] = field(default_factory=dict)
 
     def shown_command(self, sizes: dict[str, int]) -> str:
-        """The command as somebody would give it, with these sizes."""
+        """Returns the command as a user would type it, with these sizes."""
         return self.command.format(**sizes)
 
 
@@ -74,7 +74,7 @@ class Part:
 
 
 def measure_gate(place: Workplace) -> Gate:
-    """Runs the gate in a clone that has nothing but the files of the commit."""
+    """Runs the gate in a clone that has only the files of the commit."""
     with place.scratch() as scratch:
         clone = place.new_clone(scratch / "mkpasswd")
         place.run("make", "gate", "ANEW=1", cwd=clone)
@@ -82,7 +82,7 @@ def measure_gate(place: Workplace) -> Gate:
 
 
 def measure_check(place: Workplace, debian: Debian) -> Check:
-    """Runs everything that is checked in a new root, in which a missing tool is a failure."""
+    """Runs make check in a new root, in which a missing tool is a failure."""
     with place.scratch() as scratch:
         root = scratch / debian.suite
         make_root(place, debian, root)
@@ -95,12 +95,12 @@ def measure_check(place: Workplace, debian: Debian) -> Check:
 
 
 def purpose_of_test(place: Workplace, file: str) -> str:
-    """What the tests of a file are for."""
+    """Returns the first sentence of a test file: its purpose."""
     return first_sentence(place.repository.text_of(place.commit, f"tests/{file}"))
 
 
 def read_text(path: Path) -> str:
-    """What a file has that a command has written."""
+    """Reads a file that a command has written."""
     try:
         return path.read_text(encoding="utf-8", errors="replace")
     except OSError as error:
@@ -111,14 +111,14 @@ def read_text(path: Path) -> str:
 
 
 def measure_soak(place: Workplace) -> Soak:
-    """Has the program answer random lines."""
+    """Runs the soak, in which the program answers random lines."""
     with place.built_clone() as clone:
         place.run("make", "soak", f"LINES={place.options.sizes.lines}", cwd=clone)
     return read_soak(place.printed())
 
 
 def measure_fuzz(place: Workplace, target: str) -> Fuzz:
-    """Makes random calls of a fuzzer's target."""
+    """Runs a fuzzer's target, which makes random calls."""
     seconds = f"FUZZ_SECONDS={place.options.sizes.fuzz_seconds}"
     fuzzer = f"FUZZERS=build/fuzz/{target}"
     with place.built_clone() as clone:
@@ -131,13 +131,13 @@ def measure_fuzz(place: Workplace, target: str) -> Fuzz:
 
 
 def keep_inputs(place: Workplace, clone: Path, target: str) -> None:
-    """Keeps the inputs at which a fuzzer has stopped, such as build/fuzz/hash.crash-1234."""
+    """Saves the inputs that stopped a fuzzer, such as build/fuzz/hash.crash-1234."""
     for path in clone.glob(f"build/fuzz/{target}.*-*"):
         shutil.copy(path, place.results / f"fuzz-{path.name}")
 
 
 def measure_plants(place: Workplace, crate: str) -> Plants:
-    """Puts wrong bodies into the public functions of a crate, all that rt has."""
+    """Puts all of rt's wrong bodies into the public functions of a crate."""
     minutes = str(place.options.sizes.plant_minutes)
     limits = ("--max", str(MOST_PLANTS), "--minutes", minutes, "--jobs", str(place.options.jobs))
     command = (toolchains_command(), "plant", *limits, "--all")
@@ -157,10 +157,10 @@ def measure_bench(place: Workplace) -> Bench:
 
 
 def measure_artifacts(place: Workplace) -> Artifacts:
-    """Builds all that is released in two clones, which have to be alike, and keeps it.
+    """Builds everything that is released in two clones, which must agree, and saves it.
 
-    The other clone has another folder, user, locale and time zone. Both compile anew, on proofs
-    that the built clone keeps.
+    The second clone has another folder, user, locale and time zone. Both compile anew, with the
+    proofs that the built clone has.
     """
     with place.built_clone() as built, place.scratch() as scratch:
         scratch.chmod(0o755)
@@ -174,7 +174,7 @@ def measure_artifacts(place: Workplace) -> Artifacts:
 
 
 def new_clone_on_proofs(place: Workplace, built: Path, folder: Path) -> Path:
-    """A clone in a folder of its own, with what rt keeps of its work in another one."""
+    """Makes a clone in a folder, with the proofs that rt keeps in another clone."""
     folder.mkdir()
     clone = place.new_clone(folder / "mkpasswd")
     copy_proofs(built, clone)
@@ -182,7 +182,7 @@ def new_clone_on_proofs(place: Workplace, built: Path, folder: Path) -> Path:
 
 
 def build_as_other_user(place: Workplace, clone: Path) -> None:
-    """Builds all that is released as another user, who owns the clone and its folder."""
+    """Builds everything that is released as another user, who owns the clone and its folder."""
     home = clone.parent
     need_other_user_in(place, home)
     place.run("chown", "-R", OTHER_USER, home, cwd=home)
@@ -192,7 +192,7 @@ def build_as_other_user(place: Workplace, clone: Path) -> None:
 
 
 def need_other_user_in(place: Workplace, folder: Path) -> None:
-    """Fails where the other user can't reach a folder."""
+    """Fails if the other user can't reach a folder."""
     try:
         place.run("runuser", "-u", OTHER_USER, "--", "test", "-x", folder, cwd=folder)
     except Failed:
@@ -200,13 +200,13 @@ def need_other_user_in(place: Workplace, folder: Path) -> None:
 
 
 def sums_in(clone: Path) -> dict[str, str]:
-    """The sums that make sums has written, by the names of the files."""
+    """Returns the checksums that make sums has written, by file name."""
     lines = read_text(clone / "SHA256SUMS").splitlines()
     return {name: sum_of_file for sum_of_file, name in (line.split(maxsplit=1) for line in lines)}
 
 
 def compared(one: Path, other: Path) -> tuple[Artifact, ...]:
-    """The artifacts of two clones, which have to be the same bytes."""
+    """Returns the artifacts of two clones, which must be identical."""
     sums = sums_in(one)
     if set(sums) != set(sums_in(other)):
         raise Failed("the two clones built other files")
@@ -224,7 +224,7 @@ def compared(one: Path, other: Path) -> tuple[Artifact, ...]:
 def keep_artifacts(
     place: Workplace, clone: Path, files: tuple[Artifact, ...], gathered: Path
 ) -> None:
-    """Keeps the artifacts of a clone and their sums beside the results, all at once."""
+    """Saves a clone's artifacts and their checksums beside the results, all at once."""
     gathered.mkdir()
     for file in files:
         shutil.copy(clone / file.name, gathered)
@@ -242,13 +242,13 @@ def crates_of(repository: Repository, commit: str) -> list[str]:
 
 
 def fuzzers_of(repository: Repository, commit: str) -> list[str]:
-    """The targets of the fuzzers: NAME of tests/c/fuzz_NAME.c."""
+    """Returns the fuzzers' targets: NAME for tests/c/fuzz_NAME.c."""
     names = "\n".join(repository.names_in(commit, "tests/c"))
     return re.findall(r"^fuzz_(\w+)\.c$", names, re.MULTILINE)
 
 
 def parts_of(repository: Repository, commit: str, sizes: Sizes) -> Iterator[Part]:
-    """All parts of a commit, the one that needs a quiet machine last."""
+    """Yields all parts of a commit. The one that needs a quiet machine comes last."""
     yield Part("gate", "make gate ANEW=1", "in a new clone", PROVED, Gate, measure_gate)
     for debian in RELEASES:
         yield check_in(debian)
@@ -266,7 +266,7 @@ def parts_of(repository: Repository, commit: str, sizes: Sizes) -> Iterator[Part
 
 
 def check_in(debian: Debian) -> Part:
-    """All checks in a root of Debian."""
+    """Returns the part of make check in a root of Debian."""
     measure = functools.partial(measure_check, debian=debian)
     name = f"check-{debian.number}"
     where = f"in a new root of Debian {debian.number}"
@@ -274,14 +274,14 @@ def check_in(debian: Debian) -> Part:
 
 
 def soak_of(sizes: Sizes) -> Part:
-    """The soak."""
+    """Returns the part of the soak."""
     files = (*BUILT, "tools/soak", "tests/support")
     lines = {"lines": sizes.lines}
     return Part("soak", "make soak LINES={lines}", "in a clone", files, Soak, measure_soak, lines)
 
 
 def fuzzer_of(target: str, sizes: Sizes) -> Part:
-    """A fuzzer."""
+    """Returns the part of a fuzzer."""
     measure = functools.partial(measure_fuzz, target=target)
     command = f"make fuzz FUZZERS=build/fuzz/{target} FUZZ_SECONDS={{seconds}}"
     files = (*BUILT, "tests/c")
@@ -291,7 +291,7 @@ def fuzzer_of(target: str, sizes: Sizes) -> Part:
 
 @dataclass(frozen=True)
 class Commit:
-    """A commit that is measured, with its parts and what is kept of them."""
+    """A commit, with its parts and their saved results."""
 
     repository: Repository
     name: str
@@ -300,15 +300,15 @@ class Commit:
     kept: Kept
 
     def hashes(self, part: Part) -> dict[str, str]:
-        """The hashes of what a part rests on."""
+        """Returns the hashes of the files that a part depends on."""
         of_files = {path: self.repository.hash_of(self.name, path) for path in part.rests_on}
         return {**of_files, "toolchain": self.toolchain}
 
     def result_of(self, part: Part) -> Result | None:
-        """The result that counts for this commit."""
+        """Returns the result of a part that counts for this commit, if there is one."""
         return self.kept.result_for(part.name, part.finds, self.hashes(part))
 
     def is_measured(self, part: Part) -> bool:
-        """Whether a part needs no measurement any more."""
+        """Returns whether a part needs no further measurement."""
         result = self.result_of(part)
         return result is not None and result.failure is None and result.has_sizes(part.sizes)

@@ -1,6 +1,6 @@
-"""The repository that is measured: its commit, the hashes of its files, and clones of it.
+"""The measured repository: its commit, the hashes of its files, and clones of it.
 
-Parts are measured in clones, so nobody has to wait before changing the tree.
+Parts are measured in clones, so that the tree can be changed meanwhile.
 """
 
 from __future__ import annotations
@@ -11,19 +11,19 @@ from pathlib import Path
 from measure.errors import Stop
 
 PAGE = "docs/EVIDENCE.md"
-# What most files rest on: the page has the hashes of the others, so it can't have its own.
+# All files but the page, which has the hashes of the others and so can't have its own.
 ALL_FILES = f"all files but {PAGE}"
 
 
 class Repository:
-    """A repository of git."""
+    """A git repository."""
 
     def __init__(self, folder: Path) -> None:
         self.folder = folder
         self.hashes: dict[tuple[str, str], str] = {}
 
     def git(self, *words: str, stdin: str = "") -> str:
-        """What git prints, without its last line end."""
+        """Runs git, and returns its output without the last line feed."""
         command = ["git", "-C", str(self.folder), *words]
         try:
             done = subprocess.run(
@@ -36,22 +36,22 @@ class Repository:
         return done.stdout.removesuffix("\n")
 
     def head(self) -> str:
-        """The commit that is checked out."""
+        """Returns the commit that is checked out."""
         return self.git("rev-parse", "HEAD")
 
     def changes(self) -> list[str]:
-        """The files that no commit has as they are, but for the page that is written here."""
+        """Returns the files with uncommitted changes, except the page tools/evidence writes."""
         return self.git("status", "--porcelain", "--", ".", f":(exclude){PAGE}*").splitlines()
 
     def hash_of(self, commit: str, files: str) -> str:
-        """The hash of a file, of a folder or of all files."""
+        """Returns the hash of a file, of a folder, or of all files."""
         known = self.hashes.get((commit, files))
         if known is None:
             known = self.hashes[commit, files] = self.computed_hash(commit, files)
         return known
 
     def computed_hash(self, commit: str, files: str) -> str:
-        """The same by git."""
+        """Computes such a hash with git."""
         if files != ALL_FILES:
             return self.git("rev-parse", "--verify", f"{commit}:{files}")
         listed = self.git("ls-tree", "-r", "--full-tree", commit).splitlines()
@@ -59,7 +59,7 @@ class Repository:
         return self.git("hash-object", "--stdin", stdin=others)
 
     def text_of(self, commit: str, path: str) -> str:
-        """What a file has in a commit."""
+        """Returns the content of a file in a commit."""
         return self.git("show", f"{commit}:{path}")
 
     def names_in(self, commit: str, folder: str) -> list[str]:
@@ -67,12 +67,12 @@ class Repository:
         return self.git("ls-tree", "--name-only", f"{commit}:{folder}").splitlines()
 
     def clone(self, commit: str, folder: Path) -> None:
-        """Makes a repository that has this commit checked out, and nothing besides."""
+        """Makes a clone with this commit checked out, and nothing else."""
         self.git("init", "--quiet", str(folder))
         self.give(commit, folder)
 
     def give(self, commit: str, folder: Path) -> None:
-        """Checks a commit out in a clone, and takes back what was written into its files."""
+        """Checks a commit out in a clone, and undoes changes to its files."""
         clone = Repository(folder)
         clone.git("fetch", "--quiet", "--no-tags", str(self.folder), commit)
         clone.git("checkout", "--quiet", "--force", "--detach", commit)

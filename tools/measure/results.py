@@ -1,7 +1,7 @@
-"""Results of parts, kept as JSON in build/evidence/COMMIT/PART.json.
+"""Results of parts, saved as JSON in build/evidence/COMMIT/PART.json.
 
-A result counts for every commit in which the files that it rests on have the same hashes. It is
-written apart and then renamed, so none is half there.
+A result counts for every commit in which the files that it depends on have the same hashes. It is
+written to another file and then renamed, so that it is never incomplete.
 """
 
 from __future__ import annotations
@@ -25,7 +25,7 @@ TIME = "%Y-%m-%dT%H:%M:%SZ"
 
 @dataclass(frozen=True)
 class Machine:
-    """Where a part ran."""
+    """The machine on which a part ran."""
 
     processor: str
     cores: int
@@ -38,33 +38,33 @@ class Machine:
 
 @dataclass(frozen=True)
 class Result:
-    """How a part ended. Without a failure it has found something."""
+    """How a part ended: it either failed, or found something."""
 
     part: str
     commit: str
-    begun: str  # in TIME, as is the end
+    begun: str  # in the format TIME, like the end
     ended: str
     seconds: float
     processor_seconds: float
     machine: Machine
-    rests_on: dict[str, str]  # the hashes of files, by their names
-    sizes: dict[str, int]  # of what was asked for, by their names
-    log: str  # its name beside the result
+    rests_on: dict[str, str]  # the hashes of files, by name
+    sizes: dict[str, int]  # the sizes of the command, by name
+    log: str  # the name of the log, beside the result
     failure: str | None
     found: Found | None
 
     def has_sizes(self, sizes: Mapping[str, int]) -> bool:
-        """Whether as much was measured, or more."""
+        """Returns whether as much was measured as these sizes say, or more."""
         return all(self.sizes.get(name, 0) >= size for name, size in sizes.items())
 
 
 def now() -> str:
-    """The time of day."""
+    """Returns the current time."""
     return datetime.now(timezone.utc).strftime(TIME)
 
 
 def stated(pattern: str, path: str) -> str:
-    """What the kernel or the system says in a file, or a word for that it says nothing."""
+    """Returns what a pattern finds in a file of the system, or "unknown"."""
     try:
         text = Path(path).read_text(encoding="utf-8")
     except OSError:
@@ -74,7 +74,7 @@ def stated(pattern: str, path: str) -> str:
 
 
 def this_machine() -> Machine:
-    """The machine that this runs on."""
+    """Returns the machine on which this runs."""
     return Machine(
         processor=stated(r"^model name\s*: (.*)", "/proc/cpuinfo"),
         cores=len(os.sched_getaffinity(0)),
@@ -87,7 +87,7 @@ def this_machine() -> Machine:
 
 
 def decoded(kind: Any, value: Any) -> Any:
-    """A value of JSON as this type: a dataclass, a tuple of one type, or what JSON has itself."""
+    """Converts a JSON value to a type: a dataclass, a tuple of one type, or a type of JSON."""
     if dataclasses.is_dataclass(kind):
         types = get_type_hints(kind)
         fields = [field.name for field in dataclasses.fields(kind)]
@@ -98,7 +98,7 @@ def decoded(kind: Any, value: Any) -> Any:
 
 
 def read_result(path: Path, found_type: type) -> Result:
-    """The result in a file, of a part that finds this."""
+    """Reads the result in a file, of a part that finds facts of this type."""
     try:
         whole = json.loads(path.read_text(encoding="utf-8"))
         found = whole.pop("found")
@@ -114,7 +114,7 @@ def read_result(path: Path, found_type: type) -> Result:
 
 
 def write_whole(path: Path, text: str) -> None:
-    """Writes a file whole, or not at all, also if the machine stops."""
+    """Writes a file completely or not at all, even if the machine stops."""
     part = path.with_name(f"{path.name}.part")
     try:
         with part.open("w", encoding="utf-8") as file:
@@ -129,17 +129,17 @@ def write_whole(path: Path, text: str) -> None:
 
 
 class Kept:
-    """The results that are kept in a folder."""
+    """The saved results in a folder."""
 
     def __init__(self, folder: Path) -> None:
         self.folder = folder
 
     def place(self, commit: str) -> Path:
-        """The folder of what was measured at a commit."""
+        """Returns the folder of the results at a commit."""
         return self.folder / commit
 
     def keep(self, result: Result) -> None:
-        """Keeps a result, in place of an earlier one at its commit."""
+        """Saves a result, in place of an earlier one at its commit."""
         path = self.place(result.commit) / f"{result.part}.json"
         whole = dataclasses.asdict(result)
         write_whole(path, json.dumps(whole, indent=1, ensure_ascii=False) + "\n")
@@ -148,7 +148,7 @@ class Kept:
                 log.unlink()
 
     def result_for(self, part: str, found_type: type, hashes: dict[str, str]) -> Result | None:
-        """The newest result of a part for files with these hashes."""
+        """Returns the newest result of a part for files with these hashes, if there is one."""
         paths = self.folder.glob(f"*/{part}.json")
         results = [read_result(path, found_type) for path in paths]
         fitting = [result for result in results if result.rests_on == hashes]

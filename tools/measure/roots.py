@@ -1,8 +1,7 @@
-"""New roots of Debian, in which make check runs as on a machine that has nothing else.
+"""New roots of Debian, in which make check runs as on a fresh machine.
 
 A root has the packages of tests/packages.txt, the commit's files and the toolchain. The toolchain's
-folder can't be written there, and what it keeps of proofs beside itself isn't there, so the gate
-proves everything.
+folder is read-only there, and its saved proofs aren't there, so that the gate proves everything.
 """
 
 from __future__ import annotations
@@ -18,10 +17,10 @@ from measure.repository import Repository
 from measure.workplace import Workplace, answer_of, toolchains_command
 
 PACKAGES = "tests/packages.txt"
-PLACE = "root/mkpasswd"  # of the clone, below the root
-OLDEST_NODE = 20  # that mkpasswd.mjs runs in
-# In a chroot neither podman nor namespaces work, so the root becomes that of all mounts. $0 is the
-# root, $1 the toolchain's folder, and the other words are a command.
+PLACE = "root/mkpasswd"  # the clone's path in the root
+OLDEST_NODE = 20  # the oldest version that mkpasswd.mjs supports
+# podman and namespaces don't work in a chroot, so this uses pivot_root. $0 is the root, $1 the
+# toolchain's folder, and the other arguments are a command.
 ENTER = """
 root=$0 kit=$1
 shift
@@ -38,7 +37,7 @@ umount --lazy /old
 rmdir /old
 exec "$@"
 """
-# Mounts and processes in namespaces end with the command, however that ends.
+# The namespaces, with their mounts and processes, end with the command, however that ends.
 UNSHARE = ("unshare", "--mount", "--pid", "--fork", "--kill-child")
 BARE = (
     "env",
@@ -55,20 +54,20 @@ class Debian:
 
     number: int
     suite: str
-    has_node: bool  # one that is new enough
+    has_node: bool  # whether its node is new enough
 
 
 RELEASES = (Debian(12, "bookworm", has_node=False), Debian(13, "trixie", has_node=True))
 
 
 def packages(repository: Repository, commit: str) -> list[str]:
-    """The packages that tests need: the first word of each line."""
+    """Returns the packages that tests need: the first word of each line in tests/packages.txt."""
     text = re.sub(r"#.*", "", repository.text_of(commit, PACKAGES))
     return [line.split()[0] for line in text.splitlines() if line.strip()]
 
 
 def mirror_of_this_machine() -> str:
-    """The first mirror of Debian that apt has here."""
+    """Returns the first Debian mirror in apt's sources."""
     format_words = ("--format", "$(REPO_URI)", "Created-By: Packages")
     listed = answer_of("apt-get", "indextargets", *format_words).splitlines()
     if not listed:
@@ -77,7 +76,7 @@ def mirror_of_this_machine() -> str:
 
 
 def copy_node(root: Path) -> None:
-    """Puts this machine's node into a root, whose own one is too old."""
+    """Copies this machine's node into a root whose own node is too old."""
     node = shutil.which("node")
     version = answer_of(node, "--version") if node else "v0"
     if node is None or int(version.removeprefix("v").partition(".")[0]) < OLDEST_NODE:
@@ -86,12 +85,12 @@ def copy_node(root: Path) -> None:
 
 
 def make_root(place: Workplace, debian: Debian, root: Path) -> None:
-    """Makes a root with all that make check needs."""
+    """Makes a root with everything that make check needs."""
     if os.geteuid() != 0:
         raise Failed("only root can make a root of Debian")
     wanted = ",".join(packages(place.repository, place.commit))
     mirror = place.options.mirror or mirror_of_this_machine()
-    # Its lists of packages stay, for tests that make roots.
+    # The root keeps apt's package lists, for tests that make roots.
     options = ("--variant=minbase", "--skip=cleanup", f"--include={wanted}")
     command = ("mmdebstrap", *options, debian.suite, root, mirror)
     place.run(*UNSHARE, "--mount-proc", *command, cwd=root.parent)

@@ -1,6 +1,6 @@
-"""Where a part is measured: its log, its folders, and the commands that it runs.
+"""The log, the folders and the commands of a part that is measured.
 
-A command runs in a process group of its own, which ends with the part, however that ends.
+A command runs in its own process group, which ends with the part, however that ends.
 """
 
 from __future__ import annotations
@@ -20,11 +20,10 @@ from measure.errors import Failed, Stop
 from measure.repository import Repository
 
 Word = str | Path
-# What a command gets of the environment. Others, such as make's own variables, could change what
-# is measured.
+# The environment variables that a command gets. Others, such as make's, could influence results.
 VARIABLES = ("HOME", "PATH", "RT", "RT_JOBS", "TMPDIR", "http_proxy", "https_proxy", "no_proxy")
-SECONDS_TO_END = 20  # that a command gets before it is killed
-# A command ends even if this process is killed.
+SECONDS_TO_END = 20  # that a command has to end before it is killed
+# With this wrapper, a command ends even if this process is killed.
 WITH_THIS_PROCESS = ("setpriv", "--pdeathsig", "TERM", "--")
 
 
@@ -32,18 +31,18 @@ WITH_THIS_PROCESS = ("setpriv", "--pdeathsig", "TERM", "--")
 class Sizes:
     """How much is measured."""
 
-    lines: int  # of each kind, of make soak
+    lines: int  # of each kind, for make soak
     fuzz_seconds: int  # for each target
-    plant_minutes: int  # for each crate, at most
+    plant_minutes: int  # at most, for each crate
 
 
 @dataclass(frozen=True)
 class Options:
-    """What the command line says of the measurements."""
+    """The command line's options for measurements."""
 
     sizes: Sizes
-    mirror: str | None  # None for the one that apt has here
-    jobs: int  # of rt plant
+    mirror: str | None  # None for the first one in apt's sources
+    jobs: int  # for rt plant
 
 
 def environment(changes: Mapping[str, str]) -> dict[str, str]:
@@ -53,12 +52,12 @@ def environment(changes: Mapping[str, str]) -> dict[str, str]:
 
 
 def toolchains_command() -> str:
-    """The command of the toolchain."""
+    """Returns the path of the toolchain's command rt."""
     return os.environ.get("RT", "rt")
 
 
 def answer_of(*command: Word) -> str:
-    """What a short command prints, without its last line end."""
+    """Runs a short command, and returns its output without the last line feed."""
     words = [str(word) for word in command]
     try:
         done = subprocess.run(
@@ -72,7 +71,7 @@ def answer_of(*command: Word) -> str:
 
 
 def toolchain() -> str:
-    """The identity of the toolchain, without which nothing here can be measured."""
+    """Returns the identity of the toolchain. Stops if there is none, since all parts need it."""
     try:
         return answer_of(toolchains_command(), "version")
     except Failed as error:
@@ -80,7 +79,7 @@ def toolchain() -> str:
 
 
 def end_group(process: subprocess.Popen[bytes]) -> None:
-    """Ends a process and all of its group: it is asked to end, and then killed."""
+    """Ends a process group, first by SIGTERM, and then by SIGKILL."""
     with contextlib.suppress(ProcessLookupError):
         os.killpg(process.pid, signal.SIGTERM)
     with contextlib.suppress(subprocess.TimeoutExpired):
@@ -91,7 +90,7 @@ def end_group(process: subprocess.Popen[bytes]) -> None:
 
 
 def remove(folder: Path) -> None:
-    """Removes a folder, if it is there, and nothing that is mounted below it."""
+    """Removes a folder, if it exists, but nothing that is mounted below it."""
     if folder.exists():
         subprocess.run(["rm", "-rf", "--one-file-system", "--", str(folder)], check=False)
     if folder.exists():
@@ -100,11 +99,11 @@ def remove(folder: Path) -> None:
 
 @dataclass(frozen=True)
 class Workplace:
-    """Where one part of a commit is measured."""
+    """The place where one part of a commit is measured."""
 
     repository: Repository
     commit: str
-    folder: Path  # which keeps the built clone from part to part
+    folder: Path  # it keeps the built clone from part to part
     options: Options
     log: BinaryIO
 
@@ -115,7 +114,7 @@ class Workplace:
 
     @contextlib.contextmanager
     def scratch(self) -> Iterator[Path]:
-        """An empty folder, until the end of the block. A run that was killed may have left one."""
+        """Makes an empty folder for the block. Removes one that a killed run has left."""
         place = self.folder / "scratch"
         remove(place)
         place.mkdir(parents=True)
@@ -125,7 +124,7 @@ class Workplace:
             remove(place)
 
     def run(self, *command: Word, cwd: Path, env: Mapping[str, str] | None = None) -> None:
-        """Runs a command to its end. All that it prints goes to the log."""
+        """Runs a command to its end. Its output goes to the log."""
         words = [str(word) for word in command]
         shown = shlex.join(words)
         self.log.write(f"$ {shown}\n".encode())
@@ -151,22 +150,22 @@ class Workplace:
             raise Failed(f"`{shown}` ended with status {status}")
 
     def printed(self) -> str:
-        """What the commands of this part have printed."""
+        """Returns what the commands of this part have printed."""
         return Path(self.log.name).read_text(encoding="utf-8", errors="replace")
 
     # Clones
 
     def new_clone(self, folder: Path) -> Path:
-        """A clone of the commit in which nothing is built."""
+        """Makes a clone of the commit in which nothing is built."""
         self.repository.clone(self.commit, folder)
         return folder
 
     @contextlib.contextmanager
     def built_clone(self) -> Iterator[Path]:
-        """A clone of the commit that keeps what is built in it for other parts.
+        """Provides a clone of the commit that keeps its build for other parts.
 
-        A part that was interrupted in it may have left something half built, so the next one gets
-        a new clone. That begins with what rt keeps of its work in this tree.
+        An interrupted part may leave something half built, so that the next part gets a new clone,
+        which begins with rt's saved proofs in this tree.
         """
         clone, in_use = self.folder / "clone", self.folder / "clone.in-use"
         if in_use.exists():
@@ -185,6 +184,6 @@ class Workplace:
 
 
 def copy_proofs(source: Path, clone: Path) -> None:
-    """Copies what rt keeps of its work, which it takes only where the files are the same."""
+    """Copies rt's saved proofs, which rt reuses only if the files are the same."""
     for kept in source.glob("crates/*/out"):
         shutil.copytree(kept, clone / kept.relative_to(source), symlinks=True, dirs_exist_ok=True)

@@ -1,7 +1,7 @@
-"""What is linked into the files of an artifact and isn't ours: crates of the toolchain, and glibc.
+"""The foreign components linked into the files of an artifact: the toolchain's crates, and glibc.
 
-Which crates these are stands in crates.txt. The toolchain's own standard library is one component,
-which stands for all that they use in turn. Only a program without a dynamic linker has glibc.
+crates.txt names the crates. The toolchain's standard library is one component, which includes all
+that those crates use. Only a program without a dynamic linker has glibc.
 """
 
 from __future__ import annotations
@@ -17,7 +17,7 @@ from pathlib import Path, PurePath
 from sbom.contents import File
 from sbom.stop import Stop
 
-# The crate that a file was built of, by its name.
+# The crate from which a file is built, by the file's name.
 CRATES = {
     "mkpasswd": "program",
     "mkpasswd.proved": "program",
@@ -35,15 +35,15 @@ LIBC_PACKAGE = "libc6-dev"
 
 @dataclass(frozen=True, order=True)
 class Component:
-    """A part of somebody else's."""
+    """A component from somebody else."""
 
     name: str
-    version: str  # empty where the machine doesn't know it
+    version: str  # empty if this machine doesn't know it
     supplier: str
 
 
 def output_of(*command: str) -> str:
-    """What a command prints, which has to succeed."""
+    """Runs a command, which must succeed, and returns its output."""
     try:
         done = subprocess.run(command, capture_output=True, check=False)
     except OSError as error:
@@ -54,7 +54,7 @@ def output_of(*command: str) -> str:
 
 
 def read_crates(path: Path) -> dict[str, list[str]]:
-    """The crates that each of ours uses, by crates.txt: lines `name words: crate crate`."""
+    """Reads crates.txt: the crates that each of ours uses, in lines `name words: crate crate`."""
     crates = {}
     for line in path.read_text(encoding="utf-8").splitlines():
         name, colon, uses = line.partition("#")[0].partition(":")
@@ -64,7 +64,7 @@ def read_crates(path: Path) -> dict[str, list[str]]:
 
 
 def is_dynamic(content: bytes) -> bool:
-    """Whether a program or a shared library needs others when it runs."""
+    """Returns whether a program or a shared library is dynamically linked."""
     with tempfile.NamedTemporaryFile() as file:
         file.write(content)
         file.flush()
@@ -72,32 +72,32 @@ def is_dynamic(content: bytes) -> bool:
 
 
 def has_libc(content: bytes) -> bool:
-    """Whether a file has the C library in it."""
+    """Returns whether a file contains the C library."""
     is_elf = content.startswith(b"\x7fELF")
     is_linked = is_elf and int.from_bytes(content[16:18], "little") in LINKED_ELF
     return is_linked and not is_dynamic(content)
 
 
 def libc_of(content: bytes) -> Component:
-    """The C library that this machine links into programs such as this one."""
+    """Returns the C library that this machine links into static programs."""
     machine = int.from_bytes(content[18:20], "little")
     package = LIBC_PACKAGES.get(machine, LIBC_PACKAGE)
     try:
         version = output_of("dpkg-query", "--show", "--showformat=${source:Version}", package)
-    except Stop:  # another system, whose glibc has a version that nothing tells
+    except Stop:  # another system, on which the version of glibc isn't known
         version = ""
     return Component("glibc", version, "Organization: Debian")
 
 
 class Components:
-    """The components in files that were built of a repository."""
+    """The components in files that are built from a repository."""
 
     def __init__(self, root: Path) -> None:
         self.crates = read_crates(root / "crates.txt")
         self.toolchain = output_of(os.environ.get("RT", "rt"), "version")
 
     def of_file(self, file: File) -> set[Component]:
-        """The components in a file; those of no crate of ours have none."""
+        """Returns the components in a file. A file without our crates has none."""
         crate = CRATES.get(PurePath(file.name).name)
         if crate is None or not is_code(file):
             return set()
@@ -108,7 +108,7 @@ class Components:
         return found
 
     def used_by(self, crate: str) -> Iterator[str]:
-        """The crates of the toolchain that one of ours uses, also by way of others of ours."""
+        """Yields the toolchain's crates that one of ours uses, itself or through others of ours."""
         for name in self.crates[crate]:
             if name in self.crates:
                 yield from self.used_by(name)
@@ -117,6 +117,6 @@ class Components:
 
 
 def is_code(file: File) -> bool:
-    """Whether a file is code, and not a completion or a folder's note of the same name."""
+    """Returns whether a file is code, not a completion or another file of the same name."""
     is_page = re.search(r"\.(html|mjs)$", file.name) is not None
     return is_page or file.content.startswith((b"\x7fELF", b"!<arch>\n"))

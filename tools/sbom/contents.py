@@ -1,4 +1,4 @@
-"""The files in an artifact: an archive, a wheel, a package of npm or Debian, an image."""
+"""Lists the files in an artifact: an archive, a wheel, an npm or Debian package, an image."""
 
 from __future__ import annotations
 
@@ -16,9 +16,9 @@ from sbom.stop import Stop
 
 @dataclass(frozen=True)
 class File:
-    """A file in an artifact. Links and folders are none."""
+    """A file in an artifact. Links and folders don't count."""
 
-    name: str  # its path there
+    name: str  # its path in the artifact
     content: bytes
 
 
@@ -32,12 +32,12 @@ def files_of_tar(content: bytes) -> Iterator[File]:
 
 
 def files_of_archive(path: Path) -> Iterator[File]:
-    """The files in an archive, or in a package of npm."""
+    """Yields the files in an archive, or in an npm package."""
     return files_of_tar(path.read_bytes())
 
 
 def files_of_image(path: Path) -> Iterator[File]:
-    """The files that a container of an image sees: those of its layers."""
+    """Yields the files that a container sees: those in the image's layers."""
     blobs = {file.name: file.content for file in files_of_archive(path)}
     try:
         layers = json.loads(blobs["manifest.json"])[0]["Layers"]
@@ -67,7 +67,7 @@ def files_of_debian_package(path: Path) -> Iterator[File]:
     return files_of_tar(done.stdout)
 
 
-# By the end of an artifact's name; the first that fits counts.
+# By the end of an artifact's name. The first match counts.
 READERS: dict[str, Callable[[Path], Iterator[File]]] = {
     "-image.tar": files_of_image,
     ".tar.gz": files_of_archive,
@@ -78,7 +78,7 @@ READERS: dict[str, Callable[[Path], Iterator[File]]] = {
 
 
 def files_of(path: Path) -> list[File]:
-    """The files in an artifact, in the order of their names."""
+    """Returns the files in an artifact, sorted by name."""
     reader = next(read for end, read in READERS.items() if path.name.endswith(end))
     try:
         return sorted(reader(path), key=lambda file: file.name)

@@ -1,10 +1,9 @@
-"""The document of SPDX 2.3 for an artifact, in its form as JSON.
+"""Writes the SPDX 2.3 document of an artifact as JSON.
 
-It says which files are in the artifact, with their sums, and which components are linked into
-which of them. The same artifact gives the same bytes: the only time is the release's, and the
-document is named by the artifact's sum. Of the tools that Debian 12 has, only `reuse` writes SPDX:
-it lists a project's sources by the licences in their heads, at the time of day, under a random
-name.
+It lists the files in the artifact, with their checksums, and the components that are linked into
+them. The same artifact gives the same bytes: the only time is the release's, and the document's
+name has the artifact's checksum. Of Debian 12's tools only `reuse` writes SPDX, and it lists a
+project's sources by their licences, with the current time and a random name.
 """
 
 from __future__ import annotations
@@ -23,17 +22,17 @@ ARTIFACT = "SPDXRef-Artifact"
 DOCUMENT = "SPDXRef-DOCUMENT"
 NAMESPACE = "https://spdx.org/spdxdocs"
 
-Element = dict[str, Any]  # of the document
+Element = dict[str, Any]  # an element of the document
 
 
 @dataclass(frozen=True)
 class Release:
-    """What all artifacts of a release have in common."""
+    """The data that all artifacts of a release share."""
 
     version: str
     time: str  # as 2026-11-30T00:00:00Z
     supplier: str
-    licence: str  # as SPDX names it, NONE where the owner grants none
+    licence: str  # its SPDX name, or NONE if the owner grants none
     copyright: str
 
 
@@ -48,12 +47,12 @@ class Artifact:
 
 
 def identifier(kind: str, name: str | int) -> str:
-    """The identifier of an element, which may have letters, digits, dots and hyphens."""
+    """Returns an element's identifier, which may have letters, digits, dots and hyphens."""
     return f"SPDXRef-{kind}-{re.sub(r'[^A-Za-z0-9.]', '-', str(name))}"
 
 
 def verification_code(files: Sequence[File]) -> str:
-    """The sum of a package by its files: the SHA-1 of theirs in order (7.9 of the standard)."""
+    """Returns a package's verification code, the SHA-1 of its files' sorted SHA-1s (7.9)."""
     sums = sorted(sha1(file.content).hexdigest() for file in files)
     return sha1("".join(sums).encode("ascii")).hexdigest()
 
@@ -105,12 +104,12 @@ def component_element(component: Component) -> Element:
 
 
 def relation(element: str, kind: str, related: str) -> Element:
-    """How two elements are related."""
+    """Returns a relationship between two elements."""
     return {"spdxElementId": element, "relationshipType": kind, "relatedSpdxElement": related}
 
 
 def relations(artifact: Artifact) -> Iterator[Element]:
-    """What describes, contains and links what."""
+    """Yields all relationships: what describes, contains and links what."""
     yield relation(DOCUMENT, "DESCRIBES", ARTIFACT)
     for number, file in enumerate(artifact.files, start=1):
         element = identifier("File", number)

@@ -1,5 +1,5 @@
-"""How tools/sums ends early."""
+"""The exception that ends tools/sums early."""
 
 
 class Stop(Exception):
-    """Why nothing is written: a sentence for the user."""
+    """Nothing is written. The text says why."""

@@ -16,7 +16,7 @@ DEFINITION = re.compile(
     r"(?P<indent>(?:  )?)(?:pub )?"
     r"(?P<kind>abbrev|unfoldable|record|data) (?:pub )?(?P<name>[^\s{-]\S*)"
 )
-# What the indented definitions below it have in common: `module _ {I O E : Type 0} where`
+# The head of a section of indented definitions: `module _ {I O E : Type 0} where`
 SECTION = re.compile(r"module _ \{.+\} where")
 # `-- The most bytes of a setting or a stored hash.`
 COMMENT = re.compile(r" *--")
@@ -26,7 +26,7 @@ CONSTRUCTOR = re.compile(r"(?P<indent> +)(?P<name>\S+) : ")
 
 @dataclass(frozen=True)
 class Definition:
-    """A definition, and the constructors that a `data` has."""
+    """A definition, with the constructors of a `data`."""
 
     entry: Entry
     constructors: tuple[str, ...]
@@ -34,7 +34,7 @@ class Definition:
 
 @lru_cache(maxsize=None)
 def definitions_of(path: str) -> Mapping[str, Entry]:
-    """The definitions of a file by name, in their order; those of data also by constructor."""
+    """Returns a file's definitions in order, by name, and those of data also by constructor."""
     entries: dict[str, Entry] = {}
     for definition in read_definitions(path):
         entry = definition.entry
@@ -46,7 +46,7 @@ def definitions_of(path: str) -> Mapping[str, Entry]:
 
 
 def read_definitions(path: str) -> Iterator[Definition]:
-    """The definitions of a file. Each other line has to be one of those that may surround them."""
+    """Yields the definitions of a file. Stops at any other line that isn't allowed around them."""
     lines = lines_of(path)
     section = ""
     comment: list[str] = []
@@ -76,7 +76,7 @@ def read_definitions(path: str) -> Iterator[Definition]:
 
 
 def code_at(lines: Sequence[str], first: int) -> list[str]:
-    """The lines of a definition: those up to an empty line, a comment or another definition."""
+    """Returns the lines of a definition, up to an empty line, a comment or another definition."""
     code = [lines[first]]
     for line in lines[first + 1 :]:
         if not line or COMMENT.match(line) or DEFINITION.match(line):
@@ -93,7 +93,7 @@ def constructors_in(code: Sequence[str]) -> tuple[str, ...]:
 
 
 def heading_comment(path: str) -> str:
-    """The comment with which a file begins."""
+    """Returns the comment at the beginning of a file."""
     comment = []
     for line in lines_of(path):
         if not COMMENT.match(line):

@@ -1,11 +1,11 @@
-"""The frame of the page, tools/specification.md, with its places filled.
+"""Fills the placeholders of the page's frame, tools/specification.md.
 
-Such a place is a paragraph in double braces: a word that says what comes there, and names.
+A placeholder is a paragraph in double braces: a word for the content, and names.
 
 calls      the public calls of these names
 types      the types and constants that the page needs
 modules    the definitions of these modules of specs/, in any crate or in the one before a slash
-outside    what the definitions rest on in the toolchain
+outside    what the definitions use from the toolchain
 """
 
 from __future__ import annotations
@@ -29,14 +29,14 @@ SLOT = re.compile(r"\{\{(?P<kind>\w+)(?P<names>[^{}]*)\}\}")
 
 @dataclass(frozen=True)
 class Slot:
-    """A place of the frame that the page fills."""
+    """A placeholder of the frame."""
 
     place: Place
     kind: str
     names: tuple[str, ...]
 
     def stop(self, reason: str) -> Stop:
-        """The error for this place."""
+        """Returns the error for this placeholder."""
         return Stop(f"{self.place}: {reason}")
 
 
@@ -53,7 +53,7 @@ def specification() -> str:
 
 
 def parts_of(text: str) -> Iterator[Union[str, Slot]]:
-    """The text of the frame and its places, in turn."""
+    """Yields the text of the frame and its placeholders, in order."""
     end = 0
     for found in SLOT.finditer(text):
         yield without_braces(text, end, found.start())
@@ -63,7 +63,7 @@ def parts_of(text: str) -> Iterator[Union[str, Slot]]:
 
 
 def without_braces(text: str, start: int, end: int) -> str:
-    """A part of the frame that has no place."""
+    """Returns a part of the frame, in which no placeholder may be."""
     braces = text.find("{{", start, end)
     if braces != -1:
         raise Stop(f"{place_at(text, braces)}: what these braces begin is no place of the page")
@@ -71,12 +71,12 @@ def without_braces(text: str, start: int, end: int) -> str:
 
 
 def place_at(text: str, offset: int) -> Place:
-    """The line of the frame that has a character."""
+    """Returns the line of a character in the frame."""
     return Place(FRAME, text.count("\n", 0, offset) + 1)
 
 
 def require_places(slots: Iterable[Slot], entries: Iterable[Entry]) -> None:
-    """Stops where the page would show an entry twice, or not at all."""
+    """Stops if the page would show an entry twice, or not at all."""
     places: dict[str, Place] = {}
     for slot in slots:
         for path in files_of(slot):
@@ -89,11 +89,11 @@ def require_places(slots: Iterable[Slot], entries: Iterable[Entry]) -> None:
             raise Stop(f"{entry.place}: {entry.name} has no place in {FRAME}; add its module there")
 
 
-# What fills a place
+# The content of placeholders
 
 
 def filled(slot: Slot, found: Reached) -> list[Piece]:
-    """What comes into a place."""
+    """Returns the content of a placeholder."""
     if slot.kind == "calls":
         return [Item(call, level=3) for call in calls_of(slot)]
     if slot.kind in ("types", "modules"):
@@ -104,7 +104,7 @@ def filled(slot: Slot, found: Reached) -> list[Piece]:
 
 
 def calls_of(slot: Slot) -> list[Entry]:
-    """The calls of a place, if it has any."""
+    """Returns the calls of a placeholder, if it has any."""
     calls = []
     for name in slot.names if slot.kind == "calls" else ():
         named = public_calls(name)
@@ -117,7 +117,7 @@ def calls_of(slot: Slot) -> list[Entry]:
 
 
 def files_of(slot: Slot) -> list[str]:
-    """The files of a place, if it has any, whether or not the page needs them."""
+    """Returns the files of a placeholder, if it has any, whether or not the page needs them."""
     if slot.kind == "types":
         return [path for crate in crates() for path in code_files(crate)]
     if slot.kind == "modules":
@@ -150,7 +150,7 @@ def pieces_of_file(path: str, found: Reached) -> Iterator[Piece]:
 
 
 def list_of(names: Iterable[Outside]) -> str:
-    """The names outside, by their modules."""
+    """Returns the list of the toolchain's names, by module."""
     modules: dict[str, list[str]] = defaultdict(list)
     for outside in sorted(names):
         modules[outside.module].append(f"`{outside.name or 'all'}`")

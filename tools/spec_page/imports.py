@@ -1,4 +1,4 @@
-"""What a file imports: the names of definitions and types, as its clauses see them."""
+"""Reads the imports of a file: the names of definitions and types for its clauses."""
 
 from __future__ import annotations
 
@@ -22,7 +22,7 @@ NAME = re.compile(r"(?P<name>[^\s{},]+)(?: as (?P<here>\w+))?")
 
 @dataclass(frozen=True)
 class Import:
-    """A name that a file imports, and from which module. A whole module has no name there."""
+    """An imported name and its module. The import of a whole module has no name."""
 
     place: Place
     module: str
@@ -31,7 +31,7 @@ class Import:
 
 @lru_cache(maxsize=None)
 def imports_of(path: str) -> Mapping[str, tuple[Import, ...]]:
-    """What a file imports, by the names that it has here. One name can stand for several."""
+    """Returns a file's imports by their local names. One name can mean several."""
     imports: dict[str, tuple[Import, ...]] = defaultdict(tuple)
     for number, line in enumerate(lines_of(path), start=1):
         if not IMPORT.match(line):
@@ -43,7 +43,7 @@ def imports_of(path: str) -> Mapping[str, tuple[Import, ...]]:
 
 
 def imports_in(line: str, place: Place) -> list[tuple[str, Import]]:
-    """The imports of a line, each with its name here."""
+    """Returns the imports in a line, each with its local name."""
     module = MODULE.fullmatch(line)
     if module:
         return [(module["here"], Import(place, module["module"], ""))]

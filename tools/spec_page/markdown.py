@@ -1,4 +1,4 @@
-"""How an entry of the page looks, and where links to it lead."""
+"""Formats the entries of the page, and the links to them."""
 
 from __future__ import annotations
 
@@ -14,7 +14,7 @@ from .sources import Entry, Stop
 
 # The mark of a line of a comment: `  -- `, `/// `
 MARK = re.compile(r"^ *(?:--|///) ?", re.MULTILINE)
-# What rustdoc makes a link: [`Scheme::made`](crypt_core::scheme::Scheme::made), [`Params`]
+# rustdoc's links: [`Scheme::made`](crypt_core::scheme::Scheme::made), [`Params`]
 RUSTDOC_LINK = re.compile(r"\[(?P<name>`[^`]*`)\](?:\(.*?\))?")
 # The lines of a comment that are a table: `  Hashed    there is no field`
 TABLE = re.compile(r"(?:^  .*(?:\n|\Z))+", re.MULTILINE)
@@ -31,11 +31,11 @@ class Item:
     level: int
 
 
-Piece = Union[str, Item]  # of the page: Markdown as it stands, or an entry
+Piece = Union[str, Item]  # a piece of the page: Markdown as it is, or an entry
 
 
 def prose(comment: str) -> str:
-    """A comment without its marks, whose indented lines are a table."""
+    """Returns a comment without its marks. Its indented lines become a table."""
     text = RUSTDOC_LINK.sub(r"\g<name>", MARK.sub("", comment)).strip()
     return TABLE.sub(rf"\n{FENCE}text\n\g<0>\n{FENCE}\n", text)
 
@@ -74,7 +74,7 @@ def links_of(entry: Entry, anchors: Mapping[Entry, str]) -> Iterator[str]:
 
 
 def link_to(used: Entry, word: str, entry: Entry, anchors: Mapping[Entry, str]) -> str:
-    """A link to what a word of an entry stands for, with the word if it is another name."""
+    """Returns a link to what a word of an entry means, with the word if that is another name."""
     if used not in anchors:
         raise Stop(f"{entry.place}: {entry.name} uses {used.name}, which the page doesn't show")
     link = f"[`{used.name}`](#{anchors[used]})"
@@ -96,7 +96,7 @@ def anchors_in(pieces: Iterable[Piece]) -> dict[Entry, str]:
 
 
 def titles_in(text: str) -> Iterator[str]:
-    """The headings of a text, which blocks of code have none of."""
+    """Yields the headings of a text. Blocks of code have none."""
     is_code = False
     for line in text.split("\n"):
         found = HEADING.match(line)
@@ -107,7 +107,7 @@ def titles_in(text: str) -> Iterator[str]:
 
 
 def anchor(title: str, seen: Counter[str]) -> str:
-    """The anchor of a heading, with a number if others before it have the same."""
+    """Returns the anchor of a heading, with a number if earlier ones have the same."""
     slug = re.sub(r"[^\w -]", "", title.lower()).replace(" ", "-")
     number = seen[slug]
     seen[slug] += 1

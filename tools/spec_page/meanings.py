@@ -1,4 +1,4 @@
-"""What the names in a definition, a type or a call stand for."""
+"""Finds what the names in a definition, a type or a call mean."""
 
 from __future__ import annotations
 
@@ -13,9 +13,9 @@ from .imports import Import, imports_of
 from .rattle import all_types, types_of, unshown_types
 from .sources import Entry, Stop, crates, is_file
 
-# A name, which follows no point: of `job.maker` only `job`
+# A name that doesn't follow a dot: only `job` in `job.maker`
 WORD = re.compile(r"(?<![\w.'])[^\W\d][\w']*")
-# `-- The salt.`, `// The salt.`, `"rounds="`, which have no names
+# Comments and strings, which contain no names: `-- The salt.`, `// The salt.`, `"rounds="`
 COMMENT_OR_STRING = re.compile(r' *(?:--|//).*|"(?:[^"\\\n]|\\.)*"')
 # Where the clauses of a call or the view of a type begin: `    ensures { IsReady turns input.old }`
 CLAUSES = re.compile(r"^(?:impl| +requires| +ensures)", re.MULTILINE)
@@ -41,14 +41,14 @@ Meaning = Union[Entry, Outside]
 
 @dataclass(frozen=True)
 class Reached:
-    """All that some entries lead to."""
+    """Everything that some entries lead to."""
 
     entries: frozenset[Entry]
     outside: frozenset[Outside]
 
 
 def reached(start: Iterable[Entry]) -> Reached:
-    """What these entries use, what that uses, and so on."""
+    """Returns what these entries use, what that uses, and so on."""
     seen: set[Meaning] = set()
     left = list(start)
     while left:
@@ -65,10 +65,10 @@ def reached(start: Iterable[Entry]) -> Reached:
 
 @lru_cache(maxsize=None)
 def names_of(entry: Entry) -> Mapping[str, tuple[Meaning, ...]]:
-    """What the words of an entry stand for, other than itself.
+    """Returns what the words of an entry mean, other than itself.
 
-    Any word counts that its file declares or imports, also one that is only an argument's name: the
-    page may have a definition too many, and lacks none.
+    Every word counts that its file declares or imports, even if it is only an argument's name. So
+    the page may have a definition too many, but lacks none.
     """
     pairs = names_of_definition(entry) if entry.is_definition else names_of_code(entry)
     names: dict[str, tuple[Meaning, ...]] = {}
@@ -80,7 +80,7 @@ def names_of(entry: Entry) -> Mapping[str, tuple[Meaning, ...]]:
 
 
 def words_of(text: str) -> list[str]:
-    """The words of a text, each once."""
+    """Returns the distinct words of a text."""
     return list(dict.fromkeys(WORD.findall(text)))
 
 
@@ -124,7 +124,7 @@ def types_named(word: str, entry: Entry) -> list[Entry]:
 
 
 def followed(imported: Import) -> Meaning:
-    """What an imported name stands for."""
+    """Returns what an imported name means."""
     crate, _, module = imported.module.partition(".")
     if crate not in crates():
         return Outside(imported.module, imported.name)

@@ -1,4 +1,4 @@
-"""The types, constants and public calls of the code, which is written in Rattle."""
+"""Reads the types, constants and public calls of the code, which is written in Rattle."""
 
 from __future__ import annotations
 
@@ -12,20 +12,20 @@ from .sources import Entry, Place, Stop, code_files, crates, is_file, lines_of
 
 # A type or a constant: `pub(crate) enum Outcome {`, `pub const VERSION_NUMBER: u32 = 20001;`
 TYPE = re.compile(r"pub(?:\(\w+\))? (?:struct|enum|const) (?!fn\b)(?P<name>\w+)")
-# What a signature may name and no page shows: `pub trait Counted: Drop {`, `struct Piece {`
+# Types that a signature may name but no page shows: `pub trait Counted: Drop {`, `struct Piece {`
 UNSHOWN = re.compile(
     r"(?:pub(?:\(\w+\))? )?(?:type|trait|union|static) (?P<name>\w+)"
     r"|(?:struct|enum|const) (?!fn\b)(?P<private>\w+)"
 )
-# A type that may have a view, also a private one: `pub struct Input<I: Read> {`, `struct Piece {`
+# A type that may have a view, even a private one: `pub struct Input<I: Read> {`, `struct Piece {`
 STRUCT = re.compile(r"(?:pub(?:\(\w+\))? )?(?:struct|enum) (?P<name>\w+)")
 # The first line of a view, which says how clauses see a type: `impl<I: Read> Model for Input<I> {`
 VIEW = re.compile(r"impl\b.* Model for ")
 VIEW_OF_TYPE = re.compile(r"impl\b.* Model for (?P<name>\w+)\b.*\{")
-# A line of it: `    ghost view = { λ p. p.bytes.items };`
+# A line of a view: `    ghost view = { λ p. p.bytes.items };`
 MEMBER = re.compile(r"    ghost (?P<name>\w+) = \{ .+ \};")
 SHOWN_MEMBERS = ("Value", "view", "invariant")
-# How a value is encoded, and how its view is undone: clauses mention neither.
+# The encoding of a value, and the inverse of its view, which clauses never mention.
 OTHER_MEMBERS = ("coded", "inverse")
 # `    // Each piece raises the meter.`, `    #[error("{0}")]`
 COMMENT_OR_ATTRIBUTE = re.compile(r" *(?://|#\[)")
@@ -42,7 +42,7 @@ ANY_EXPORT = re.compile(r'[^/]*\bextern "C" fn\b')
 
 @lru_cache(maxsize=None)
 def types_of(path: str) -> Mapping[str, Entry]:
-    """The types and constants of a file that others can name, each with its view."""
+    """Returns a file's types and constants that other files can name, each with its view."""
     lines = lines_of(path)
     views = views_of(path)
     types = {}
@@ -58,7 +58,7 @@ def types_of(path: str) -> Mapping[str, Entry]:
 
 
 def is_code(line: str) -> bool:
-    """Whether a line of a type has code."""
+    """Returns whether a line of a type has code."""
     return COMMENT_OR_ATTRIBUTE.match(line) is None
 
 
@@ -86,7 +86,7 @@ def comment_above(lines: Sequence[str], item: int, path: str) -> str:
 
 
 def views_of(path: str) -> Mapping[str, list[str]]:
-    """What clauses see of the types of a file, by their names."""
+    """Returns the views of a file's types, by name: what clauses see of them."""
     lines = lines_of(path)
     types = {found["name"] for found in map(STRUCT.match, lines) if found}
     views = {}
@@ -132,7 +132,7 @@ def all_types() -> Mapping[str, tuple[Entry, ...]]:
 
 @lru_cache(maxsize=None)
 def unshown_types() -> Mapping[str, Place]:
-    """What else a signature could name: traits, other names of types, and private types."""
+    """Returns what else a signature could name: traits, type aliases, and private types."""
     unshown = {}
     for crate in crates():
         for path in code_files(crate):
@@ -147,9 +147,9 @@ def unshown_types() -> Mapping[str, Place]:
 
 
 def public_calls(name: str) -> list[Entry]:
-    """The calls that a name of the frame stands for.
+    """Returns the calls that a name in the frame means.
 
-    It is a function of a module, as `setting/read::Setting::read`, or `extern`: all calls for C.
+    It is a function of a module, as `setting/read::Setting::read`, or `extern` for all calls for C.
     """
     module, *names = name.split("::")
     if name == "extern":
@@ -198,7 +198,7 @@ def methods(module: str, type_name: str, name: str) -> Iterator[Entry]:
 
 
 def call_at(path: str, first: int, name: str) -> Entry:
-    """The signature and the clauses of a call, up to the line with the brace of its body."""
+    """Returns the signature and the clauses of a call, up to the brace of its body."""
     lines = lines_of(path)
     indent = " " * (len(lines[first]) - len(lines[first].lstrip()))
     place = Place(path, first + 1)

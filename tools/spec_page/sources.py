@@ -1,4 +1,4 @@
-"""Files of the crates, places in them, and the entries that the page shows."""
+"""Reads the files of the crates. Defines places in them, and the entries of the page."""
 
 from __future__ import annotations
 
@@ -14,15 +14,15 @@ CRATE = re.compile(r"(?P<name>\w+)[^:#]*:")
 
 
 class Stop(Exception):
-    """Why there is no page: a sentence that begins with the place."""
+    """No page is printed. The text says where and why."""
 
 
 @dataclass(frozen=True, order=True)
 class Place:
-    """A line of a file, whose path begins at the root of the repository."""
+    """A line of a file. The path is relative to the root of the repository."""
 
     path: str
-    line: int  # from 1 on
+    line: int  # counted from 1
 
     def __str__(self) -> str:
         return f"{self.path}:{self.line}"
@@ -30,16 +30,16 @@ class Place:
 
 @dataclass(frozen=True)
 class Entry:
-    """A definition, a type or a call, as its file has it."""
+    """A definition, a type or a call, as in its file."""
 
-    place: Place  # of the first line of its code
+    place: Place  # the first line of its code
     name: str
-    comment: str  # with the marks of a comment
+    comment: str  # with its comment marks
     code: str
 
     @property
     def is_definition(self) -> bool:
-        """Whether it is one of specs/, and no type or call of the code."""
+        """Whether it is a definition in specs/, not a type or call of the code."""
         return self.place.path.endswith(".antt")
 
 
@@ -60,7 +60,7 @@ def lines_of(path: str) -> list[str]:
 
 
 def is_file(path: str) -> bool:
-    """Whether there is such a file."""
+    """Returns whether a file exists."""
     return (ROOT / path).is_file()
 
 
