@@ -31,7 +31,7 @@ class Site:
     result: Result
 
     def pages(self) -> list[Path]:
-        """All pages except the one that hashes."""
+        """Returns all pages except the one that hashes."""
         self.result.required()
         pages = sorted(self.folder.glob("*.html"))
         return [page for page in pages if page.name != HASHING_PAGE]

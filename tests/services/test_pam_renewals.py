@@ -317,7 +317,7 @@ def remounted(blocking: str, usual: str) -> Blocking:
 
 
 def nothing(_: Namespaces) -> AbstractContextManager[None]:
-    """Is no obstacle by itself: the command around the login is one."""
+    """Blocks nothing: the command around the login does that."""
     return contextlib.nullcontext()
 
 

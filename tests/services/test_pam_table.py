@@ -42,7 +42,7 @@ Blocking = Callable[[Namespaces], AbstractContextManager[object]]
 
 
 def nothing(_: Namespaces) -> AbstractContextManager[None]:
-    """Is no obstacle."""
+    """Blocks nothing."""
     return contextlib.nullcontext()
 
 

@@ -126,7 +126,7 @@ def form_of(text: str) -> str:
 
 
 def hashes_of(text: str) -> list[str]:
-    """The hashes in a text."""
+    """Returns the hashes in a text."""
     return [found[0] for found in HASH.finditer(text)]
 
 

@@ -35,12 +35,12 @@ class Policy:
 
     @property
     def chosen_rounds(self) -> int:
-        """Returns the rounds of new hashes."""
+        """The rounds of new hashes."""
         return self.rounds or RECOMMENDED_ROUNDS[self.method]
 
     @property
     def error(self) -> Reason | None:
-        """Returns why new hashes can't have this method and these rounds, if they can't."""
+        """Why new hashes can't have this method and these rounds, or None if they can."""
         if self.method not in METHODS:
             return Reason.UNKNOWN_METHOD
         if self.method == SCRYPT and self.rounds not in (0, *range(6, 12)):
@@ -52,7 +52,7 @@ class Policy:
 
     @property
     def limit(self) -> int:
-        """Returns the most that a login or a new hash may cost."""
+        """The most that a login or a new hash may cost."""
         if self.budget:
             return self.budget
         return max(LIMIT_FLOOR, 2 * new_cost(self.method, self.chosen_rounds, 64))

@@ -149,7 +149,7 @@ def read_plants(log: str) -> Plants:
 
 
 def rows_of(kind: str, log: str, count: int) -> tuple[Plant, ...]:
-    """The wrong bodies of a kind, of which the last line counts so many."""
+    """Returns the wrong bodies of a kind, after checking them against the last line's count."""
     row = re.compile(rf"^{kind} +(\S+:\d+ .+?): \{{(.*?)\}}(?:  \((.*)\))?$", re.MULTILINE)
     rows = tuple(Plant(where, body.strip(), why) for where, body, why in row.findall(log))
     if len(rows) != count:
@@ -158,7 +158,7 @@ def rows_of(kind: str, log: str, count: int) -> tuple[Plant, ...]:
 
 
 def functions_of(kind: str, log: str, count: int) -> tuple[str, ...]:
-    """The functions of a kind, of which the last line counts so many."""
+    """Returns the functions of a kind, after checking them against the last line's count."""
     functions = tuple(re.findall(rf"^{kind} +(\S+:\d+ .+)\(\)$", log, re.MULTILINE))
     if len(functions) != count:
         raise Failed(f"rt plant counts {count} functions as {kind}, and lists {len(functions)}")

@@ -61,12 +61,12 @@ def code(text: str) -> str:
 
 
 def number(count: int) -> str:
-    """A number with commas."""
+    """Returns a number with commas."""
     return f"{count:,}"
 
 
 def duration(seconds: float) -> str:
-    """A time in hours and minutes, or in seconds if it is short."""
+    """Returns a time in hours and minutes, or in seconds if it is short."""
     minutes = round(seconds / 60)
     if minutes < 2:
         return f"{seconds:.0f} s"
@@ -76,7 +76,7 @@ def duration(seconds: float) -> str:
 
 
 def three_digits(value: float) -> str:
-    """A number with about three digits."""
+    """Returns a number with about three digits."""
     if value >= 1000:
         return f"{value:,.0f}"
     return f"{value:.3g}" if value >= 100 else f"{value:#.3g}"
@@ -86,13 +86,13 @@ def three_digits(value: float) -> str:
 
 
 def all_parts(pairs: Sequence[Pair]) -> str:
-    """The table of the parts."""
+    """Returns the table of the parts."""
     head = ("Part", "Command", "Took", "Measured")
     return table(head, [row_of(part, result) for part, result in pairs])
 
 
 def row_of(part: Part, result: Result | None) -> list[str]:
-    """The row of a part."""
+    """Returns the row of a part."""
     if result is None:
         return [part.name, shown_command(part, part.sizes), "", NOT_MEASURED]
     command = shown_command(part, result.sizes)
@@ -138,7 +138,7 @@ def of_gate(gate: Gate) -> str:
 
 
 def proofs(pairs: Sequence[Pair]) -> str:
-    """The section of the gate."""
+    """Returns the section about the gate."""
     for _, result in pairs:
         if result is not None and isinstance(result.found, Gate):
             gate = result.found
@@ -159,7 +159,7 @@ def checks(pairs: Sequence[Pair]) -> dict[str, Check]:
 
 
 def tests(pairs: Sequence[Pair]) -> str:
-    """The section of the tests."""
+    """Returns the section about the tests."""
     found = checks(pairs)
     if not found:
         return ""
@@ -215,7 +215,7 @@ def skipped(found: dict[str, Check]) -> str:
 
 
 def random_inputs(pairs: Sequence[Pair]) -> str:
-    """The section of soak and fuzzers."""
+    """Returns the section about soak and fuzzers."""
     lines = []
     for part, result in pairs:
         if result is None:
@@ -240,7 +240,7 @@ def random_inputs(pairs: Sequence[Pair]) -> str:
 
 
 def plants(pairs: Sequence[Pair]) -> str:
-    """The section of rt plant."""
+    """Returns the section about rt plant."""
     found: dict[str, Plants] = {}
     for part, result in pairs:
         if result is not None and isinstance(result.found, Plants):
@@ -289,7 +289,7 @@ def bodies(
 def functions(
     title: str, found: dict[str, Plants], names_of: Callable[[Plants], Sequence[str]]
 ) -> str:
-    """A list of functions."""
+    """Returns a list of functions."""
     lines = [f"- {crate}, {code(name)}\n" for crate, it in found.items() for name in names_of(it)]
     return f"\n{title}:\n\n{''.join(lines)}" if lines else ""
 
@@ -298,7 +298,7 @@ def functions(
 
 
 def times(pairs: Sequence[Pair]) -> str:
-    """The section of the times."""
+    """Returns the section about the times."""
     for _, result in pairs:
         if result is not None and isinstance(result.found, Bench):
             timed = result.found.timed
@@ -313,7 +313,7 @@ def times(pairs: Sequence[Pair]) -> str:
 
 
 def rows_of_times(timed: Sequence[Timed]) -> Iterator[list[str]]:
-    """A row for each row of tools/bench."""
+    """Yields a row for each row of tools/bench."""
     grouped: dict[tuple[str, str], list[Timed]] = {}
     for side in timed:
         grouped.setdefault((side.table, side.row), []).append(side)
@@ -335,7 +335,7 @@ def ratio(side: Timed, first: Timed) -> str:
 
 
 def artifacts(pairs: Sequence[Pair]) -> str:
-    """The section of what is released."""
+    """Returns the section about what is released."""
     for _, result in pairs:
         if result is not None and isinstance(result.found, Artifacts):
             words = " ".join(f"{name}={value}" for name, value in OTHER_ENVIRONMENT.items())
@@ -363,7 +363,7 @@ SECTIONS: dict[str, Callable[[Sequence[Pair]], str]] = {
 
 
 def page_of(commit: Commit) -> str:
-    """The page of a commit."""
+    """Returns the page of a commit."""
     pairs = [(part, commit.result_of(part)) for part in commit.parts]
     text = f"{HEAD}\n{all_parts(pairs)}"
     for title, section in SECTIONS.items():

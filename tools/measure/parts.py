@@ -237,7 +237,7 @@ def keep_artifacts(
 
 
 def crates_of(repository: Repository, commit: str) -> list[str]:
-    """The crates, in the order of crates.txt."""
+    """Returns the crates, in the order of crates.txt."""
     return re.findall(r"^(\w+)[^#\n]*:", repository.text_of(commit, "crates.txt"), re.MULTILINE)
 
 

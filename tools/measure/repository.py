@@ -63,7 +63,7 @@ class Repository:
         return self.git("show", f"{commit}:{path}")
 
     def names_in(self, commit: str, folder: str) -> list[str]:
-        """The names of the files in a folder."""
+        """Returns the names of the files in a folder."""
         return self.git("ls-tree", "--name-only", f"{commit}:{folder}").splitlines()
 
     def clone(self, commit: str, folder: Path) -> None:

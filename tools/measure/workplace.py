@@ -46,7 +46,7 @@ class Options:
 
 
 def environment(changes: Mapping[str, str]) -> dict[str, str]:
-    """The environment of a command."""
+    """Returns the environment of a command."""
     kept = {name: os.environ[name] for name in VARIABLES if name in os.environ}
     return {**kept, "LC_ALL": "C", **changes}
 

@@ -23,7 +23,7 @@ class File:
 
 
 def files_of_tar(content: bytes) -> Iterator[File]:
-    """The files in a tar archive, compressed or not."""
+    """Yields the files in a tar archive, compressed or not."""
     with tarfile.open(fileobj=io.BytesIO(content)) as archive:
         for member in archive.getmembers():
             file = archive.extractfile(member) if member.isfile() else None
@@ -48,7 +48,7 @@ def files_of_image(path: Path) -> Iterator[File]:
 
 
 def files_of_wheel(path: Path) -> Iterator[File]:
-    """The files in a wheel."""
+    """Yields the files in a wheel."""
     with zipfile.ZipFile(path) as archive:
         for entry in archive.infolist():
             if not entry.is_dir():
@@ -56,7 +56,7 @@ def files_of_wheel(path: Path) -> Iterator[File]:
 
 
 def files_of_debian_package(path: Path) -> Iterator[File]:
-    """The files that a Debian package installs."""
+    """Yields the files that a Debian package installs."""
     command = ["dpkg-deb", "--fsys-tarfile", str(path)]
     try:
         done = subprocess.run(command, capture_output=True, check=False)

@@ -58,7 +58,7 @@ def verification_code(files: Sequence[File]) -> str:
 
 
 def file_element(number: int, file: File) -> Element:
-    """A file in the artifact."""
+    """Returns a file in the artifact."""
     return {
         "fileName": f"./{file.name}",
         "SPDXID": identifier("File", number),
@@ -70,7 +70,7 @@ def file_element(number: int, file: File) -> Element:
 
 
 def artifact_element(artifact: Artifact, release: Release) -> Element:
-    """The artifact itself, as a package."""
+    """Returns the artifact itself, as a package."""
     return {
         "name": artifact.name,
         "SPDXID": ARTIFACT,
@@ -90,7 +90,7 @@ def artifact_element(artifact: Artifact, release: Release) -> Element:
 
 
 def component_element(component: Component) -> Element:
-    """A component, as a package whose files are not listed."""
+    """Returns a component, as a package whose files are not listed."""
     element = {
         "name": component.name,
         "SPDXID": identifier("Component", component.name),
@@ -119,7 +119,7 @@ def relations(artifact: Artifact) -> Iterator[Element]:
 
 
 def document(artifact: Artifact, release: Release) -> str:
-    """The document of an artifact."""
+    """Returns the document of an artifact."""
     components = sorted(set().union(*artifact.components.values()))
     whole = {
         "spdxVersion": "SPDX-2.3",

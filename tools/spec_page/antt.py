@@ -86,7 +86,7 @@ def code_at(lines: Sequence[str], first: int) -> list[str]:
 
 
 def constructors_in(code: Sequence[str]) -> tuple[str, ...]:
-    """The names of the constructors of a `data`, which are less indented than their types."""
+    """Returns the names of a `data`'s constructors, which are less indented than their types."""
     found = [match for match in map(CONSTRUCTOR.match, code[1:]) if match]
     least = min((len(match["indent"]) for match in found), default=0)
     return tuple(match["name"] for match in found if len(match["indent"]) == least)

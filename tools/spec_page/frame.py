@@ -41,7 +41,7 @@ class Slot:
 
 
 def specification() -> str:
-    """The page."""
+    """Returns the page."""
     parts = list(parts_of(read(FRAME)))
     slots = [part for part in parts if isinstance(part, Slot)]
     found = reached(call for slot in slots for call in calls_of(slot))
@@ -126,7 +126,7 @@ def files_of(slot: Slot) -> list[str]:
 
 
 def module_files(name: str, slot: Slot) -> list[str]:
-    """The files of a module: `Work` in each crate that has one, `call_core/Audits` in one crate."""
+    """Returns a module's files: of each crate for `Work`, of one crate for `call_core/Audits`."""
     crate, slash, module = name.partition("/")
     if slash:
         paths = [f"crates/{crate}/specs/{module}.antt"]
@@ -139,7 +139,7 @@ def module_files(name: str, slot: Slot) -> list[str]:
 
 
 def pieces_of_file(path: str, found: Reached) -> Iterator[Piece]:
-    """The entries of a file that the page needs, below a heading if there are any."""
+    """Yields the entries of a file that the page needs, below a heading if there are any."""
     is_definitions = path.endswith(".antt")
     own: Mapping[str, Entry] = definitions_of(path) if is_definitions else types_of(path)
     needed = [entry for entry in dict.fromkeys(own.values()) if entry in found.entries]

@@ -41,7 +41,7 @@ def prose(comment: str) -> str:
 
 
 def page_of(pieces: Sequence[Piece]) -> str:
-    """The page."""
+    """Returns the page."""
     anchors = anchors_in(pieces)
     texts = (text_of(piece, anchors) for piece in pieces)
     page = "\n\n".join(text.strip("\n") for text in texts)
@@ -49,7 +49,7 @@ def page_of(pieces: Sequence[Piece]) -> str:
 
 
 def text_of(piece: Piece, anchors: Mapping[Entry, str]) -> str:
-    """A piece of the page."""
+    """Returns a piece of the page."""
     if isinstance(piece, str):
         return piece
     entry = piece.entry
@@ -84,7 +84,7 @@ def link_to(used: Entry, word: str, entry: Entry, anchors: Mapping[Entry, str]) 
 
 
 def anchors_in(pieces: Iterable[Piece]) -> dict[Entry, str]:
-    """The anchor that renderers of Markdown give to the heading of each entry."""
+    """Returns the anchor that renderers of Markdown give to the heading of each entry."""
     anchors: dict[Entry, str] = {}
     seen: Counter[str] = Counter()
     for piece in pieces:

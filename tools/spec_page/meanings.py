@@ -85,7 +85,7 @@ def words_of(text: str) -> list[str]:
 
 
 def names_of_definition(entry: Entry) -> Iterator[tuple[str, Meaning]]:
-    """The words that a definition's file defines or imports."""
+    """Yields the words that a definition's file defines or imports."""
     own = definitions_of(entry.place.path)
     imports = imports_of(entry.place.path)
     for word in words_of(COMMENT_OR_STRING.sub("", entry.code)):
@@ -96,7 +96,7 @@ def names_of_definition(entry: Entry) -> Iterator[tuple[str, Meaning]]:
 
 
 def names_of_code(entry: Entry) -> Iterator[tuple[str, Meaning]]:
-    """The words of a type or a call that are types, and those that its clauses import."""
+    """Yields the words of a type or a call that are types, and those that its clauses import."""
     code = COMMENT_OR_STRING.sub("", entry.code)
     clauses = CLAUSES.search(code)
     border = clauses.start() if clauses else len(code)
@@ -112,7 +112,7 @@ def names_of_code(entry: Entry) -> Iterator[tuple[str, Meaning]]:
 
 
 def types_named(word: str, entry: Entry) -> list[Entry]:
-    """The type of this name, if any, which some code uses."""
+    """Returns the type of this name that code uses, or nothing if there is none."""
     types = all_types().get(word, ())
     if not types and word in unshown_types():
         place = unshown_types()[word]
@@ -143,7 +143,7 @@ def followed(imported: Import) -> Meaning:
 
 
 def declared_type(imported: Import, crate: str, module: str, name: str) -> Entry:
-    """A type of the code, which clauses import by its module."""
+    """Returns a type of the code, which clauses import by its module."""
     path = f"crates/{crate}/src/{module.replace('.', '/')}.rt"
     declared = types_of(path).get(name) if is_file(path) else None
     if not declared:
@@ -152,6 +152,6 @@ def declared_type(imported: Import, crate: str, module: str, name: str) -> Entry
 
 
 def unfollowed(imported: Import) -> Stop:
-    """The error for a name whose definition isn't found."""
+    """Returns the error for a name whose definition isn't found."""
     what = f"{imported.name} of {imported.module}" if imported.name else imported.module
     return Stop(f"{imported.place}: {what} has no definition that the page can show")

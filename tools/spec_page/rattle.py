@@ -63,7 +63,7 @@ def is_code(line: str) -> bool:
 
 
 def type_at(lines: Sequence[str], first: int, path: str) -> Sequence[str]:
-    """The lines of a type or a constant."""
+    """Returns the lines of a type or a constant."""
     if lines[first].endswith((";", "}")):
         return lines[first : first + 1]
     for index in range(first + 1, len(lines)):
@@ -76,7 +76,7 @@ def type_at(lines: Sequence[str], first: int, path: str) -> Sequence[str]:
 
 
 def comment_above(lines: Sequence[str], item: int, path: str) -> str:
-    """The comment of a type, without its attributes."""
+    """Returns the comment of a type, without its attributes."""
     first = item
     while first > 0 and lines[first - 1].startswith(("///", "#[")):
         first -= 1
@@ -102,7 +102,7 @@ def views_of(path: str) -> Mapping[str, list[str]]:
 
 
 def view_at(lines: Sequence[str], first: int, path: str) -> list[str]:
-    """The lines of a view that clauses see."""
+    """Returns the lines of a view that clauses see."""
     view = [lines[first]]
     for index in range(first + 1, len(lines)):
         line = lines[index]
@@ -121,7 +121,7 @@ def view_at(lines: Sequence[str], first: int, path: str) -> list[str]:
 
 @lru_cache(maxsize=None)
 def all_types() -> Mapping[str, tuple[Entry, ...]]:
-    """The types and constants of all crates by name, with the lowest crate's first."""
+    """Returns the types and constants of all crates by name, with the lowest crate's first."""
     types: dict[str, tuple[Entry, ...]] = defaultdict(tuple)
     for crate in crates():
         for path in code_files(crate):
@@ -162,13 +162,13 @@ def public_calls(name: str) -> list[Entry]:
 
 
 def files_named(module: str) -> list[str]:
-    """The files of this module, in any crate."""
+    """Returns the files of this module, in any crate."""
     paths = (f"crates/{crate}/src/{module}.rt" for crate in crates())
     return [path for path in paths if is_file(path)]
 
 
 def exported_calls(path: str) -> Iterator[Entry]:
-    """The calls for C of a file."""
+    """Yields the calls for C of a file."""
     for index, line in enumerate(lines_of(path)):
         found = EXPORT.match(line)
         if found:
@@ -178,7 +178,7 @@ def exported_calls(path: str) -> Iterator[Entry]:
 
 
 def functions(module: str, name: str) -> Iterator[Entry]:
-    """The public functions of this name in a module."""
+    """Yields the public functions of this name in a module."""
     for path in files_named(module):
         for index, line in enumerate(lines_of(path)):
             if re.match(rf"pub fn {name}\b", line):
@@ -186,7 +186,7 @@ def functions(module: str, name: str) -> Iterator[Entry]:
 
 
 def methods(module: str, type_name: str, name: str) -> Iterator[Entry]:
-    """The public functions of this name that a type has in a module."""
+    """Yields the public functions of this name that a type has in a module."""
     for path in files_named(module):
         header = ""
         for index, line in enumerate(lines_of(path)):

@@ -45,7 +45,7 @@ class Entry:
 
 @lru_cache(maxsize=None)
 def read(path: str) -> str:
-    """The text of a file."""
+    """Returns the text of a file."""
     try:
         return (ROOT / path).read_text(encoding="utf-8")
     except OSError as error:
@@ -55,7 +55,7 @@ def read(path: str) -> str:
 
 
 def lines_of(path: str) -> list[str]:
-    """The lines of a file."""
+    """Returns the lines of a file."""
     return read(path).split("\n")
 
 
@@ -66,7 +66,7 @@ def is_file(path: str) -> bool:
 
 @lru_cache(maxsize=None)
 def crates() -> tuple[str, ...]:
-    """The names of the crates, the lowest first."""
+    """Returns the names of the crates, the lowest first."""
     names = []
     for number, line in enumerate(lines_of(CRATES), start=1):
         found = CRATE.match(line)
@@ -78,6 +78,6 @@ def crates() -> tuple[str, ...]:
 
 
 def code_files(crate: str) -> list[str]:
-    """The files of a crate's code."""
+    """Returns the files of a crate's code."""
     folder = ROOT / "crates" / crate / "src"
     return [str(path.relative_to(ROOT)) for path in sorted(folder.glob("**/*.rt"))]

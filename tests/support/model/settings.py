@@ -49,7 +49,7 @@ class ScryptCost:
 
     @property
     def text(self) -> bytes:
-        """Returns the eleven characters that encode these numbers in a setting."""
+        """The eleven characters that encode these numbers in a setting."""
         return numeral(self.log_n, 1) + numeral(self.r, 5) + numeral(self.p, 5)
 
     @property
