@@ -83,7 +83,7 @@ int pam_prompt(pam_handle_t *pam, int style, char **response, const char *format
     return PAM_SUCCESS;
 }
 
-/* Checks by counting words that an entry for a failed login has no blank or line feed of input. */
+/* An entry for a failed login must have no blank or line feed of the input: counts the words. */
 void pam_syslog(const pam_handle_t *pam, int priority, const char *format, ...)
 {
     char entry[8 * PART_SIZE];
@@ -100,7 +100,7 @@ void pam_syslog(const pam_handle_t *pam, int priority, const char *format, ...)
     MUST(strchr(entry, '\n') == NULL);
     for (const char *place = entry; *place != '\0'; place++)
         words += *place == ' ';
-    MUST(words == 10); /* two of them, one empty, precede user= */
+    MUST(words == 10); /* two, six fields, an empty one and user= */
 }
 
 /* ---- The input */

@@ -48,7 +48,8 @@ INVALID = (
         for policy in CLAMPED
     ),
 )
-# The budgets are the costs of new hashes of these lengths, and the numbers next to them.
+# The tests take as budgets what new hashes of passwords of these lengths cost, one more, and one
+# less.
 LENGTHS_OF_BUDGETS = (0, 8, 64, 65, 169, 1023, 1024)
 TOO_LONG = (LONGEST_PASSWORD + 1, GREATEST_32 + 1, GREATEST_32 + 9, GREATEST)
 LENGTHS = (0, 64, 169, LONGEST_PASSWORD, *TOO_LONG)

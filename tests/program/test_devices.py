@@ -406,7 +406,7 @@ def test_a_line_allocates_the_memory_of(
     assert allocated(tracer, words, given, status) == [*without_lines, *allocations]
 
 
-# Limits of the address space in kB. Both tables fit in the highest, and none in the lowest.
+# Limits of the address space in kB. Both tables fit in the highest, and neither fits in the lowest.
 ADDRESSES = [*range(3000, 6500, 500), *range(18500, 24500, 500), 50_000, 65_000, 80_000]
 
 

@@ -84,7 +84,7 @@ def test_a_column_is_found_by_its_number(number: int) -> None:
     assert (done.status, done.out) == (0, f"ann:{MD5}\n".encode()), done
 
 
-def test_a_heading_is_no_user_if_columns_are_numbers() -> None:
+def test_a_heading_is_not_a_user_if_columns_are_numbers() -> None:
     table = save("table", b"user,password\nann,x\n")
     done = pwhash("file", *MD5CRYPT, table, "--csv", *BY_NUMBER)
     assert (done.status, done.out) == (1, b""), done

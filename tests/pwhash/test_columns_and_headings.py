@@ -77,7 +77,7 @@ def test_columns_that_fit_their_headings_are_hashed(columns: str, table: bytes) 
     ids=os.fsdecode,
 )
 @pytest.mark.parametrize("is_table", [False, True], ids=["list", "table"])
-def test_a_heading_in_another_language_is_no_user(heading: bytes, is_table: bool) -> None:
+def test_a_heading_in_another_language_is_not_a_user(heading: bytes, is_table: bool) -> None:
     lines = b"ann:pw1\n" + heading + b"\nbob:pw2\n"
     words: tuple[str, ...] = ()
     if is_table:
@@ -88,7 +88,7 @@ def test_a_heading_in_another_language_is_no_user(heading: bytes, is_table: bool
 
 
 @pytest.mark.parametrize("words", [(), ("--csv", "--columns", "1,2")], ids=["list", "table"])
-def test_the_first_line_repeated_is_no_user(words: tuple[str, ...]) -> None:
+def test_the_first_line_repeated_is_not_a_user(words: tuple[str, ...]) -> None:
     """It is a heading even if pwhash doesn't know its words."""
     lines = b"konto:geheim\nann:pw1\nkonto:geheim\nbob:pw2\n"
     save("list", lines.replace(b":", b",") if words else lines)

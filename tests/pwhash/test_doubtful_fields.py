@@ -23,7 +23,7 @@ ERRORS = [
 
 
 @pytest.mark.parametrize("error", ERRORS)
-def test_a_spreadsheets_error_is_no_password_in_any_language(error: str) -> None:
+def test_a_spreadsheets_error_is_not_a_password_in_any_language(error: str) -> None:
     hash_first_of_two(f"ann:{error}")
 
 
@@ -34,7 +34,7 @@ TRUTHS = [
 
 
 @pytest.mark.parametrize("truth", TRUTHS)
-def test_true_and_false_are_no_passwords_in_a_table_in_any_language(truth: str) -> None:
+def test_true_and_false_are_not_passwords_in_a_table_in_any_language(truth: str) -> None:
     hash_first_of_two(f"ann,{truth}", "--csv", "--columns", "1,2")
 
 
@@ -76,7 +76,7 @@ def test_quotes_in_a_tables_field_are_part_of_the_password() -> None:
         *("Mitarbeiter:password", "staff number: Password", "staff:Password", "who:mot de passe"),
     ],
 )
-def test_a_heading_in_a_list_is_no_account(heading: str) -> None:
+def test_a_heading_in_a_list_is_not_an_account(heading: str) -> None:
     hash_first_of_two(heading)
 
 
@@ -87,7 +87,7 @@ def test_a_login_name_with_the_password_password_is_hashed(name: str) -> None:
 
 
 @pytest.mark.parametrize("heading", ["E-Mail,Password", "Mitarbeiter,Kennwort"])
-def test_a_heading_is_no_account_if_columns_are_numbers(heading: str) -> None:
+def test_a_heading_is_not_an_account_if_columns_are_numbers(heading: str) -> None:
     hash_first_of_two(heading, "--csv", "--columns", "1,2")
 
 

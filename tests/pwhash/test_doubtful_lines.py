@@ -67,7 +67,7 @@ def test_a_line_with_an_invisible_character_is_doubtful(character: str) -> None:
         pytest.param(b"x:0:0:root:/root:/bin/bash", id="a line of passwd"),
     ],
 )
-def test_a_stored_field_is_no_password(field: bytes) -> None:
+def test_a_stored_field_is_not_a_password(field: bytes) -> None:
     done = pwhash("file", *MD5CRYPT, stdin=b"eve:%b\nbob:pw2\n" % field)
     assert (done.status, done.out, lines_named_in(done.err)) == (1, BOB, [1]), done
     done = pwhash("file", *MD5CRYPT, "--accept-doubtful", stdin=b"eve:%b\n" % field)

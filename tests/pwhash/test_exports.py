@@ -39,7 +39,7 @@ def test_a_row_of_a_table_in_a_list_shows_no_password(line: bytes) -> None:
         pytest.param(b"secret:::::", id="empty"),
     ],
 )
-def test_a_line_for_newusers_is_no_password(field: bytes) -> None:
+def test_a_line_for_newusers_is_not_a_password(field: bytes) -> None:
     assert_doubtful(b"ann:pw\nbob:" + field + b"\n", 2)
 
 
@@ -53,7 +53,7 @@ def test_a_line_for_newusers_is_no_password(field: bytes) -> None:
         pytest.param(b"$y$j9T$abcdefgh$abcdefghijklmnop", id="yescrypt"),
     ],
 )
-def test_a_stored_hash_of_any_program_is_no_password(stored: bytes) -> None:
+def test_a_stored_hash_of_any_program_is_not_a_password(stored: bytes) -> None:
     assert_doubtful(b"ann:pw\nbob:" + stored + b"\n", 2)
 
 

@@ -233,7 +233,7 @@ ROWS = [
 
 
 @pytest.mark.parametrize(("row", "reason"), ROWS)
-def test_a_row_that_is_no_account_is_refused(row: bytes, reason: str) -> None:
+def test_a_row_that_is_not_an_account_is_refused(row: bytes, reason: str) -> None:
     save("table", b"name,class\nann,5a\n" + row + b"bob,5a\n")
     done = pwhash(*BY_CLASS, "table")
     assert done.status == 1 and reason.encode() in done.err, done

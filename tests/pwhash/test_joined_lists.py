@@ -14,7 +14,7 @@ from support.pwhash_runs import ANN, BOB, BY_NUMBER, BOM, MD5, MD5CRYPT, lines_n
         pytest.param(b"ann,pw1\nname,password\nbob,pw2\n", BY_NUMBER, id="by number"),
     ],
 )
-def test_the_heading_of_a_joined_table_is_no_user(table: bytes, words: tuple[str, ...]) -> None:
+def test_the_heading_of_a_joined_table_is_not_a_user(table: bytes, words: tuple[str, ...]) -> None:
     done = pwhash("file", "--csv", *MD5CRYPT, *words, stdin=table)
     assert (done.status, done.out, lines_named_in(done.err)) == (
         1,

@@ -48,7 +48,9 @@ def test_a_file_with_refused_or_doubtful_lines_is_not_hashed() -> None:
         pytest.param(8, "long", "over budget", id="a password that costs too much"),
     ],
 )
-def test_each_such_line_is_named_with_its_reason(number: int, name: str, reason: str) -> None:
+def test_each_refused_or_doubtful_line_is_named_with_its_reason(
+    number: int, name: str, reason: str
+) -> None:
     said = looked_at().err.decode().split("\n")
     is_named = any(f"line {number}" in line and name in line and reason in line for line in said)
     assert is_named, said

@@ -48,14 +48,14 @@ def test_thousands_and_millions_are_multiplied() -> None:
     assert done.out == hashed(b"x", "$5$rounds=2000$ab") + b"\n", done
 
 
-def test_zero_rounds_do_not_mean_the_recommended_ones() -> None:
+def test_zero_rounds_are_refused() -> None:
     done = pwhash("-R", "0", stdin=b"x\n")
     assert (done.status, done.out) == (2, b"") and b"1000" in done.err, done
 
 
 @pytest.mark.parametrize("option", ["-o", "--columns", "--shadow"])
-def test_an_option_without_a_value_is_refused(option: str) -> None:
-    """A shell's unset variable gives such a value."""
+def test_an_option_with_an_empty_value_is_refused(option: str) -> None:
+    """A script may pass a variable that isn't set."""
     save("passwords", b"ann:$1$x$x:password\n")
     command = ("check",) if option == "--shadow" else ("file", *MD5CRYPT)
     done = pwhash(*command, "passwords", option, "")
@@ -64,7 +64,7 @@ def test_an_option_without_a_value_is_refused(option: str) -> None:
 
 @pytest.mark.parametrize("command", ["file", "check", "audit"])
 def test_a_file_without_a_name_is_refused(command: str) -> None:
-    """A shell's unset variable gives such a value."""
+    """A script may pass a variable that isn't set."""
     done = pwhash(command, "")
     assert (done.status, done.out) == (2, b"") and b"FILE is empty" in done.err, done
 

@@ -254,7 +254,7 @@ def test_a_failed_run_says_how_to_go_on() -> None:
     assert done.status == 3 and done.err.endswith(f" To go on:\n{command}".encode()), done
 
 
-def test_the_advice_never_removes_what_is_no_file() -> None:
+def test_the_advice_never_removes_what_is_not_a_file() -> None:
     done = pwhash("file", save("lines", b"ann:x\n"), "-o", "/dev/null")
     assert done.status == 2 and b"/dev/null already exists" in done.err, done
     assert b"remove" not in done.err, done

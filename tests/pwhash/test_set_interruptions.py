@@ -133,7 +133,7 @@ def test_a_system_call_that_fails_leaves_the_old_file(call: str, error: str) -> 
         pytest.param("fsync:error=EINVAL:when=2", id="the folder"),
     ],
 )
-def test_an_error_after_the_exchange_is_no_failure(inject: str) -> None:
+def test_an_error_after_the_exchange_is_not_a_failure(inject: str) -> None:
     save("passwords", BEFORE)
     done = traced(inject)
     assert (done.status, read("passwords")) == (0, AFTER), done

@@ -63,7 +63,7 @@ def test_a_row_with_more_fields_is_refused_in_lists_of_known_passwords() -> None
         pytest.param(BOM + b"name,password\r\n", b"heading", id="the heading of Notepad's table"),
     ],
 )
-def test_a_row_that_is_no_account_is_refused_by_its_number(row: bytes, reason: bytes) -> None:
+def test_a_row_that_is_not_an_account_is_refused_by_its_number(row: bytes, reason: bytes) -> None:
     table = b"name,password\nbob,password\n" + row + b"eve,password\n"
     done = pwhash("file", "--csv", *MD5CRYPT, stdin=table)
     expected = b"bob:%b\neve:%b\n" % (MD5.encode(), MD5.encode())
@@ -141,7 +141,7 @@ def test_a_quote_without_an_end_is_named_as_such() -> None:
     assert b"table, line 3: a quote that begins a field here has no end" in done.err, done
 
 
-def test_lines_that_end_in_carriage_returns_alone_are_no_table() -> None:
+def test_lines_that_end_in_carriage_returns_alone_are_not_a_table() -> None:
     done = pwhash("file", "--csv", *MD5CRYPT, stdin=b"name,password\rann,x\r")
     assert done.status == 3 and b"not CSV" in done.err and b"Error at" not in done.err, done
 

@@ -255,7 +255,7 @@ def test_fields_behind_a_hash_without_a_name_are_left_out() -> None:
     assert (done.status, done.out) == (0, YES), done
 
 
-def test_a_password_that_begins_with_a_dollar_sign_is_no_hash() -> None:
+def test_a_password_that_begins_with_a_dollar_sign_is_not_a_hash() -> None:
     done = pwhash("verify", stdin=b"$ecret\n" + SECRET + b"\n")
     assert_refused(done.status, done.out, done.err, b"stored as it is")
 

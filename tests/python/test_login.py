@@ -55,7 +55,7 @@ def test_another_password_is_refused(setting: str, policy: Policy, password: str
 
 
 @STORED
-def test_the_stored_hash_is_no_password(setting: str, policy: Policy) -> None:
+def test_the_stored_hash_is_not_a_password(setting: str, policy: Policy) -> None:
     stored = crypt("pässword", setting)
     assert policy.login(stored, field=stored) is False
 

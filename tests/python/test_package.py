@@ -58,7 +58,7 @@ def test_the_fields_of_a_report_are_the_headers() -> None:
     assert [name for name, *_ in fields] == names and ctypes.sizeof(_library.Report) == 80
 
 
-def test_the_version_is_that_of_the_tree() -> None:
+def test_the_package_has_the_version_of_the_repository() -> None:
     version = run(ROOT / "tools/version").required().stdout.decode().strip()
     assert mkpasswd.__version__ == version
 

@@ -661,5 +661,7 @@ def test_crypt_matches_only_the_right_password(matches: Any) -> None:
     ],
     ids=title,
 )
-def test_crypt_matches_no_password_with_a_field_that_is_no_hash(matches: Any, field: str) -> None:
+def test_crypt_matches_no_password_with_a_field_that_is_not_a_hash(
+    matches: Any, field: str
+) -> None:
     assert not matches("password", field)

@@ -19,7 +19,7 @@ WITH_OLD = "chauthtok(PAM_CHANGE_EXPIRED_AUTHTOK)"
 NEW = b"another password"
 # So many other accounts that no later allocation overwrites all of the file's memory.
 OTHERS = b"".join(b"other%d:%b\n" % (number, HASHES["sha256crypt"]) for number in range(100))
-LEAST_FOUND = 16  # consecutive characters of a digest
+LEAST_FOUND = 16  # the fewest consecutive characters that count as a rest of a digest
 
 
 @pytest.fixture(scope="module", name="looked_at")

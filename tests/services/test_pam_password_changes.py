@@ -152,7 +152,7 @@ def test_pam_pwquality_may_refuse_a_password(pam: Pam, new: bytes, answer: Answe
 
 
 @pytest.mark.needs("cc", "/usr/include/security/pam_modules.h")
-def test_the_program_of_guide_changes_a_password(pam: Pam, tmp_path: Path) -> None:
+def test_the_program_of_the_guide_changes_a_password(pam: Pam, tmp_path: Path) -> None:
     source, program = tmp_path / "change-password.c", tmp_path / "change-password"
     source.write_text(marked("change of password", "c").code, "ascii")
     warnings = ["-Wall", "-Wextra", "-Werror"]

@@ -71,7 +71,7 @@ class PamLoginTests(LoginTests):
     takes_blank = False  # whether the service accepts names with a space
 
     @pytest.mark.parametrize("name", CLOSED)
-    def test_a_field_that_is_no_hash_of_ours_is_refused(self, door: Door, name: str) -> None:
+    def test_a_field_that_is_not_a_hash_of_ours_is_refused(self, door: Door, name: str) -> None:
         door.assert_verdict(name, SECRET, Verdict.REFUSED)
 
     def test_a_name_with_a_space_is_accepted_if_the_service_allows_it(self, door: Door) -> None:

@@ -220,7 +220,7 @@ def reason_program(web_build: Path) -> str:
         pytest.param("wrong", "outdated", id="a wrong password"),
     ],
 )
-def test_program_of_readme_says_why_a_login_failed(
+def test_the_program_of_the_readme_says_why_a_login_failed(
     user: Site, reason_program: str, password: str, reason: str
 ) -> None:
     (user.folder / "reason.mjs").write_text(reason_program, encoding="utf-8")

@@ -222,7 +222,7 @@ def test_worker_ends_after_scrypt_if_no_call_waits(report_of: Callable[..., Repo
 
 @pytest.fixture(scope="module")
 def growth(report_of: Callable[..., Report]) -> Report:
-    """By how many MiB the resident memory grows through logins, after garbage collection."""
+    """The growth of the resident memory during logins in MiB, after garbage collection."""
     rows = [[PASSWORD, HASH_OF_SHA], *logins_at_once(LOGINS)]
     return report_of("growth", rows, "--expose-gc")
 
