@@ -168,7 +168,7 @@ def test_a_no_says_what_is_odd_about_the_password(password: bytes, reason: bytes
 
 def test_ignored_lines_are_reported() -> None:
     done = pwhash("verify", stdin=b"password\n" + MD5.encode() + b"\nmore\n")
-    assert (done.status, done.out) == (0, YES) and b"behind the hash" in done.err, done
+    assert (done.status, done.out) == (0, YES) and b"after the hash" in done.err, done
     ann_in_file(MD5.encode())
     done = pwhash("verify", "file", "ann", stdin=b"password\nmore\n")
     assert (done.status, done.out) == (0, YES) and b"behind the password" in done.err, done
@@ -288,7 +288,7 @@ def test_a_password_may_be_a_hash() -> None:
         pytest.param([".", "ann"], b"a folder", id="a folder"),
         pytest.param(["/dev/zero", "ann"], b"no file", id="a device"),
         pytest.param(["nowhere", "ann"], b"No such file", id="no file"),
-        pytest.param(["pipe", "ann"], b"nobody writes", id="a pipe"),
+        pytest.param(["pipe", "ann"], b"without a writer", id="a pipe"),
         pytest.param(["void", "ann"], b"no line name:field", id="an empty file"),
     ],
 )

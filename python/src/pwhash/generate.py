@@ -78,12 +78,17 @@ def check_group(group: bytes) -> Optional[str]:
         return "nothing in the column of --by, which names the list"
     if is_damaged(group, is_of_table=True):
         return "an error of a spreadsheet in the column of --by, which names the list"
-    if b"/" in group or group.startswith(b"."):
-        return "a slash or a first dot in the column of --by, which names the list"
     if not is_utf8(group):
         return f"in the column of --by, {NOT_UTF8}"
     if not is_visible(group.decode()):
         return "an invisible character in the column of --by, which names the list"
+    return check_file_name(group)
+
+
+def check_file_name(group: bytes) -> Optional[str]:
+    """Says why a file can't have this name, or returns None."""
+    if b"/" in group or group.startswith(b"."):
+        return "a slash or a first dot in the column of --by, which names the list"
     if len(group) + len(lists.SUFFIX) > LONGEST_FILE_NAME:
         return "too long a value in the column of --by, which names the list"
     return None
