@@ -22,6 +22,7 @@ from support.pwhash_runs import (
     pwhash,
     read,
     save,
+    save_part,
     started,
     started_program,
     wait_for,
@@ -181,6 +182,15 @@ class TestResuming:
         lines = read("lists/c0.csv").splitlines(keepends=True)
         save("lists/c0.csv", b"".join([lines[0], b"user0;AAAAAAAAAAAAAAAAAAAA\n", *lines[2:]]))
         assert_does_not_resume(*WORDS, reason=b"line 1: not of line 2")
+
+    def test_a_list_of_another_run_beside_them_is_noticed(self) -> None:
+        last = read("lists/c0.csv").splitlines()[-1].partition(b";")[0]
+        save_part("lists/old.csv", b"name;password\n" + last + b";AAAAAAAAAAAAAAAAAAAA\n")
+        refused_to_go_on(*WORDS, reason=b"a name has two passwords")
+
+    def test_a_copy_of_a_list_beside_them_changes_nothing(self) -> None:
+        save_part("lists/copy of c0.csv", read("lists/c0.csv"))
+        assert_whole(pwhash(*WORDS, "--resume"))
 
     def test_a_list_that_others_can_read_is_refused(self) -> None:
         os.chmod("lists/c0.csv", 0o644)

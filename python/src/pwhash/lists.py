@@ -94,7 +94,9 @@ def read(path: str, is_folder: bool) -> Dict[bytes, bytes]:
     with errors_named(display_name(path)):
         files = files_in(path) if is_folder else [path]
     for file in files:
-        passwords.update(read_list(file))
+        for name, password in read_list(file):
+            if passwords.setdefault(name, password) != password:
+                raise changed_list_error(file, "a name has two passwords, perhaps of another run's list")
     return passwords
 
 
@@ -107,8 +109,8 @@ def files_in(folder: str) -> List[str]:
     return [os.path.join(folder, name) for name in os.listdir(folder) if name.endswith(SUFFIX)]
 
 
-def read_list(path: str) -> Dict[bytes, bytes]:
-    """Returns the passwords of the names in one list."""
+def read_list(path: str) -> List[Tuple[bytes, bytes]]:
+    """Returns the names in one list, with their passwords."""
     with errors_named(display_name(path)):
         with open(os.open(path, own_file.FLAGS), "rb") as file:
             problem = own_file.find_problem(os.fstat(file.fileno()))
@@ -124,7 +126,7 @@ def read_list(path: str) -> Dict[bytes, bytes]:
         raise changed_list_error(path, "it was changed") from None
     if any(len(row) != len(heading) or not all(row[-2:]) for row in rows):
         raise changed_list_error(path, "it was changed")
-    return {row[-2]: row[-1] for row in rows}
+    return [(row[-2], row[-1]) for row in rows]
 
 
 def rows_of(content: bytes, separator: str) -> List[Row]:
