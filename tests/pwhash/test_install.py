@@ -425,6 +425,16 @@ def test_a_signal_while_the_file_is_written_undoes_nothing(has_target: bool) -> 
     assert b"SIGTERM" in done.err, done
 
 
+@pytest.mark.needs("namespaces")
+@pytest.mark.parametrize("has_target", [True, False], ids=["a file", "a new file"])
+def test_a_machine_without_proc_is_enough(has_target: bool) -> None:
+    save("hashes", HASHES)
+    if has_target:
+        save("target", OLD)
+    done = in_namespace('mount -t tmpfs none /proc; "$@"', *INSTALL)
+    assert (done.status, read("target"), beside()) == (0, HASHES, LEFT), done
+
+
 @pytest.mark.needs("cc")
 @pytest.mark.parametrize("has_target", [True, False], ids=["a file", "a new file"])
 def test_a_file_system_without_o_tmpfile_is_enough(has_target: bool, folder: Path) -> None:

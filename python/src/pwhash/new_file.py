@@ -28,7 +28,7 @@ class NewFile:
         self._place = place
         self.has_name = False
         try:
-            self.fd = os.open(".", NAMELESS, OWN_MODE, dir_fd=place.folder)
+            self.fd = open_nameless(place)
         except OSError:
             self.fd = os.open(place.new, NAMED, OWN_MODE, dir_fd=place.folder)
             self.has_name = True
@@ -73,6 +73,15 @@ class NewFile:
         if self.has_name:
             with contextlib.suppress(OSError):
                 os.unlink(self._place.new, dir_fd=self._place.folder)
+
+
+def open_nameless(place: Place) -> int:
+    """Opens a file without a name, if it can get one later, which it only does by /proc."""
+    fd = os.open(".", NAMELESS, OWN_MODE, dir_fd=place.folder)
+    if not os.path.exists(f"/proc/self/fd/{fd}"):
+        os.close(fd)
+        raise OSError(errno.EOPNOTSUPP, os.strerror(errno.EOPNOTSUPP))
+    return fd
 
 
 @contextlib.contextmanager
