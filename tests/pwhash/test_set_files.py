@@ -252,6 +252,14 @@ def test_a_file_of_the_system_is_refused(path: str, monkeypatch: pytest.MonkeyPa
     assert done.status == 0 and b"chpasswd(8)" in done.err and b"passwd(1)" in done.err, done
 
 
+@pytest.mark.needs("namespaces")
+def test_the_superuser_is_not_told_to_be_the_superuser() -> None:
+    save("passwords", BEFORE)
+    script = 'mount --bind . .; mount -o remount,ro,bind .; cd "$PWD"; "$@"'
+    done = in_namespace(script, *SET, stdin=b"password\n")
+    assert done.status == 2 and b"read-only" in done.err and b"sudo" not in done.err, done
+
+
 def test_a_file_of_the_system_is_refused_under_another_name() -> None:
     save("passwords", PASSWD)
     script = f'{OWN_ETC}\nmount --bind passwords /etc/passwd; "$@"'

@@ -19,6 +19,9 @@ from pwhash.text import display_name, shell_quoted
 WRITABLE_BY_OTHERS = stat.S_IWGRP | stat.S_IWOTH
 SUPERUSER = 0
 AS_SUPERUSER = "Run pwhash as its owner or as the superuser, with sudo for example."
+EVEN_FOR_SUPERUSER = (
+    "Not even the superuser is: perhaps its file system is read-only, or it is immutable (lsattr)."
+)
 
 
 class Place(NamedTuple):
@@ -120,7 +123,7 @@ def refuse_strange_file(place: Place, found: os.stat_result) -> None:
 def refuse_unwritable(place: Place) -> None:
     """Refuses a file that this user may not change. Called before pwhash asks for a password."""
     if not has_access(place, place.name, os.R_OK | os.W_OK):
-        raise UsageError(f"you aren't allowed to write {place.display_name}. {AS_SUPERUSER}")
+        raise UsageError(f"you aren't allowed to write {place.display_name}. {write_advice()}")
     refuse_folder_of_others(place)
 
 
@@ -129,8 +132,13 @@ def refuse_folder_of_others(place: Place) -> None:
     if not has_access(place, ".", os.W_OK | os.X_OK):
         raise UsageError(
             f"you aren't allowed to make files in the folder of {place.display_name}, where the "
-            f"new version has to be. {AS_SUPERUSER}"
+            f"new version has to be. {write_advice()}"
         )
+
+
+def write_advice() -> str:
+    """Returns what to do about a file that this process may not write."""
+    return EVEN_FOR_SUPERUSER if os.geteuid() == SUPERUSER else AS_SUPERUSER
 
 
 def has_access(place: Place, name: str, mode: int) -> bool:
