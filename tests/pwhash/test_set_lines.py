@@ -237,6 +237,8 @@ def test_a_lock_is_undone_by_unlocking(unlocked: bytes, locked: bytes) -> None:
     [
         pytest.param("--lock", b"!" + OLD, id="locked"),
         pytest.param("--lock", b"*", id="a star"),
+        pytest.param("--lock", b"{SSHA}!x", id="a mark behind a prefix"),
+        pytest.param("--lock", b"!{PLAIN}x", id="a mark in front of any prefix"),
         pytest.param("--unlock", OLD, id="unlocked"),
     ],
 )
@@ -248,7 +250,14 @@ def test_locking_or_unlocking_twice_changes_nothing(option: str, field: bytes) -
 
 
 @pytest.mark.parametrize(
-    "field", [b"a password", b"{PLAIN}secret", b"{PLAIN}$1$secret"], ids=["bare", "nginx", "like"]
+    "field",
+    [
+        pytest.param(b"a password", id="bare"),
+        pytest.param(b"{PLAIN}secret", id="nginx"),
+        pytest.param(b"{PLAIN}$1$secret", id="like a hash"),
+        pytest.param(b"{PLAIN}!secret", id="like a locked field"),
+        pytest.param(b"{CLEARTEXT}*secret", id="like one of Dovecot's"),
+    ],
 )
 def test_locking_does_not_turn_a_plain_password_into_another(field: bytes) -> None:
     content = in_file(b"ann:" + field)

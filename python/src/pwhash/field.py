@@ -54,6 +54,13 @@ class Field(NamedTuple):
         return bool(self.outer_mark or self.mark)
 
     @property
+    def is_surely_locked(self) -> bool:
+        """Whether the mark can't be part of a password as it is, as behind {PLAIN}."""
+        if self.outer_mark:
+            return True
+        return bool(self.mark) and (self.is_for_crypt or self.is_of_other_scheme)
+
+    @property
     def is_for_crypt(self) -> bool:
         """Whether crypt(3) checks what is stored, judging by the prefix."""
         prefix = self.prefix.upper()

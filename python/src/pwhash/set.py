@@ -168,8 +168,8 @@ class Line:
 
     def _lock(self, old: Field) -> Field:
         """Returns the field with a mark that locks it."""
-        self.is_done_already = old.is_locked
-        if old.is_locked:
+        self.is_done_already = old.is_surely_locked
+        if old.is_surely_locked:
             self._sentence = f"{self._user} is locked in {self._file} already."
             return old
         if not old.can_be_locked():
