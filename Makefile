@@ -275,15 +275,16 @@ build/site/index.html: tools/site tools/version $(wildcard *.md docs/* man/* c/*
 	rm -rf build/site && mkdir -p build/site
 	tools/site build/site
 
-## measures beside other programs, with the options in BENCH, and writes docs/SPEED.md
-bench: mkpasswd libmkpasswd.a build/x86-64/mkpasswd build/x86-64-v3/mkpasswd build/mkpasswd.mjs
-	tools/bench $(BENCH) docs/speed.json
-	tools/bench-page
+## measures instructions, and times beside other programs, and writes docs/SPEED.md; BENCH has
+## options of tools/bench
+bench: mkpasswd libmkpasswd.a libmkpasswd.so.3 $(MODULES) build/x86-64/mkpasswd \
+		build/x86-64-v3/mkpasswd build/mkpasswd.mjs
+	tools/bench $(BENCH)
 
 ## makes the pictures in docs again: the page, a terminal, the plots
 pictures: web
 	tools/pictures
-	tools/bench-page
+	tools/bench --page
 	tools/terminal
 
 ## measures the commit and writes docs/EVIDENCE.md, as root, for hours; what is interrupted goes on

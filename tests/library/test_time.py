@@ -1,31 +1,39 @@
-"""The time of logins: no clause keeps a compiler from removing a dummy hash."""
+"""Logins by the library do as much for each field: no clause keeps a compiler from dropping a hash
+that nobody reads.
+
+What is counted is instructions, which another machine's load doesn't change.
+"""
 from __future__ import annotations
 
-import re
-
 import pytest
-from support import ROOT
+from measure_speed.logins import WRONG, Client, Policy, fields_of
+from measure_speed.programs import CLIENTS
 from support.library import Builder
-from support.process import run
+from support.model.methods import SHA512CRYPT
 
-ROUNDS = 1000
-LOGINS = 50  # for each kind of field
-LEAST_SHARE = 0.5  # of the time that a wrong password takes
+pytestmark = [pytest.mark.needs("valgrind"), pytest.mark.xdist_group("the time of logins")]
 
-pytestmark = pytest.mark.xdist_group("the time of logins")
-
-
-@pytest.fixture(scope="module", name="times")
-def fixture_times(builder: Builder) -> dict[str, float]:
-    """The median processor time of a login in milliseconds, for each kind of field."""
-    program = builder.build(ROOT / "tools/bench-login.c")
-    result = run(program, ROUNDS, LOGINS).required()
-    rows = re.findall(r"^(\S.*?) +([\d.]+) ms ", result.stdout.decode(), re.MULTILINE)
-    return {kind: float(time) for kind, time in rows}
+POLICY = Policy(SHA512CRYPT, 5000)
+FIELDS = fields_of(POLICY)
+# Before its rounds a hash digests the salt up to 255 times more or less, by its first digest.
+TOLERANCE = 0.01
 
 
-@pytest.mark.parametrize(
-    "kind", ["dead", "unknown name", "empty", "locked", "yescrypt", "above the budget"]
-)
-def test_a_login_takes_as_long_as_with_a_wrong_password(times: dict[str, float], kind: str) -> None:
-    assert times[kind] > LEAST_SHARE * times["wrong password"], f"milliseconds: {times}"
+@pytest.fixture(scope="module", name="client")
+def fixture_client(builder: Builder) -> Client:
+    """The program that logs in."""
+    return Client("C", (str(builder.build(CLIENTS / "log_in.c")),))
+
+
+@pytest.fixture(scope="module", name="expected")
+def fixture_expected(client: Client) -> float:
+    """The instructions of a login with a wrong password."""
+    return client.instructions(POLICY, WRONG, FIELDS[WRONG])
+
+
+@pytest.mark.parametrize("kind", [kind for kind in FIELDS if kind != WRONG])
+def test_a_login_takes_as_much_as_with_a_wrong_password(
+    client: Client, expected: float, kind: str
+) -> None:
+    found = client.instructions(POLICY, kind, FIELDS[kind])
+    assert found == pytest.approx(expected, rel=TOLERANCE)

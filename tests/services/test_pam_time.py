@@ -4,10 +4,10 @@ The tests count instructions, which don't depend on the machine's load.
 """
 from __future__ import annotations
 
-import re
 from dataclasses import dataclass
 
 import pytest
+from support.cachegrind import CACHEGRIND, instructions_in
 from support.libxcrypt import crypt
 from support.pam import Answer, Pam, answer_of
 from support.pam_fields import FILE, HASHES, HOSTILE, WRONG
@@ -22,7 +22,6 @@ ROUNDS = 200_000  # so many that the work around a hash is below the tolerance
 ARGUMENTS = f"rounds={ROUNDS} debug"
 TOLERANCE = 0.0002
 TOLERANCE_OF_UNREADABLE = 0.01
-CACHEGRIND = ("valgrind", "--tool=cachegrind", "--cache-sim=no", "--cachegrind-out-file=/dev/null")
 
 CURRENT = crypt(b"pass word", f"$6$rounds={ROUNDS}$abcdefghijklmnop".encode())
 FIELDS = {
@@ -54,9 +53,9 @@ def counted(pam: Pam, name: str) -> Counted:
     pam.log.entries()
     command = (*CACHEGRIND, "pamtester", "example", name, "authenticate")
     result = pam.machine.run(*command, stdin=WRONG + b"\n")
-    found = re.search(rb"I +refs: +([\d,]+)", result.stderr)
-    assert found, result
-    return Counted(answer_of(result), int(found[1].replace(b",", b"")))
+    instructions = instructions_in(result.stderr)
+    assert instructions is not None, result
+    return Counted(answer_of(result), instructions)
 
 
 @pytest.fixture(scope="module", autouse=True)

@@ -1,0 +1,197 @@
+"""docs/SPEED.md: the arithmetic of its ratios, and how tools/bench writes it.
+
+The bootstrap's intervals are known exactly: the median of a resample of n numbers is at most the
+k-th of them if more than half of n draws are, each with the probability k / n.
+"""
+from __future__ import annotations
+
+import shutil
+import signal
+import subprocess
+from pathlib import Path
+
+import pytest
+from measure_speed.intervals import Interval, Ratio, bootstrap_interval, ratio_of
+from measure_speed.page import filled, shown_ratio
+from measure_speed.repetition import disagreements
+from measure_speed.results import (
+    Compared,
+    Conditions,
+    Count,
+    Measured,
+    Part,
+    Results,
+    Row,
+    read_results,
+    text_of,
+)
+from support import ROOT
+from support.process import Result, run, started
+from support.pwhash_runs import wait_for
+
+CONDITIONS = Conditions("2026-11-30", "c0ffee", "Some(R) CPU @ 2.50GHz", 2.5, 4, "6.18.44", {})
+SECONDS_TO_END = 60
+
+
+# ---- Arithmetic
+
+
+@pytest.mark.parametrize(
+    ("numbers", "level", "lower", "upper"),
+    [
+        # At most 6 with 0.23 %, at most 7 with 0.96 %: half a percent lies between.
+        pytest.param(range(1, 26), 0.99, 7, 19, id="25 numbers at 99 %"),
+        pytest.param(range(1, 6), 0.99, 1, 5, id="5 numbers, of which the first has 5.8 %"),
+        pytest.param([1, 2, 3], 0.6, 1, 3, id="20 % on each side, of which the first has 26 %"),
+        pytest.param([1, 2, 3], 0.4, 2, 2, id="30 % on each side"),
+        pytest.param([3, 1, 2], 0.4, 2, 2, id="another order"),
+        pytest.param([1.5, 1.5, 1.5], 0.99, 1.5, 1.5, id="one number again and again"),
+    ],
+)
+def test_interval_of_a_median(
+    numbers: list[float], level: float, lower: float, upper: float
+) -> None:
+    assert bootstrap_interval(list(numbers), level) == Interval(lower, upper)
+
+
+def test_ratio_is_the_median_of_pairs() -> None:
+    ratio = ratio_of([1.3, 1.1, 1.2, 1.0, 9.0])
+    assert (ratio.median, ratio.pairs) == (1.2, 5)
+
+
+@pytest.mark.parametrize(
+    ("median", "lower", "upper", "text"),
+    [
+        pytest.param(1.18, 1.164, 1.205, "1.18 (1.16 to 1.21)", id="more than mkpasswd"),
+        pytest.param(0.93, 0.92, 0.94, "0.93 (0.92 to 0.94)", id="less than mkpasswd"),
+        pytest.param(1.01, 0.99, 1.03, "the same", id="an interval around 1"),
+        pytest.param(1.01, 1.0, 1.03, "the same", id="an interval that begins at 1"),
+        pytest.param(0.99, 0.98, 1.0, "the same", id="an interval that ends at 1"),
+        pytest.param(1.01, 1.004, 1.03, "the same", id="an interval that begins at 1.00"),
+        pytest.param(1.01, 1.006, 1.03, "1.01 (1.01 to 1.03)", id="an interval above 1.00"),
+        pytest.param(86.26, 84.06, 88.0, "86.3 (84.1 to 88.0)", id="a large ratio"),
+        pytest.param(186.26, 184.06, 188.0, "186 (184 to 188)", id="a very large ratio"),
+    ],
+)
+def test_ratio_on_the_page(median: float, lower: float, upper: float, text: str) -> None:
+    assert shown_ratio(Ratio(median, Interval(lower, upper), 25)) == text
+
+
+# ---- Two runs
+
+
+def results_of(part: Part, *rows: Row) -> Results:
+    """What a run measured of one part."""
+    return Results({part: Measured(CONDITIONS, rows)})
+
+
+def compared(lower: float, upper: float) -> Compared:
+    """A ratio with this interval."""
+    return Compared("md5crypt", "libxcrypt", Ratio(lower, Interval(lower, upper), 25))
+
+
+@pytest.mark.parametrize(
+    ("part", "before", "after", "is_contradicted"),
+    [
+        (Part.RATIOS, compared(1.1, 1.2), compared(1.19, 1.3), False),
+        (Part.RATIOS, compared(1.1, 1.2), compared(1.21, 1.3), True),
+        (Part.RATIOS, compared(1.1, 1.2), compared(1.0, 1.09), True),
+        (Part.INSTRUCTIONS, Count("a round", "x", 4000), Count("a round", "x", 4004), False),
+        (Part.INSTRUCTIONS, Count("a round", "x", 4000), Count("a round", "x", 4005), True),
+        (Part.INSTRUCTIONS, Count("a round", "x", 4000), Count("a round", "y", 4005), False),
+    ],
+    ids=[
+        "intervals that overlap",
+        "a greater ratio",
+        "a smaller ratio",
+        "counts within a thousandth",
+        "counts further apart",
+        "counts of two programs",
+    ],
+)
+def test_two_runs_contradict_each_other(
+    part: Part, before: Row, after: Row, is_contradicted: bool
+) -> None:
+    found = list(disagreements(results_of(part, before), results_of(part, after)))
+    assert bool(found) is is_contradicted, found
+
+
+# ---- The page and its file
+
+
+def test_a_part_is_made_anew_and_the_others_stay() -> None:
+    page = "A\n\n<!-- bench: ratios -->\nold\n\nB\n\n<!-- bench: cores -->\nkept\n\nC\n"
+    table = (
+        "| Time of a hash, mkpasswd's = 1 | libxcrypt | OpenSSL | libsodium | passlib |\n"
+        "|---|---:|---:|---:|---:|\n"
+        "| md5crypt | 1.10 (1.10 to 1.20) |  |  |  |\n"
+    )
+    assert filled(page, results_of(Part.RATIOS, compared(1.1, 1.2))) == page.replace("old\n", table)
+
+
+def test_what_is_written_is_read_again(tmp_path: Path) -> None:
+    file = tmp_path / "speed.json"
+    results = Results(
+        {
+            Part.INSTRUCTIONS: Measured(CONDITIONS, (Count("a round", "mkpasswd", 4364.88),)),
+            Part.RATIOS: Measured(CONDITIONS, (compared(1.1, 1.2),)),
+        }
+    )
+    file.write_text(text_of(results), encoding="utf-8")
+    assert read_results(file) == results
+
+
+# ---- Runs that don't end well
+
+
+@pytest.fixture(name="tree")
+def fixture_tree(tmp_path: Path) -> Path:
+    """A copy of what tools/bench needs for the part `seconds`, in a repository of its own."""
+    tree = tmp_path / "tree"
+    for folder in ("docs", "tests/support", "tools/measure_speed"):
+        shutil.copytree(ROOT / folder, tree / folder)
+    shutil.copy(ROOT / "tools/bench", tree / "tools")
+    (tree / "libmkpasswd.a").touch()
+    (tree / "crates").mkdir()
+    (tree / "crates/file").touch()
+    git = ("git", "-C", tree, "-c", "user.name=x", "-c", "user.email=x@example.com")
+    run(*git, "init", "-q").required()
+    run(*git, "add", "-A").required()
+    run(*git, "commit", "-q", "-m", "x").required()
+    return tree
+
+
+def program_of(folder: Path, script: str) -> dict[str, str]:
+    """An environment where this script is measured in mkpasswd's place."""
+    program = folder / "program"
+    program.write_text(f"#!/bin/sh\n{script}\n", encoding="ascii")
+    program.chmod(0o755)
+    return {"PROGRAM": str(program)}
+
+
+def changed_files(tree: Path) -> str:
+    """What a run has left in the documents."""
+    status: Result = run("git", "-C", tree, "status", "--porcelain", "docs").required()
+    return status.stdout.decode()
+
+
+@pytest.mark.needs("git")
+def test_a_program_that_answers_otherwise_is_not_measured(tree: Path, tmp_path: Path) -> None:
+    environment = program_of(tmp_path, "sed s/.*/user:no/")
+    result = run(tree / "tools/bench", "--only", "seconds", env=environment)
+    assert result.status == 1, result
+    assert b"another output was expected" in result.stderr, result
+    assert changed_files(tree) == ""
+
+
+@pytest.mark.needs("git")
+@pytest.mark.parametrize("number", [signal.SIGINT, signal.SIGTERM], ids=["SIGINT", "SIGTERM"])
+def test_an_interrupted_run_writes_nothing(tree: Path, tmp_path: Path, number: int) -> None:
+    has_begun = tmp_path / "begun"
+    environment = program_of(tmp_path, f"touch {has_begun}; exec sleep 600")
+    command = (tree / "tools/bench", "--only", "seconds")
+    with started(*command, env=environment, stderr=subprocess.DEVNULL) as process:
+        wait_for(has_begun.exists)
+        process.send_signal(number)
+        assert process.wait(timeout=SECONDS_TO_END) == 130
+    assert changed_files(tree) == ""

@@ -1,0 +1,133 @@
+"""The pictures of docs/SPEED.md, which gnuplot draws."""
+from __future__ import annotations
+
+import subprocess
+
+from support.model.methods import MD5CRYPT, SCRYPT, SHA256CRYPT, SHA512CRYPT
+from support.model.settings import recommended_setting
+from support.model.work import LONGEST_PASSWORD, cost, login_limit
+
+from .failure import Stop
+from .intervals import Interval, Ratio
+from .page import OURS, shown_ratio
+from .results import Compared, Part, Results
+
+METHODS = ("md5crypt", "sha256crypt", "sha512crypt", "scrypt, N = 2^14, r = 32")
+OUR_COLOUR, OTHER_COLOUR = "0x1f5f99", "0x9fb4c7"
+
+# The limit of a login by the recommended policy, and the budget of an audit.
+LIMIT = login_limit(SHA512CRYPT, None, 0)
+BUDGET = cost(recommended_setting(SHA512CRYPT, None), LONGEST_PASSWORD)
+
+TERMINAL = "set terminal svg size {width},{height} font 'sans-serif,13' background '#ffffff'\n"
+PANELS = """\
+set multiplot layout 2,2 margins 0.1,0.99,0.02,0.86 spacing 0.14,0.13 \
+title 'Time of a hash, mkpasswd = 1, with intervals of 99 %' font ',16'
+set style fill solid
+set border 0
+unset key
+unset xtics
+set ytics scale 0
+{panels}
+"""
+PANEL = """\
+set title '{row}' offset 0,-0.6 noenhanced
+set xrange [0:{most}]
+set yrange [{last}:-0.5]
+$bars << EOD
+{bars}EOD
+plot $bars using 2:(-$0 - 1):(0):2:(-$0 - 1.36):(-$0 - 0.64):5:ytic(1) \
+with boxxyerror lc rgb variable, \\
+    $bars using 2:(-$0 - 1):3:4 with xerrorbars pt -1 lc rgb '#1d2733', \\
+    $bars using 4:(-$0 - 1):6 with labels left
+"""
+LENGTHS = """\
+set title 'Cost of a hash by the length of its password, with the recommended rounds' font ',16'
+set xrange [0:{most}]
+set yrange [0:1.4e9]
+set xlabel 'Length of the password in bytes'
+set xtics 128
+set ytics ('0' 0, '500 million bytes' 5e8, '1 billion bytes' 1e9)
+set border 3 lc rgb '#9fb4c7'
+set tics nomirror scale 0.5 textcolor rgb '#1d2733'
+unset key
+set arrow from 0,{limit} to {most},{limit} nohead dashtype 2 lw 1.5 lc rgb '#b3261e'
+set arrow from 0,{budget} to {most},{budget} nohead dashtype 2 lw 1.5 lc rgb '#b3261e'
+set arrow from {longest},0 to {longest},{limit} nohead dashtype 3 lc rgb '#b3261e'
+set label 'limit of a login with sha512crypt: {limit:,}' at {most},{limit} right offset -1,0.7 \
+textcolor rgb '#b3261e'
+set label 'budget of an audit: {budget:,}' at 0,{budget} offset 1,-0.8 textcolor rgb '#b3261e'
+set label '{longest} bytes' at {longest},0 offset 0.6,0.9 textcolor rgb '#b3261e'
+set label 'sha512crypt' at 560,{sha512crypt} right offset -1,0.6 textcolor rgb '#1f5f99'
+set label 'sha256crypt' at 560,{sha256crypt} offset 1.5,-0.7 textcolor rgb '#2e8b57'
+set label 'scrypt' at 800,{scrypt} offset 0,0.7 textcolor rgb '#7a4fb5'
+set label 'md5crypt' at 800,0 offset 0,0.7 textcolor rgb '#5c6773'
+$costs << EOD
+{costs}EOD
+plot $costs using 1:2 with lines lw 2.5 lc rgb '#5c6773', \
+'' using 1:3 with lines lw 2.5 lc rgb '#2e8b57', \\
+    '' using 1:4 with lines lw 2.5 lc rgb '#1f5f99', \
+'' using 1:5 with lines lw 2.5 lc rgb '#7a4fb5'
+"""
+
+
+def drawn(width: int, height: int, script: str) -> str:
+    """The picture that a script of gnuplot draws."""
+    terminal = TERMINAL.format(width=width, height=height)
+    try:
+        done = subprocess.run(
+            ["gnuplot"], input=terminal + script, capture_output=True, text=True, check=False
+        )
+    except FileNotFoundError:
+        raise Stop("a Debian package is missing: gnuplot-nox") from None
+    if done.returncode != 0 or done.stderr:
+        raise Stop(f"gnuplot: {done.stderr}")
+    return done.stdout
+
+
+def panel(rows: list[Compared], name: str) -> str:
+    """A panel for a method, with a bar for each program."""
+    ours = Compared(name, OURS, Ratio(1, Interval(1, 1), 0))
+    shown = [ours, *(row for row in rows if row.row == name)]
+    most = 1.75 * max(row.ratio.interval.upper for row in shown)
+    bars = "".join(map(bar_of, shown))
+    return PANEL.format(row=name, most=f"{most:.6g}", last=-0.5 - len(shown), bars=bars)
+
+
+def bar_of(row: Compared) -> str:
+    """A bar: its name, the median, the interval, the colour and the text behind it."""
+    is_ours = row.name == OURS
+    colour = OUR_COLOUR if is_ours else OTHER_COLOUR
+    text = "1" if is_ours else shown_ratio(row.ratio)
+    interval = row.ratio.interval
+    numbers = f"{row.ratio.median:.6g} {interval.lower:.6g} {interval.upper:.6g}"
+    return f'"{row.name}" {numbers} {colour} "   {text}"\n'
+
+
+def methods(results: Results) -> str:
+    """The time of a hash by each method, beside other programs."""
+    rows = results.rows(Part.RATIOS, Compared)
+    panels = "".join(panel(rows, name) for name in METHODS)
+    return drawn(880, 520, PANELS.format(panels=panels))
+
+
+def lengths() -> str:
+    """What a hash costs by the length of its password."""
+    in_order = (MD5CRYPT, SHA256CRYPT, SHA512CRYPT, SCRYPT)
+    settings = {method: recommended_setting(method, None) for method in in_order}
+    costs = ""
+    for length in range(0, LONGEST_PASSWORD + 1, 8):
+        numbers = [length, *(cost(setting, length) for setting in settings.values())]
+        costs += " ".join(map(str, numbers)) + "\n"
+    allowed = [n for n in range(LONGEST_PASSWORD + 1) if login_limit(SHA512CRYPT, None, n)]
+    script = LENGTHS.format(
+        most=LONGEST_PASSWORD,
+        limit=LIMIT,
+        budget=BUDGET,
+        longest=max(allowed),
+        scrypt=cost(settings[SCRYPT], 800),
+        sha256crypt=cost(settings[SHA256CRYPT], 560),
+        sha512crypt=cost(settings[SHA512CRYPT], 560),
+        costs=costs,
+    )
+    return drawn(880, 460, script)
