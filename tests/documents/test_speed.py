@@ -1,7 +1,7 @@
-"""docs/SPEED.md: the arithmetic of its ratios, and how tools/bench writes it.
+"""docs/SPEED.md: the statistics of its ratios, and how tools/bench writes it.
 
-The bootstrap's intervals are known exactly: the median of a resample of n numbers is at most the
-k-th of them if more than half of n draws are, each with the probability k / n.
+The bootstrap's intervals can be computed exactly. The median of a resample of n different numbers
+is at most the k-th smallest if more than half of its n draws are, each with the probability k / n.
 """
 from __future__ import annotations
 
@@ -12,18 +12,18 @@ from pathlib import Path
 
 import pytest
 from measure_speed.intervals import Interval, Ratio, bootstrap_interval, ratio_of
-from measure_speed.page import filled, shown_ratio
+from measure_speed.page import fill, format_ratio
 from measure_speed.repetition import disagreements
 from measure_speed.results import (
-    Compared,
+    Comparison,
     Conditions,
     Count,
     Measured,
     Part,
     Results,
     Row,
+    format_results,
     read_results,
-    text_of,
 )
 from support import ROOT
 from support.process import Result, run, started
@@ -33,19 +33,23 @@ CONDITIONS = Conditions("2026-11-30", "c0ffee", "Some(R) CPU @ 2.50GHz", 2.5, 4,
 SECONDS_TO_END = 60
 
 
-# ---- Arithmetic
+# ---- Statistics
 
 
 @pytest.mark.parametrize(
     ("numbers", "level", "lower", "upper"),
     [
-        # At most 6 with 0.23 %, at most 7 with 0.96 %: half a percent lies between.
+        # The median is at most 6 with a probability of 0.23 %, and at most 7 with 0.96 %.
         pytest.param(range(1, 26), 0.99, 7, 19, id="25 numbers at 99 %"),
-        pytest.param(range(1, 6), 0.99, 1, 5, id="5 numbers, of which the first has 5.8 %"),
-        pytest.param([1, 2, 3], 0.6, 1, 3, id="20 % on each side, of which the first has 26 %"),
+        pytest.param(
+            range(1, 6), 0.99, 1, 5, id="5 numbers at 99 %: the first is the median with 5.8 %"
+        ),
+        pytest.param(
+            [1, 2, 3], 0.6, 1, 3, id="20 % on each side: the first is the median with 26 %"
+        ),
         pytest.param([1, 2, 3], 0.4, 2, 2, id="30 % on each side"),
         pytest.param([3, 1, 2], 0.4, 2, 2, id="another order"),
-        pytest.param([1.5, 1.5, 1.5], 0.99, 1.5, 1.5, id="one number again and again"),
+        pytest.param([1.5, 1.5, 1.5], 0.99, 1.5, 1.5, id="the same number three times"),
     ],
 )
 def test_interval_of_a_median(
@@ -74,28 +78,28 @@ def test_ratio_is_the_median_of_pairs() -> None:
     ],
 )
 def test_ratio_on_the_page(median: float, lower: float, upper: float, text: str) -> None:
-    assert shown_ratio(Ratio(median, Interval(lower, upper), 25)) == text
+    assert format_ratio(Ratio(median, Interval(lower, upper), 25)) == text
 
 
 # ---- Two runs
 
 
 def results_of(part: Part, *rows: Row) -> Results:
-    """What a run measured of one part."""
+    """A run that measured one part."""
     return Results({part: Measured(CONDITIONS, rows)})
 
 
-def compared(lower: float, upper: float) -> Compared:
+def ratio_between(lower: float, upper: float) -> Comparison:
     """A ratio with this interval."""
-    return Compared("md5crypt", "libxcrypt", Ratio(lower, Interval(lower, upper), 25))
+    return Comparison("md5crypt", "libxcrypt", Ratio(lower, Interval(lower, upper), 25))
 
 
 @pytest.mark.parametrize(
-    ("part", "before", "after", "is_contradicted"),
+    ("part", "before", "after", "do_disagree"),
     [
-        (Part.RATIOS, compared(1.1, 1.2), compared(1.19, 1.3), False),
-        (Part.RATIOS, compared(1.1, 1.2), compared(1.21, 1.3), True),
-        (Part.RATIOS, compared(1.1, 1.2), compared(1.0, 1.09), True),
+        (Part.RATIOS, ratio_between(1.1, 1.2), ratio_between(1.19, 1.3), False),
+        (Part.RATIOS, ratio_between(1.1, 1.2), ratio_between(1.21, 1.3), True),
+        (Part.RATIOS, ratio_between(1.1, 1.2), ratio_between(1.0, 1.09), True),
         (Part.INSTRUCTIONS, Count("a round", "x", 4000), Count("a round", "x", 4004), False),
         (Part.INSTRUCTIONS, Count("a round", "x", 4000), Count("a round", "x", 4005), True),
         (Part.INSTRUCTIONS, Count("a round", "x", 4000), Count("a round", "y", 4005), False),
@@ -109,39 +113,39 @@ def compared(lower: float, upper: float) -> Compared:
         "counts of two programs",
     ],
 )
-def test_two_runs_contradict_each_other(
-    part: Part, before: Row, after: Row, is_contradicted: bool
-) -> None:
+def test_two_runs_disagree(part: Part, before: Row, after: Row, do_disagree: bool) -> None:
     found = list(disagreements(results_of(part, before), results_of(part, after)))
-    assert bool(found) is is_contradicted, found
+    assert bool(found) is do_disagree, found
 
 
 # ---- The page and its file
 
 
-def test_a_part_is_made_anew_and_the_others_stay() -> None:
+def test_a_table_is_written_anew_and_the_others_stay() -> None:
     page = "A\n\n<!-- bench: ratios -->\nold\n\nB\n\n<!-- bench: cores -->\nkept\n\nC\n"
     table = (
         "| Time of a hash, mkpasswd's = 1 | libxcrypt | OpenSSL | libsodium | passlib |\n"
         "|---|---:|---:|---:|---:|\n"
         "| md5crypt | 1.10 (1.10 to 1.20) |  |  |  |\n"
     )
-    assert filled(page, results_of(Part.RATIOS, compared(1.1, 1.2))) == page.replace("old\n", table)
+    assert fill(page, results_of(Part.RATIOS, ratio_between(1.1, 1.2))) == page.replace(
+        "old\n", table
+    )
 
 
-def test_what_is_written_is_read_again(tmp_path: Path) -> None:
+def test_results_that_are_written_can_be_read(tmp_path: Path) -> None:
     file = tmp_path / "speed.json"
     results = Results(
         {
             Part.INSTRUCTIONS: Measured(CONDITIONS, (Count("a round", "mkpasswd", 4364.88),)),
-            Part.RATIOS: Measured(CONDITIONS, (compared(1.1, 1.2),)),
+            Part.RATIOS: Measured(CONDITIONS, (ratio_between(1.1, 1.2),)),
         }
     )
-    file.write_text(text_of(results), encoding="utf-8")
+    file.write_text(format_results(results), encoding="utf-8")
     assert read_results(file) == results
 
 
-# ---- Runs that don't end well
+# ---- Runs that fail or are interrupted
 
 
 @pytest.fixture(name="tree")
@@ -162,7 +166,7 @@ def fixture_tree(tmp_path: Path) -> Path:
 
 
 def program_of(folder: Path, script: str) -> dict[str, str]:
-    """An environment where this script is measured in mkpasswd's place."""
+    """The environment in which this script is measured in place of mkpasswd."""
     program = folder / "program"
     program.write_text(f"#!/bin/sh\n{script}\n", encoding="ascii")
     program.chmod(0o755)
@@ -170,17 +174,17 @@ def program_of(folder: Path, script: str) -> dict[str, str]:
 
 
 def changed_files(tree: Path) -> str:
-    """What a run has left in the documents."""
+    """The documents that a run has changed, as git lists them."""
     status: Result = run("git", "-C", tree, "status", "--porcelain", "docs").required()
     return status.stdout.decode()
 
 
 @pytest.mark.needs("git")
-def test_a_program_that_answers_otherwise_is_not_measured(tree: Path, tmp_path: Path) -> None:
+def test_a_program_that_prints_something_else_is_not_measured(tree: Path, tmp_path: Path) -> None:
     environment = program_of(tmp_path, "sed s/.*/user:no/")
     result = run(tree / "tools/bench", "--only", "seconds", env=environment)
     assert result.status == 1, result
-    assert b"another output was expected" in result.stderr, result
+    assert b"expected stdout" in result.stderr, result
     assert changed_files(tree) == ""
 
 

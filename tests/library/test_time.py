@@ -1,7 +1,7 @@
-"""Logins by the library do as much for each field: no clause keeps a compiler from dropping a hash
-that nobody reads.
+"""A login by the library takes as long for each kind of field.
 
-What is counted is instructions, which another machine's load doesn't change.
+No clause keeps a compiler from dropping a hash whose result nobody reads. The tests count
+instructions, which don't depend on how busy the machine is.
 """
 from __future__ import annotations
 
@@ -15,13 +15,13 @@ pytestmark = [pytest.mark.needs("valgrind"), pytest.mark.xdist_group("the time o
 
 POLICY = Policy(SHA512CRYPT, 5000)
 FIELDS = fields_of(POLICY)
-# Before its rounds a hash digests the salt up to 255 times more or less, by its first digest.
+# Before the rounds SHA-crypt digests the salt 16 to 271 times, as the first byte of a digest says.
 TOLERANCE = 0.01
 
 
 @pytest.fixture(scope="module", name="client")
 def fixture_client(builder: Builder) -> Client:
-    """The program that logs in."""
+    """The client that logs in."""
     return Client("C", (str(builder.build(CLIENTS / "log_in.c")),))
 
 
@@ -32,7 +32,7 @@ def fixture_expected(client: Client) -> float:
 
 
 @pytest.mark.parametrize("kind", [kind for kind in FIELDS if kind != WRONG])
-def test_a_login_takes_as_much_as_with_a_wrong_password(
+def test_a_login_takes_as_long_as_with_a_wrong_password(
     client: Client, expected: float, kind: str
 ) -> None:
     found = client.instructions(POLICY, kind, FIELDS[kind])

@@ -1,7 +1,7 @@
-"""The program's speed: no change of it makes hashes take more instructions unnoticed.
+"""The program's speed: no change makes a hash take more instructions unnoticed.
 
-The counts are those of docs/speed.json. A change that makes them greater on purpose measures them
-anew, by `tools/bench --only instructions`.
+They are compared with the counts in docs/speed.json. A change that needs more on purpose measures
+those anew, with `tools/bench --only instructions`.
 """
 from __future__ import annotations
 
@@ -14,9 +14,8 @@ from measure_speed.results import Count, Part, read_results
 from support import ROOT
 
 RESULTS = ROOT / "docs/speed.json"
-OURS = "mkpasswd"
-MOST = 1.01  # of the counts; another glibc takes a little more or less in its memcpy
-
+NAME = "mkpasswd"
+TOLERANCE = 0.01  # since glibc's memcpy takes a little more or less in another version
 
 UNITS = [pytest.param(difference, id=difference.unit) for difference in DIFFERENCES]
 
@@ -27,7 +26,7 @@ def test_the_program_takes_no_more_instructions_than_before(
     program: Path, difference: Difference
 ) -> None:
     rows = read_results(RESULTS).rows(Part.INSTRUCTIONS, Count)
-    before = {row.unit: row.instructions for row in rows if row.program == OURS}
+    before = {row.unit: row.instructions for row in rows if row.program == NAME}
     assert difference.unit in before, "run tools/bench --only instructions"
-    instructions = difference.instructions(Checker(OURS, (str(program), "--check")))
-    assert instructions <= MOST * before[difference.unit]
+    instructions = difference.instructions(Checker(NAME, (str(program), "--check")))
+    assert instructions <= (1 + TOLERANCE) * before[difference.unit]

@@ -1,4 +1,4 @@
-"""Our module in Chromium, which tells itself how long its hashes take."""
+"""Our module in Chromium, where a page measures how long its own hashes take."""
 from __future__ import annotations
 
 import contextlib
@@ -13,19 +13,19 @@ from support.browsers import Browser, chromium
 
 from .failure import Stop
 from .programs import MODULE
-from .settings import Amount
+from .settings import Workload
 
-NO_LIMIT = 1 << 42
+NO_LIMIT = 1 << 42  # a budget that no hash here reaches
 PAGE = """\
 <!DOCTYPE html><meta charset="utf-8"><script type="module">{module}
-globalThis.verify = new Policy({{ budget: {no_limit} }}).verify;
+globalThis.verify = new Policy({{ budget: {budget} }}).verify;
 </script>
 """
-# The first hashes are before the time that counts: with them the module is compiled.
+# The first hashes don't count: while they run, the module is compiled.
 SCRIPT = """\
-const [password, stored, before, count] = {given};
+const [password, stored, warmUps, count] = {parameters};
 const results = [];
-for (let number = 0; number < before; number++) results.push(verify(password, stored));
+for (let number = 0; number < warmUps; number++) results.push(verify(password, stored));
 const begun = performance.now();
 for (let number = 0; number < count; number++) results.push(verify(password, stored));
 const milliseconds = performance.now() - begun;
@@ -34,34 +34,39 @@ return [results.every((result) => result === true), milliseconds];
 
 
 @contextlib.contextmanager
-def browsing(folder: Path) -> Iterator[Browser]:
-    """Chromium, beside the block."""
+def running_chromium(folder: Path) -> Iterator[Browser]:
+    """Runs Chromium beside the block."""
     profile = folder / "chromium"
     profile.mkdir()
     try:
         with chromium(profile) as browser:
             yield browser
-    except AssertionError as error:  # of the tests' browsers: one that doesn't start
+    except AssertionError as error:  # which the tests' browsers raise if one doesn't start
         raise Stop(f"Chromium: {error}") from None
 
 
 @dataclass(frozen=True)
-class Chromium:
-    """An amount of hashes in a page."""
+class ModuleInChromium:
+    """A page with our module, which checks the hashes of a workload."""
 
     browser: Browser
     folder: Path
-    amount: Amount
+    workload: Workload
 
-    def milliseconds(self) -> float:
-        """Opens the page, and has it check the hashes."""
+    def measure_milliseconds(self) -> float:
+        """Opens the page anew, and returns the time that it measures."""
         page = self.folder / "page.html"
         module = re.sub(r"^export ", "", MODULE.read_text(encoding="utf-8"), flags=re.MULTILINE)
-        page.write_text(PAGE.format(module=module, no_limit=NO_LIMIT), encoding="utf-8")
-        password, stored = self.amount.password.decode(), self.amount.hash.decode()
-        given = json.dumps([password, stored, self.amount.hashes_before, self.amount.hashes])
-        answer: Any = self.browser.evaluate(page.as_uri(), SCRIPT.format(given=given))
-        are_right, milliseconds = answer
-        if not are_right:
-            raise Stop(f"Chromium finds no match with {stored}")
+        page.write_text(PAGE.format(module=module, budget=NO_LIMIT), encoding="utf-8")
+        answer: Any = self.browser.evaluate(page.as_uri(), self.script())
+        all_match, milliseconds = answer
+        if not all_match:
+            raise Stop(f"Chromium: {self.workload.hash.decode()} doesn't match its password")
         return float(milliseconds)
+
+    def script(self) -> str:
+        """Returns the script that measures."""
+        workload = self.workload
+        password, stored = workload.password.decode(), workload.hash.decode()
+        parameters = [password, stored, workload.warm_up_hashes, workload.hashes]
+        return SCRIPT.format(parameters=json.dumps(parameters))

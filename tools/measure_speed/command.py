@@ -1,43 +1,28 @@
-"""The command tools/bench: what the command line says, and in which order all is done."""
+"""The command tools/bench: its options, and what it does in which order."""
 from __future__ import annotations
 
 import argparse
-import os
-import re
 import signal
 import sys
 import tempfile
-import time
-from collections.abc import Callable, Iterator, Sequence
+from collections.abc import Callable, Iterator
 from dataclasses import dataclass
 from pathlib import Path
 
 from . import counts, logins, memory, pwhash, ratios, seconds
-from .commands import cores
+from .conditions import PACKAGE_FOR_PLOTS, conditions_of, versions
 from .failure import Stop
-from .page import MARKS, filled
-from .plots import lengths, methods
-from .processes import ROOT, printed
+from .page import MARKS, fill
+from .plots import plot_lengths, plot_methods
+from .processes import ROOT
 from .programs import BUILDS, MKPASSWD, MODULE, Programs
-from .repetition import disagreements
-from .results import Conditions, Measured, Part, Results, Row, read_results, text_of
+from .repetition import disagreements, rows_in_both
+from .results import Measured, Part, Results, Row, format_results, read_results
 
 DOCUMENTS = ROOT / "docs"
 RESULTS = DOCUMENTS / "speed.json"
 PAGE = DOCUMENTS / "SPEED.md"
 PAIRS, PAIRS_IF_SHORT = 25, 5
-
-# Debian's packages that a part needs, and whose versions it tells.
-PACKAGES = {
-    Part.INSTRUCTIONS: ("valgrind", "libc6", "libcrypt1", "openssl", "libssl-dev", "libsodium-dev"),
-    Part.RATIOS: ("libcrypt1", "openssl", "libssl-dev", "libsodium-dev", "python3-passlib"),
-    Part.BUILDS: ("nodejs", "chromium", "chromium-driver", "python3-selenium"),
-    Part.PWHASH: ("python3", "openssl"),
-    Part.LOGINS: ("valgrind", "libc6", "python3", "nodejs"),
-    Part.MEMORY: ("python3",),
-    Part.SECONDS: ("libc6",),
-}
-PACKAGE_FOR_PICTURES = "gnuplot-nox"
 
 
 @dataclass(frozen=True)
@@ -46,38 +31,45 @@ class Options:
 
     parts: tuple[Part, ...]
     pairs: int
-    builds: dict[str, str]  # other programs, by their names
-    is_kept: bool  # whether documents are written
-    is_page_alone: bool
+    builds: dict[str, str]  # paths of programs, by the names that they get in the tables
+    writes_documents: bool
+    only_writes_page: bool
     compared: Path | None
 
 
+# The command line
+
+
 def named_build(text: str) -> tuple[str, str]:
-    """The name and the path of another build."""
+    """Reads NAME=FILE."""
     name, equals, path = text.partition("=")
     if not (name and equals and path):
-        raise ValueError
+        raise argparse.ArgumentTypeError(f"{text!r} isn't NAME=FILE")
     return name, path
 
 
-def read_options() -> Options:
-    """The options, or an exit with the status 2."""
-    names = [part.value for part in Part]
+def argument_parser() -> argparse.ArgumentParser:
+    """Returns the parser of the command line."""
+    names = ", ".join(part.value for part in Part)
     parser = argparse.ArgumentParser(
-        prog="bench",
-        description="Measure how fast mkpasswd hashes, and write docs/speed.json, docs/SPEED.md "
-        "and its pictures.",
-        epilog="A run that is interrupted writes nothing.",
+        prog="tools/bench",
+        description="Measure how fast mkpasswd hashes, and write docs/SPEED.md, its plots, and "
+        "docs/speed.json. What is measured has to be built: make bench builds and measures.",
+        epilog="Status: 0 if all was measured, or the runs agree; 1 if not; 2 for wrong options. "
+        "A run that fails or is interrupted writes nothing.",
     )
     parser.add_argument(
         "--only",
         action="append",
-        choices=names,
+        choices=[part.value for part in Part],
         metavar="PART",
-        help=f"measure this part, and leave the others as they are: {', '.join(names)}; repeatable",
+        help=f"measure this part, and leave the others as they are; repeatable. Parts: {names}",
     )
     parser.add_argument(
-        "--short", action="store_true", help="take few pairs, print tables, and write nothing"
+        "--short",
+        action="store_true",
+        help=f"measure {PAIRS_IF_SHORT} pairs for a ratio instead of {PAIRS}; print the tables and "
+        "write nothing",
     )
     parser.add_argument(
         "--build",
@@ -85,79 +77,66 @@ def read_options() -> Options:
         action="append",
         default=[],
         metavar="NAME=FILE",
-        help="measure another program among the builds, print tables, and write nothing",
+        help="measure one more program in the part builds; print the tables and write nothing; "
+        "repeatable",
     )
-    other = parser.add_mutually_exclusive_group()
-    other.add_argument(
-        "--page", action="store_true", help="measure nothing: write what docs/speed.json has"
+    instead = parser.add_mutually_exclusive_group()
+    instead.add_argument(
+        "--page",
+        action="store_true",
+        help="measure nothing: write the page and its plots from docs/speed.json",
     )
-    other.add_argument(
+    instead.add_argument(
         "--compare",
         type=Path,
         metavar="FILE",
-        help="measure nothing: say in what docs/speed.json and such a file of another run disagree",
+        help="measure nothing: print the counts and ratios in which docs/speed.json and FILE, a "
+        "copy of it from another run, disagree",
     )
-    words = parser.parse_args()
-    chosen = words.only or names
+    return parser
+
+
+def read_options() -> Options:
+    """Reads the command line. Exits with status 2 if it is wrong."""
+    words = argument_parser().parse_args()
+    chosen = words.only or [part.value for part in Part]
     return Options(
         parts=tuple(part for part in Part if part.value in chosen),
         pairs=PAIRS_IF_SHORT if words.short else PAIRS,
         builds=dict(words.build),
-        is_kept=not (words.short or words.build),
-        is_page_alone=words.page,
+        writes_documents=not (words.short or words.build),
+        only_writes_page=words.page,
         compared=words.compare,
     )
 
 
-# What is needed
+# What a run needs
 
 
 def required_files(options: Options) -> list[Path]:
-    """What has to be built."""
+    """Returns the built files that the parts need."""
     files = [Path(MKPASSWD), ROOT / "libmkpasswd.a"]
     if Part.BUILDS in options.parts:
         files += [Path(path) for path in {**BUILDS, **options.builds}.values()]
     if {Part.BUILDS, Part.LOGINS} & set(options.parts):
         files.append(MODULE)
-    if {Part.PWHASH, Part.LOGINS, Part.MEMORY} & set(options.parts):
+    if {Part.STARTS, Part.CORES, Part.LOGINS, Part.MEMORY} & set(options.parts):
         files += [ROOT / "libmkpasswd.so.3", ROOT / "python/src/mkpasswd/_reasons.py"]
     return files
 
 
-def versions(packages: Sequence[str]) -> dict[str, str]:
-    """The versions of Debian's packages, which have to be there."""
-    try:
-        listed = printed("dpkg-query", "-Wf", "${Package}\t${Version}\n", *packages)
-    except Stop as error:
-        raise Stop(f"a Debian package is missing: {error}") from None
-    found = dict(line.split("\t") for line in listed.splitlines())
-    return {package: found[package] for package in packages}
-
-
-def of_processor(name: str) -> str:
-    """What the kernel says of the processor."""
-    text = Path("/proc/cpuinfo").read_text(encoding="utf-8")
-    found = re.search(rf"^{name}\s*: (.*)", text, re.MULTILINE)
-    if found is None:
-        raise Stop(f"/proc/cpuinfo has no {name}")
-    return found[1]
-
-
-def conditions_for(part: Part) -> Conditions:
-    """When, where and of what a part is measured now."""
-    return Conditions(
-        date=time.strftime("%Y-%m-%d"),
-        crates=printed("git", "-C", str(ROOT), "rev-parse", "HEAD:crates").strip(),
-        processor=of_processor("model name"),
-        ghz=round(float(of_processor("cpu MHz")) / 1000, 2),
-        cores=cores(),
-        kernel=os.uname().release,
-        versions=versions(PACKAGES[part]),
-    )
+def check_needs(options: Options) -> None:
+    """Stops if a file or a package is missing, before anything is measured."""
+    for file in required_files(options):
+        if not file.exists():
+            raise Stop(f"{file} is missing: make bench builds what is measured")
+    if options.writes_documents:
+        versions([PACKAGE_FOR_PLOTS])
+        read_results(RESULTS)
 
 
 def compile_clients(options: Options, programs: Programs) -> None:
-    """Compiles what the parts call."""
+    """Compiles the clients in C that the parts need."""
     if {Part.INSTRUCTIONS, Part.RATIOS, Part.BUILDS} & set(options.parts):
         programs.compile("check", "-lcrypt")
     if {Part.INSTRUCTIONS, Part.RATIOS} & set(options.parts):
@@ -169,55 +148,57 @@ def compile_clients(options: Options, programs: Programs) -> None:
 # Measuring
 
 
-def rows_of(part: Part, options: Options, programs: Programs) -> Iterator[Row]:
-    """Measures a part, one row after the other."""
+def measure_part(part: Part, options: Options, programs: Programs) -> Iterator[Row]:
+    """Measures one row after the other."""
     folder, pairs = programs.folder, options.pairs
-    ways: dict[Part, Callable[[], Iterator[Row]]] = {
-        Part.INSTRUCTIONS: lambda: counts.measured(programs),
-        Part.RATIOS: lambda: ratios.measured_beside_others(programs, pairs),
-        Part.BUILDS: lambda: ratios.measured_builds(programs, options.builds, pairs, folder),
-        Part.PWHASH: lambda: pwhash.measured(pairs),
-        Part.LOGINS: lambda: logins.measured(programs),
-        Part.MEMORY: lambda: memory.measured(programs, folder),
-        Part.SECONDS: lambda: seconds.measured(programs),
+    measures: dict[Part, Callable[[], Iterator[Row]]] = {
+        Part.INSTRUCTIONS: lambda: counts.measure(programs),
+        Part.RATIOS: lambda: ratios.measure_others(programs, pairs),
+        Part.BUILDS: lambda: ratios.measure_builds(programs, options.builds, pairs, folder),
+        Part.STARTS: lambda: pwhash.measure_starts(pairs),
+        Part.CORES: lambda: pwhash.measure_cores(pairs),
+        Part.LOGINS: lambda: logins.measure(programs),
+        Part.MEMORY: lambda: memory.measure(programs, folder),
+        Part.SECONDS: lambda: seconds.measure(programs),
     }
-    return ways[part]()
+    return measures[part]()
 
 
 def measure(options: Options, folder: Path) -> Results:
-    """Measures the parts, and prints each row. What is missing is named before anything starts."""
-    for file in required_files(options):
-        if not file.exists():
-            raise Stop(f"{file} is not built: run make bench")
-    if options.is_kept:
-        versions([PACKAGE_FOR_PICTURES])
-        read_results(RESULTS)
-    conditions = {part: conditions_for(part) for part in options.parts}
+    """Measures the parts, and prints each row as soon as it is measured."""
+    check_needs(options)
+    conditions = {part: conditions_of(part) for part in options.parts}
     programs = Programs(folder)
     compile_clients(options, programs)
     results = Results()
     for part in options.parts:
+        if part is Part.CORES and not pwhash.is_machine_idle():
+            print(f"-- {part.value}: not measured, since something else uses the processors")
+            continue
         print(f"-- {part.value}", flush=True)
         rows = []
-        for row in rows_of(part, options, programs):
+        for row in measure_part(part, options, programs):
             print(row, flush=True)
             rows.append(row)
         results.parts[part] = Measured(conditions[part], tuple(rows))
     return results
 
 
-# What is written
+# Writing
 
 
 def print_tables(results: Results) -> None:
-    """Prints what the page would have."""
+    """Prints the tables that the page would get."""
     for mark in MARKS.values():
         if mark.part in results.parts:
-            print(f"\n{mark.text(results)}", end="")
+            print(f"\n{mark.format(results)}", end="")
 
 
 def replace_files(texts: dict[Path, str]) -> None:
-    """Replaces files, once the new ones are written. No signal comes between one and the next."""
+    """Writes all new files first, then puts them in the places of the old ones.
+
+    Signals wait meanwhile, so that they don't end the run between two files.
+    """
     signals = {signal.SIGINT, signal.SIGTERM}
     with tempfile.TemporaryDirectory(dir=DOCUMENTS) as folder:
         try:
@@ -232,46 +213,52 @@ def replace_files(texts: dict[Path, str]) -> None:
             signal.pthread_sigmask(signal.SIG_UNBLOCK, signals)
 
 
-def write(results: Results) -> None:
-    """Writes the results, the page and the pictures."""
+def write_documents(results: Results) -> None:
+    """Writes the results, the page and its plots."""
     texts = {
-        RESULTS: text_of(results),
-        PAGE: filled(PAGE.read_text(encoding="utf-8"), results),
-        DOCUMENTS / "speed-lengths.svg": lengths(),
+        RESULTS: format_results(results),
+        PAGE: fill(PAGE.read_text(encoding="utf-8"), results),
+        DOCUMENTS / "speed-lengths.svg": plot_lengths(),
     }
     if Part.RATIOS in results.parts:
-        texts[DOCUMENTS / "speed-methods.svg"] = methods(results)
+        texts[DOCUMENTS / "speed-methods.svg"] = plot_methods(results)
     replace_files(texts)
 
 
-def compare(path: Path) -> int:
-    """Prints in what two runs disagree. Returns 1 if there is something."""
+def compare_with(path: Path) -> int:
+    """Prints in which numbers two runs disagree. Returns 1 if there are any."""
     if not path.exists():
-        raise Stop(f"{path} is missing")
-    found = list(disagreements(read_results(path), read_results(RESULTS)))
-    for sentence in found:
-        print(sentence)
+        raise Stop(f"{path} doesn't exist")
+    first, second = read_results(path), read_results(RESULTS)
+    compared = sum(len(list(rows_in_both(first, second, part))) for part in Part)
+    found = list(disagreements(first, second))
+    for rows in found:
+        print(rows)
+    print(f"{compared} rows are in both runs; {len(found)} of them disagree")
     return 1 if found else 0
 
 
+# The command
+
+
 def run(options: Options) -> int:
-    """Does what the options say."""
+    """Does what the options say, and returns the status."""
     if options.compared is not None:
-        return compare(options.compared)
-    if options.is_page_alone:
-        write(read_results(RESULTS))
+        return compare_with(options.compared)
+    if options.only_writes_page:
+        write_documents(read_results(RESULTS))
         return 0
     with tempfile.TemporaryDirectory() as folder:
-        measured = measure(options, Path(folder))
-    if options.is_kept:
-        write(Results({**read_results(RESULTS).parts, **measured.parts}))
+        results = measure(options, Path(folder))
+    if options.writes_documents:
+        write_documents(Results({**read_results(RESULTS).parts, **results.parts}))
     else:
-        print_tables(measured)
+        print_tables(results)
     return 0
 
 
 def main() -> int:
-    """The command. Returns its status."""
+    """Runs the command, and returns its status."""
     options = read_options()
     signal.signal(signal.SIGTERM, signal.default_int_handler)
     try:

@@ -1,4 +1,4 @@
-"""Tasks of whole commands: one hash, a file of lines on some cores, an audit."""
+"""Tasks of whole commands: one hash, a file of lines on some processors, an audit."""
 from __future__ import annotations
 
 import os
@@ -11,72 +11,75 @@ from .programs import MKPASSWD
 from .settings import MD5CRYPT, PASSWORD, SALT, SHA512CRYPT, hash_of, scrypt
 
 PWHASH = str(ROOT / "bin/pwhash")
-MD5CRYPT_WORDS = ("-m", "md5crypt", "-S", "xxxxxxxx")
-# So that a line takes some hundredths of a second.
-ROUNDS = 50_000
+MD5CRYPT_OPTIONS = ("-m", "md5crypt", "-S", "xxxxxxxx")
 LINES = 16
+ROUNDS = 50_000  # so that each of these lines takes some hundredths of a second
 AUDITED_LINES = 1_000_000
 
 
-def cores() -> int:
-    """How many processors this process may use."""
+def processors() -> int:
+    """Returns how many processors this process may use."""
     return len(os.sched_getaffinity(0))
 
 
-def one_hash(*command: str) -> Task:
-    """A command that reads a password and prints its hash by md5crypt."""
+def md5crypt_task(*command: str) -> Task:
+    """Returns the task of reading a password and printing its hash by md5crypt."""
     return Task(command, PASSWORD + b"\n", hash_of(MD5CRYPT) + b"\n")
 
 
-def largest_scrypt_by_pwhash() -> Task:
-    """The hash of scrypt that takes the most memory."""
-    setting = scrypt(18, 32, 1)
-    command = (PWHASH, "-m", "scrypt", "-R", "11", "-S", "x" * 22)
-    return Task(command, PASSWORD + b"\n", hash_of(setting) + b"\n")
+def largest_scrypt_task() -> Task:
+    """Returns the task of pwhash that takes the most memory."""
+    options = ("-m", "scrypt", "-R", "11", "-S", "x" * 22)
+    stored_hash = hash_of(scrypt(18, 32, 1))
+    return Task((PWHASH, *options), PASSWORD + b"\n", stored_hash + b"\n")
 
 
-def file_on(processors: int) -> Task:
-    """A file of lines, hashed by pwhash on the first processors."""
-    hashed = hash_of(b"$6$rounds=%d$%b" % (ROUNDS, SALT))
+def file_task(count: int) -> Task:
+    """Returns the task of hashing the passwords of a file by pwhash, on so many processors."""
+    stored_hash = hash_of(b"$6$rounds=%d$%b" % (ROUNDS, SALT))
     names = [b"user%d" % number for number in range(LINES)]
+    options = ("-R", str(ROUNDS), "-S", SALT.decode())
     return Task(
-        (*on_first(processors), PWHASH, "file", "-R", str(ROUNDS), "-S", SALT.decode()),
+        (*on_processors(count), PWHASH, "file", *options),
         b"".join(b"%b:%b\n" % (name, PASSWORD) for name in names),
-        b"".join(b"%b:%b\n" % (name, hashed) for name in names),
+        b"".join(b"%b:%b\n" % (name, stored_hash) for name in names),
     )
 
 
-def start_on(processors: int) -> Task:
-    """The start of that: a line that takes no time."""
+def start_task(count: int) -> Task:
+    """Returns the same task with a file of one line, whose hash takes next to no time."""
     return Task(
-        (*on_first(processors), PWHASH, "file", *MD5CRYPT_WORDS),
+        (*on_processors(count), PWHASH, "file", *MD5CRYPT_OPTIONS),
         b"user1:%b\n" % PASSWORD,
         b"user1:%b\n" % hash_of(MD5CRYPT),
     )
 
 
-def on_first(processors: int) -> tuple[str, ...]:
-    """The words before a command that runs it on the first processors that this process has."""
+def on_processors(count: int) -> tuple[str, ...]:
+    """Returns what stands before a command to run it on so many processors."""
     allowed = sorted(os.sched_getaffinity(0))
-    if processors > len(allowed):
-        raise Stop(f"{processors} processors are needed, and there are {len(allowed)}")
-    return ("taskset", "-c", ",".join(map(str, allowed[:processors])))
+    if count > len(allowed):
+        raise Stop(f"there are {len(allowed)} processors, and {count} are needed")
+    return ("taskset", "-c", ",".join(map(str, allowed[:count])))
 
 
-def audit() -> Task:
-    """An audit of six fields again and again."""
+def audit_task() -> Task:
+    """Returns the task of auditing six fields again and again."""
     old, new = hash_of(MD5CRYPT), hash_of(SHA512CRYPT)
     fields = (new, old, b"!" + new, b"$6$rounds=999999999$a$b", new[:99], b"$y$j9T$x$x")
-    answers = []
-    for audited in fields:
-        finding = parsed(Job(Mode.AUDIT), b"user:" + audited).finding
-        if finding is None:
-            raise Stop(f"the model of audits has no answer to the field {audited.decode()}")
-        answers.append(finding.text.encode())
+    findings = [finding_of(field) for field in fields]
     places = [number % len(fields) for number in range(AUDITED_LINES)]
     return Task(
         (MKPASSWD, "--audit"),
         b"".join(b"user%d:%b\n" % (n, fields[place]) for n, place in enumerate(places)),
-        b"".join(b"user%d:%b\n" % (n, answers[place]) for n, place in enumerate(places)),
-        status=1,  # which says that something was found
+        b"".join(b"user%d:%b\n" % (n, findings[place]) for n, place in enumerate(places)),
+        expected_status=1,  # since there are findings
     )
+
+
+def finding_of(field: bytes) -> bytes:
+    """Returns what an audit prints for a field."""
+    finding = parsed(Job(Mode.AUDIT), b"user:" + field).finding
+    if finding is None:
+        raise Stop(f"the model of audits has no finding for the field {field.decode()}")
+    return finding.text.encode()

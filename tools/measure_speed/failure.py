@@ -1,6 +1,6 @@
-"""How measuring ends early."""
+"""The exception that ends a run early."""
 from __future__ import annotations
 
 
 class Stop(Exception):
-    """Why nothing more is measured: a sentence for the user."""
+    """Ends the run. The message is a sentence for the user."""

@@ -1,4 +1,4 @@
-"""The arithmetic of ratios: the median of what pairs of runs gave, and how sure it is."""
+"""The statistics of ratios: the median of many pairs, and how certain it is."""
 from __future__ import annotations
 
 import math
@@ -7,7 +7,7 @@ import statistics
 from collections.abc import Sequence
 from dataclasses import dataclass
 
-# A page has some forty intervals, so that of those of 95 % two would be wrong.
+# The page has about fifty intervals. At 95 %, two or three of them would be wrong.
 LEVEL = 0.99
 RESAMPLES = 10_000
 SEED = 1
@@ -15,43 +15,43 @@ SEED = 1
 
 @dataclass(frozen=True)
 class Interval:
-    """Two numbers between which another one is for all that is known."""
+    """Two bounds, between which a number lies as far as is known."""
 
     lower: float
     upper: float
 
-    def holds(self, number: float) -> bool:
-        """Whether a number is in it."""
+    def contains(self, number: float) -> bool:
+        """Whether a number lies within the bounds."""
         return self.lower <= number <= self.upper
 
     def overlaps(self, other: Interval) -> bool:
-        """Whether a number is in both."""
+        """Whether the two intervals have a number in common."""
         return self.lower <= other.upper and other.lower <= self.upper
 
 
 def bootstrap_interval(
     numbers: Sequence[float], level: float = LEVEL, resamples: int = RESAMPLES
 ) -> Interval:
-    """The interval of the median of numbers, by the percentiles of the bootstrap.
+    """Returns a confidence interval of the median, by the percentile bootstrap.
 
-    That draws as many numbers from them again and again, each of them as often as it comes, and
-    takes the median each time. The part of these medians that the level says is in the interval.
+    A resample draws as many numbers as there are, with replacement. The interval holds the share
+    `level` of the medians of all resamples.
     """
-    # The same numbers give the same interval, so that a page can be made again.
+    # A fixed seed, so that the same numbers always give the same interval.
     generator = random.Random(SEED)
     medians = sorted(
         statistics.median(generator.choices(numbers, k=len(numbers))) for _ in range(resamples)
     )
-    outside = (1 - level) / 2
+    share_below = (1 - level) / 2
     return Interval(
-        medians[math.floor(outside * resamples)],
-        medians[math.ceil((1 - outside) * resamples) - 1],
+        lower=medians[math.floor(share_below * resamples)],
+        upper=medians[math.ceil((1 - share_below) * resamples) - 1],
     )
 
 
 @dataclass(frozen=True)
 class Ratio:
-    """How much of a base's time something takes."""
+    """The time of something, divided by that of what it is compared with."""
 
     median: float
     interval: Interval
@@ -59,11 +59,11 @@ class Ratio:
 
     @property
     def is_same(self) -> bool:
-        """Whether the two may well take the same time, to a hundredth of it."""
-        shown = Interval(round(self.interval.lower, 2), round(self.interval.upper, 2))
-        return shown.holds(1)
+        """Whether the interval contains 1, when its bounds are rounded to hundredths."""
+        rounded = Interval(round(self.interval.lower, 2), round(self.interval.upper, 2))
+        return rounded.contains(1)
 
 
 def ratio_of(ratios: Sequence[float]) -> Ratio:
-    """What the ratios of pairs come to."""
+    """Summarizes the ratios of all pairs."""
     return Ratio(statistics.median(ratios), bootstrap_interval(ratios), len(ratios))

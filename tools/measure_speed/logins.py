@@ -1,8 +1,8 @@
-"""Logins: that a field of one kind costs what one of another kind does.
+"""Logins: that a failed login costs the same for each kind of stored field.
 
-For C and Python instructions are counted, the difference between several logins and one. A module
-of WebAssembly is translated while it runs, differently on each run: there the work counts that the
-proved code reports.
+For C and Python, instructions are counted: the difference between two logins and one. An engine of
+JavaScript compiles the module while it runs, and differently in each run. So for node the work
+counts that the module's own reports give.
 """
 from __future__ import annotations
 
@@ -14,7 +14,7 @@ from support.model.methods import MD5CRYPT, SCRYPT, SHA256CRYPT, SHA512CRYPT, Me
 from support.model.settings import recommended_setting
 
 from .failure import Stop
-from .processes import ROOT, Task, instructions_of, printed
+from .processes import ROOT, Task, count_instructions, output_of
 from .programs import CLIENTS, MODULE, PYTHON, Programs
 from .results import Login
 from .settings import PASSWORD, hash_of
@@ -26,24 +26,24 @@ OTHER_PASSWORD = b"q" * len(PASSWORD)
 YESCRYPT = b"$y$j9T$F5Jx5fExrKuPp53xLKQ..1$X3DX6M94c7o.9agCG9G317fhZg9SqC.5i5rd.RhAtQ7"
 COSTLY = b"$6$rounds=999999999$saltsaltsaltsalt$" + b"x" * 86
 FEW_LOGINS, MORE_LOGINS = 1, 2
-BYTES_OF_MIXING = 128 * 32  # by scrypt with r = 32, which policies have
+BYTES_OF_MIXING = 128 * 32  # by scrypt with r = 32, as a policy's hashes have it
 
 
 @dataclass(frozen=True)
 class Policy:
-    """A service's method and rounds: few, since what surrounds a hash is then seen best."""
+    """A service's method and rounds. They are few, so that what surrounds a hash shows."""
 
     method: Method
     rounds: int
 
     @property
     def setting(self) -> bytes:
-        """The setting of its hashes, with a salt as long as they have."""
+        """A setting of its hashes, with a salt as long as the library draws it."""
         return recommended_setting(self.method, self.rounds, b"x" * self.method.drawn_salt).text
 
     @property
     def number(self) -> str:
-        """The number of the method, as in the hash."""
+        """The number of the method, as in its hashes."""
         return self.method.prefix.decode().strip("$")
 
     @property
@@ -65,7 +65,7 @@ POLICIES = (
 
 
 def fields_of(policy: Policy) -> dict[str, bytes | None]:
-    """What is stored for a name, by its kind; None for a name that isn't known."""
+    """Returns a stored field of each kind; None for a name that isn't stored."""
     right = hash_of(policy.setting)
     return {
         RIGHT: right,
@@ -79,62 +79,64 @@ def fields_of(policy: Policy) -> dict[str, bytes | None]:
     }
 
 
-def words_of_login(field: bytes | None) -> tuple[str, ...]:
-    """The password and the field for a client."""
+def password_and_field(field: bytes | None) -> tuple[str, ...]:
+    """Returns the last arguments of a client."""
     return (PASSWORD.decode(),) if field is None else (PASSWORD.decode(), field.decode())
 
 
 @dataclass(frozen=True)
 class Client:
-    """A command that logs in as often as it is told."""
+    """A command that logs in as often as an argument says."""
 
     name: str
     command: tuple[str, ...]
-    changes: dict[str, str | None] = dataclasses.field(default_factory=dict)
+    environment: dict[str, str | None] = dataclasses.field(default_factory=dict)
 
     def task(self, policy: Policy, kind: str, field: bytes | None, logins: int) -> Task:
-        """So many logins, of which only those with the right password get in."""
-        words = (policy.number, str(policy.rounds), str(logins), *words_of_login(field))
-        answer = b"1\n" if kind == RIGHT else b"0\n"
-        return Task((*self.command, *words), expected=answer * logins, changes=self.changes)
+        """Returns the task of so many logins. Only those with the right password succeed."""
+        words = (policy.number, str(policy.rounds), str(logins), *password_and_field(field))
+        line = b"1\n" if kind == RIGHT else b"0\n"
+        return Task(
+            (*self.command, *words), expected_output=line * logins, environment=self.environment
+        )
 
     def instructions(self, policy: Policy, kind: str, field: bytes | None) -> float:
-        """The instructions of a login."""
+        """Returns the instructions of one login."""
         few, more = (
-            instructions_of(self.task(policy, kind, field, logins))
+            count_instructions(self.task(policy, kind, field, logins))
             for logins in (FEW_LOGINS, MORE_LOGINS)
         )
         return (more - few) / (MORE_LOGINS - FEW_LOGINS)
 
 
 def client_in_c(programs: Programs) -> Client:
-    """The client that calls our library."""
+    """Returns the client that calls our library."""
     return Client("C", (programs.client("log_in"),))
 
 
 def client_in_python() -> Client:
-    """The client that calls our package, over the tree's library."""
-    changes: dict[str, str | None] = {
+    """Returns the client that calls our package, with the library of this tree."""
+    environment: dict[str, str | None] = {
         "PYTHONPATH": str(ROOT / "python/src"),
         "LD_LIBRARY_PATH": str(ROOT),
         "PYTHONDONTWRITEBYTECODE": "1",
-        "PYTHONHASHSEED": "0",
+        "PYTHONHASHSEED": "0",  # otherwise the count differs from run to run
     }
-    return Client("Python", (PYTHON, str(CLIENTS / "log_in.py")), changes)
+    return Client("Python", (PYTHON, str(CLIENTS / "log_in.py")), environment)
 
 
 def bytes_in_node(policy: Policy, kind: str, field: bytes | None) -> int:
-    """The bytes that a login digests and mixes in node."""
-    words = (policy.number, str(policy.rounds), *words_of_login(field))
-    numbers = printed("node", str(CLIENTS / "log_in.mjs"), str(MODULE), *words).split()
-    is_in, digested, mixings = map(int, numbers)
-    if bool(is_in) != (kind == RIGHT):
-        raise Stop(f"node: a login with the field {kind} answers {is_in}")
+    """Returns the bytes that one login digests and mixes in node."""
+    words = (policy.number, str(policy.rounds), *password_and_field(field))
+    numbers = output_of("node", str(CLIENTS / "log_in.mjs"), str(MODULE), *words).split()
+    succeeds, digested, mixings = map(int, numbers)
+    if bool(succeeds) != (kind == RIGHT):
+        raise Stop(f"node: the login with the field {kind!r} returns {succeeds}")
     return digested + BYTES_OF_MIXING * mixings
 
 
-def measured(programs: Programs) -> Iterator[Login]:
-    """The work of a login by each policy and client with each kind of field."""
+def measure(programs: Programs) -> Iterator[Login]:
+    """Measures a login with each kind of field, by each policy and client."""
     for policy in POLICIES:
         for kind, field in fields_of(policy).items():
             for client in (client_in_c(programs), client_in_python()):

@@ -1,37 +1,35 @@
-"""Memory: the most that commands take."""
+"""Memory: the most that a command has at once."""
 from __future__ import annotations
 
 from collections.abc import Iterator
 from pathlib import Path
 
-from .commands import AUDITED_LINES, audit, largest_scrypt_by_pwhash
-from .processes import memory_of
+from .commands import audit_task, largest_scrypt_task
+from .processes import measure_peak_memory
 from .programs import Programs
 from .results import Memory
-from .settings import SCRYPT, SHA512CRYPT, Amount, scrypt
+from .settings import SCRYPT, SHA512CRYPT, Workload, scrypt
 
-USUAL = "sha512crypt"
-RECOMMENDED = "scrypt, N = 2^14, r = 32"
 LARGEST = "scrypt, N = 2^18, r = 32"
-AUDIT = f"an audit of {AUDITED_LINES:,} lines"
-AMOUNTS = {
-    USUAL: Amount(SHA512CRYPT),
-    RECOMMENDED: Amount(SCRYPT),
-    LARGEST: Amount(scrypt(18, 32, 1)),
+WORKLOADS = {
+    "sha512crypt": Workload(SHA512CRYPT),
+    "scrypt, N = 2^14, r = 32": Workload(SCRYPT),
+    LARGEST: Workload(scrypt(18, 32, 1)),
 }
 
 
-def table_of(amount: Amount) -> int:
-    """KiB of scrypt's table."""
-    cost = amount.cost_of_scrypt
+def table_size(workload: Workload) -> int:
+    """Returns the KiB of scrypt's table, 0 for another method."""
+    cost = workload.scrypt_cost
     return 0 if cost is None else (128 * cost.r << cost.log_n) >> 10
 
 
-def measured(programs: Programs, folder: Path) -> Iterator[Memory]:
-    """Hashes and an audit by mkpasswd, and the largest hash by pwhash."""
-    for row, amount in AMOUNTS.items():
-        kibibytes = memory_of(programs.mkpasswd.task(amount), folder)
-        yield Memory(row, "mkpasswd", kibibytes, table_of(amount))
-    kibibytes = memory_of(largest_scrypt_by_pwhash(), folder)
-    yield Memory(LARGEST, "pwhash", kibibytes, table_of(AMOUNTS[LARGEST]))
-    yield Memory(AUDIT, "mkpasswd", memory_of(audit(), folder))
+def measure(programs: Programs, folder: Path) -> Iterator[Memory]:
+    """Measures hashes and an audit by mkpasswd, and the largest hash by pwhash."""
+    for row, workload in WORKLOADS.items():
+        kibibytes = measure_peak_memory(programs.mkpasswd.task(workload), folder)
+        yield Memory(row, "mkpasswd", kibibytes, table_size(workload))
+    kibibytes = measure_peak_memory(largest_scrypt_task(), folder)
+    yield Memory(LARGEST, "pwhash", kibibytes, table_size(WORKLOADS[LARGEST]))
+    kibibytes = measure_peak_memory(audit_task(), folder)
+    yield Memory("an audit of a million lines", "mkpasswd", kibibytes)

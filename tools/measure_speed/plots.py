@@ -1,4 +1,4 @@
-"""The pictures of docs/SPEED.md, which gnuplot draws."""
+"""The plots of docs/SPEED.md, which gnuplot draws."""
 from __future__ import annotations
 
 import subprocess
@@ -9,8 +9,8 @@ from support.model.work import LONGEST_PASSWORD, cost, login_limit
 
 from .failure import Stop
 from .intervals import Interval, Ratio
-from .page import OURS, shown_ratio
-from .results import Compared, Part, Results
+from .page import OURS, format_ratio
+from .results import Comparison, Part, Results
 
 METHODS = ("md5crypt", "sha256crypt", "sha512crypt", "scrypt, N = 2^14, r = 32")
 OUR_COLOUR, OTHER_COLOUR = "0x1f5f99", "0x9fb4c7"
@@ -71,48 +71,53 @@ plot $costs using 1:2 with lines lw 2.5 lc rgb '#5c6773', \
 """
 
 
-def drawn(width: int, height: int, script: str) -> str:
-    """The picture that a script of gnuplot draws."""
+def draw(width: int, height: int, script: str) -> str:
+    """Returns the SVG that a script of gnuplot draws."""
     terminal = TERMINAL.format(width=width, height=height)
     try:
         done = subprocess.run(
             ["gnuplot"], input=terminal + script, capture_output=True, text=True, check=False
         )
     except FileNotFoundError:
-        raise Stop("a Debian package is missing: gnuplot-nox") from None
+        raise Stop("gnuplot is missing: install Debian's gnuplot-nox") from None
     if done.returncode != 0 or done.stderr:
         raise Stop(f"gnuplot: {done.stderr}")
     return done.stdout
 
 
-def panel(rows: list[Compared], name: str) -> str:
-    """A panel for a method, with a bar for each program."""
-    ours = Compared(name, OURS, Ratio(1, Interval(1, 1), 0))
-    shown = [ours, *(row for row in rows if row.row == name)]
-    most = 1.75 * max(row.ratio.interval.upper for row in shown)
-    bars = "".join(map(bar_of, shown))
-    return PANEL.format(row=name, most=f"{most:.6g}", last=-0.5 - len(shown), bars=bars)
+def format_panel(rows: list[Comparison], method: str) -> str:
+    """Returns the script for the panel of a method, with a bar for each program."""
+    ours = Comparison(method, OURS, Ratio(1, Interval(1, 1), 0))
+    bars = [ours, *(row for row in rows if row.row == method)]
+    # To the right of the bars there is space for their labels.
+    most = 1.75 * max(row.ratio.interval.upper for row in bars)
+    return PANEL.format(
+        row=method,
+        most=f"{most:.6g}",
+        last=-0.5 - len(bars),
+        bars="".join(map(format_bar, bars)),
+    )
 
 
-def bar_of(row: Compared) -> str:
-    """A bar: its name, the median, the interval, the colour and the text behind it."""
+def format_bar(row: Comparison) -> str:
+    """Returns the columns of a bar: name, median, interval, colour and label."""
     is_ours = row.name == OURS
     colour = OUR_COLOUR if is_ours else OTHER_COLOUR
-    text = "1" if is_ours else shown_ratio(row.ratio)
+    label = "1" if is_ours else format_ratio(row.ratio)
     interval = row.ratio.interval
     numbers = f"{row.ratio.median:.6g} {interval.lower:.6g} {interval.upper:.6g}"
-    return f'"{row.name}" {numbers} {colour} "   {text}"\n'
+    return f'"{row.name}" {numbers} {colour} "   {label}"\n'
 
 
-def methods(results: Results) -> str:
-    """The time of a hash by each method, beside other programs."""
-    rows = results.rows(Part.RATIOS, Compared)
-    panels = "".join(panel(rows, name) for name in METHODS)
-    return drawn(880, 520, PANELS.format(panels=panels))
+def plot_methods(results: Results) -> str:
+    """Draws the time of a hash by each method, in comparison with other programs."""
+    rows = results.rows(Part.RATIOS, Comparison)
+    panels = "".join(format_panel(rows, method) for method in METHODS)
+    return draw(880, 520, PANELS.format(panels=panels))
 
 
-def lengths() -> str:
-    """What a hash costs by the length of its password."""
+def plot_lengths() -> str:
+    """Draws the cost of a hash by the length of its password."""
     in_order = (MD5CRYPT, SHA256CRYPT, SHA512CRYPT, SCRYPT)
     settings = {method: recommended_setting(method, None) for method in in_order}
     costs = ""
@@ -130,4 +135,4 @@ def lengths() -> str:
         sha512crypt=cost(settings[SHA512CRYPT], 560),
         costs=costs,
     )
-    return drawn(880, 460, script)
+    return draw(880, 460, script)

@@ -1,6 +1,6 @@
-"""Runs what is measured, and finds what it took.
+"""Runs commands, and measures their time, instructions or memory.
 
-A command has to end well and to print what is expected, so that nothing is measured that does
+A command must end with the expected status and output, so that nothing is measured that did
 something else.
 """
 from __future__ import annotations
@@ -19,20 +19,19 @@ from support.process import Result, kill_group, run, shown, shown_command
 from .failure import Stop
 
 ROOT = Path(__file__).resolve().parents[2]
-DEADLINE = 3600  # seconds, of one command
-SECONDS_BETWEEN_LOOKS = 0.002  # at the memory of a process
+TIMEOUT = 3600  # seconds, for one command
+MEMORY_POLL_SECONDS = 0.002
 
 
 @dataclass(frozen=True)
 class Task:
-    """A command with its input and what it has to print."""
+    """A command with its input, and how it must end."""
 
     command: tuple[str, ...]
-    given: bytes = b""
-    expected: bytes = b""
-    status: int = 0  # with which it has to end
-    # Of the environment. Python's hashes of strings, for one, are others on each run without it.
-    changes: dict[str, str | None] = field(default_factory=dict)
+    stdin: bytes = b""
+    expected_output: bytes = b""
+    expected_status: int = 0
+    environment: dict[str, str | None] = field(default_factory=dict)  # what differs from ours
 
 
 @dataclass(frozen=True)
@@ -43,65 +42,68 @@ class Times:
     elapsed: float
 
 
-def checked(task: Task, result: Result) -> Result:
-    """The result of a task, if it is the right one."""
-    if result.status != task.status:
-        raise Stop(f"status {task.status} was expected.\n{result}")
-    if result.stdout != task.expected:
-        raise Stop(f"another output was expected: {shown(task.expected)}\n{result}")
+def check_result(task: Task, result: Result) -> None:
+    """Stops unless a task ended as it must."""
+    if result.status != task.expected_status:
+        raise Stop(f"expected status: {task.expected_status}\n{result}")
+    if result.stdout != task.expected_output:
+        raise Stop(f"expected stdout: {shown(task.expected_output)}\n{result}")
+
+
+def run_task(task: Task, prefix: tuple[str, ...] = ()) -> Result:
+    """Runs a task, whose command is the end of another one if there is a prefix."""
+    command = (*prefix, *task.command)
+    try:
+        result = run(*command, stdin=task.stdin, env=task.environment, timeout=TIMEOUT)
+    except OSError as error:
+        raise Stop(f"{command[0]}: {error.strerror}") from None
+    check_result(task, result)
     return result
 
 
-def run_task(task: Task, *before: str) -> Result:
-    """Runs a task, perhaps by another command before its own."""
-    words = (*before, *task.command)
-    try:
-        result = run(*words, stdin=task.given, env=task.changes, timeout=DEADLINE)
-    except OSError as error:
-        raise Stop(f"{words[0]}: {error.strerror}") from None
-    return checked(task, result)
-
-
 def processor_time_of_children() -> float:
-    """The seconds of all children that have ended and been waited for."""
+    """Returns the seconds of all children that have ended and been waited for."""
     usage = resource.getrusage(resource.RUSAGE_CHILDREN)
     return usage.ru_utime + usage.ru_stime
 
 
-def times_of(task: Task) -> Times:
-    """What a task takes."""
-    processor, begun = processor_time_of_children(), time.monotonic()
+def measure_times(task: Task) -> Times:
+    """Runs a task once, and returns what it took."""
+    processor_before, begun = processor_time_of_children(), time.monotonic()
     run_task(task)
-    return Times(processor_time_of_children() - processor, time.monotonic() - begun)
+    return Times(
+        processor=processor_time_of_children() - processor_before,
+        elapsed=time.monotonic() - begun,
+    )
 
 
-def instructions_of(task: Task) -> int:
-    """How many instructions a task takes, its start included."""
-    steady = replace(task, changes={**task.changes, **EVERY_PROCESSOR})
-    result = run_task(steady, *CACHEGRIND)
+def count_instructions(task: Task) -> int:
+    """Runs a task under cachegrind, and returns its instructions, those of its start included."""
+    on_every_processor = replace(task, environment={**task.environment, **EVERY_PROCESSOR})
+    result = run_task(on_every_processor, CACHEGRIND)
     instructions = instructions_in(result.stderr)
     if instructions is None:
-        raise Stop(f"cachegrind counted nothing\n{result}")
+        raise Stop(f"cachegrind printed no count\n{result}")
     return instructions
 
 
-def most_memory(process: subprocess.Popen[bytes]) -> int:
-    """The most memory that a process has had, in KiB; 0 where it has ended."""
+def peak_memory(process: subprocess.Popen[bytes]) -> int:
+    """Returns the most memory that a process has had so far, in KiB; 0 once it has ended."""
     status = Path(f"/proc/{process.pid}/status").read_text(encoding="utf-8", errors="replace")
     found = re.search(r"^VmHWM:\s*(\d+)", status, re.MULTILINE)
     return int(found[1]) if found else 0
 
 
-def memory_of(task: Task, folder: Path) -> int:
-    """The most memory that a task takes, in KiB. It has to take some time.
+def measure_peak_memory(task: Task, folder: Path) -> int:
+    """Runs a task that takes some time, and returns the most memory that it had, in KiB.
 
-    It is what the kernel says while the task runs: afterwards the kernel counts in what the process
-    had as a copy of this one.
+    The kernel is asked while the task runs: the maximum that it gives afterwards includes this
+    process, of which the child was a copy at first.
     """
-    given, out = folder / "given", folder / "out"
-    given.write_bytes(task.given)
-    memory = 0
-    with given.open("rb") as stdin, out.open("wb") as stdout:
+    input_path, output_path = folder / "stdin", folder / "stdout"
+    input_path.write_bytes(task.stdin)
+    peak = 0
+    with input_path.open("rb") as stdin, output_path.open("wb") as stdout:
         process = subprocess.Popen(  # pylint: disable=consider-using-with
             task.command,
             stdin=stdin,
@@ -112,20 +114,20 @@ def memory_of(task: Task, folder: Path) -> int:
         )
     try:
         while process.poll() is None:
-            memory = most_memory(process) or memory
-            time.sleep(SECONDS_BETWEEN_LOOKS)
+            peak = max(peak, peak_memory(process))
+            time.sleep(MEMORY_POLL_SECONDS)
     except BaseException:
         kill_group(process)
         process.wait()
         raise
-    checked(task, Result(task.command, process.returncode, out.read_bytes(), b""))
-    return memory
+    check_result(task, Result(task.command, process.returncode, output_path.read_bytes(), b""))
+    return peak
 
 
-def printed(*command: str) -> str:
-    """What a command prints, which has to succeed."""
+def output_of(*command: str) -> str:
+    """Runs a command that must succeed, and returns what it prints."""
     try:
-        result = run(*command, timeout=DEADLINE)
+        result = run(*command, timeout=TIMEOUT)
     except OSError as error:
         raise Stop(f"{command[0]}: {error.strerror}") from None
     if result.status != 0:

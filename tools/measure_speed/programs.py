@@ -1,7 +1,7 @@
-"""The programs that make or check hashes side by side: ours, and others.
+"""The programs that are measured: ours, and those that it is compared with.
 
-Each turns an amount of hashes into a task: a command, its input, and the output that proves that it
-did the work.
+Each turns a workload into a task: a command, its input, and the output that proves that it made or
+checked all hashes.
 """
 from __future__ import annotations
 
@@ -13,25 +13,26 @@ from typing import Protocol
 from support.model.methods import SCRYPT
 
 from .failure import Stop
-from .processes import ROOT, Task, printed
-from .settings import Amount, scrypt_digest
+from .processes import ROOT, Task, output_of
+from .settings import Workload, scrypt_digest
 
 CLIENTS = Path(__file__).resolve().parent / "clients"
 MKPASSWD = os.environ.get("PROGRAM", str(ROOT / "mkpasswd"))
 MODULE = ROOT / "build/mkpasswd.mjs"
 BUILDS = {name: str(ROOT / f"build/{name}/mkpasswd") for name in ("x86-64", "x86-64-v3")}
-PYTHON = "/usr/bin/python3"  # which has the modules of Debian's packages
+PYTHON = "/usr/bin/python3"  # Debian's, which finds the modules of Debian's packages
+OPENSSL = "/usr/bin/openssl"
 
 
 class Program(Protocol):
-    """What makes or checks hashes."""
+    """Something that makes or checks hashes."""
 
     @property
     def name(self) -> str:
         """Its name on the page."""
 
-    def task(self, amount: Amount) -> Task:
-        """What it has to do for an amount of hashes."""
+    def task(self, workload: Workload) -> Task:
+        """Returns the task of making or checking so many hashes."""
 
 
 @dataclass(frozen=True)
@@ -41,71 +42,75 @@ class Checker:
     name: str
     command: tuple[str, ...]
 
-    def task(self, amount: Amount) -> Task:
-        """Checks the lines of as many users."""
-        hash_and_password = b"%b:%b\n" % (amount.hash, amount.password)
-        users = [b"user%d:" % number for number in range(amount.hashes)]
-        given = b"".join(user + hash_and_password for user in users)
-        return Task(self.command, given, b"".join(user + b"ok\n" for user in users))
+    def task(self, workload: Workload) -> Task:
+        """Returns the task of checking a line for each hash."""
+        hash_and_password = b"%b:%b\n" % (workload.hash, workload.password)
+        users = [b"user%d:" % number for number in range(workload.hashes)]
+        lines = b"".join(user + hash_and_password for user in users)
+        return Task(self.command, lines, b"".join(user + b"ok\n" for user in users))
 
 
 @dataclass(frozen=True)
 class Node:
-    """Our module for node, which makes some hashes before those that it is asked for."""
+    """Our module for node, which makes some hashes first, so that it is compiled."""
 
     name: str = "node"
 
-    def task(self, amount: Amount) -> Task:
-        """Checks the lines of as many users."""
-        words = (amount.password.decode(), amount.hash.decode(), str(amount.hashes_before))
-        client = ("node", str(CLIENTS / "check.mjs"), str(MODULE), *words)
-        return Checker(self.name, client).task(amount)
+    def task(self, workload: Workload) -> Task:
+        """Returns the task of checking a line for each hash."""
+        warm_up = (
+            workload.password.decode(),
+            workload.hash.decode(),
+            str(workload.warm_up_hashes),
+        )
+        command = ("node", str(CLIENTS / "check.mjs"), str(MODULE), *warm_up)
+        return Checker(self.name, command).task(workload)
 
 
 @dataclass(frozen=True)
 class OpenSSL:
     """OpenSSL: its command for md5crypt and SHA-crypt, and its library for scrypt."""
 
-    derive: str  # a client
+    derive: str  # the path of that client
     name: str = "OpenSSL"
 
-    def task(self, amount: Amount) -> Task:
-        """Makes as many hashes."""
-        if amount.setting.startswith(SCRYPT.prefix):
-            return derived_by("openssl", self.derive, amount)
-        _, method, salt = amount.setting.decode().split("$", 2)
-        command = ("/usr/bin/openssl", "passwd", "-stdin", f"-{method}", "-salt", salt)
-        lines = (amount.password + b"\n") * amount.hashes
-        return Task(command, lines, (amount.hash + b"\n") * amount.hashes)
+    def task(self, workload: Workload) -> Task:
+        """Returns the task of making the hashes."""
+        if workload.setting.startswith(SCRYPT.prefix):
+            return derivation_task("openssl", self.derive, workload)
+        _, method, salt = workload.setting.decode().split("$", 2)
+        command = (OPENSSL, "passwd", "-stdin", f"-{method}", "-salt", salt)
+        lines = (workload.password + b"\n") * workload.hashes
+        return Task(command, lines, (workload.hash + b"\n") * workload.hashes)
 
 
 @dataclass(frozen=True)
 class Libsodium:
-    """libsodium, which has scrypt alone."""
+    """libsodium, which has only scrypt."""
 
-    derive: str  # a client
+    derive: str  # the path of that client
     name: str = "libsodium"
 
-    def task(self, amount: Amount) -> Task:
-        """Makes as many hashes."""
-        return derived_by("libsodium", self.derive, amount)
+    def task(self, workload: Workload) -> Task:
+        """Returns the task of making the hashes."""
+        return derivation_task("libsodium", self.derive, workload)
 
 
-def derived_by(library: str, derive: str, amount: Amount) -> Task:
-    """Makes as many hashes of scrypt by a library, whose digests the client prints."""
-    cost = amount.cost_of_scrypt
+def derivation_task(library: str, derive: str, workload: Workload) -> Task:
+    """Returns the task of deriving keys by a library's scrypt. The client prints each key."""
+    cost = workload.scrypt_cost
     if cost is None:
-        raise Stop(f"{library} can't make hashes of {amount.setting.decode()}")
-    salt = amount.setting[len(SCRYPT.prefix + cost.text) :]
+        raise Stop(f"{library} makes no hashes of {workload.setting.decode()}")
+    salt = workload.setting[len(SCRYPT.prefix + cost.text) :]
     numbers = (str(cost.log_n), str(cost.r), str(cost.p))
-    words = (salt.decode(), amount.password.decode(), str(amount.hashes))
-    digest = scrypt_digest(amount.hash).hex().encode()
-    return Task((derive, library, *numbers, *words), expected=(digest + b"\n") * amount.hashes)
+    words = (salt.decode(), workload.password.decode(), str(workload.hashes))
+    line = scrypt_digest(workload.hash).hex().encode() + b"\n"
+    return Task((derive, library, *numbers, *words), expected_output=line * workload.hashes)
 
 
 @dataclass(frozen=True)
 class Programs:
-    """All programs, with the clients that were compiled for this run."""
+    """All programs, with the clients in C that a run compiles into a folder."""
 
     folder: Path
 
@@ -121,7 +126,7 @@ class Programs:
 
     @property
     def libxcrypt(self) -> Program:
-        """The library of Debian's crypt(3)."""
+        """libxcrypt, which is crypt(3) in Debian."""
         return Checker("libxcrypt", (self.client("check"), "libxcrypt"))
 
     @property
@@ -136,7 +141,7 @@ class Programs:
 
     @property
     def passlib(self) -> Program:
-        """What passlib has in Python."""
+        """passlib's own code in Python."""
         return Checker("passlib", (PYTHON, str(CLIENTS / "check_by_passlib.py")))
 
     @property
@@ -153,6 +158,6 @@ class Programs:
         return str(self.folder / name)
 
     def compile(self, name: str, *libraries: str) -> None:
-        """Compiles a client in C, with our library and others."""
+        """Compiles a client in C, and links it with our library and others."""
         words = (f"-I{ROOT}/c", str(CLIENTS / f"{name}.c"), f"{ROOT}/libmkpasswd.a", *libraries)
-        printed(os.environ.get("CC", "cc"), "-O2", *words, "-o", self.client(name))
+        output_of(os.environ.get("CC", "cc"), "-O2", *words, "-o", self.client(name))

@@ -1,8 +1,8 @@
-"""Ratios: how much of the time of mkpasswd another program takes, or another build of it.
+"""Ratios: how long another program, or another build, takes in comparison with mkpasswd.
 
-The two run by turns, so that what slows the machine for a while slows both. A pair is some turns of
-each, of which the fastest count: other work can only make one longer. The ratios of many pairs
-have a median, and an interval for it.
+The two sides take turns, so that what slows the machine for a while slows both. A pair is a few
+turns of each side. The fastest turn of each counts, since other work on the machine can only make a
+turn longer. From the ratios of many pairs come a median and its interval.
 """
 from __future__ import annotations
 
@@ -12,26 +12,26 @@ from dataclasses import dataclass
 from pathlib import Path
 from typing import Protocol
 
-from .chromium import Chromium, browsing
+from .chromium import ModuleInChromium, running_chromium
 from .failure import Stop
 from .intervals import ratio_of
-from .processes import Task, Times, times_of
+from .processes import Task, Times, measure_times
 from .programs import BUILDS, Program, Programs
-from .results import Compared
-from .settings import MD5CRYPT, SALT, Amount, scrypt
+from .results import Comparison
+from .settings import MD5CRYPT, SALT, Workload, scrypt
 
-# Each takes some hundredths of a second, so that many pairs take seconds.
-AMOUNTS = {
-    "md5crypt": Amount(MD5CRYPT, hashes=400, hashes_before=200),
-    "sha256crypt": Amount(b"$5$rounds=200000$" + SALT),
-    "sha512crypt": Amount(b"$6$rounds=200000$" + SALT),
-    "scrypt, N = 2^14, r = 32": Amount(scrypt(14, 32, 1)),
-    "scrypt, N = 2^14, r = 8": Amount(scrypt(14, 8, 1)),
-    "scrypt, N = 2^10, r = 8, p = 16": Amount(scrypt(10, 8, 16)),
-    "scrypt, N = 2^8, r = 32, p = 64": Amount(scrypt(8, 32, 64)),
+# Each takes about a twentieth of a second, so that many pairs take seconds.
+WORKLOADS = {
+    "md5crypt": Workload(MD5CRYPT, hashes=400, warm_up_hashes=200),
+    "sha256crypt": Workload(b"$5$rounds=200000$" + SALT),
+    "sha512crypt": Workload(b"$6$rounds=200000$" + SALT),
+    "scrypt, N = 2^14, r = 32": Workload(scrypt(14, 32, 1)),
+    "scrypt, N = 2^14, r = 8": Workload(scrypt(14, 8, 1)),
+    "scrypt, N = 2^10, r = 8, p = 16": Workload(scrypt(10, 8, 16)),
+    "scrypt, N = 2^8, r = 32, p = 64": Workload(scrypt(8, 32, 64)),
 }
-TURNS = 3  # of each in a pair
-AMOUNTS_OF_BUILDS = ("md5crypt", "sha256crypt", "sha512crypt", "scrypt, N = 2^14, r = 32")
+WORKLOADS_OF_BUILDS = ("md5crypt", "sha256crypt", "sha512crypt", "scrypt, N = 2^14, r = 32")
+TURNS = 3  # of each side in a pair
 
 
 class Clock(enum.Enum):
@@ -40,115 +40,115 @@ class Clock(enum.Enum):
     PROCESSOR = enum.auto()
     ELAPSED = enum.auto()
 
-    def chosen(self, times: Times) -> float:
-        """The time that counts, in seconds."""
+    def select(self, times: Times) -> float:
+        """Returns the time that counts, in seconds."""
         return times.processor if self is Clock.PROCESSOR else times.elapsed
 
 
 @dataclass(frozen=True)
 class Turn:
-    """What a turn took, in seconds, and how much of that is for the start of a command."""
+    """What one turn took, in seconds, and what a program took that only starts and ends."""
 
-    whole: float
+    total: float
     start: float = 0
 
 
 class Side(Protocol):
-    """One side of a pair."""
+    """One of the two that are compared."""
 
     def take_turn(self) -> Turn:
-        """Runs once."""
+        """Runs once, and returns what that took."""
 
 
 @dataclass(frozen=True)
-class Timed:
-    """A task, and another one that does nothing but to start."""
+class TimedTask:
+    """A task; and if the start of its program isn't to count, a task that only starts it."""
 
     task: Task
     start: Task | None = None
     clock: Clock = Clock.PROCESSOR
-    runs: int = 1  # in a turn
+    runs: int = 1  # in one turn
 
     def take_turn(self) -> Turn:
-        """Runs each of the two."""
-        start = 0 if self.start is None else self._seconds_of(self.start)
-        return Turn(self._seconds_of(self.task), start)
+        """Runs the tasks, and returns what they took."""
+        start = 0.0 if self.start is None else self.measure(self.start)
+        return Turn(self.measure(self.task), start)
 
-    def _seconds_of(self, task: Task) -> float:
-        return sum(self.clock.chosen(times_of(task)) for _ in range(self.runs)) / self.runs
+    def measure(self, task: Task) -> float:
+        """Returns the seconds of all runs of a task in one turn."""
+        return sum(self.clock.select(measure_times(task)) for _ in range(self.runs)) / self.runs
 
 
 @dataclass(frozen=True)
-class InChromium:
-    """An amount of hashes in a page, which tells the time without that of its start."""
+class TimedPage:
+    """A page in Chromium, which measures no time but that of its hashes."""
 
-    page: Chromium
+    module: ModuleInChromium
 
     def take_turn(self) -> Turn:
-        """Opens the page once."""
-        return Turn(self.page.milliseconds() / 1e3)
+        """Opens the page, and returns the time that it measures."""
+        return Turn(self.module.measure_milliseconds() / 1e3)
 
 
-def timed(program: Program, amount: Amount, clock: Clock = Clock.PROCESSOR) -> Timed:
-    """A program that makes an amount of hashes."""
-    return Timed(program.task(amount), program.task(amount.none), clock)
+def timed(program: Program, workload: Workload, clock: Clock = Clock.PROCESSOR) -> TimedTask:
+    """Returns the side of a program that makes or checks hashes."""
+    return TimedTask(program.task(workload), program.task(workload.without_hashes), clock)
 
 
-def seconds_of(turns: Sequence[Turn]) -> float:
-    """What the fastest turn took, without the start of a command."""
-    seconds = min(turn.whole for turn in turns) - min(turn.start for turn in turns)
+def fastest(turns: Sequence[Turn]) -> float:
+    """Returns the seconds of the fastest turn, without the fastest start."""
+    seconds = min(turn.total for turn in turns) - min(turn.start for turn in turns)
     if seconds <= 0:
-        raise Stop("a run took less time than its start: the machine is too busy to measure")
+        raise Stop("a run took less time than its start alone: the machine is too busy to measure")
     return seconds
 
 
-def ratio_of_pair(base: Side, other: Side) -> float:
-    """How much of the base's time the other one takes, now."""
+def measure_pair(base: Side, other: Side) -> float:
+    """Lets the two sides take turns, and returns the other's time divided by the base's."""
     turns_of_base, turns_of_other = [], []
     for _ in range(TURNS):
         turns_of_base.append(base.take_turn())
         turns_of_other.append(other.take_turn())
-    return seconds_of(turns_of_other) / seconds_of(turns_of_base)
+    return fastest(turns_of_other) / fastest(turns_of_base)
 
 
-def compared(row: str, name: str, base: Side, other: Side, pairs: int) -> Compared:
-    """How much of the base's time the other one takes."""
-    ratios = [ratio_of_pair(base, other) for _ in range(pairs)]
-    return Compared(row, name, ratio_of(ratios))
+def compare(row: str, name: str, base: Side, other: Side, pairs: int) -> Comparison:
+    """Measures pairs of the two sides, and returns their row of a table."""
+    return Comparison(row, name, ratio_of([measure_pair(base, other) for _ in range(pairs)]))
 
 
 # The parts of the page
 
 
-def others(programs: Programs, amount: Amount) -> list[Program]:
-    """The programs beside which an amount of hashes is measured."""
-    if amount.cost_of_scrypt:
+def other_programs(programs: Programs, workload: Workload) -> list[Program]:
+    """Returns the programs of others that can make or check these hashes."""
+    if workload.scrypt_cost:
         return [programs.libxcrypt, programs.openssl, programs.libsodium]
     return [programs.libxcrypt, programs.openssl, programs.passlib]
 
 
-def measured_beside_others(programs: Programs, pairs: int) -> Iterator[Compared]:
-    """Hashes of each method, by other programs."""
-    for row, amount in AMOUNTS.items():
-        base = timed(programs.mkpasswd, amount)
-        for program in others(programs, amount):
-            yield compared(row, program.name, base, timed(program, amount), pairs)
+def measure_others(programs: Programs, pairs: int) -> Iterator[Comparison]:
+    """Measures other programs, with hashes of each method."""
+    for row, workload in WORKLOADS.items():
+        base = timed(programs.mkpasswd, workload)
+        for program in other_programs(programs, workload):
+            yield compare(row, program.name, base, timed(program, workload), pairs)
 
 
-def measured_builds(
+def measure_builds(
     programs: Programs, added: dict[str, str], pairs: int, folder: Path
-) -> Iterator[Compared]:
-    """Hashes of each method by our library and by other builds, also such as were named."""
+) -> Iterator[Comparison]:
+    """Measures our library, our other builds, and builds that the command line adds."""
     builds = [programs.build(name, path) for name, path in {**BUILDS, **added}.items()]
-    for row in AMOUNTS_OF_BUILDS:
-        amount = AMOUNTS[row]
-        base = timed(programs.mkpasswd, amount)
+    for row in WORKLOADS_OF_BUILDS:
+        workload = WORKLOADS[row]
+        base = timed(programs.mkpasswd, workload)
         for program in [programs.libmkpasswd, *builds, programs.node]:
-            yield compared(row, program.name, base, timed(program, amount), pairs)
-    with browsing(folder) as browser:
-        for row in AMOUNTS_OF_BUILDS:
-            amount = AMOUNTS[row]
-            # A browser tells no other time than what has elapsed.
-            base = timed(programs.mkpasswd, amount, Clock.ELAPSED)
-            page = InChromium(Chromium(browser, folder, amount))
-            yield compared(row, "Chromium", base, page, pairs)
+            yield compare(row, program.name, base, timed(program, workload), pairs)
+    with running_chromium(folder) as browser:
+        for row in WORKLOADS_OF_BUILDS:
+            workload = WORKLOADS[row]
+            # A page can measure no time but what elapses.
+            base = timed(programs.mkpasswd, workload, Clock.ELAPSED)
+            page = TimedPage(ModuleInChromium(browser, folder, workload))
+            yield compare(row, "Chromium", base, page, pairs)

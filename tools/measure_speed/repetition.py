@@ -1,52 +1,53 @@
-"""Whether two runs agree: that what is measured can be measured again."""
+"""Compares two runs: whether the second one measured the same as the first."""
 from __future__ import annotations
 
 from collections.abc import Iterator
 
-from .results import Compared, Count, Login, Part, Results, Row
+from .results import Comparison, Count, Login, Part, Results, Row
 
-MOST_DIFFERENCE = 0.001  # of counts
-
-
-def pairs_of(before: Results, after: Results, part: Part) -> Iterator[tuple[Row, Row]]:
-    """The rows of a part in both results that are about the same."""
-    if part in before.parts and part in after.parts:
-        found = {about(row): row for row in before.parts[part].rows}
-        for row in after.parts[part].rows:
-            if about(row) in found:
-                yield found[about(row)], row
+COUNT_TOLERANCE = 0.001
 
 
-def about(row: Row) -> tuple[str, ...]:
-    """What a row is about."""
+def key_of(row: Row) -> tuple[str, ...]:
+    """Returns what a row is about, which is the same in every run."""
     if isinstance(row, Count):
         return (row.unit, row.program)
-    if isinstance(row, Compared):
+    if isinstance(row, Comparison):
         return (row.row, row.name)
     if isinstance(row, Login):
-        return (row.method, row.client, row.kind)
+        return (row.method, row.client, row.field)
     return (row.row,)
 
 
-def are_close(before: float, after: float) -> bool:
-    """Whether counts differ by so little that they are of the same code."""
-    return abs(after - before) <= MOST_DIFFERENCE * before
+def rows_in_both(first: Results, second: Results, part: Part) -> Iterator[tuple[Row, Row]]:
+    """Yields the two rows of each key that both runs have in a part."""
+    if part not in first.parts or part not in second.parts:
+        return
+    rows_of_first = {key_of(row): row for row in first.parts[part].rows}
+    for row in second.parts[part].rows:
+        if key_of(row) in rows_of_first:
+            yield rows_of_first[key_of(row)], row
 
 
-def disagreements(before: Results, after: Results) -> Iterator[str]:
-    """A sentence for each number that two runs contradict each other in."""
+def are_close(first: float, second: float) -> bool:
+    """Whether two counts are equal within the tolerance."""
+    return abs(second - first) <= COUNT_TOLERANCE * first
+
+
+def agree(first: Row, second: Row) -> bool:
+    """Whether counts are close, or intervals overlap. Seconds and memory may differ."""
+    if isinstance(first, Count) and isinstance(second, Count):
+        return are_close(first.instructions, second.instructions)
+    if isinstance(first, Login) and isinstance(second, Login):
+        return are_close(first.work, second.work)
+    if isinstance(first, Comparison) and isinstance(second, Comparison):
+        return first.ratio.interval.overlaps(second.ratio.interval)
+    return True
+
+
+def disagreements(first: Results, second: Results) -> Iterator[str]:
+    """Yields the two rows of each number in which the runs disagree."""
     for part in Part:
-        for old, new in pairs_of(before, after, part):
+        for old, new in rows_in_both(first, second, part):
             if not agree(old, new):
                 yield f"{part.value}: {old}\n{' ' * len(part.value)}  {new}"
-
-
-def agree(before: Row, after: Row) -> bool:
-    """Whether counts are close, and intervals overlap. Times and memory may be others."""
-    if isinstance(before, Count) and isinstance(after, Count):
-        return are_close(before.instructions, after.instructions)
-    if isinstance(before, Login) and isinstance(after, Login):
-        return are_close(before.work, after.work)
-    if isinstance(before, Compared) and isinstance(after, Compared):
-        return before.ratio.interval.overlaps(after.ratio.interval)
-    return True

@@ -1,7 +1,7 @@
-"""What docs/speed.json has: for each part of the page where and when it was measured, and its rows.
+"""What docs/speed.json holds: the rows of each part of the page, and its date, machine and code.
 
-A part is of one run. To measure a part again replaces all of it and leaves the others, so that no
-table has numbers of two runs.
+A part comes from one run. Measuring it again replaces all of it and leaves the other parts, so no
+table mixes the numbers of two runs.
 """
 from __future__ import annotations
 
@@ -22,7 +22,8 @@ class Part(enum.Enum):
     INSTRUCTIONS = "instructions"
     RATIOS = "ratios"
     BUILDS = "builds"
-    PWHASH = "pwhash"
+    STARTS = "starts"
+    CORES = "cores"
     LOGINS = "logins"
     MEMORY = "memory"
     SECONDS = "seconds"
@@ -30,10 +31,10 @@ class Part(enum.Enum):
 
 @dataclass(frozen=True)
 class Conditions:
-    """When, where and of what a part was measured."""
+    """When and where a part was measured, and what."""
 
     date: str
-    crates: str  # the tree of that folder, as git names it
+    crates: str  # the hash of that folder in git
     processor: str
     ghz: float
     cores: int
@@ -43,7 +44,7 @@ class Conditions:
 
 @dataclass(frozen=True)
 class Count:
-    """Instructions for a unit of work."""
+    """The instructions of a unit of work."""
 
     unit: str
     program: str
@@ -54,8 +55,8 @@ class Count:
 
 
 @dataclass(frozen=True)
-class Compared:
-    """How much of the time of mkpasswd something takes; of cores, how much faster they are."""
+class Comparison:
+    """A ratio: the time of something, divided by that of what its part compares it with."""
 
     row: str
     name: str
@@ -63,8 +64,8 @@ class Compared:
 
     def __str__(self) -> str:
         interval = self.ratio.interval
-        between = f"{interval.lower:.4f} to {interval.upper:.4f}"
-        return f"{self.row:40} {self.name:16} {self.ratio.median:10.4f} ({between})"
+        bounds = f"{interval.lower:.4f} to {interval.upper:.4f}"
+        return f"{self.row:40} {self.name:16} {self.ratio.median:10.4f} ({bounds})"
 
 
 @dataclass(frozen=True)
@@ -73,16 +74,16 @@ class Login:
 
     method: str
     client: str
-    kind: str
+    field: str
     work: float
 
     def __str__(self) -> str:
-        return f"{self.method:40} {self.client:16} {self.kind:17} {self.work:14,.0f}"
+        return f"{self.method:40} {self.client:16} {self.field:17} {self.work:14,.0f}"
 
 
 @dataclass(frozen=True)
 class Memory:
-    """The most memory that a command took."""
+    """The most memory that a command had."""
 
     row: str
     program: str
@@ -100,20 +101,21 @@ class Seconds:
     row: str
     fastest: float
     runs: int
-    cost: int = 0  # of a hash; 0 where it is none
+    cost: int = 0  # of a hash; 0 for what isn't a hash
 
     def __str__(self) -> str:
         return f"{self.row:40} {1e3 * self.fastest:27,.5g} ms"
 
 
-Row = Count | Compared | Login | Memory | Seconds
-AnyRow = TypeVar("AnyRow", Count, Compared, Login, Memory, Seconds)
+Row = Count | Comparison | Login | Memory | Seconds
+AnyRow = TypeVar("AnyRow", Count, Comparison, Login, Memory, Seconds)
 
-ROWS: Mapping[Part, type[Row]] = {
+ROW_TYPES: Mapping[Part, type[Row]] = {
     Part.INSTRUCTIONS: Count,
-    Part.RATIOS: Compared,
-    Part.BUILDS: Compared,
-    Part.PWHASH: Compared,
+    Part.RATIOS: Comparison,
+    Part.BUILDS: Comparison,
+    Part.STARTS: Comparison,
+    Part.CORES: Comparison,
     Part.LOGINS: Login,
     Part.MEMORY: Memory,
     Part.SECONDS: Seconds,
@@ -130,61 +132,71 @@ class Measured:
 
 @dataclass
 class Results:
-    """All that was measured, by its part."""
+    """The parts that were measured."""
 
     parts: dict[Part, Measured] = field(default_factory=dict)
 
-    def rows(self, part: Part, kind: type[AnyRow]) -> list[AnyRow]:
-        """The rows of a part; none where it wasn't measured."""
+    def rows(self, part: Part, row_type: type[AnyRow]) -> list[AnyRow]:
+        """Returns the rows of a part; none if it wasn't measured."""
         if part not in self.parts:
             return []
-        return [row for row in self.parts[part].rows if isinstance(row, kind)]
+        return [row for row in self.parts[part].rows if isinstance(row, row_type)]
 
 
-# The file
+# Writing the file
 
 
-def in_json(value: object) -> str:
-    """A value in one line."""
+def to_json(value: object) -> str:
+    """Formats a value in one line."""
     return json.dumps(value, separators=(",", ":"), ensure_ascii=False)
 
 
-def part_text(part: Part, measured: Measured) -> str:
-    """A part in the file, with a line for each row."""
-    conditions = in_json(asdict(measured.conditions))
-    rows = ",\n".join(in_json(asdict(row)) for row in measured.rows)
-    return f'{in_json(part.value)}:{{"conditions":{conditions},"rows":[\n{rows}]}}'
+def format_part(part: Part, measured: Measured) -> str:
+    """Formats a part, with a line for each row."""
+    conditions = to_json(asdict(measured.conditions))
+    rows = ",\n".join(to_json(asdict(row)) for row in measured.rows)
+    return f'{to_json(part.value)}:{{"conditions":{conditions},"rows":[\n{rows}]}}'
 
 
-def text_of(results: Results) -> str:
-    """What the file has."""
-    parts = [part_text(part, results.parts[part]) for part in Part if part in results.parts]
+def format_results(results: Results) -> str:
+    """Formats the whole file."""
+    parts = [format_part(part, results.parts[part]) for part in Part if part in results.parts]
     return "{" + ",\n".join(parts) + "}\n"
 
 
-def read_row(kind: type[Row], values: dict[str, Any]) -> Row:
-    """A row as the file has it."""
+# Reading it
+
+
+def read_row(row_type: type[Row], values: dict[str, Any]) -> Row:
+    """Reads a row."""
     if "ratio" in values:
         ratio = values["ratio"]
         values["ratio"] = Ratio(ratio["median"], Interval(**ratio["interval"]), ratio["pairs"])
-    return kind(**values)
+    return row_type(**values)
 
 
 def read_part(part: Part, value: dict[str, Any]) -> Measured:
-    """A part as the file has it."""
-    rows = tuple(read_row(ROWS[part], row) for row in value["rows"])
+    """Reads a part."""
+    rows = tuple(read_row(ROW_TYPES[part], row) for row in value["rows"])
     return Measured(Conditions(**value["conditions"]), rows)
 
 
-def read_results(path: Path) -> Results:
-    """What a file has; nothing where there is no file."""
+def parse_results(text: str) -> Results:
+    """Reads what a file holds. Raises ValueError for what tools/bench doesn't write."""
     try:
-        found = json.loads(path.read_text(encoding="utf-8"))
-        known = [part for part in Part if part.value in found]
-        return Results({part: read_part(part, found[part.value]) for part in known})
+        found = json.loads(text)
+        return Results({Part(name): read_part(Part(name), value) for name, value in found.items()})
+    except (KeyError, TypeError, AttributeError) as error:
+        raise ValueError("not a file of tools/bench") from error
+
+
+def read_results(path: Path) -> Results:
+    """Reads a file of results. No file means that nothing was measured."""
+    try:
+        return parse_results(path.read_text(encoding="utf-8"))
     except FileNotFoundError:
         return Results()
     except OSError as error:
         raise Stop(f"{path}: {error.strerror}") from None
-    except (ValueError, KeyError, TypeError, AttributeError):
-        raise Stop(f"{path} is not what tools/bench writes: remove it") from None
+    except ValueError:
+        raise Stop(f"{path} isn't a file that tools/bench wrote: remove it") from None

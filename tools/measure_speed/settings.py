@@ -1,4 +1,4 @@
-"""The settings of the hashes that are measured, and their hashes by libxcrypt."""
+"""What is hashed: settings, passwords, and the hashes that libxcrypt makes of them."""
 from __future__ import annotations
 
 import functools
@@ -16,12 +16,12 @@ SALT = b"x" * 16
 
 
 def scrypt(log_n: int, r: int, p: int, salt: bytes = b"x" * 22) -> bytes:
-    """A setting of scrypt."""
+    """Returns a setting of scrypt."""
     return b"$7$" + ScryptCost(log_n, r, p).text + salt
 
 
 def recommended(method: Method, salt: bytes) -> bytes:
-    """A setting with the recommended rounds."""
+    """Returns a setting with the recommended rounds."""
     return recommended_setting(method, None, salt).text
 
 
@@ -32,41 +32,44 @@ SCRYPT = scrypt(14, 32, 1)
 
 
 @dataclass(frozen=True)
-class Amount:
-    """So many hashes of one password with one setting."""
+class Workload:
+    """A number of hashes, all of one password with one setting."""
 
     setting: bytes
     hashes: int = 1
     password: bytes = PASSWORD
-    # What an engine of JavaScript makes before these, so that it has compiled the code.
-    hashes_before: int = 1
+    # How many more an engine of JavaScript makes first, to have compiled the code.
+    warm_up_hashes: int = 1
 
     @property
-    def none(self) -> Amount:
-        """The same without any hash, which takes what a command takes to start."""
+    def without_hashes(self) -> Workload:
+        """The same without any hash: a program that gets this only starts and ends."""
         return replace(self, hashes=0)
 
     @property
     def hash(self) -> bytes:
-        """The hash."""
+        """The hash, as libxcrypt makes it."""
         return hash_of(self.setting, self.password)
 
     @property
-    def cost_of_scrypt(self) -> ScryptCost | None:
-        """The numbers of a setting of scrypt, None for another method."""
+    def scrypt_cost(self) -> ScryptCost | None:
+        """N, r and p of a setting of scrypt; None for another method."""
         return read_setting(self.setting).scrypt
 
 
 @functools.cache
 def hash_of(setting: bytes, password: bytes = PASSWORD) -> bytes:
-    """The hash of a password by libxcrypt."""
+    """Returns the hash that libxcrypt makes."""
     text = libxcrypt.crypt_or_none(password, setting)
     if text is None:
-        raise Stop(f"libxcrypt doesn't take the setting {setting.decode()}")
+        raise Stop(f"libxcrypt refuses the setting {setting.decode()}")
     return text
 
 
-def scrypt_digest(text: bytes) -> bytes:
-    """The 32 bytes in a hash of scrypt, whose characters have six bits each, the lowest first."""
-    digits = text.rpartition(b"$")[2]
+def scrypt_digest(stored_hash: bytes) -> bytes:
+    """Returns the 32 bytes that a hash of scrypt ends in.
+
+    Each of its characters stands for six bits, the lowest first.
+    """
+    digits = stored_hash.rpartition(b"$")[2]
     return number_of(digits).to_bytes(33, "little")[:32]

@@ -1,5 +1,7 @@
-/* Checks lines `name:hash:password` as mkpasswd --check does, with the argument `libmkpasswd` by
- * our library, and with `libxcrypt` by crypt_rn(3). */
+/* Checks lines `name:hash:password` as mkpasswd --check does, but by a library:
+ *
+ *     check libmkpasswd|libxcrypt
+ */
 #define _GNU_SOURCE /* for crypt_rn */
 #include <crypt.h>
 #include <mkpasswd.h>
@@ -13,9 +15,9 @@ static bool matches_by_libmkpasswd(const char *password, const char *hash)
 static bool matches_by_libxcrypt(const char *password, const char *hash)
 {
     static struct crypt_data data;
-    const char *made = crypt_rn(password, hash, &data, sizeof data);
+    const char *result = crypt_rn(password, hash, &data, sizeof data);
 
-    return made && strcmp(made, hash) == 0;
+    return result && strcmp(result, hash) == 0;
 }
 
 int main(int argc, char **argv)

@@ -1,6 +1,6 @@
-"""Checks lines `name:hash:password` as mkpasswd --check does, by what passlib has in Python.
+"""Checks lines `name:hash:password` as mkpasswd --check does, but by passlib's code in Python.
 
-Its other backend for these hashes is libxcrypt.
+passlib's other backend for these hashes is libxcrypt, which is measured by itself.
 """
 from __future__ import annotations
 
@@ -13,7 +13,7 @@ HANDLERS = (md5_crypt, sha256_crypt, sha512_crypt)
 
 
 def main() -> None:
-    """Prints what each line comes to."""
+    """Prints `name:ok` or `name:no` for each line."""
     for handler in HANDLERS:
         handler.set_backend("builtin")
     context = CryptContext(HANDLERS)

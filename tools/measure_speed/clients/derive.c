@@ -1,4 +1,4 @@
-/* Derives 32 bytes by scrypt and prints them, as often as the last argument says:
+/* Derives a key of 32 bytes by scrypt and prints it in hexadecimal, COUNT times:
  *
  *     derive openssl|libsodium LOG_N R P SALT PASSWORD COUNT
  */
@@ -10,7 +10,7 @@
 #include <stdlib.h>
 #include <string.h>
 
-#define DERIVED 32
+#define KEY_LENGTH 32
 
 struct scrypt {
     uint64_t n;
@@ -18,19 +18,19 @@ struct scrypt {
     const char *salt, *password;
 };
 
-static bool derive_by_openssl(const struct scrypt *scrypt, unsigned char *derived)
+static bool derive_by_openssl(const struct scrypt *scrypt, unsigned char *key)
 {
     return EVP_PBE_scrypt(scrypt->password, strlen(scrypt->password),
                (const unsigned char *)scrypt->salt, strlen(scrypt->salt), scrypt->n, scrypt->r,
-               scrypt->p, UINT64_MAX, derived, DERIVED)
+               scrypt->p, UINT64_MAX, key, KEY_LENGTH)
         == 1;
 }
 
-static bool derive_by_libsodium(const struct scrypt *scrypt, unsigned char *derived)
+static bool derive_by_libsodium(const struct scrypt *scrypt, unsigned char *key)
 {
     return crypto_pwhash_scryptsalsa208sha256_ll((const uint8_t *)scrypt->password,
                strlen(scrypt->password), (const uint8_t *)scrypt->salt, strlen(scrypt->salt),
-               scrypt->n, scrypt->r, scrypt->p, derived, DERIVED)
+               scrypt->n, scrypt->r, scrypt->p, key, KEY_LENGTH)
         == 0;
 }
 
@@ -39,16 +39,16 @@ static uint32_t number_of(const char *text)
     return (uint32_t)strtoul(text, NULL, 10);
 }
 
-static void print_derived(const unsigned char *derived)
+static void print_key(const unsigned char *key)
 {
-    for (int place = 0; place < DERIVED; place++)
-        printf("%02x", derived[place]);
+    for (int place = 0; place < KEY_LENGTH; place++)
+        printf("%02x", key[place]);
     putchar('\n');
 }
 
 int main(int argc, char **argv)
 {
-    unsigned char derived[DERIVED];
+    unsigned char key[KEY_LENGTH];
     struct scrypt scrypt;
     bool is_openssl;
     uint32_t count;
@@ -63,12 +63,12 @@ int main(int argc, char **argv)
     scrypt.password = argv[6];
     count = number_of(argv[7]);
     for (uint32_t number = 0; number < count; number++) {
-        bool is_derived = is_openssl ? derive_by_openssl(&scrypt, derived)
-                                     : derive_by_libsodium(&scrypt, derived);
+        bool is_derived = is_openssl ? derive_by_openssl(&scrypt, key)
+                                     : derive_by_libsodium(&scrypt, key);
 
         if (!is_derived)
             return 1;
-        print_derived(derived);
+        print_key(key);
     }
     return 0;
 }

@@ -1,5 +1,5 @@
-/* Logs in by mkpasswd_login, as often as COUNT says, and prints 1 for each login that gets in and 0
- * for each other one. Without FIELD the name isn't known.
+/* Logs in COUNT times by mkpasswd_login, and prints 1 for each login that succeeds and 0 for each
+ * that fails. Without FIELD the name is unknown.
  *
  *     log_in METHOD ROUNDS COUNT PASSWORD [FIELD]
  */

@@ -1,4 +1,4 @@
-"""Logs in by the Python package, as log_in.c does by the library, with the same arguments."""
+"""Logs in by the Python package, with the arguments and the output of log_in.c."""
 from __future__ import annotations
 
 import sys
@@ -9,7 +9,7 @@ METHODS = {"1": "md5crypt", "5": "sha256crypt", "6": "sha512crypt", "7": "scrypt
 
 
 def main() -> None:
-    """Prints 1 for each login that gets in and 0 for each other one."""
+    """Prints 1 for each login that succeeds and 0 for each that fails."""
     method, rounds, count, password, *stored = sys.argv[1:]
     policy = Policy(METHODS[method], int(rounds))
     field = stored[0] if stored else None
