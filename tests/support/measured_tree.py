@@ -42,13 +42,16 @@ skipped: not applicable: no loop device can be made
 make: Leaving directory '/root/mkpasswd'
 """
 SPEED = """\
-{"rows": [
-{"table": "hash", "row": "md5crypt", "side": "mkpasswd", "median": 0.002,
- "quartiles": [0.0019, 0.0021], "measurements": 9},
-{"table": "hash", "row": "md5crypt", "side": "libxcrypt", "median": 0.003,
- "quartiles": [0.0029, 0.0031], "measurements": 9}
-]}
-"""
+{"instructions": {"conditions": CONDITIONS, "rows": [
+{"unit": "a round", "program": "mkpasswd", "instructions": 829.1}]},
+"ratios": {"conditions": CONDITIONS, "rows": [
+{"row": "md5crypt", "name": "libxcrypt",
+ "ratio": {"median": 1.2, "interval": {"lower": 1.1, "upper": 1.3}, "pairs": 9}}]}}
+""".replace(
+    "CONDITIONS",
+    '{"date": "2026-11-30", "crates": "", "processor": "", "ghz": 2.5, "cores": 4, "kernel": "", '
+    '"versions": {}}',
+)
 # The files beside the fake commands: their outputs.
 OUTPUTS = {
     "gate.log": GATE.format(share=FROM_NOTHING),
@@ -215,7 +218,9 @@ def measured_tree(folder: Path) -> MeasuredTree:
         tree.write(path, text)
     shutil.copy(ROOT / "tools/evidence", tree.folder / "tools")
     ignored = shutil.ignore_patterns("__pycache__")
-    shutil.copytree(ROOT / "tools/measure", tree.folder / "tools/measure", ignore=ignored)
+    for package in ("measure", "measure_speed"):
+        path = f"tools/{package}"
+        shutil.copytree(ROOT / path, tree.folder / path, ignore=ignored)
     tree.git("init", "--quiet")
     tree.commit()
     return tree

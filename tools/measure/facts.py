@@ -4,6 +4,8 @@ from __future__ import annotations
 
 from dataclasses import dataclass
 
+from measure_speed.results import Comparison, Count
+
 
 @dataclass(frozen=True)
 class Gate:
@@ -75,22 +77,11 @@ class Plants:
 
 
 @dataclass(frozen=True)
-class Timed:
-    """The times of one side of a row of tools/bench, in seconds."""
-
-    table: str
-    row: str
-    side: str
-    median: float
-    quartiles: tuple[float, ...]
-    measurements: int
-
-
-@dataclass(frozen=True)
 class Bench:
-    """The times of all sides of all rows."""
+    """What tools/bench measured: instructions, and ratios of times."""
 
-    timed: tuple[Timed, ...]
+    counts: tuple[Count, ...]
+    comparisons: tuple[Comparison, ...]
 
 
 @dataclass(frozen=True)

@@ -3,13 +3,13 @@
 from __future__ import annotations
 
 import ast
-import json
 import re
 from collections import Counter
 from collections.abc import Callable, Iterator
 
 from measure.errors import Failed
-from measure.facts import Bench, Fuzz, Gate, Plant, Plants, Skip, Soak, Timed
+from measure.facts import Bench, Fuzz, Gate, Plant, Plants, Skip, Soak
+from measure_speed.results import Comparison, Count, Part, parse_results
 
 # rt's words if a run reused nothing from earlier ones.
 FROM_NOTHING = "every proof and must-fail edit was done in this run"
@@ -165,25 +165,21 @@ def functions_of(kind: str, log: str, count: int) -> tuple[str, ...]:
     return functions
 
 
-# Times
+# Speed
 
 
-def read_bench(results: str) -> Bench:
-    """Reads docs/speed.json, which tools/bench writes."""
+def read_bench(text: str) -> Bench:
+    """Reads docs/speed.json, which tools/bench writes.
+
+    The part `cores` is left out: on a busy machine it stays as it was before the run.
+    """
     try:
-        rows = json.loads(results)["rows"]
-        return Bench(
-            tuple(
-                Timed(
-                    row["table"],
-                    row["row"],
-                    str(row["side"]),
-                    row["median"],
-                    tuple(row["quartiles"]),
-                    row["measurements"],
-                )
-                for row in rows
-            )
-        )
-    except (ValueError, KeyError, TypeError):
+        results = parse_results(text)
+    except ValueError:
         raise Failed("docs/speed.json isn't as tools/bench writes it") from None
+    parts = (Part.RATIOS, Part.BUILDS, Part.STARTS)
+    comparisons = [row for part in parts for row in results.rows(part, Comparison)]
+    counts = results.rows(Part.INSTRUCTIONS, Count)
+    if not (counts and comparisons):
+        raise Failed("docs/speed.json lacks what tools/bench measures")
+    return Bench(tuple(counts), tuple(comparisons))

@@ -5,11 +5,12 @@ from __future__ import annotations
 import re
 from collections.abc import Callable, Iterable, Iterator, Sequence
 
-from measure.facts import Artifacts, Bench, Check, Fuzz, Gate, Plant, Plants, Skip, Soak, Timed
+from measure.facts import Artifacts, Bench, Check, Fuzz, Gate, Plant, Plants, Skip, Soak
 from measure.parts import OTHER_ENVIRONMENT, OTHER_USER, Commit, Part
 from measure.repository import ALL_FILES, PAGE
 from measure.results import Machine, Result
 from measure.roots import RELEASES
+from measure_speed.results import Comparison, Count
 
 HEAD = """\
 # Evidence
@@ -73,13 +74,6 @@ def duration(seconds: float) -> str:
     if minutes < 60:
         return f"{minutes} min"
     return f"{minutes // 60} h {minutes % 60} min"
-
-
-def three_digits(value: float) -> str:
-    """Returns a number with about three digits."""
-    if value >= 1000:
-        return f"{value:,.0f}"
-    return f"{value:.3g}" if value >= 100 else f"{value:#.3g}"
 
 
 # All parts
@@ -294,41 +288,48 @@ def functions(
     return f"\n{title}:\n\n{''.join(lines)}" if lines else ""
 
 
-# Times
+# Speed
 
 
-def times(pairs: Sequence[Pair]) -> str:
-    """Returns the section about the times."""
+def speed(pairs: Sequence[Pair]) -> str:
+    """Returns the section about instructions and ratios."""
     for _, result in pairs:
         if result is not None and isinstance(result.found, Bench):
-            timed = result.found.timed
-            count = max(row.measurements for row in timed)
+            bench = result.found
             return (
-                f"Medians of up to {count} measurements, with quartiles. Other sides are multiples "
-                "of the first side's median, with the least and the largest that the quartiles "
-                "allow. "
-                "[SPEED](SPEED.md) says what is timed, and has the times of a run of its own.\n\n"
-            ) + table(("Table", "Row", "Milliseconds", "Other sides"), rows_of_times(timed))
+                "[SPEED](SPEED.md) says how this is measured, and has the numbers of a run of its "
+                "own.\n\n"
+                + table(("Instructions for", "Programs"), rows_of_counts(bench.counts))
+                + "\nRatios of times, with intervals of 99 %:\n\n"
+                + table(("Time of mkpasswd = 1", "Others"), rows_of_ratios(bench.comparisons))
+            )
     return ""
 
 
-def rows_of_times(timed: Sequence[Timed]) -> Iterator[list[str]]:
-    """Yields a row for each row of tools/bench."""
-    grouped: dict[tuple[str, str], list[Timed]] = {}
-    for side in timed:
-        grouped.setdefault((side.table, side.row), []).append(side)
-    for (name, row), (first, *others) in grouped.items():
-        lower, upper = (three_digits(1e3 * quartile) for quartile in first.quartiles)
-        median = three_digits(1e3 * first.median)
-        ratios = ", ".join(ratio(side, first) for side in others)
-        yield [name, row, f"{first.side}: {median} ({lower} to {upper})", ratios]
+def rows_of_counts(counts: Sequence[Count]) -> Iterator[list[str]]:
+    """Yields a row for each unit of work, with the instructions of each program."""
+    programs: dict[str, list[str]] = {}
+    for count in counts:
+        shown = f"{count.program} {number(round(count.instructions))}"
+        programs.setdefault(count.unit, []).append(shown)
+    for unit, shown_counts in programs.items():
+        yield [unit, "; ".join(shown_counts)]
 
 
-def ratio(side: Timed, first: Timed) -> str:
-    """Returns a side's time divided by the first side's."""
-    least = side.quartiles[0] / first.quartiles[1]
-    most = side.quartiles[1] / first.quartiles[0]
-    return f"{side.side} {side.median / first.median:.2f} ({least:.2f} to {most:.2f})"
+def rows_of_ratios(comparisons: Sequence[Comparison]) -> Iterator[list[str]]:
+    """Yields a row for each kind of hash or command, with all that is compared with mkpasswd."""
+    others: dict[str, list[str]] = {}
+    for comparison in comparisons:
+        others.setdefault(comparison.row, []).append(ratio(comparison))
+    for row, ratios in others.items():
+        yield [row, ", ".join(ratios)]
+
+
+def ratio(comparison: Comparison) -> str:
+    """Returns a ratio with its interval."""
+    interval = comparison.ratio.interval
+    bounds = f"{interval.lower:.2f} to {interval.upper:.2f}"
+    return f"{comparison.name} {comparison.ratio.median:.2f} ({bounds})"
 
 
 # Artifacts
@@ -358,7 +359,7 @@ SECTIONS: dict[str, Callable[[Sequence[Pair]], str]] = {
     "Random inputs": random_inputs,
     "Wrong bodies": plants,
     "Artifacts": artifacts,
-    "Times": times,
+    "Speed": speed,
 }
 
 

@@ -107,7 +107,7 @@ def read_text(path: Path) -> str:
         raise Failed(f"{path}: {error.strerror}") from None
 
 
-# Random inputs, wrong bodies and times
+# Random inputs, wrong bodies and speed
 
 
 def measure_soak(place: Workplace) -> Soak:
@@ -147,7 +147,7 @@ def measure_plants(place: Workplace, crate: str) -> Plants:
 
 
 def measure_bench(place: Workplace) -> Bench:
-    """Measures times beside those of other programs."""
+    """Measures speed in comparison with other programs."""
     with place.built_clone() as clone:
         place.run("make", "bench", cwd=clone)
         return read_bench(read_text(clone / "docs/speed.json"))
