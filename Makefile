@@ -278,7 +278,7 @@ build/site/index.html: tools/site tools/version $(wildcard *.md docs/* man/* c/*
 ## measures instructions, and times beside other programs, and writes docs/SPEED.md; BENCH has
 ## options of tools/bench
 bench: mkpasswd libmkpasswd.a libmkpasswd.so.3 $(MODULES) build/x86-64/mkpasswd \
-		build/x86-64-v3/mkpasswd build/mkpasswd.mjs
+		build/x86-64-v3/libmkpasswd.so.3 build/mkpasswd.mjs
 	tools/bench $(BENCH)
 
 ## makes the pictures in docs again: the page, a terminal, the plots

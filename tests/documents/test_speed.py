@@ -5,6 +5,7 @@ is at most the k-th smallest if more than half of its n draws are, each with the
 """
 from __future__ import annotations
 
+import re
 import shutil
 import signal
 import subprocess
@@ -71,6 +72,8 @@ def test_ratio_is_the_median_of_pairs() -> None:
         pytest.param(1.01, 0.99, 1.03, "the same", id="an interval around 1"),
         pytest.param(1.01, 1.0, 1.03, "the same", id="an interval that begins at 1"),
         pytest.param(0.99, 0.98, 1.0, "the same", id="an interval that ends at 1"),
+        pytest.param(1.01, 0.89, 1.05, "unclear (0.89 to 1.05)", id="a wide interval below 1"),
+        pytest.param(1.01, 0.95, 1.2, "unclear (0.95 to 1.20)", id="a wide interval above 1"),
         pytest.param(1.01, 1.004, 1.03, "the same", id="an interval that begins at 1.00"),
         pytest.param(1.01, 1.006, 1.03, "1.01 (1.01 to 1.03)", id="an interval above 1.00"),
         pytest.param(86.26, 84.06, 88.0, "86.3 (84.1 to 88.0)", id="a large ratio"),
@@ -116,6 +119,18 @@ def ratio_between(lower: float, upper: float) -> Comparison:
 def test_two_runs_disagree(part: Part, before: Row, after: Row, do_disagree: bool) -> None:
     found = list(disagreements(results_of(part, before), results_of(part, after)))
     assert bool(found) is do_disagree, found
+
+
+def test_the_command_compares_with_another_run(tmp_path: Path) -> None:
+    other = tmp_path / "other.json"
+    text = (ROOT / "docs/speed.json").read_text(encoding="utf-8")
+    other.write_text(text, encoding="utf-8")
+    result = run(ROOT / "tools/bench", "--compare", other).required()
+    assert result.stdout.endswith(b" rows are in both runs; 0 of them disagree\n"), result
+    first_count = re.compile(r'"instructions":(\d)')
+    other.write_text(first_count.sub(r'"instructions":1\1', text, count=1), encoding="utf-8")
+    result = run(ROOT / "tools/bench", "--compare", other)
+    assert result.status == 1 and b"; 1 of them disagree\n" in result.stdout, result
 
 
 # ---- The page and its file

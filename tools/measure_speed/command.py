@@ -15,14 +15,14 @@ from .failure import Stop
 from .page import MARKS, fill
 from .plots import plot_lengths, plot_methods
 from .processes import ROOT
-from .programs import BUILDS, MKPASSWD, MODULE, Programs
+from .programs import LIBRARY, LIBRARY_FOR_V3, MKPASSWD, MODULE, STATIC_PROGRAM, Programs
 from .repetition import disagreements, rows_in_both
 from .results import Measured, Part, Results, Row, format_results, read_results
 
 DOCUMENTS = ROOT / "docs"
 RESULTS = DOCUMENTS / "speed.json"
 PAGE = DOCUMENTS / "SPEED.md"
-PAIRS, PAIRS_IF_SHORT = 25, 5
+SECONDS_OF_RATIO, SECONDS_IF_SHORT = 5.0, 2.0
 
 
 @dataclass(frozen=True)
@@ -30,7 +30,7 @@ class Options:
     """What the command line says."""
 
     parts: tuple[Part, ...]
-    pairs: int
+    seconds_of_ratio: float
     builds: dict[str, str]  # paths of programs, by the names that they get in the tables
     writes_documents: bool
     only_writes_page: bool
@@ -68,8 +68,8 @@ def argument_parser() -> argparse.ArgumentParser:
     parser.add_argument(
         "--short",
         action="store_true",
-        help=f"measure {PAIRS_IF_SHORT} pairs for a ratio instead of {PAIRS}; print the tables and "
-        "write nothing",
+        help=f"measure each ratio for about {SECONDS_IF_SHORT:g} seconds instead of "
+        f"{SECONDS_OF_RATIO:g}; print the tables and write nothing",
     )
     parser.add_argument(
         "--build",
@@ -102,7 +102,7 @@ def read_options() -> Options:
     chosen = words.only or [part.value for part in Part]
     return Options(
         parts=tuple(part for part in Part if part.value in chosen),
-        pairs=PAIRS_IF_SHORT if words.short else PAIRS,
+        seconds_of_ratio=SECONDS_IF_SHORT if words.short else SECONDS_OF_RATIO,
         builds=dict(words.build),
         writes_documents=not (words.short or words.build),
         only_writes_page=words.page,
@@ -115,9 +115,9 @@ def read_options() -> Options:
 
 def required_files(options: Options) -> list[Path]:
     """Returns the built files that the parts need."""
-    files = [Path(MKPASSWD), ROOT / "libmkpasswd.a"]
+    files = [Path(MKPASSWD), LIBRARY]
     if Part.BUILDS in options.parts:
-        files += [Path(path) for path in {**BUILDS, **options.builds}.values()]
+        files += [STATIC_PROGRAM, LIBRARY_FOR_V3, *map(Path, options.builds.values())]
     if {Part.BUILDS, Part.LOGINS} & set(options.parts):
         files.append(MODULE)
     if {Part.STARTS, Part.CORES, Part.LOGINS, Part.MEMORY} & set(options.parts):
@@ -139,6 +139,8 @@ def compile_clients(options: Options, programs: Programs) -> None:
     """Compiles the clients in C that the parts need."""
     if {Part.INSTRUCTIONS, Part.RATIOS, Part.BUILDS} & set(options.parts):
         programs.compile("check", "-lcrypt")
+    if Part.BUILDS in options.parts:
+        programs.compile_for_v3()
     if {Part.INSTRUCTIONS, Part.RATIOS} & set(options.parts):
         programs.compile("derive", "-lcrypto", "-lsodium")
     if Part.LOGINS in options.parts:
@@ -150,13 +152,13 @@ def compile_clients(options: Options, programs: Programs) -> None:
 
 def measure_part(part: Part, options: Options, programs: Programs) -> Iterator[Row]:
     """Measures one row after the other."""
-    folder, pairs = programs.folder, options.pairs
+    folder, duration = programs.folder, options.seconds_of_ratio
     measures: dict[Part, Callable[[], Iterator[Row]]] = {
         Part.INSTRUCTIONS: lambda: counts.measure(programs),
-        Part.RATIOS: lambda: ratios.measure_others(programs, pairs),
-        Part.BUILDS: lambda: ratios.measure_builds(programs, options.builds, pairs, folder),
-        Part.STARTS: lambda: pwhash.measure_starts(pairs),
-        Part.CORES: lambda: pwhash.measure_cores(pairs),
+        Part.RATIOS: lambda: ratios.measure_others(programs, duration),
+        Part.BUILDS: lambda: ratios.measure_builds(programs, options.builds, duration, folder),
+        Part.STARTS: lambda: pwhash.measure_starts(duration),
+        Part.CORES: lambda: pwhash.measure_cores(duration),
         Part.LOGINS: lambda: logins.measure(programs),
         Part.MEMORY: lambda: memory.measure(programs, folder),
         Part.SECONDS: lambda: seconds.measure(programs),

@@ -14,12 +14,6 @@ PWHASH = str(ROOT / "bin/pwhash")
 MD5CRYPT_OPTIONS = ("-m", "md5crypt", "-S", "xxxxxxxx")
 LINES = 16
 ROUNDS = 50_000  # so that each of these lines takes some hundredths of a second
-AUDITED_LINES = 1_000_000
-
-
-def processors() -> int:
-    """Returns how many processors this process may use."""
-    return len(os.sched_getaffinity(0))
 
 
 def md5crypt_task(*command: str) -> Task:
@@ -63,12 +57,12 @@ def on_processors(count: int) -> tuple[str, ...]:
     return ("taskset", "-c", ",".join(map(str, allowed[:count])))
 
 
-def audit_task() -> Task:
-    """Returns the task of auditing six fields again and again."""
+def audit_task(lines: int) -> Task:
+    """Returns the task of auditing so many lines, which have six fields by turns."""
     old, new = hash_of(MD5CRYPT), hash_of(SHA512CRYPT)
     fields = (new, old, b"!" + new, b"$6$rounds=999999999$a$b", new[:99], b"$y$j9T$x$x")
     findings = [finding_of(field) for field in fields]
-    places = [number % len(fields) for number in range(AUDITED_LINES)]
+    places = [number % len(fields) for number in range(lines)]
     return Task(
         (MKPASSWD, "--audit"),
         b"".join(b"user%d:%b\n" % (n, fields[place]) for n, place in enumerate(places)),

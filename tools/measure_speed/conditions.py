@@ -7,9 +7,8 @@ import time
 from collections.abc import Sequence
 from pathlib import Path
 
-from .commands import processors
 from .failure import Stop
-from .processes import ROOT, output_of
+from .processes import ROOT, output_of, processors
 from .results import Conditions, Part
 
 # The Debian packages that a part needs, and whose versions matter to it.

@@ -8,7 +8,7 @@ from __future__ import annotations
 from collections.abc import Iterator
 from dataclasses import dataclass
 
-from .processes import count_instructions
+from .processes import count_instructions, map_on_all_processors
 from .programs import Program, Programs
 from .results import Count
 from .settings import MD5CRYPT, SALT, Workload, scrypt
@@ -86,7 +86,14 @@ def programs_with(difference: Difference, programs: Programs) -> list[Program]:
 
 def measure(programs: Programs) -> Iterator[Count]:
     """Counts the instructions of each unit, by each program."""
-    for difference in DIFFERENCES:
-        for program in programs_with(difference, programs):
-            instructions = difference.instructions(program)
-            yield Count(difference.unit, program.name, round(instructions, 2))
+
+    def count(case: tuple[Difference, Program]) -> Count:
+        difference, program = case
+        return Count(difference.unit, program.name, round(difference.instructions(program), 2))
+
+    cases = [
+        (difference, program)
+        for difference in DIFFERENCES
+        for program in programs_with(difference, programs)
+    ]
+    yield from map_on_all_processors(count, cases)

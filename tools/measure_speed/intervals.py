@@ -11,11 +11,12 @@ from dataclasses import dataclass
 LEVEL = 0.99
 RESAMPLES = 10_000
 SEED = 1
+LARGE = 0.1  # a difference from 1
 
 
 @dataclass(frozen=True)
 class Interval:
-    """Two bounds, between which a number lies as far as is known."""
+    """Two bounds, between which a number probably lies."""
 
     lower: float
     upper: float
@@ -58,10 +59,15 @@ class Ratio:
     pairs: int
 
     @property
-    def is_same(self) -> bool:
+    def may_be_one(self) -> bool:
         """Whether the interval contains 1, when its bounds are rounded to hundredths."""
         rounded = Interval(round(self.interval.lower, 2), round(self.interval.upper, 2))
         return rounded.contains(1)
+
+    @property
+    def is_clear(self) -> bool:
+        """Whether an interval that contains 1 is narrow enough to exclude a large difference."""
+        return 1 - LARGE <= self.interval.lower and self.interval.upper <= 1 + LARGE
 
 
 def ratio_of(ratios: Sequence[float]) -> Ratio:

@@ -7,6 +7,7 @@ counts that the module's own reports give.
 from __future__ import annotations
 
 import dataclasses
+import statistics
 from collections.abc import Iterator
 from dataclasses import dataclass
 
@@ -14,7 +15,7 @@ from support.model.methods import MD5CRYPT, SCRYPT, SHA256CRYPT, SHA512CRYPT, Me
 from support.model.settings import recommended_setting
 
 from .failure import Stop
-from .processes import ROOT, Task, count_instructions, output_of
+from .processes import ROOT, Task, count_instructions, map_on_all_processors, output_of, run_task
 from .programs import CLIENTS, MODULE, PYTHON, Programs
 from .results import Login
 from .settings import PASSWORD, hash_of
@@ -57,11 +58,14 @@ class Policy:
 
 
 POLICIES = (
-    Policy(SHA512CRYPT, 50_000),
-    Policy(SHA256CRYPT, 50_000),
+    Policy(SHA512CRYPT, 5_000),
+    Policy(SHA256CRYPT, 5_000),
     Policy(SCRYPT, 6),
     Policy(MD5CRYPT, 0),
 )
+# Python calls the same library as C. What the package adds shows best beside the quickest hash.
+POLICY_IN_PYTHON = POLICIES[3]
+UNUSUAL = 0.02  # as a difference from the median of all kinds
 
 
 def fields_of(policy: Policy) -> dict[str, bytes | None]:
@@ -114,15 +118,22 @@ def client_in_c(programs: Programs) -> Client:
     return Client("C", (programs.client("log_in"),))
 
 
-def client_in_python() -> Client:
-    """Returns the client that calls our package, with the library of this tree."""
+def client_in_python(programs: Programs) -> Client:
+    """Returns the client that calls our package, with the library of this tree.
+
+    A first run compiles its modules, so that no count contains that. Without a fixed seed for the
+    hashes of strings, counts would differ from run to run.
+    """
     environment: dict[str, str | None] = {
         "PYTHONPATH": str(ROOT / "python/src"),
         "LD_LIBRARY_PATH": str(ROOT),
-        "PYTHONDONTWRITEBYTECODE": "1",
-        "PYTHONHASHSEED": "0",  # otherwise the count differs from run to run
+        "PYTHONPYCACHEPREFIX": str(programs.folder / "pycache"),
+        "PYTHONDONTWRITEBYTECODE": None,
+        "PYTHONHASHSEED": "0",
     }
-    return Client("Python", (PYTHON, str(CLIENTS / "log_in.py")), environment)
+    client = Client("Python", (PYTHON, str(CLIENTS / "log_in.py")), environment)
+    run_task(client.task(Policy(MD5CRYPT, 0), UNKNOWN, None, logins=1))
+    return client
 
 
 def bytes_in_node(policy: Policy, kind: str, field: bytes | None) -> int:
@@ -135,11 +146,43 @@ def bytes_in_node(policy: Policy, kind: str, field: bytes | None) -> int:
     return digested + BYTES_OF_MIXING * mixings
 
 
+def works_of(client: Client, policy: Policy) -> dict[str, float]:
+    """Returns the instructions of a login with each kind of field.
+
+    Once in some hundred runs, Python executes a few million instructions more than in all others.
+    So a count that is far from the others is taken again.
+    """
+    fields = fields_of(policy)
+
+    def work_of(kind: str) -> float:
+        return client.instructions(policy, kind, fields[kind])
+
+    works = dict(zip(fields, map_on_all_processors(work_of, fields)))
+    usual = statistics.median(works.values())
+    for kind, work in works.items():
+        if abs(work / usual - 1) > UNUSUAL:
+            works[kind] = work_of(kind)
+    return works
+
+
+def works_in_node(policy: Policy) -> dict[str, float]:
+    """Returns the bytes that a login with each kind of field digests and mixes in node."""
+    fields = fields_of(policy)
+
+    def work_of(kind: str) -> float:
+        return bytes_in_node(policy, kind, fields[kind])
+
+    return dict(zip(fields, map_on_all_processors(work_of, fields)))
+
+
 def measure(programs: Programs) -> Iterator[Login]:
     """Measures a login with each kind of field, by each policy and client."""
+    in_c, in_python = client_in_c(programs), client_in_python(programs)
     for policy in POLICIES:
-        for kind, field in fields_of(policy).items():
-            for client in (client_in_c(programs), client_in_python()):
-                work = client.instructions(policy, kind, field)
-                yield Login(policy.title, client.name, kind, work)
-            yield Login(policy.title, "node", kind, bytes_in_node(policy, kind, field))
+        works = {in_c.name: works_of(in_c, policy)}
+        if policy is POLICY_IN_PYTHON:
+            works[in_python.name] = works_of(in_python, policy)
+        works["node"] = works_in_node(policy)
+        for client, works_of_client in works.items():
+            for kind, work in works_of_client.items():
+                yield Login(policy.title, client, kind, work)

@@ -31,5 +31,5 @@ def measure(programs: Programs, folder: Path) -> Iterator[Memory]:
         yield Memory(row, "mkpasswd", kibibytes, table_size(workload))
     kibibytes = measure_peak_memory(largest_scrypt_task(), folder)
     yield Memory(LARGEST, "pwhash", kibibytes, table_size(WORKLOADS[LARGEST]))
-    kibibytes = measure_peak_memory(audit_task(), folder)
+    kibibytes = measure_peak_memory(audit_task(1_000_000), folder)
     yield Memory("an audit of a million lines", "mkpasswd", kibibytes)

@@ -30,6 +30,7 @@ OURS = "mkpasswd"
 PROGRAMS = (OURS, "libmkpasswd", "libxcrypt", "OpenSSL", "libsodium")
 OTHER_PROGRAMS = ("libxcrypt", "OpenSSL", "libsodium", "passlib")
 BUILDS = ("libmkpasswd", "x86-64", "x86-64-v3", "node", "Chromium")
+CLIENTS = ("C", "Python", "node")
 BILLION = 1e9
 
 # What the page calls the Debian packages whose versions it gives.
@@ -75,12 +76,13 @@ def decimals_of(ratio: float) -> int:
 
 
 def format_ratio(ratio: Ratio) -> str:
-    """Formats a ratio and its interval, or says that there is no difference."""
-    if ratio.is_same:
+    """Formats a ratio and its interval, or says that no difference was found."""
+    if ratio.may_be_one and ratio.is_clear:
         return "the same"
     places = decimals_of(ratio.median)
     lower, upper = ratio.interval.lower, ratio.interval.upper
-    return f"{ratio.median:.{places}f} ({lower:.{places}f} to {upper:.{places}f})"
+    bounds = f"({lower:.{places}f} to {upper:.{places}f})"
+    return f"unclear {bounds}" if ratio.may_be_one else f"{ratio.median:.{places}f} {bounds}"
 
 
 def enumerate_words(words: Sequence[str]) -> str:
@@ -152,7 +154,12 @@ def cores(results: Results) -> str:
 
 
 def format_work(rows: Sequence[Login]) -> str:
-    """The work of a login with a wrong password, and the greatest deviation with another field."""
+    """The work of a login with a wrong password, and the greatest deviation with another field.
+
+    Nothing where a client wasn't measured.
+    """
+    if not rows:
+        return ""
     base = next(row.work for row in rows if row.field == WRONG)
     failed = [row.work for row in rows if row.field != RIGHT]
     deviation = max(abs(work / base - 1) for work in failed)
@@ -162,14 +169,13 @@ def format_work(rows: Sequence[Login]) -> str:
 def logins(results: Results) -> str:
     """The work of a login."""
     rows = results.rows(Part.LOGINS, Login)
-    clients = distinct(row.client for row in rows)
     table = []
     for method in distinct(row.method for row in rows):
         of_method = [row for row in rows if row.method == method]
-        cells = [format_work([row for row in of_method if row.client == name]) for name in clients]
+        cells = [format_work([row for row in of_method if row.client == name]) for name in CLIENTS]
         table.append([method, *cells])
     units = {"node": "bytes in node"}
-    heads = [units.get(name, f"instructions in {name}") for name in clients]
+    heads = [units.get(name, f"instructions in {name}") for name in CLIENTS]
     return format_table(("A login with", *heads), table)
 
 

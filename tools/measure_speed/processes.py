@@ -10,8 +10,11 @@ import re
 import resource
 import subprocess
 import time
+from collections.abc import Callable, Iterable, Iterator
+from concurrent.futures import ThreadPoolExecutor
 from dataclasses import dataclass, field, replace
 from pathlib import Path
+from typing import TypeVar
 
 from support.cachegrind import CACHEGRIND, EVERY_PROCESSOR, instructions_in
 from support.process import Result, kill_group, run, shown, shown_command
@@ -20,6 +23,8 @@ from .failure import Stop
 
 ROOT = Path(__file__).resolve().parents[2]
 TIMEOUT = 3600  # seconds, for one command
+Item = TypeVar("Item")
+Value = TypeVar("Value")
 MEMORY_POLL_SECONDS = 0.002
 
 
@@ -61,6 +66,11 @@ def run_task(task: Task, prefix: tuple[str, ...] = ()) -> Result:
     return result
 
 
+def processors() -> int:
+    """Returns how many processors this process may use."""
+    return len(os.sched_getaffinity(0))
+
+
 def processor_time_of_children() -> float:
     """Returns the seconds of all children that have ended and been waited for."""
     usage = resource.getrusage(resource.RUSAGE_CHILDREN)
@@ -85,6 +95,17 @@ def count_instructions(task: Task) -> int:
     if instructions is None:
         raise Stop(f"cachegrind printed no count\n{result}")
     return instructions
+
+
+def map_on_all_processors(
+    function: Callable[[Item], Value], items: Iterable[Item]
+) -> Iterator[Value]:
+    """Calls a function for each item, some at once, and yields what it returns in order.
+
+    This is for counts, which don't depend on what else the machine does.
+    """
+    with ThreadPoolExecutor(processors()) as pool:
+        yield from pool.map(function, items)
 
 
 def peak_memory(process: subprocess.Popen[bytes]) -> int:

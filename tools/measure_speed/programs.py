@@ -19,7 +19,9 @@ from .settings import Workload, scrypt_digest
 CLIENTS = Path(__file__).resolve().parent / "clients"
 MKPASSWD = os.environ.get("PROGRAM", str(ROOT / "mkpasswd"))
 MODULE = ROOT / "build/mkpasswd.mjs"
-BUILDS = {name: str(ROOT / f"build/{name}/mkpasswd") for name in ("x86-64", "x86-64-v3")}
+STATIC_PROGRAM = ROOT / "build/x86-64/mkpasswd"
+LIBRARY = ROOT / "libmkpasswd.a"
+LIBRARY_FOR_V3 = ROOT / "build/x86-64-v3/libmkpasswd.so.3"
 PYTHON = "/usr/bin/python3"  # Debian's, which finds the modules of Debian's packages
 OPENSSL = "/usr/bin/openssl"
 
@@ -48,23 +50,6 @@ class Checker:
         users = [b"user%d:" % number for number in range(workload.hashes)]
         lines = b"".join(user + hash_and_password for user in users)
         return Task(self.command, lines, b"".join(user + b"ok\n" for user in users))
-
-
-@dataclass(frozen=True)
-class Node:
-    """Our module for node, which makes some hashes first, so that it is compiled."""
-
-    name: str = "node"
-
-    def task(self, workload: Workload) -> Task:
-        """Returns the task of checking a line for each hash."""
-        warm_up = (
-            workload.password.decode(),
-            workload.hash.decode(),
-            str(workload.warm_up_hashes),
-        )
-        command = ("node", str(CLIENTS / "check.mjs"), str(MODULE), *warm_up)
-        return Checker(self.name, command).task(workload)
 
 
 @dataclass(frozen=True)
@@ -145,9 +130,14 @@ class Programs:
         return Checker("passlib", (PYTHON, str(CLIENTS / "check_by_passlib.py")))
 
     @property
-    def node(self) -> Program:
-        """Our module for node."""
-        return Node()
+    def static_program(self) -> Program:
+        """Our program for every x86-64."""
+        return self.build("x86-64", str(STATIC_PROGRAM))
+
+    @property
+    def library_for_v3(self) -> Program:
+        """Our shared library for x86-64-v3."""
+        return Checker("x86-64-v3", (self.client("check-v3"), "libmkpasswd"))
 
     def build(self, name: str, path: str) -> Program:
         """Another build of our program."""
@@ -158,6 +148,17 @@ class Programs:
         return str(self.folder / name)
 
     def compile(self, name: str, *libraries: str) -> None:
-        """Compiles a client in C, and links it with our library and others."""
-        words = (f"-I{ROOT}/c", str(CLIENTS / f"{name}.c"), f"{ROOT}/libmkpasswd.a", *libraries)
-        output_of(os.environ.get("CC", "cc"), "-O2", *words, "-o", self.client(name))
+        """Compiles a client in C, and links it with our static library and others."""
+        compile_and_link(name, self.client(name), str(LIBRARY), *libraries)
+
+    def compile_for_v3(self) -> None:
+        """Compiles the client that checks lines, and links it with our library for x86-64-v3."""
+        where_found = f"-Wl,-rpath,{LIBRARY_FOR_V3.parent}"
+        output = self.client("check-v3")
+        compile_and_link("check", output, str(LIBRARY_FOR_V3), where_found, "-lcrypt")
+
+
+def compile_and_link(name: str, output: str, *libraries: str) -> None:
+    """Compiles a client in C."""
+    words = (f"-I{ROOT}/c", str(CLIENTS / f"{name}.c"), *libraries, "-o", output)
+    output_of(os.environ.get("CC", "cc"), "-O2", *words)

@@ -5,13 +5,13 @@ import time
 from collections.abc import Iterator
 from pathlib import Path
 
-from .commands import MD5CRYPT_OPTIONS, PWHASH, file_task, md5crypt_task, processors, start_task
-from .processes import Task
+from .commands import MD5CRYPT_OPTIONS, PWHASH, file_task, md5crypt_task, start_task
+from .processes import Task, processors
 from .programs import MKPASSWD, OPENSSL, PYTHON
-from .ratios import Clock, TimedTask, compare
+from .ratios import RUNS_IF_ELAPSED, Clock, TimedTask, compare
 from .results import Comparison
 
-RUNS = 10  # in one turn, of a command that takes a millisecond
+RUNS = 10  # of a command that takes a millisecond
 IDLE_SHARE = 0.9  # of the processors' time, for a machine that counts as idle
 
 
@@ -26,11 +26,11 @@ def commands() -> dict[str, TimedTask]:
     }
 
 
-def measure_starts(pairs: int) -> Iterator[Comparison]:
+def measure_starts(seconds: float) -> Iterator[Comparison]:
     """Measures how long commands take that make one hash."""
     base = TimedTask(md5crypt_task(MKPASSWD, *MD5CRYPT_OPTIONS), runs=RUNS)
     for name, command in commands().items():
-        yield compare("one hash of md5crypt", name, base, command, pairs)
+        yield compare("one hash of md5crypt", name, base, command, seconds)
 
 
 def on_processors(count: int) -> TimedTask:
@@ -38,15 +38,15 @@ def on_processors(count: int) -> TimedTask:
 
     Several threads hash it at once, so what counts is the time that elapses.
     """
-    return TimedTask(file_task(count), start_task(count), Clock.ELAPSED)
+    return TimedTask(file_task(count), start_task(count), Clock.ELAPSED, RUNS_IF_ELAPSED)
 
 
-def measure_cores(pairs: int) -> Iterator[Comparison]:
+def measure_cores(seconds: float) -> Iterator[Comparison]:
     """Measures how much faster a file is hashed on several processors than on one."""
     for count in (2, 4):
         if count <= processors():
             name = f"{count} cores"
-            yield compare("lines a second", name, on_processors(count), on_processors(1), pairs)
+            yield compare("lines a second", name, on_processors(count), on_processors(1), seconds)
 
 
 def processor_ticks() -> tuple[int, int]:

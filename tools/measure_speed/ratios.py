@@ -1,37 +1,39 @@
 """Ratios: how long another program, or another build, takes in comparison with mkpasswd.
 
-The two sides take turns, so that what slows the machine for a while slows both. A pair is a few
-turns of each side. The fastest turn of each counts, since other work on the machine can only make a
-turn longer. From the ratios of many pairs come a median and its interval.
+The two sides take turns, and each turn is short. So what slows the machine for a while slows both
+turns of a pair, and their ratio stays. The median of many such ratios counts, with its interval:
+some pairs go wrong, as where something slows only one of the two turns.
 """
 from __future__ import annotations
 
 import enum
-from collections.abc import Iterator, Sequence
-from dataclasses import dataclass
+import time
+from collections.abc import Iterator
+from dataclasses import dataclass, replace
 from pathlib import Path
 from typing import Protocol
 
-from .chromium import ModuleInChromium, running_chromium
+from .engines import ModuleInChromium, ModuleInNode, running_chromium
 from .failure import Stop
 from .intervals import ratio_of
 from .processes import Task, Times, measure_times
-from .programs import BUILDS, Program, Programs
+from .programs import Program, Programs
 from .results import Comparison
 from .settings import MD5CRYPT, SALT, Workload, scrypt
 
-# Each takes about a twentieth of a second, so that many pairs take seconds.
+# Most take some hundredths of a second. Longer turns would make pairs go wrong more often.
 WORKLOADS = {
-    "md5crypt": Workload(MD5CRYPT, hashes=400, warm_up_hashes=200),
-    "sha256crypt": Workload(b"$5$rounds=200000$" + SALT),
-    "sha512crypt": Workload(b"$6$rounds=200000$" + SALT),
+    "md5crypt": Workload(MD5CRYPT, hashes=200, warm_up_hashes=200),
+    "sha256crypt": Workload(b"$5$rounds=50000$" + SALT),
+    "sha512crypt": Workload(b"$6$rounds=50000$" + SALT),
     "scrypt, N = 2^14, r = 32": Workload(scrypt(14, 32, 1)),
     "scrypt, N = 2^14, r = 8": Workload(scrypt(14, 8, 1)),
     "scrypt, N = 2^10, r = 8, p = 16": Workload(scrypt(10, 8, 16)),
-    "scrypt, N = 2^8, r = 32, p = 64": Workload(scrypt(8, 32, 64)),
+    "scrypt, N = 2^8, r = 32, p = 16": Workload(scrypt(8, 32, 16)),
 }
+LEAST_PAIRS, MOST_PAIRS = 10, 60
+RUNS_IF_ELAPSED = 2  # since time also elapses while other processes run
 WORKLOADS_OF_BUILDS = ("md5crypt", "sha256crypt", "sha512crypt", "scrypt, N = 2^14, r = 32")
-TURNS = 3  # of each side in a pair
 
 
 class Clock(enum.Enum):
@@ -45,19 +47,11 @@ class Clock(enum.Enum):
         return times.processor if self is Clock.PROCESSOR else times.elapsed
 
 
-@dataclass(frozen=True)
-class Turn:
-    """What one turn took, in seconds, and what a program took that only starts and ends."""
-
-    total: float
-    start: float = 0
-
-
 class Side(Protocol):
     """One of the two that are compared."""
 
-    def take_turn(self) -> Turn:
-        """Runs once, and returns what that took."""
+    def measure(self) -> float:
+        """Runs once, and returns the seconds that count."""
 
 
 @dataclass(frozen=True)
@@ -67,54 +61,39 @@ class TimedTask:
     task: Task
     start: Task | None = None
     clock: Clock = Clock.PROCESSOR
-    runs: int = 1  # in one turn
+    runs: int = 1  # of which the fastest counts
 
-    def take_turn(self) -> Turn:
-        """Runs the tasks, and returns what they took."""
-        start = 0.0 if self.start is None else self.measure(self.start)
-        return Turn(self.measure(self.task), start)
+    def measure(self) -> float:
+        """Runs the task, and returns the seconds that it took without its start."""
+        start = 0.0 if self.start is None else self.fastest(self.start)
+        return self.fastest(self.task) - start
 
-    def measure(self, task: Task) -> float:
-        """Returns the seconds of all runs of a task in one turn."""
-        return sum(self.clock.select(measure_times(task)) for _ in range(self.runs)) / self.runs
-
-
-@dataclass(frozen=True)
-class TimedPage:
-    """A page in Chromium, which measures no time but that of its hashes."""
-
-    module: ModuleInChromium
-
-    def take_turn(self) -> Turn:
-        """Opens the page, and returns the time that it measures."""
-        return Turn(self.module.measure_milliseconds() / 1e3)
+    def fastest(self, task: Task) -> float:
+        """Returns the seconds of the fastest run of a task."""
+        return min(self.clock.select(measure_times(task)) for _ in range(self.runs))
 
 
-def timed(program: Program, workload: Workload, clock: Clock = Clock.PROCESSOR) -> TimedTask:
+def timed(program: Program, workload: Workload, runs: int = 1) -> TimedTask:
     """Returns the side of a program that makes or checks hashes."""
-    return TimedTask(program.task(workload), program.task(workload.without_hashes), clock)
-
-
-def fastest(turns: Sequence[Turn]) -> float:
-    """Returns the seconds of the fastest turn, without the fastest start."""
-    seconds = min(turn.total for turn in turns) - min(turn.start for turn in turns)
-    if seconds <= 0:
-        raise Stop("a run took less time than its start alone: the machine is too busy to measure")
-    return seconds
+    return TimedTask(program.task(workload), program.task(workload.without_hashes), runs=runs)
 
 
 def measure_pair(base: Side, other: Side) -> float:
-    """Lets the two sides take turns, and returns the other's time divided by the base's."""
-    turns_of_base, turns_of_other = [], []
-    for _ in range(TURNS):
-        turns_of_base.append(base.take_turn())
-        turns_of_other.append(other.take_turn())
-    return fastest(turns_of_other) / fastest(turns_of_base)
+    """Runs the two once, and returns the other's time divided by the base's."""
+    seconds_of_base = base.measure()
+    seconds_of_other = other.measure()
+    if seconds_of_base <= 0:
+        raise Stop("a run took less time than its start alone: the machine is too busy to measure")
+    return seconds_of_other / seconds_of_base
 
 
-def compare(row: str, name: str, base: Side, other: Side, pairs: int) -> Comparison:
-    """Measures pairs of the two sides, and returns their row of a table."""
-    return Comparison(row, name, ratio_of([measure_pair(base, other) for _ in range(pairs)]))
+def compare(row: str, name: str, base: Side, other: Side, seconds: float) -> Comparison:
+    """Measures pairs of the two sides for some seconds, and returns their row of a table."""
+    ratios: list[float] = []
+    end = time.monotonic() + seconds
+    while len(ratios) < LEAST_PAIRS or (time.monotonic() < end and len(ratios) < MOST_PAIRS):
+        ratios.append(measure_pair(base, other))
+    return Comparison(row, name, ratio_of(ratios))
 
 
 # The parts of the page
@@ -127,28 +106,31 @@ def other_programs(programs: Programs, workload: Workload) -> list[Program]:
     return [programs.libxcrypt, programs.openssl, programs.passlib]
 
 
-def measure_others(programs: Programs, pairs: int) -> Iterator[Comparison]:
+def measure_others(programs: Programs, seconds: float) -> Iterator[Comparison]:
     """Measures other programs, with hashes of each method."""
     for row, workload in WORKLOADS.items():
         base = timed(programs.mkpasswd, workload)
         for program in other_programs(programs, workload):
-            yield compare(row, program.name, base, timed(program, workload), pairs)
+            yield compare(row, program.name, base, timed(program, workload), seconds)
 
 
 def measure_builds(
-    programs: Programs, added: dict[str, str], pairs: int, folder: Path
+    programs: Programs, added: dict[str, str], seconds: float, folder: Path
 ) -> Iterator[Comparison]:
-    """Measures our library, our other builds, and builds that the command line adds."""
-    builds = [programs.build(name, path) for name, path in {**BUILDS, **added}.items()]
+    """Measures our libraries, our other builds, and programs that the command line adds."""
+    builds = [programs.libmkpasswd, programs.static_program, programs.library_for_v3]
+    builds += [programs.build(name, path) for name, path in added.items()]
     for row in WORKLOADS_OF_BUILDS:
         workload = WORKLOADS[row]
         base = timed(programs.mkpasswd, workload)
-        for program in [programs.libmkpasswd, *builds, programs.node]:
-            yield compare(row, program.name, base, timed(program, workload), pairs)
+        for program in builds:
+            yield compare(row, program.name, base, timed(program, workload), seconds)
+        yield compare(row, "node", base, ModuleInNode(workload), seconds)
     with running_chromium(folder) as browser:
         for row in WORKLOADS_OF_BUILDS:
             workload = WORKLOADS[row]
-            # A page can measure no time but what elapses.
-            base = timed(programs.mkpasswd, workload, Clock.ELAPSED)
-            page = TimedPage(ModuleInChromium(browser, folder, workload))
-            yield compare(row, "Chromium", base, page, pairs)
+            base = replace(
+                timed(programs.mkpasswd, workload, runs=RUNS_IF_ELAPSED), clock=Clock.ELAPSED
+            )
+            page = ModuleInChromium(browser, folder, workload, RUNS_IF_ELAPSED)
+            yield compare(row, "Chromium", base, page, seconds)

@@ -6,14 +6,13 @@ from __future__ import annotations
 
 from collections.abc import Iterator
 
-from support.model import methods
 from support.model.settings import read_setting
 from support.model.work import cost
 
-from .commands import AUDITED_LINES, audit_task
+from .commands import audit_task
 from .processes import Task
 from .programs import MKPASSWD, Programs
-from .ratios import TimedTask, fastest, timed
+from .ratios import TimedTask, timed
 from .results import Seconds
 from .settings import (
     MD5CRYPT,
@@ -23,13 +22,12 @@ from .settings import (
     SHA256CRYPT,
     SHA512CRYPT,
     Workload,
-    recommended,
     scrypt,
 )
 
 USUAL = {
-    "md5crypt": Workload(MD5CRYPT, hashes=800),
-    "sha512crypt, 5000 rounds": Workload(b"$6$rounds=5000$" + SALT, hashes=50),
+    "md5crypt": Workload(MD5CRYPT, hashes=200),
+    "sha512crypt, 5000 rounds": Workload(b"$6$rounds=5000$" + SALT, hashes=20),
     "sha256crypt, 656000 rounds": Workload(SHA256CRYPT),
     "sha512crypt, 656000 rounds": Workload(SHA512CRYPT),
     "scrypt, N = 2^14, r = 32": Workload(SCRYPT),
@@ -37,18 +35,14 @@ USUAL = {
 # What takes longest for its cost. With these passwords and no salt, most messages of SHA-crypt have
 # 56 or 112 bytes: the fewest for which padding adds a block.
 SLOWEST_SHA_CRYPT = {
-    "sha256crypt": Workload(recommended(methods.SHA256CRYPT, b""), password=b"p" * 12),
-    "sha512crypt": Workload(recommended(methods.SHA512CRYPT, b""), password=b"p" * 24),
+    "sha256crypt": Workload(b"$5$rounds=50000$", password=b"p" * 12),
+    "sha512crypt": Workload(b"$6$rounds=50000$", password=b"p" * 24),
 }
 # The slowest scrypt has a table that no cache holds.
-SLOWEST_SCRYPT = scrypt(1, 200_000, 1, b"x" * 86)
+SLOWEST_SCRYPT = scrypt(1, 50_000, 1, b"x" * 86)
 SLOWEST = "slowest "
-RUNS = 9
-
-
-def fastest_run(side: TimedTask) -> float:
-    """Returns the seconds of the fastest run."""
-    return fastest([side.take_turn() for _ in range(RUNS)])
+AUDITED_LINES = 100_000
+RUNS = 15
 
 
 def cost_of(setting: bytes, length: int) -> int:
@@ -69,9 +63,9 @@ def measure(programs: Programs) -> Iterator[Seconds]:
     """Measures usual hashes, the slowest ones, and an audit."""
     slowest = {SLOWEST + name: workload for name, workload in SLOWEST_SHA_CRYPT.items()}
     for row, workload in {**USUAL, **slowest}.items():
-        seconds = fastest_run(timed(programs.mkpasswd, workload)) / workload.hashes
+        seconds = timed(programs.mkpasswd, workload, RUNS).measure() / workload.hashes
         yield Seconds(row, seconds, RUNS, cost_of(workload.setting, len(workload.password)))
-    seconds = fastest_run(TimedTask(slowest_scrypt_task()))
+    seconds = TimedTask(slowest_scrypt_task(), runs=RUNS).measure()
     yield Seconds(SLOWEST + "scrypt", seconds, RUNS, cost_of(SLOWEST_SCRYPT, len(PASSWORD)))
-    seconds = fastest_run(TimedTask(audit_task()))
+    seconds = TimedTask(audit_task(AUDITED_LINES), runs=RUNS).measure()
     yield Seconds("an audit, a line", seconds / AUDITED_LINES, RUNS)
