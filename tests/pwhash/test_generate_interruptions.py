@@ -186,7 +186,7 @@ class TestResuming:
     def test_a_list_of_another_run_beside_them_is_noticed(self) -> None:
         last = read("lists/c0.csv").splitlines()[-1].partition(b";")[0]
         save_part("lists/old.csv", b"name;password\n" + last + b";AAAAAAAAAAAAAAAAAAAA\n")
-        refused_to_go_on(*WORDS, reason=b"a name has two passwords")
+        assert_does_not_resume(*WORDS, reason=b"a name has two passwords")
 
     def test_a_copy_of_a_list_beside_them_changes_nothing(self) -> None:
         save_part("lists/copy of c0.csv", read("lists/c0.csv"))

@@ -17,7 +17,7 @@ from pathlib import Path
 from typing import TypeVar
 
 from support.cachegrind import CACHEGRIND, EVERY_PROCESSOR, instructions_in
-from support.process import Result, kill_group, run, shown, shown_command
+from support.process import Result, kill_group, printable, printable_command, run
 
 from .failure import Stop
 
@@ -52,7 +52,7 @@ def check_result(task: Task, result: Result) -> None:
     if result.status != task.expected_status:
         raise Stop(f"expected status: {task.expected_status}\n{result}")
     if result.stdout != task.expected_output:
-        raise Stop(f"expected stdout: {shown(task.expected_output)}\n{result}")
+        raise Stop(f"expected stdout: {printable(task.expected_output)}\n{result}")
 
 
 def run_task(task: Task, prefix: tuple[str, ...] = ()) -> Result:
@@ -152,5 +152,7 @@ def output_of(*command: str) -> str:
     except OSError as error:
         raise Stop(f"{command[0]}: {error.strerror}") from None
     if result.status != 0:
-        raise Stop(f"{shown_command(command)}: {result.stderr.decode(errors='replace').strip()}")
+        raise Stop(
+            f"{printable_command(command)}: {result.stderr.decode(errors='replace').strip()}"
+        )
     return result.stdout.decode(errors="replace")

@@ -96,7 +96,7 @@ def read(path: str, is_folder: bool) -> Dict[bytes, bytes]:
     for file in files:
         for name, password in read_list(file):
             if passwords.setdefault(name, password) != password:
-                raise changed_list_error(file, "a name has two passwords, perhaps of another run's list")
+                raise changed_list_error(file, "a name has two passwords")
     return passwords
 
 
