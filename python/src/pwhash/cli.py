@@ -115,8 +115,8 @@ def read_options(arguments: Sequence[str]) -> Options:
 def mark_operands(arguments: Sequence[str]) -> List[str]:
     """Returns the arguments, with a mark in front of each one behind --.
 
-    If options may stand between operands, argparse before Python 3.12.5 parses the operands twice.
-    By the second time it has forgotten the --, and would take them for options.
+    If options may stand between operands, argparse (that of Python 3.11, for one) parses the
+    operands twice. By the second time it has forgotten the --, and would take them for options.
     """
     if END_OF_OPTIONS not in arguments:
         return list(arguments)
