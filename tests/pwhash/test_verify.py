@@ -250,6 +250,12 @@ def test_behind_a_hash_that_was_cut_the_line_of_another_is_not_compared() -> Non
     assert (done.status, done.out) == (2, b"") and b"cut or changed" in done.err, done
 
 
+def test_a_hash_behind_a_blank_line_may_come_later() -> None:
+    script = f"(echo TopSecret; echo; sleep 0.5; echo '{HASH.decode()}') | \"$@\""
+    done = shell(script, "verify")
+    assert (done.status, done.out) == (0, YES), done
+
+
 def test_fields_behind_a_hash_without_a_name_are_left_out() -> None:
     done = pwhash("verify", stdin=SECRET + b"\n" + HASH + b":19000:0:99999:7:::\n")
     assert (done.status, done.out) == (0, YES), done

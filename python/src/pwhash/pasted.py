@@ -56,7 +56,10 @@ def piped_both(console: Console) -> Pasted:
             "pwhash verify FILE NAME."
         )
     pasted = without_blanks(first)
-    while not pasted or is_cut(pasted):
+    while not pasted and first is not None:  # behind blank lines, a hash may take its time
+        first = lines.next()
+        pasted = without_blanks(first or b"")
+    while is_cut(pasted):
         more = lines.next_at_once()
         if more is None:
             break
