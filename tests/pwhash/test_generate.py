@@ -277,6 +277,7 @@ def test_the_option_look_makes_no_list() -> None:
         pytest.param("table --csv --by class", b"needs --generate", id="a column alone"),
         pytest.param("--generate -o h --passwords h names", b"different", id="one file for both"),
         pytest.param("--generate -o h --passwords h.part names", b"different", id="the part"),
+        pytest.param("--generate -o h --passwords - names", b"would write a file", id="a dash"),
         pytest.param("--generate -o h --passwords ./h.part.options names", b"diff", id="options"),
         pytest.param("--generate -o h --passwords names names", b"already exists", id="FILE"),
         pytest.param("--generate -o h --passwords l --length 7 names", b"8 to 64", id="short"),

@@ -726,6 +726,8 @@ def refuse_lists(parser: Parser, parsed: argparse.Namespace) -> None:
         raise parser.usage_error(
             "--generate needs -o OUT for the hashes, and --passwords LIST for the passwords"
         )
+    if parsed.passwords == STDIN:
+        raise parser.usage_error("--passwords - would write a file: name another, or ./-")
     of_out = [parsed.out, part_of(parsed.out), part_of(parsed.out) + ".options"]
     if os.path.realpath(parsed.passwords) in [os.path.realpath(each) for each in of_out]:
         raise parser.usage_error("-o and --passwords need two different files")
