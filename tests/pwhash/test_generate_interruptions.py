@@ -171,25 +171,35 @@ class TestResuming:
     )
     def test_a_changed_list_is_named(self, old: bytes, new: bytes) -> None:
         save("lists/c0.csv", read("lists/c0.csv").replace(old, new))
-        assert_does_not_resume(*WORDS, reason=b"lists/c0.csv isn't as the run that began left it")
+        assert_does_not_resume(*WORDS, reason=b"lists/c0.csv isn't as the earlier run left it")
 
     @pytest.mark.parametrize("size", [0, 4, len(b"name;password"), 30])
     def test_a_truncated_list_is_named(self, size: int) -> None:
         os.truncate("lists/c0.csv", size)
-        assert_does_not_resume(*WORDS, reason=b"lists/c0.csv isn't as the run that began left it")
+        assert_does_not_resume(*WORDS, reason=b"lists/c0.csv isn't as the earlier run left it")
 
-    def test_another_first_password_is_noticed(self) -> None:
+    @pytest.mark.parametrize("place", [1, COUNT // CLASSES // 2, COUNT // CLASSES])
+    def test_another_password_is_noticed(self, place: int) -> None:
+        lines = read("lists/c0.csv").splitlines(keepends=True)
+        name = lines[place].partition(b";")[0]
+        save("lists/c0.csv", read("lists/c0.csv").replace(lines[place], name + b";AAAAAAAAAAAAA\n"))
+        assert_does_not_resume(*WORDS, reason=b"c0.csv isn't as the earlier run left it")
+
+    def test_another_first_password_is_noticed_whatever_the_time_of_the_list(self) -> None:
         lines = read("lists/c0.csv").splitlines(keepends=True)
         save("lists/c0.csv", b"".join([lines[0], b"user0;AAAAAAAAAAAAAAAAAAAA\n", *lines[2:]]))
+        os.utime("lists/c0.csv", (0, 0))
         assert_does_not_resume(*WORDS, reason=b"line 1: not of line 2")
 
     def test_a_list_of_another_run_beside_them_is_noticed(self) -> None:
         last = read("lists/c0.csv").splitlines()[-1].partition(b";")[0]
         save_part("lists/old.csv", b"name;password\n" + last + b";AAAAAAAAAAAAAAAAAAAA\n")
+        os.utime("lists/old.csv", (0, 0))
         assert_does_not_resume(*WORDS, reason=b"a name has two passwords")
 
     def test_a_copy_of_a_list_beside_them_changes_nothing(self) -> None:
         save_part("lists/copy of c0.csv", read("lists/c0.csv"))
+        shutil.copystat("lists/c0.csv", "lists/copy of c0.csv")
         assert_whole(pwhash(*WORDS, "--resume"))
 
     def test_a_list_that_others_can_read_is_refused(self) -> None:
@@ -198,12 +208,12 @@ class TestResuming:
 
     def test_a_folder_that_others_can_write_is_refused(self) -> None:
         os.chmod("lists", 0o777)
-        assert_does_not_resume(*WORDS, reason=b"no folder that a run of yours has made")
+        assert_does_not_resume(*WORDS, reason=b"isn't a folder that a run of yours has made")
 
     def test_a_link_to_the_lists_is_refused(self) -> None:
         os.rename("lists", "elsewhere")
         os.symlink("elsewhere", "lists")
-        assert_does_not_resume(*WORDS, reason=b"no folder that a run of yours has made")
+        assert_does_not_resume(*WORDS, reason=b"isn't a folder that a run of yours has made")
 
     def test_a_run_does_not_go_on_with_other_options(self) -> None:
         assert_does_not_resume(*ONE, reason=b"--by")

@@ -74,6 +74,22 @@ def test_names_that_are_locked_in_target_stay_locked(mark: bytes) -> None:
     assert b"stay locked, as they were: bob." in done.err, done
 
 
+@pytest.mark.parametrize("line", [b"#bob:old\n", b"# bob:old\n", b"##bob:!\n"])
+def test_names_that_are_commented_out_in_target_stay_out(line: bytes) -> None:
+    save("hashes", HASHES)
+    save("target", b"# our users: see the wiki\ncid:x\n" + line)
+    done = pwhash(*INSTALL)
+    assert (done.status, read("target")) == (0, HASHES.replace(b"bob:", b"bob:!")), done
+    assert b"stay locked, as they were: bob." in done.err, done
+    assert b"its comments were removed" in done.err, done
+
+
+def test_a_comment_beside_a_line_of_the_same_name_locks_nobody() -> None:
+    save("hashes", HASHES)
+    save("target", b"#bob:old\nbob:new\n")
+    assert (pwhash(*INSTALL).status, read("target")) == (0, HASHES)
+
+
 def test_names_that_disappear_are_reported() -> None:
     save("hashes", HASHES)
     save("target", b"".join(b"old%d:x\n" % number for number in range(25)) + OLD)

@@ -133,7 +133,8 @@ def store_passwords(
     has_hashes = os.fstat(part.fd).st_size > 0
     has_lists = resume_state.read(part.path) is not None and os.path.lexists(generate.passwords)
     if options.resume and has_lists:
-        passwords = lists.read(generate.passwords, generate.has_groups)
+        saved = os.lstat(resume_state.path_of(part.path))
+        passwords = lists.read(generate.passwords, generate.has_groups, saved)
         report_useless_passwords(passwords, groups, generate, session.console)
         return passwords
     if has_hashes:

@@ -7,7 +7,7 @@ import grp
 import os
 import pwd
 import stat
-from typing import Dict, List, Optional
+from typing import Dict, List, Optional, Set
 
 from pwhash import field, password_file, replacing, system, system_files
 from pwhash.errors import Stop, UsageError, errors_named
@@ -120,15 +120,19 @@ class Content:
         system_files.refuse_shape(content, self._file_name)
         refuse_other_file(content, self._file_name)
         before = read_fields(content)
+        commented_out = read_commented_names(content) - before.keys()
         lines: List[bytes] = []
         locked: List[bytes] = []
         for line in self._hashes.lines:
             old = before.pop(line.name, None)
-            if old is not None and old.is_locked and not line.field.is_locked:
+            was_locked = line.name in commented_out or (old is not None and old.is_locked)
+            if was_locked and not line.field.is_locked:
                 locked.append(line.name)
                 line = line._replace(field=line.field._replace(mark=field.LOCK))
             lines.append(line.data())
         self.sentences = [f"{self._file_name} has {len(lines):,} names now."]
+        if any(line.startswith(b"#") for line in content.split(b"\n")):
+            self.sentences.append("its comments were removed.")
         self._note("stay locked, as they were", locked)
         self._note("aren't in HASHES, and were removed", list(before))
         return b"\n".join(lines) + b"\n"
@@ -148,6 +152,12 @@ def refuse_other_file(content: bytes, file_name: str) -> None:
             f"{file_name}, line {number}: no colon, as each line of a password file has one. Is it "
             "another file? Nothing was installed. If it isn't needed, remove it first."
         )
+
+
+def read_commented_names(content: bytes) -> Set[bytes]:
+    """Returns the names in lines behind a #, as when somebody keeps a user out that way."""
+    lines = content.split(b"\n")
+    return {line.lstrip(b"# ").partition(b":")[0] for line in lines if line.startswith(b"#")}
 
 
 def read_fields(content: bytes) -> Dict[bytes, Field]:

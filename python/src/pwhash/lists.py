@@ -88,16 +88,31 @@ def content_of(separator: str, rows: Iterable[Row]) -> bytes:
     return BYTE_ORDER_MARK + content if needs_mark else content
 
 
-def read(path: str, is_folder: bool) -> Dict[bytes, bytes]:
-    """Returns the passwords of all names in the lists of an earlier run."""
+def read(path: str, is_folder: bool, saved: os.stat_result) -> Dict[bytes, bytes]:
+    """Returns the passwords of all names in the lists of an earlier run.
+
+    `saved` is the status of what the run wrote when its lists were whole.
+    """
     passwords: Dict[bytes, bytes] = {}
     with errors_named(display_name(path)):
         files = files_in(path) if is_folder else [path]
     for file in files:
+        refuse_later(file, saved)
         for name, password in read_list(file):
             if passwords.setdefault(name, password) != password:
                 raise changed_list_error(file, "a name has two passwords")
     return passwords
+
+
+def refuse_later(path: str, saved: os.stat_result) -> None:
+    """Refuses a list that was written after the run saved its state, as an edited one.
+
+    The clocks of other file systems may differ.
+    """
+    with errors_named(display_name(path)):
+        status = os.lstat(path)
+    if status.st_dev == saved.st_dev and status.st_mtime_ns > saved.st_mtime_ns:
+        raise changed_list_error(path, "it was changed later")
 
 
 def files_in(folder: str) -> List[str]:
