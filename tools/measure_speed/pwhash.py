@@ -11,7 +11,6 @@ from .programs import MKPASSWD, OPENSSL, PYTHON
 from .ratios import RUNS_IF_ELAPSED, Clock, TimedTask, compare
 from .results import Comparison
 
-RUNS = 10  # of a command that takes a millisecond
 IDLE_SHARE = 0.9  # of the processors' time, for a machine that counts as idle
 
 
@@ -19,8 +18,8 @@ def commands() -> dict[str, TimedTask]:
     """Returns commands that make one hash, and two that do nothing."""
     openssl = (OPENSSL, "passwd", "-stdin", "-1", "-salt", "xxxxxxxx")
     return {
-        "true": TimedTask(Task(("/bin/true",)), runs=RUNS),
-        "openssl": TimedTask(md5crypt_task(*openssl), runs=RUNS),
+        "true": TimedTask(Task(("/bin/true",))),
+        "openssl": TimedTask(md5crypt_task(*openssl)),
         "python3": TimedTask(Task((PYTHON, "-I", "-S", "-c", "pass"))),
         "pwhash": TimedTask(md5crypt_task(PWHASH, *MD5CRYPT_OPTIONS)),
     }
@@ -28,7 +27,7 @@ def commands() -> dict[str, TimedTask]:
 
 def measure_starts(seconds: float) -> Iterator[Comparison]:
     """Measures how long commands take that make one hash."""
-    base = TimedTask(md5crypt_task(MKPASSWD, *MD5CRYPT_OPTIONS), runs=RUNS)
+    base = TimedTask(md5crypt_task(MKPASSWD, *MD5CRYPT_OPTIONS))
     for name, command in commands().items():
         yield compare("one hash of md5crypt", name, base, command, seconds)
 
