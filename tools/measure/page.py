@@ -300,7 +300,7 @@ def speed(pairs: Sequence[Pair]) -> str:
                 "[SPEED](SPEED.md) says how this is measured, and has the numbers of a run of its "
                 "own.\n\n"
                 + table(("Instructions for", "Programs"), rows_of_counts(bench.counts))
-                + "\nRatios of times, with intervals of 99 %:\n\n"
+                + "\nRatios of times, with intervals as in SPEED:\n\n"
                 + table(("Time of mkpasswd = 1", "Others"), rows_of_ratios(bench.comparisons))
             )
     return ""
@@ -327,8 +327,7 @@ def rows_of_ratios(comparisons: Sequence[Comparison]) -> Iterator[list[str]]:
 
 def ratio(comparison: Comparison) -> str:
     """Returns a ratio with its interval."""
-    interval = comparison.ratio.interval
-    bounds = f"{interval.lower:.2f} to {interval.upper:.2f}"
+    bounds = f"{comparison.ratio.bounds.lower:.2f} to {comparison.ratio.bounds.upper:.2f}"
     return f"{comparison.name} {comparison.ratio.median:.2f} ({bounds})"
 
 

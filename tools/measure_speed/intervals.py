@@ -12,6 +12,9 @@ LEVEL = 0.99
 RESAMPLES = 10_000
 SEED = 1
 LARGE = 0.1  # a difference from 1
+# All pairs of a ratio are measured within seconds, and meet the machine in one state. In another
+# state the median can be one or two hundredths away, which the bootstrap can't know.
+BETWEEN_RUNS = 0.01
 
 
 @dataclass(frozen=True)
@@ -55,19 +58,25 @@ class Ratio:
     """The time of something, divided by that of what it is compared with."""
 
     median: float
-    interval: Interval
+    interval: Interval  # of the pairs of one run, by the bootstrap
     pairs: int
 
     @property
+    def bounds(self) -> Interval:
+        """The interval, widened by what two runs differ in besides."""
+        return Interval(
+            self.interval.lower * (1 - BETWEEN_RUNS), self.interval.upper * (1 + BETWEEN_RUNS)
+        )
+
+    @property
     def may_be_one(self) -> bool:
-        """Whether the interval contains 1, when its bounds are rounded to hundredths."""
-        rounded = Interval(round(self.interval.lower, 2), round(self.interval.upper, 2))
-        return rounded.contains(1)
+        """Whether the bounds contain 1, when they are rounded to hundredths."""
+        return Interval(round(self.bounds.lower, 2), round(self.bounds.upper, 2)).contains(1)
 
     @property
     def is_clear(self) -> bool:
-        """Whether an interval that contains 1 is narrow enough to exclude a large difference."""
-        return 1 - LARGE <= self.interval.lower and self.interval.upper <= 1 + LARGE
+        """Whether the bounds exclude a large difference from 1."""
+        return 1 - LARGE <= self.bounds.lower and self.bounds.upper <= 1 + LARGE
 
 
 def ratio_of(ratios: Sequence[float]) -> Ratio:

@@ -80,8 +80,7 @@ def format_ratio(ratio: Ratio) -> str:
     if ratio.may_be_one and ratio.is_clear:
         return "the same"
     places = decimals_of(ratio.median)
-    lower, upper = ratio.interval.lower, ratio.interval.upper
-    bounds = f"({lower:.{places}f} to {upper:.{places}f})"
+    bounds = f"({ratio.bounds.lower:.{places}f} to {ratio.bounds.upper:.{places}f})"
     return f"unclear {bounds}" if ratio.may_be_one else f"{ratio.median:.{places}f} {bounds}"
 
 

@@ -90,7 +90,7 @@ def format_panel(rows: list[Comparison], method: str) -> str:
     ours = Comparison(method, OURS, Ratio(1, Interval(1, 1), 0))
     bars = [ours, *(row for row in rows if row.row == method)]
     # To the right of the bars there is space for their labels.
-    most = 1.75 * max(row.ratio.interval.upper for row in bars)
+    most = 1.75 * max(row.ratio.bounds.upper for row in bars)
     return PANEL.format(
         row=method,
         most=f"{most:.6g}",
@@ -104,8 +104,8 @@ def format_bar(row: Comparison) -> str:
     is_ours = row.name == OURS
     colour = OUR_COLOUR if is_ours else OTHER_COLOUR
     label = "1" if is_ours else format_ratio(row.ratio)
-    interval = row.ratio.interval
-    numbers = f"{row.ratio.median:.6g} {interval.lower:.6g} {interval.upper:.6g}"
+    bounds = Interval(1, 1) if is_ours else row.ratio.bounds
+    numbers = f"{row.ratio.median:.6g} {bounds.lower:.6g} {bounds.upper:.6g}"
     return f'"{row.name}" {numbers} {colour} "   {label}"\n'
 
 

@@ -35,13 +35,13 @@ def are_close(first: float, second: float) -> bool:
 
 
 def agree(first: Row, second: Row) -> bool:
-    """Whether counts are close, or intervals overlap. Seconds and memory may differ."""
+    """Whether counts are close, or bounds of ratios overlap. Seconds and memory may differ."""
     if isinstance(first, Count) and isinstance(second, Count):
         return are_close(first.instructions, second.instructions)
     if isinstance(first, Login) and isinstance(second, Login):
         return are_close(first.work, second.work)
     if isinstance(first, Comparison) and isinstance(second, Comparison):
-        return first.ratio.interval.overlaps(second.ratio.interval)
+        return first.ratio.bounds.overlaps(second.ratio.bounds)
     return True
 
 
