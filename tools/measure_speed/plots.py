@@ -22,7 +22,7 @@ BUDGET = cost(recommended_setting(SHA512CRYPT, None), LONGEST_PASSWORD)
 TERMINAL = "set terminal svg size {width},{height} font 'sans-serif,13' background '#ffffff'\n"
 PANELS = """\
 set multiplot layout 2,2 margins 0.1,0.99,0.02,0.86 spacing 0.14,0.13 \
-title 'Time of a hash, mkpasswd = 1, with intervals of 99 %' font ',16'
+title 'Time of a hash, mkpasswd = 1, with intervals' font ',16'
 set style fill solid
 set border 0
 unset key
