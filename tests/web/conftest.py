@@ -1,8 +1,9 @@
-"""Fixtures for the tests of the page and of mkpasswd.mjs: the build, node, browsers."""
+"""Fixtures for the tests of the page and of mkpasswd.mjs: the build, node, the installed package, browsers."""
 from __future__ import annotations
 
 import os
 import re
+import shutil
 from pathlib import Path
 from typing import Any, Iterator
 
@@ -10,6 +11,7 @@ import pytest
 from support import ROOT
 from support.browsers import BROWSERS, Browser
 from support.needs import missing, need, not_applicable
+from support.npm_site import Site
 from support.process import run
 from support.reports import Report
 from support.web_server import WebServer, serving
@@ -50,6 +52,40 @@ def pytest_runtest_call(item: pytest.Function) -> None:
     for value in item.funcargs.values():
         if isinstance(value, Report):
             item.add_report_section("call", "script", value.origin)
+
+
+# ---- The package of npm
+
+
+@pytest.fixture(scope="module")
+def site(node: str, tmp_path_factory: pytest.TempPathFactory) -> Site:
+    """A user's folder with the scripts."""
+    folder = tmp_path_factory.mktemp("site")
+    for script in (ROOT / "tests/npm").iterdir():
+        shutil.copy(script, folder)
+    manifest = '{ "private": true, "type": "module" }'
+    (folder / "package.json").write_text(manifest, encoding="ascii")
+    return Site(node, folder)
+
+
+@pytest.fixture(scope="module")
+def version() -> str:
+    """The version of this tree."""
+    return run(ROOT / "tools/version").required().stdout.decode().strip()
+
+
+@pytest.fixture(scope="module")
+def archive(site: Site, web_build: Path, version: str) -> Path:
+    """The packed package."""
+    site.run("npm", "pack", "--offline", web_build / "npm")
+    return site.folder / f"mkpasswd-{version}.tgz"
+
+
+@pytest.fixture(scope="module")
+def user(site: Site, archive: Path) -> Site:
+    """The folder with the installed package."""
+    site.run("npm", "install", "--offline", "--no-audit", "--no-fund", archive)
+    return site
 
 
 # ---- Browsers
