@@ -89,6 +89,15 @@ def test_program_of_readme_refuses_who_was_locked_meanwhile(
     assert report["entered"] == [], report
 
 
+def test_program_of_readme_keeps_who_registered_first(user: Site, login_program: str) -> None:
+    while_hashing = "users.set('ann', 'of the first');\n"
+    before = "if (!users.has('ann'))"
+    changed = login_program.replace(before, while_hashing + before)
+    assert changed != login_program, "the program doesn't look for the name"
+    report = login_of_readme(user, changed, "ann", "correct horse")
+    assert (report["entered"], report["stored"]) == ([], "of the first"), report
+
+
 def test_program_of_readme_lets_nobody_in_without_its_await(user: Site, login_program: str) -> None:
     careless = login_program.replace("await queue.login", "queue.login")
     assert careless != login_program, "the program awaits no login"
