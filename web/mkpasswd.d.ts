@@ -237,8 +237,8 @@ export interface LoginQueueOptions {
  * worker is free for the next call.
  *
  * If the queue is so long that a failure takes longer, it is answered after twice that time, three
- * times, and so on. So make `failureTime` longer than the costliest login takes, and `size` the
- * number of calls that your workers can run while a user is willing to wait.
+ * times, and so on. So make `failureTime` longer than the costliest login takes, and `size` less
+ * than the number of such logins that your workers run in that time: README.md has a formula.
  *
  * The calls need no `this`. Throws RangeError for a number below 0 (for `size` below 1) or above 2
  * ** 31 - 1, and TypeError for other options.

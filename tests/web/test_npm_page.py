@@ -18,9 +18,10 @@ pytestmark = [pytest.mark.needs("npm"), pytest.mark.xdist_group("npm"), pytest.m
 
 
 def program_of_readme(web_build: Path, heading: str, language: str = "js") -> str:
-    """The program below a heading in the README of the package."""
+    """The first program below a heading, of any level, in the README of the package."""
     readme = (web_build / "npm/README.md").read_text(encoding="utf-8")
-    (section,) = [part for part in readme.split("\n## ") if part.startswith(f"{heading}\n")]
+    sections = re.split(r"^##+ ", readme, flags=re.MULTILINE)
+    (section,) = [part for part in sections if part.startswith(f"{heading}\n")]
     return section.split(f"```{language}\n")[1].split("```\n")[0]
 
 
@@ -188,11 +189,30 @@ def test_program_of_readme_refuses_who_is_locked_meanwhile(user: Site, web_build
 
 
 def test_program_of_readme_measures_the_costliest_login(user: Site, web_build: Path) -> None:
-    """With a policy that costs less."""
     program = program_of_readme(web_build, "When a failure is answered")
-    (user.folder / "measure.mjs").write_text(OF_A_BUSY_SERVICE + program, encoding="utf-8")
+    (user.folder / "measure.mjs").write_text(program, encoding="utf-8")
     printed = user.run(user.node, "measure.mjs").stdout.decode()
     assert re.fullmatch(r"the costliest login: [\d.]+m?s\n", printed), printed
+
+
+# Hashes that cost less than a new one and more, and fields without a hash.
+STORED = """
+const stored = ['!', '', '$2b$x', '$1$xxxxxxxx$UYCIxa628.9qXjpQCjM4a.', '$7$CU..../....x$x'];
+const users = new Map(stored.map((field, place) => [place, field]));
+"""
+
+
+def test_program_of_readme_finds_the_lowest_budget(user: Site, web_build: Path) -> None:
+    program = program_of_readme(web_build, "If that is too few")
+    printed = """
+import { Policy } from 'mkpasswd';
+const { passwordLength } = new Policy({ budget }).limit;
+const isOfScrypt = budget === cost('$7$CU..../....x$x', 64);
+console.log(JSON.stringify({ isOfScrypt, passwordLength }));
+"""
+    (user.folder / "budget.mjs").write_text(STORED + program + printed, encoding="utf-8")
+    report = user.report_of("budget.mjs")
+    assert report["isOfScrypt"] is True and report["passwordLength"] >= 64, report
 
 
 def test_program_of_readme_makes_hashes_by_another_policy(user: Site, web_build: Path) -> None:
@@ -208,7 +228,13 @@ LET_IN = "declare function letIn(name: string): void;\n"
 USERS = "declare const users: Map<string, string>;\n"
 TYPED = "declare const name: string, password: string;\n"
 FIELD = "declare const field: string, password: string;\n"
-QUEUE = "import { LoginQueue } from 'mkpasswd';\ndeclare const queue: LoginQueue;\n"
+
+
+def assert_accepted(user: Site, text: str) -> None:
+    """Fails the test unless tsc accepts a module."""
+    (user.folder / "readme.ts").write_text(f"{text}export {{}};\n", encoding="utf-8")
+    options = ("--noEmit", "--strict", "--target", "es2022", "--module", "nodenext")
+    assert_result(run("tsc", *options, "readme.ts", cwd=user.folder))
 
 
 @pytest.mark.needs("tsc")
@@ -216,7 +242,8 @@ QUEUE = "import { LoginQueue } from 'mkpasswd';\ndeclare const queue: LoginQueue
     ("heading", "language", "declared"),
     [
         pytest.param("A first login", "js", USERS + TYPED + LET_IN, id="a login"),
-        pytest.param("When a failure is answered", "js", QUEUE, id="a measurement"),
+        pytest.param("When a failure is answered", "js", "", id="a measurement"),
+        pytest.param("If that is too few", "js", USERS, id="a budget"),
         pytest.param("Why a login failed", "js", FIELD, id="a reason"),
         pytest.param("Another policy", "js", "", id="a policy"),
         pytest.param("TypeScript", "ts", "", id="TypeScript"),
