@@ -154,28 +154,174 @@ def test_program_of_readme_answers_by_statuses_of_http(user: Site, web_build: Pa
 
 
 OF_AN_OLD_SERVICE = """
-async function bcryptMatches(password, field) { return field === OLD && password === 'password'; }
+import { passwordProblem } from 'mkpasswd';
 const OLD = '$2b$05$abcdefghijklmnopqrstuuqDsKnOFqPaNCEhHd5ZzD0Y1nJ1xN0cG';
+async function bcryptMatches(password, field) {
+    if (field !== OLD) throw new Error('damaged');
+    return password === 'password';
+}
 users.set('bob', OLD);
 """
 OLD_STATUSES = """
-const wrong = [await statusOfOldLogin('bob', 'x'), await statusOfOldLogin('bob', 'x'.repeat(1025))];
+const status = (password) => statusOfAnyLogin('bob', password);
+const wrong = [await status('x'), await status('x'.repeat(1025))];
 const kept = users.get('bob') === OLD;
-const right = [await statusOfOldLogin('bob', 'password'), await statusOfLogin('bob', 'password')];
+const right = [await status('password'), await statusOfLogin('bob', 'password')];
+const others = [await statusOfAnyLogin('ann', 'password'), await statusOfAnyLogin('eve', 'x')];
 users.set('bob', OLD);
-const busy = await Promise.all([statusOfLogin('ann', 'x'), statusOfOldLogin('bob', 'password')]);
-console.log(JSON.stringify({ wrong, kept, right, busy, stored: users.get('bob') }));
+const both = [statusOfLogin('ann', 'x'), statusOfLogin('ann', 'x')];
+const busy = await Promise.all([...both, status('password')]);
+console.log(JSON.stringify({ wrong, kept, right, others, busy, stored: users.get('bob') }));
+"""
+# How long a right password takes, a wrong one, and one whose check throws, in milliseconds.
+OLD_TIMES = """
+async function timed(password, field) {
+    users.set('bob', field);
+    const begin = performance.now();
+    const status = await statusOfAnyLogin('bob', password);
+    return { status, time: performance.now() - begin };
+}
+await queue.hash('the first starts a worker');
+const right = await timed('password', OLD);
+const late = [await timed('x', OLD), await timed('password', '$2b$'), await timed('x', undefined)];
+console.log(JSON.stringify({ right, late }));
+"""
+OLD_FAILURE = 2000  # milliseconds
+
+
+@pytest.fixture(scope="module")
+def old_service(web_build: Path) -> str:
+    """The programs with a login by statuses and by hashes of bcrypt."""
+    statuses = program_of_readme(web_build, "Too many logins")
+    moving = program_of_readme(web_build, "Users with hashes of bcrypt")
+    service = OF_A_BUSY_SERVICE.replace("size: 1", "size: 2")  # a right password takes two places
+    return service + OF_AN_OLD_SERVICE + statuses + moving
+
+
+def test_program_of_readme_moves_users_of_bcrypt(user: Site, old_service: str) -> None:
+    (user.folder / "old.mjs").write_text(old_service + OLD_STATUSES, encoding="utf-8")
+    report = user.report_of("old.mjs")
+    assert (report["wrong"], report["kept"], report["right"]) == ([403, 403], True, [200, 200])
+    assert report["others"] == [200, 403], report
+    assert report["busy"] == [403, 403, 503] and report["stored"].startswith("$2b$"), report
+
+
+def test_program_of_readme_hides_an_old_check_that_throws(user: Site, old_service: str) -> None:
+    text = old_service.replace("failureTime: 0", f"failureTime: {OLD_FAILURE}")
+    (user.folder / "throwing.mjs").write_text(text + OLD_TIMES, encoding="utf-8")
+    report = user.report_of("throwing.mjs")
+    assert report["right"]["status"] == 200 and report["right"]["time"] < OLD_FAILURE, report
+    for failure in report["late"]:
+        assert failure["status"] == 403 and failure["time"] >= OLD_FAILURE, report
+
+
+# Each change with what happens to the field while the new password is hashed.
+CHANGES = """
+const FIRST = users.get('ann');
+async function changed(name, password, chosen, meanwhile) {
+    users.set('ann', FIRST);
+    const change = statusOfChange(name, password, chosen);
+    if (meanwhile) users.set('ann', meanwhile);
+    const status = await change;
+    const { matches = false } = await policy.loginAsync(chosen, users.get('ann'));
+    return { status, matches, stored: users.get('ann') };
+}
+const of = {
+    right: await changed('ann', 'password', 'new'),
+    wrong: await changed('ann', 'x', 'new'),
+    unknown: await changed('eve', 'password', 'new'),
+    empty: await changed('ann', 'password', ''),
+    long: await changed('ann', 'password', 'x'.repeat(1025)),
+    locked: await changed('ann', 'password', 'new', '!'),
+    reset: await changed('ann', 'password', 'new', '$1$another'),
+};
+users.set('ann', FIRST);
+const busy = await Promise.all([statusOfLogin('ann', 'x'), statusOfChange('ann', 'x', 'new')]);
+console.log(JSON.stringify({ ...of, busy, first: FIRST }));
 """
 
 
-def test_program_of_readme_moves_users_of_bcrypt(user: Site, web_build: Path) -> None:
+@pytest.fixture(scope="module")
+def changes(user: Site, web_build: Path) -> Report:
+    """What the program makes of changes of a password."""
     statuses = program_of_readme(web_build, "Too many logins")
-    moving = program_of_readme(web_build, "Users with hashes of bcrypt")
-    text = OF_A_BUSY_SERVICE + OF_AN_OLD_SERVICE + statuses + moving + OLD_STATUSES
-    (user.folder / "old.mjs").write_text(text, encoding="utf-8")
-    report = user.report_of("old.mjs")
-    assert (report["wrong"], report["kept"], report["right"]) == ([403, 403], True, [200, 200])
-    assert report["busy"] == [403, 503] and report["stored"].startswith("$2b$"), report
+    changing = program_of_readme(web_build, "When a user changes the password")
+    text = OF_A_BUSY_SERVICE + statuses + changing + CHANGES
+    (user.folder / "change.mjs").write_text(text, encoding="utf-8")
+    return user.report_of("change.mjs")
+
+
+def test_program_of_readme_changes_a_password(changes: Report) -> None:
+    assert (changes["right"]["status"], changes["right"]["matches"]) == (200, True), changes
+
+
+@pytest.mark.parametrize(
+    ("change", "status"), [("wrong", 403), ("unknown", 403), ("empty", 400), ("long", 400)]
+)
+def test_program_of_readme_refuses_a_change(changes: Report, change: str, status: int) -> None:
+    assert changes[change]["status"] == status, changes
+    assert changes[change]["stored"] == changes["first"], changes
+
+
+@pytest.mark.parametrize(("change", "stored"), [("locked", "!"), ("reset", "$1$another")])
+def test_program_of_readme_keeps_what_came_during_a_change(
+    changes: Report, change: str, stored: str
+) -> None:
+    assert (changes[change]["status"], changes[change]["stored"]) == (409, stored), changes
+
+
+def test_program_of_readme_changes_no_password_while_busy(changes: Report) -> None:
+    assert changes["busy"] == [403, 503], changes
+
+
+# Requests to the whole service, and their statuses. The first password was changed.
+REQUESTS = """
+import { once } from 'node:events';
+if (!server.listening) await once(server, 'listening');
+const whole = { name: 'ann', password: 'correct horse' };
+async function statusOfRequest(path, body) {
+    const address = `http://127.0.0.1:${server.address().port}${path}`;
+    return (await fetch(address, { method: 'POST', body })).status;
+}
+const post = (path, value) => statusOfRequest(path, JSON.stringify(value));
+const statuses = [
+    await post('/login', whole),
+    await post('/login', { ...whole, password: 'x' }),
+    await post('/login', { ...whole, password: 5 }),
+    await post('/login', null),
+    await statusOfRequest('/login', '{'),
+    await statusOfRequest('/login', 'x'.repeat(10_001)),
+    await post('/other', whole),
+    await post('/password', whole),
+    await post('/password', { ...whole, chosen: 'new' }),
+    await post('/login', whole),
+    await post('/login', { ...whole, password: 'new' }),
+];
+console.log(JSON.stringify({ statuses }));
+process.exit();
+"""
+
+
+def without_imports(program: str) -> str:
+    """A program whose names the file imports already."""
+    return re.sub(r"^import .*\n", "", program, flags=re.MULTILINE)
+
+
+@pytest.fixture(scope="module")
+def whole_service(web_build: Path) -> str:
+    """The program of a whole service, with the functions that it needs."""
+    headings = ("Too many logins", "When a user changes the password")
+    functions = [without_imports(program_of_readme(web_build, heading)) for heading in headings]
+    return program_of_readme(web_build, "A whole service") + "".join(functions)
+
+
+def test_program_of_readme_is_a_whole_service(user: Site, whole_service: str) -> None:
+    changed = faster(whole_service).replace("\ncreateServer(", "\nconst server = createServer(")
+    assert "const server" in changed and ".listen(8000," in changed
+    text = changed.replace(".listen(8000,", ".listen(0,") + REQUESTS
+    (user.folder / "whole.mjs").write_text(text, encoding="utf-8")
+    statuses = user.report_of("whole.mjs")["statuses"]
+    assert statuses == [200, 403, 400, 400, 400, 413, 404, 400, 200, 403, 200]
 
 
 def test_program_of_readme_refuses_who_is_locked_meanwhile(user: Site, web_build: Path) -> None:
@@ -253,10 +399,37 @@ def test_typescript_accepts_programs_of_readme(
     user: Site, web_build: Path, heading: str, language: str, declared: str
 ) -> None:
     program = program_of_readme(web_build, heading, language)
-    text = f"{declared}{program}export {{}};\n"
-    (user.folder / "readme.ts").write_text(text, encoding="utf-8")
-    options = ("--noEmit", "--strict", "--target", "es2022", "--module", "nodenext")
-    assert_result(run("tsc", *options, "readme.ts", cwd=user.folder))
+    assert_accepted(user, declared + program)
+
+
+# What stands before the functions of README.
+FUNCTIONS_USE = """
+import { Busy, LoginQueue, describe, passwordProblem } from 'mkpasswd';
+declare const queue: LoginQueue;
+declare const users: Map<string, string>;
+declare function bcryptMatches(password: string, field: string): Promise<boolean>;
+declare function setImmediate(call: (value: unknown) => void): void;
+"""
+
+
+def with_types(program: str) -> str:
+    """A program in which each parameter of a function is a string."""
+    return re.sub(
+        r"function (\w+)\(([\w, ]+)\)",
+        lambda match: f"function {match[1]}({match[2].replace(',', ': string,')}: string)",
+        program,
+    )
+
+
+@pytest.mark.needs("tsc")
+def test_typescript_accepts_functions_of_readme(user: Site, web_build: Path) -> None:
+    headings = (
+        "Too many logins",
+        "When a user changes the password",
+        "Users with hashes of bcrypt",
+    )
+    functions = [without_imports(program_of_readme(web_build, heading)) for heading in headings]
+    assert_accepted(user, FUNCTIONS_USE + with_types("".join(functions)))
 
 
 # What decides by a login in TypeScript: a password of any type, with the right hash and others.
