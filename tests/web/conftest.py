@@ -1,4 +1,4 @@
-"""Fixtures for the tests of the page and of mkpasswd.mjs: the build, node, the installed package, browsers."""
+"""Fixtures for the tests of the page and of mkpasswd.mjs: build, node, package, browsers."""
 from __future__ import annotations
 
 import os
