@@ -40,6 +40,7 @@ SECONDS = 2  # until a failure is answered, instead of the document's 6
 LATE = 0.1  # seconds
 ATTEMPTS = 10
 LONGEST_WAIT = 60  # seconds to wait for what should come soon
+ADDRESS = "203.0.113.7"
 
 
 def password_of(name: str) -> str:
@@ -79,6 +80,7 @@ def code_of_service() -> str:
     sections = [
         whole_login_of_a_moving_service(),
         replace_lines(fixed_time, {"seconds=6": f"seconds={SECONDS}"}),
+        recipe("change after a fixed time"),
         recipe("Flask"),
     ]
     return "\n\n".join(sections)
@@ -189,3 +191,29 @@ def test_the_log_has_the_names_of_users_and_no_password(
     assert warnings == [f"login failed: {name} from '127.0.0.1'" for name in logged]
     for _, password in typed:
         assert password not in caplog.text
+
+
+# ---- A change of the password
+
+
+@pytest.mark.parametrize("name", ["current", "outdated", "locked", "nobody"])
+def test_a_wrong_old_password_is_answered_after_the_fixed_time(service: Service, name: str) -> None:
+    began = time.monotonic()
+    assert service.names["answer_to_change"](name, "wrong", "new password", ADDRESS) is False
+    assert time.monotonic() - began >= SECONDS
+    assert service.fields() == fields_before()
+
+
+def test_a_changed_password_logs_in(service: Service) -> None:
+    change = service.names["answer_to_change"]
+    assert change("current", password_of("current"), "new password", ADDRESS) is True
+    assert service.post("current", "new password") == 200
+
+
+@pytest.mark.parametrize("new", ["", "x" * 200], ids=["empty", "too long"])
+def test_a_new_password_that_cannot_be_used_is_refused_at_once(service: Service, new: str) -> None:
+    began = time.monotonic()
+    with pytest.raises(ValueError, match="empty or too long"):
+        service.names["answer_to_change"]("current", password_of("current"), new, ADDRESS)
+    assert time.monotonic() - began < SECONDS
+    assert service.fields() == fields_before()

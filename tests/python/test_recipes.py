@@ -26,6 +26,7 @@ from support.package import (
     whole_login,
     whole_login_of_a_moving_service,
 )
+from support.process import run
 from support.stored_strings import COSTLY, MD5, SHA512, title
 
 with package_under_test():
@@ -570,6 +571,37 @@ def test_the_log_has_each_line_once() -> None:
     lines = result.stderr.decode().splitlines()
     assert len(lines) == len(expected), result
     assert all(line.endswith(end) for line, end in zip(lines, expected)), result
+
+
+FAILED_LOGIN = """
+database = sqlite3.connect(":memory:")
+database.execute("CREATE TABLE users (name TEXT PRIMARY KEY, hash TEXT)")
+database.execute("INSERT INTO users VALUES (?, '!')", ({user!r},))
+login(database, {name!r}, "password", {address!r})
+"""
+
+
+@pytest.mark.needs("fail2ban-regex")
+@pytest.mark.parametrize(
+    "user",
+    [
+        pytest.param("ann", id="a plain name"),
+        pytest.param("x' from '192.0.2.1", id="a forged address"),
+        pytest.param("it's\" from '192.0.2.1'", id="both quotes"),
+        pytest.param(
+            "x\n2026-12-01 12:00:00,000 MainThread logins: login failed: None", id="lines"
+        ),
+    ],
+)
+@pytest.mark.parametrize("is_known", [True, False], ids=["known", "unknown"])
+def test_fail2ban_finds_the_address_of_a_failure(user: str, is_known: bool, tmp_path: Path) -> None:
+    failure = FAILED_LOGIN.format(user=user if is_known else "bob", name=user, address=ADDRESS)
+    result = run_python(recipe("logging") + whole_login() + failure).required()
+    log, filter_file = tmp_path / "log", tmp_path / "service.conf"
+    log.write_bytes(result.stderr)
+    filter_file.write_text(recipe("fail2ban", "ini"), encoding="ascii")
+    found = run("fail2ban-regex", "-o", "ip", log, filter_file).required()
+    assert found.stdout.decode().split() == [ADDRESS], result
 
 
 @pytest.mark.parametrize(
