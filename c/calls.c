@@ -70,9 +70,9 @@ int32_t mkpasswd_hash_bytes(const uint8_t *password, size_t password_length, con
     return wipe_stack(result);
 }
 
-/* Tries without random numbers first. Any error that comes before their lack is reported without
- * drawing them. The trial writes to memory of its own, so that only the last call writes to
- * `out`. */
+/* First tries without random numbers, so that an error that comes before they are needed, such as a
+ * bad password, is reported without drawing any. The trial writes to its own buffer: only the last
+ * call writes to `out`. */
 __attribute__((noinline)) static int32_t hash_anew(const uint8_t *password, size_t password_length,
     uint32_t method, uint32_t rounds, uint64_t budget, uint8_t *out, size_t out_size,
     struct mkpasswd_report *report)

@@ -83,7 +83,8 @@ int pam_prompt(pam_handle_t *pam, int style, char **response, const char *format
     return PAM_SUCCESS;
 }
 
-/* An entry for a failed login must have no blank or line feed of the input: counts the words. */
+/* Counts the words of a failed login's log entry, since no blank or line feed of the input may be
+ * in it. */
 void pam_syslog(const pam_handle_t *pam, int priority, const char *format, ...)
 {
     char entry[8 * PART_SIZE];

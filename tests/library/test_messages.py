@@ -1,4 +1,4 @@
-"""mkpasswd_message and mkpasswd_scheme_name: a text for each number, and too little room."""
+"""mkpasswd_message and mkpasswd_scheme_name: the text for each number, and small buffers."""
 from __future__ import annotations
 
 import pytest

@@ -1,11 +1,11 @@
 """Each read, write, allocation and random draw of the program fails in turn, in each mode.
 
-Such a run must end with status 3, name the failure, and print only a beginning of what a
-successful run prints, with complete answers to all lines before. If the arguments are refused,
-the status stays 2 even if the message can't be written.
+Such a run must end with status 3, name the failure, and print a prefix of a successful run's
+output that answers every earlier line in full. If the arguments are refused, the status stays 2
+even if the message can't be written.
 
-One failed allocation may be ignored: std finally shrinks the list of arguments, and if that fails
-the list stays as it is.
+One failed allocation may go unnoticed: at the end std shrinks the list of arguments, and keeps it
+as it is if that fails.
 """
 from __future__ import annotations
 

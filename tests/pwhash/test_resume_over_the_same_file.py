@@ -64,7 +64,7 @@ def interrupted(
 
 
 def terminated(process: subprocess.Popen[bytes], part: str, size: int) -> Ended:
-    """Sends a signal to a run once its part has grown, unless it has ended by then."""
+    """Sends SIGTERM to a run once its part is longer than `size`, unless it has ended by then."""
     wait_for(lambda: process.poll() is not None or size_of(part) > size)
     process.send_signal(signal.SIGTERM)
     return ended(process)

@@ -83,7 +83,7 @@ OTHER_LINES = [
 def test_options_that_change_lines_do_not_resume_a_part(
     first: tuple[str, ...], second: tuple[str, ...]
 ) -> None:
-    """The first and last lines, which --resume hashes again, are the same with both."""
+    """The first and last lines, which --resume hashes again, don't tell the options apart."""
     text = b"".join(b"user%d:password%d%b\n" % (n, n, b"\r" * (n % 2)) for n in range(1500))
     if "--csv" in first:
         rows = (b"user%d,password%d,other%d\n" % (n, n, n * (n % 2)) for n in range(1500))

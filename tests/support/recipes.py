@@ -1,4 +1,4 @@
-"""Follows the recipes of documents on a test's own machine, with users of each method."""
+"""Follows the documents' recipes on a machine of the test's own, with a user for each method."""
 from __future__ import annotations
 
 import functools

@@ -52,7 +52,7 @@ def identifier(kind: str, name: str | int) -> str:
 
 
 def verification_code(files: Sequence[File]) -> str:
-    """Returns a package's verification code, the SHA-1 of its files' sorted SHA-1s (7.9)."""
+    """Returns a package's verification code (SPDX 2.3, 7.9): the SHA-1 of its files' SHA-1s."""
     sums = sorted(sha1(file.content).hexdigest() for file in files)
     return sha1("".join(sums).encode("ascii")).hexdigest()
 

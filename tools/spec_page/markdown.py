@@ -74,7 +74,7 @@ def links_of(entry: Entry, anchors: Mapping[Entry, str]) -> Iterator[str]:
 
 
 def link_to(used: Entry, word: str, entry: Entry, anchors: Mapping[Entry, str]) -> str:
-    """Returns a link to what a word of an entry means, with the word if that is another name."""
+    """Returns a link to the definition of a word in an entry. Adds the word if it is an alias."""
     if used not in anchors:
         raise Stop(f"{entry.place}: {entry.name} uses {used.name}, which the page doesn't show")
     link = f"[`{used.name}`](#{anchors[used]})"
