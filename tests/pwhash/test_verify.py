@@ -171,7 +171,7 @@ def test_ignored_lines_are_reported() -> None:
     assert (done.status, done.out) == (0, YES) and b"after the hash" in done.err, done
     ann_in_file(MD5.encode())
     done = pwhash("verify", "file", "ann", stdin=b"password\nmore\n")
-    assert (done.status, done.out) == (0, YES) and b"behind the password" in done.err, done
+    assert (done.status, done.out) == (0, YES) and b"after the password" in done.err, done
 
 
 # ---- Neither yes nor no
