@@ -33,7 +33,7 @@ SCRYPT_DEAREST = b"$7$" + ScryptCost(18, 32, 1).text + b"a" * 86  # the cost of 
 SHA512_MOST_ROUNDS = b"$6$rounds=999999999$ab$x"
 SHA512_MOST_ROUNDS_LONGEST_SALT = b"$6$rounds=999999999$aaaaaaaaaaaaaaaa"
 
-# How findings begin. COST stands for the highest cost of a login with the longest password.
+# The beginnings of findings. COST stands for the highest cost of a login with the longest password.
 OF_SHA512 = "sha512crypt:656000:COST"
 OF_SHA256 = "sha256crypt:656000:COST"
 OF_MD5 = "md5crypt:1000:COST"
@@ -47,7 +47,7 @@ Options = list[Word]
 
 @dataclass(frozen=True)
 class Audit:
-    """A field, the options besides --audit, and the finding."""
+    """A field, the options besides --audit, and the finding that the program must print."""
 
     title: str
     field: bytes
@@ -88,7 +88,7 @@ BY_OTHER_POLICIES = [
     Audit("scrypt as the policy", SCRYPT, f"{OF_SCRYPT}:current", ("-m", "scrypt")),
     Audit("scrypt with a higher cost", SCRYPT, f"{OF_SCRYPT}:outdated", ("-m", "scrypt", "-R", 8)),
 ]
-# Without the option, the budget follows from the cost of a hash with the longest salt.
+# Without --budget, the budget follows from the cost of a hash with the longest salt.
 BY_BUDGETS = [
     Audit("the cost as the budget", SHA512, f"{OF_SHA512}:current", ("--budget", COST_OF_SHA512)),
     Audit(
@@ -120,8 +120,9 @@ BY_BUDGETS = [
         ("-m", "scrypt", "-R", 11),
     ),
 ]
-# Without the option, the empty password has a limit too, that of a login. It costs 268460964 with
-# the first hash here, and 163609376 with the second, which is the limit for 422664 rounds.
+# Without --budget, even checking the empty password must stay within the limit of a login. It costs
+# 268460964 with the first hash here. With the second hash it costs 163609376, which is the limit
+# for 422664 rounds.
 BY_THE_LIMIT_OF_A_LOGIN = [
     Audit("dear scrypt by the default policy", SCRYPT_DEAR, f"{OF_SCRYPT_DEAR}:over budget"),
     Audit(
@@ -260,7 +261,10 @@ WITH_STATUS_0 = ("current", "locked", "unknown")
 
 
 def assert_finding(program: Path, audit: Audit, more_options: Options) -> None:
-    """Fails unless an audit has the finding for a bare field, a shadow line, and a last line."""
+    """Fails unless an audit has the finding for each of three lines.
+
+    They have a bare field, a shadow entry, and a last colon without a line feed.
+    """
     given = b"ann:%b\nbob:%b:19000:0:99999:7:::\neve:%b:" % ((audit.field,) * 3)
     answers = [f"{name}:{audit.expected}\n" for name in ("ann", "bob", "eve")]
     status = 0 if audit.finding.endswith(WITH_STATUS_0) else 1
@@ -289,7 +293,7 @@ def test_an_audit_finds(program: Path, audit: Audit) -> None:
     assert_finding(program, audit, ["--work", "--rehash"])  # these change nothing
 
 
-def test_an_audit_refuses_lines_by_their_numbers(program: Path) -> None:
+def test_an_audit_reports_invalid_lines_by_number(program: Path) -> None:
     given = b"\n".join([b":x", b"n" * 65 + b":!", b"ann", b"ann:" + b"x" * 2045, b"bob:!"])
     refusals = (
         b"mkpasswd: line 7: no name\n"

@@ -116,10 +116,10 @@ class Mode:
     words: list[Word]
     given: bytes = b""
     stdout: bytes = b""
-    form: str = ""  # a pattern, if the output isn't known
+    form: str = ""  # a pattern for the output, if it isn't known in full
     stderr: bytes = b""
     status: int = 0
-    makes_hashes: bool = True  # whether it hashes, for which it draws a seed
+    makes_hashes: bool = True  # if so, it draws a seed
     draws_salt: bool = False
     allocations_after_an_answer: int = 0
 
@@ -239,7 +239,7 @@ def test_without_a_fault_each_mode_prints_its_answers(tracer: Tracer, mode: Mode
 
 
 def assert_named(mode: Mode, kind: str, traced: Traced, whole: bytes) -> None:
-    """Fails unless a run named its fault, and printed only a beginning of a successful run."""
+    """Fails unless a run named its fault, and printed a prefix of a successful run's output."""
     result = traced.result
     has_no_message = kind == "write" and mode.status == 2
     status, message = (2, b"") if has_no_message else (3, MESSAGES[kind])
@@ -256,7 +256,7 @@ def assert_named(mode: Mode, kind: str, traced: Traced, whole: bytes) -> None:
 
 
 def assert_each_failed_call_is_named(tracer: Tracer, mode: Mode, kind: str) -> None:
-    """Makes each call of a kind fail in turn."""
+    """Makes each call of a kind fail in turn. Fails the test unless each run names its fault."""
     whole = tracer.run(mode.words, mode.given)
     for number in range(1, whole.count(kind) + 1):
         traced = tracer.run(mode.words, mode.given, f"{kind} {number}")
@@ -310,8 +310,8 @@ def test_reads_and_writes_may_transfer_one_byte_each(tracer: Tracer, mode: Mode)
 
 # ---- Memory
 
-# With N = 2^14 and p = 1, scrypt allocates a table of 128 N r bytes or reuses one, 128 r p bytes of
-# blocks, and 256 r bytes to mix them. Nothing else allocates memory for a line.
+# With N = 2^14 and p = 1, scrypt allocates a table of 128 N r bytes unless it can reuse one, then
+# 128 r p bytes for blocks, and 256 r bytes to mix them. Nothing else allocates memory for a line.
 BEFORE_TABLE = 2097152
 BEFORE_PARTS = 16
 WITH_R_32 = [BEFORE_TABLE + 67108864, BEFORE_PARTS + 4096, BEFORE_PARTS + 8192]
@@ -406,12 +406,12 @@ def test_a_line_allocates_the_memory_of(
     assert allocated(tracer, words, given, status) == [*without_lines, *allocations]
 
 
-# Limits of the address space in kB. Both tables fit in the highest, and neither fits in the lowest.
+# Limits of the address space in kB. The highest has space for both tables, the lowest for neither.
 ADDRESSES = [*range(3000, 6500, 500), *range(18500, 24500, 500), 50_000, 65_000, 80_000]
 
 
 def assert_does_what_it_can(program: Path) -> None:
-    """Fails unless the program answers what it can in little memory, and says what it lacks."""
+    """Fails unless the program answers what it can in little memory, and then names the failure."""
     endings = set()
     for kilobytes in ADDRESSES:
         limited = ["sh", "-c", 'ulimit -v "$0" && exec "$@"', kilobytes, program, "--check"]
@@ -421,11 +421,11 @@ def assert_does_what_it_can(program: Path) -> None:
     assert endings == {(0, b"ann:ok\n" * 2, b""), (3, b"ann:ok\n", message), (3, b"", message)}
 
 
-def test_in_little_memory_the_program_does_what_it_can(program: Path) -> None:
+def test_with_little_memory_the_program_does_what_it_can(program: Path) -> None:
     assert_does_what_it_can(program)
 
 
-def test_in_little_memory_the_static_program_does_what_it_can() -> None:
+def test_with_little_memory_the_static_program_does_what_it_can() -> None:
     assert_does_what_it_can(built("build/x86-64/mkpasswd", "static"))
 
 
@@ -433,7 +433,7 @@ def test_in_little_memory_the_static_program_does_what_it_can() -> None:
 
 
 def expected_calls(given: list[bytes], answers: list[tuple[int, bytes]]) -> list[Call]:
-    """Returns reads of 512 bytes, with a write for each answer as soon as its line is read."""
+    """Returns the calls that are due: reads of 512 bytes, and each answer once its line is read."""
     calls, length, read = [], 0, 0
     for line, (descriptor, text) in zip(given, answers):
         length += len(line)

@@ -1,7 +1,7 @@
-"""The program's speed: no change makes a hash take more instructions unnoticed.
+"""The program's speed: a hash takes no more instructions than docs/speed.json says.
 
-They are compared with the counts in docs/speed.json. A change that needs more on purpose measures
-those anew, with `tools/bench --only instructions`.
+If a change needs more instructions on purpose, measure the counts in that file again, with
+`tools/bench --only instructions`.
 """
 from __future__ import annotations
 
@@ -15,7 +15,7 @@ from support import ROOT
 
 RESULTS = ROOT / "docs/speed.json"
 NAME = "mkpasswd"
-TOLERANCE = 0.01  # since glibc's memcpy takes a little more or less in another version
+TOLERANCE = 0.01  # glibc's memcpy takes a few more or fewer instructions in other versions
 
 UNITS = [pytest.param(difference, id=difference.unit) for difference in DIFFERENCES]
 

@@ -1,6 +1,6 @@
 """The program answers lines: random ones, many from an open pipe, and some to closed outputs.
 
-test_audits.py has the audits.
+test_audits.py tests audits.
 """
 from __future__ import annotations
 
@@ -61,7 +61,7 @@ def numbered_line(number: int) -> tuple[bytes, bytes]:
 
 
 def write_and_ignore_a_closed_pipe(pipe: IO[bytes], lines: Iterator[bytes]) -> None:
-    """Writes lines as far as somebody reads them. If nobody does, the answers show why."""
+    """Writes lines until the reader closes the pipe. The reader's answers then show why."""
     with contextlib.suppress(BrokenPipeError):
         for line in lines:
             pipe.write(line)

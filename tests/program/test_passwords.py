@@ -1,7 +1,8 @@
 """Random passwords and salts: the program and libxcrypt give the same hashes.
 
-Salts and passwords come from arguments, -S or standard input, with many costs. Costs that no
-option gives are tested by checks. All cases follow from fixed seeds.
+Salts come from -S or an argument, passwords from an argument or standard input, with many costs.
+Costs that no option can set are tested by checking libxcrypt's hashes. All random values follow
+from fixed seeds.
 """
 from __future__ import annotations
 
@@ -20,7 +21,7 @@ MOST_SALT_OF_MD5CRYPT = 8
 MOST_SALT_OF_SHA_CRYPT = 16
 MOST_SALT_OF_SCRYPT = 86
 
-# Lengths in bytes at which a digest, or its block, ends. libxcrypt accepts at most 511.
+# Lengths in bytes around the ends of digests and blocks. libxcrypt accepts at most 511.
 EDGE_LENGTHS = (0, 1, 15, 16, 17, 31, 32, 33, 63, 64, 65, 127, 128, 129, 255, 256, 511)
 
 
@@ -48,7 +49,11 @@ class Way(enum.Enum):
         return ["-S", salt]
 
     def given(self, password: bytes) -> bytes:
-        """Returns the standard input: with -s more lines follow, else there is no line feed."""
+        """Returns the standard input.
+
+        With -s, another line follows the password, which otherwise ends without a line feed. If the
+        password is an argument, there is only that other line.
+        """
         if self.is_word:
             return b"more\n"
         if self is Way.SALT_OPTION_AND_STDIN:
@@ -60,7 +65,7 @@ class Way(enum.Enum):
 class Hashing:
     """A method and a cost as options, libxcrypt's setting for them, and the number of cases.
 
-    libxcrypt refuses rounds below 1000, so its setting has the rounds that the program clamps to.
+    The program raises rounds below 1000 to 1000. libxcrypt refuses them, so its setting has 1000.
     """
 
     options: str
@@ -108,7 +113,7 @@ def random_salt(source: random.Random, length: int) -> bytes:
 
 
 def random_password(source: random.Random, length: int) -> bytes:
-    """Returns a random password of this many bytes, whose characters have one to three bytes."""
+    """Returns a random password of this many bytes, whose characters take one to three bytes."""
     password = b""
     while len(password) < length:
         one_byte = bytes([source.randint(1, 127)])

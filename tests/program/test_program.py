@@ -1,4 +1,4 @@
-"""The program as a user sees it, where no clause states what it prints or how it uses the system.
+"""The program as a user sees it: what it prints and how it uses the system, beyond the clauses.
 
 Each run must end with the right status, print the expected output on the right stream, and
 nothing on the other one. The fixed hashes are libxcrypt's, and passlib's for passwords of 512
@@ -37,7 +37,7 @@ DIGIT = rb"[./0-9A-Za-z]"
 
 
 def assert_refused_by_option_parser(result: Result, named: str) -> None:
-    """Fails unless the option parser refuses the arguments with status 2, and names this."""
+    """Fails unless the option parser ends the run with status 2 and a message that has `named`."""
     message = result.stderr.decode()
     is_refused = result.status == 2 and result.stdout == b"" and named in message
     assert is_refused, f"expected status: 2\nexpected stderr: ..{named}..\n{result}"
@@ -52,7 +52,7 @@ def assert_fault(result: Result, status: int, message: str) -> None:
 
 
 @pytest.mark.parametrize("option", ["-V", "--version"])
-def test_the_version_is_the_source_tree_s(program: Path, option: str) -> None:
+def test_the_version_is_that_of_the_source_tree(program: Path, option: str) -> None:
     version = run(ROOT / "tools/version").required().stdout
     assert_result(run(program, option), stdout=b"mkpasswd " + version)
 
@@ -123,7 +123,7 @@ def test_all_arguments_are_read(program: Path) -> None:
     assert_fault(run(program, *ALL_WORDS), 2, "two salts")
 
 
-def test_the_first_argument_too_many_is_named(program: Path) -> None:
+def test_the_first_excess_argument_is_named(program: Path) -> None:
     result = run(program, *ALL_WORDS, *["--check"] * 200)
     assert_refused_by_option_parser(result, "unexpected argument '--check'")
 
@@ -444,7 +444,7 @@ def test_lines_are_answered(program: Path, words: Words, given: bytes, answers: 
     ],
 )
 def test_a_budget_too_small_by_one_refuses(program: Path, words: Words, given: bytes) -> None:
-    """Without the refusal each of these would take minutes."""
+    """If the budget didn't refuse it, each of these lines would take minutes."""
     result = run(program, *words, stdin=given, timeout=30)
     assert_fault(result, 1, "line 1: over budget")
 

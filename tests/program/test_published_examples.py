@@ -20,7 +20,7 @@ MOST_ALLOCATIONS = 1000
 
 @dataclass(frozen=True)
 class Refusal:
-    """How a run ended in which one allocation should fail."""
+    """The end of a run in which the allocation with a given number had to fail."""
 
     result: Result
     allocations: int
@@ -67,7 +67,8 @@ def test_the_program_reports_each_failed_allocation_before_it_hashes(refuser: Re
         assert_result(refusal.result, status=3, stderr=b"mkpasswd: out of memory\n")
     assert number > 10, "expected more allocations"
     assert_result(refusal.result, stdout=f"{MD5}\n".encode())
-    # std shrinks the list of arguments before the program plans its work. If that fails, it stays.
+    # std shrinks the list of arguments before the program plans its work. If that fails, std keeps
+    # the list as it is.
     assert ignored <= 1
 
 

@@ -34,7 +34,7 @@ class Line:
 
 
 def without_comments(text: str) -> str:
-    """Returns sources whose lines end where a comment begins."""
+    """Returns source text without its comments."""
     return re.sub(r"//.*", "", text)
 
 
@@ -71,7 +71,7 @@ def fixture_code() -> list[Line]:
 
 
 def files_with_exported_calls() -> list[str]:
-    """Returns the files with the calls for C, the page and node."""
+    """Returns the files with the calls that are exported for C, the page and node."""
     names = {name_of(path): read(path) for path in source_files()}
     exporting = ("crypt_c/src/", "crypt_web/src/")
     return [
@@ -111,7 +111,8 @@ ON_THE_WAY_TO_SCRYPT = [
             ["program/src/main.rt", *files_with_exported_calls()],
             id="only the program and the calls create a meter",
         ),
-        # Code without the allocator can't allocate, such as what reads, prices and refuses a line.
+        # Code that gets no allocator can't allocate: for example, what reads, prices and refuses a
+        # line.
         pytest.param(
             r"\bGlobal\b",
             [*TABLES, SCRYPT, *ON_THE_WAY_TO_SCRYPT, *ARGUMENTS],
@@ -188,7 +189,7 @@ def test_2_to_the_40_reads_and_writes_are_allowed() -> None:
 
 
 def test_runs_call_inspect_for_each_complete_line(code: list[Line]) -> None:
-    """A second function with the same rules would satisfy the clauses too."""
+    """The clauses alone would also allow a second function with the same rules."""
     asks = r"if let Some\(fault\) = inspect\(kind, bytes\) \{"
     found = [line.path for line in code if re.search(asks, line.code)]
     assert found == ["run_core/src/answer.rt"]
@@ -196,7 +197,7 @@ def test_runs_call_inspect_for_each_complete_line(code: list[Line]) -> None:
 
 # ---- Mixings and meters
 
-# Steps of a mixing that another function counts.
+# Functions that do one step of a mixing. Their caller counts the mixing.
 UNCOUNTED_STEPS = ("mix_blocks", "mixed_block")
 
 
@@ -222,7 +223,7 @@ def functions_of_mix() -> list[Function]:
 
 @pytest.mark.parametrize("function", functions_of_mix(), ids=str)
 def test_a_mixing_is_counted_once(function: Function) -> None:
-    """A function that counts a mixing does exactly one. The others are steps of one.
+    """Each function that counts a mixing does exactly one. The others do a step of one, or none.
 
     No clause notices a mixing whose result is dropped, or one that is done twice.
     """
@@ -238,7 +239,7 @@ def test_a_mixing_is_counted_once(function: Function) -> None:
 
 
 def exported_calls() -> Iterator[Function]:
-    """Yields the calls for C, the page and node, and what precedes the first in each file."""
+    """Yields the calls exported for C, the page and node, and each file's code before the first."""
     for name in files_with_exported_calls():
         before, *calls = re.split(EXPORTED_CALL, without_comments(read(CRATES / name)))
         yield Function(f"the code before the calls of {name}", before)
