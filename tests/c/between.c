@@ -1,6 +1,6 @@
-/* Loaded before the C library, it plays somebody else, or another file system, to a program that
-   replaces a file. Before the program exchanges PATH with another file, somebody renames PATH.1
-   over it, the second time PATH.2, and so on, as long as these exist.
+/* Loaded before the C library, it acts as another user, or as another file system, while a program
+   replaces a file. Each time the program is about to exchange PATH with another file, somebody
+   renames a file over PATH: first PATH.1, then PATH.2, and so on, as long as these exist.
 
    NO_EXCHANGE=1   the file system can't exchange files
    NO_TMPFILE=1    it has no O_TMPFILE
@@ -9,9 +9,9 @@
    CHMOD=1         somebody changes PATH's mode before the first exchange
    REMOVED=PATH    somebody removes PATH before the program writes its note of the exchange
    KILL=fsync      the program is killed before its file is on the disk
-   KILL=linkat     after the file has got its name
-   KILL=exchange   after the exchange
-   KILL=unlinkat   before it removes the old file */
+   KILL=linkat     the program is killed after its file has got a name
+   KILL=exchange   the program is killed after the exchange
+   KILL=unlinkat   the program is killed before it removes the old file */
 #define _GNU_SOURCE
 #include <errno.h>
 #include <fcntl.h>

@@ -1,7 +1,7 @@
 /* The service around the code of docs/C.md. `c_page FIELD PASSWORD [NEW]` has one user, ann, with
- * this field, or no user if it is `-`. It logs ann in, prints her field afterwards, and the log on
- * standard error, and then hashes the new password. The status is 0 if she is logged in. With
- * LOCKED in the environment somebody locks the account during the login. */
+ * this field, or no user if it is `-`. It tries to log ann in, then prints her field, and the log
+ * on standard error, and at last hashes the new password. The status is 0 if she is logged in. If
+ * LOCKED is in the environment, somebody locks the account during the login. */
 #include <mkpasswd.h>
 #include <stdio.h>
 #include <stdlib.h>

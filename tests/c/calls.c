@@ -1,13 +1,14 @@
 /* Makes the calls of mkpasswd.h that standard input asks for, and prints a line for each.
  * tests/support/driver.py builds this as C and as C++, writes the rows and reads the lines.
  *
- * A row is a call without mkpasswd_ and its arguments by the names that they have in the header:
+ * A row is the name of a call without `mkpasswd_`, and its arguments with the header's names:
  *
  *     verify_bytes password=70617373 stored=24312461 budget=150000000
  *
- * Bytes are hexadecimal, or `null`. For the inline calls they go to mkpasswd_password_bytes() and
- * mkpasswd_field_bytes(), or with `text:` before them, as a string, to mkpasswd_password() and
- * mkpasswd_field(). Missing arguments are empty, or 0. `out_size=null` means a null `out`.
+ * Bytes are in hexadecimal, or `null`. An inline call gets them from mkpasswd_password_bytes() and
+ * mkpasswd_field_bytes(). If `text:` precedes them, they are a string, and an inline call gets them
+ * from mkpasswd_password() and mkpasswd_field(). Missing arguments are empty, or 0. `out_size=null`
+ * means a null `out`.
  * `new_over` is mkpasswd_new_bytes with the password in `out`.
  *
  * The rows `set threads=N` (the number of threads that make calls), `set refused=N` (the allocation
@@ -17,10 +18,10 @@
  * A line has the result, the numbers of the report, the counts of counted_calls.h, and the content
  * of `out`: its string, `unchanged`, or `SPILT` if the call wrote other bytes.
  *
- * Input is read-only and ends at an inaccessible page, and so do `out` and the report. Each call is
+ * Input is read-only. Input, `out` and the report each end at an inaccessible page. Each call is
  * made twice, with 26 KiB of stack left above such a page (not with -DSANITIZED), and must give the
- * same both times: first with a report full of 0xff, then with one full of 0. For an inline call
- * the second time has no report, and a null policy in place of one of zeros. */
+ * same answer both times: first with a report full of 0xff, then with one full of zeros. The second
+ * time, an inline call gets no report, and a null policy instead of one of zeros. */
 #ifndef _GNU_SOURCE
 #define _GNU_SOURCE
 #endif
@@ -33,7 +34,7 @@
 #pragma GCC visibility push(hidden)
 #include <mkpasswd.h>
 
-#define PATTERN 0xa5 /* of `out` before a call */
+#define PATTERN 0xa5 /* fills `out` before a call */
 #define MOST_THREADS 8
 #define STACK ((size_t)64 * 1024)
 #define STACK_LEFT ((size_t)26 * 1024)
@@ -51,7 +52,7 @@ static void *allocated(void *block)
 
 /* Bytes that a call reads. */
 struct input {
-    uint8_t *page; /* they are at its end */
+    uint8_t *page; /* the bytes are at its end */
     const uint8_t *bytes;
     size_t length;
     bool is_text; /* whether a zero byte follows */
@@ -60,7 +61,7 @@ struct input {
 /* The arguments of a call. */
 struct arguments {
     struct input password, stored; /* a row calls the second one stored, field, setting or salt */
-    struct mkpasswd_policy policy; /* its budget is also that of calls without a policy */
+    struct mkpasswd_policy policy; /* calls without a policy get its budget too */
     uint32_t error, scheme;
     size_t password_length, out_size;
     bool has_out;
@@ -456,7 +457,7 @@ static void print_answer(struct job *job, int32_t result)
         work->table, work->scratch, allocations, blocks_kept, bytes_drawn, quote, left, quote);
 }
 
-/* Makes the call of a job. The report is filled with a byte before, or is null. */
+/* Makes the call of a job, with a report that is full of this byte, or with a null report. */
 static int32_t make(struct job *job, bool has_report, int byte)
 {
     struct call *call = &job->call;

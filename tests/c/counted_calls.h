@@ -2,7 +2,7 @@
  * allocation fail, and choose the random bytes.
  *
  * With -DWRAP, link with --wrap for malloc, realloc, free and getentropy. With -DREPLACE these
- * functions replace the C library's. With neither all counts stay 0. */
+ * functions replace the C library's. If neither is defined, all counts stay 0. */
 #include <stdint.h>
 #include <stdlib.h>
 #include <string.h>

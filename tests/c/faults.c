@@ -3,7 +3,7 @@
    whether it failed.
 
    FAULT is the kind of the call that fails (memory, read, write or random) and its number, as in
-   `read 2`, or `short` for reads and writes of one byte each. */
+   `read 2`. If it is `short`, no call fails, but each read and write transfers only one byte. */
 #define _GNU_SOURCE
 #include <errno.h>
 #include <fcntl.h>

@@ -4,7 +4,7 @@
 #include <sys/mman.h>
 
 #define PAGE ((size_t)4096)
-#define PATTERN 0xa5 /* of `out` before a call */
+#define PATTERN 0xa5 /* fills `out` before a call */
 #define LONGEST_CRYPTED 511
 
 /* Memory between two inaccessible pages. */
@@ -17,7 +17,7 @@ enum place {
 
 int LLVMFuzzerTestOneInput(const uint8_t *data, size_t size);
 
-/* The library has no coverage counters, so the fuzzer is guided by methods and errors. */
+/* The library has no coverage counters, so the methods and errors that occur guide the fuzzer. */
 __attribute__((section("__libfuzzer_extra_counters"))) static uint8_t seen[8 * 32];
 static uint8_t *pages[PAGES];
 
@@ -65,8 +65,8 @@ static struct mkpasswd_report unfilled_report(void)
     return report;
 }
 
-/* Returns the result of a call, after checking its report: an error is known and means no, and
- * `outdated` is 0 or 1. */
+/* Returns the result of a call, after checking its report: if it has an error, the header defines
+ * that and the result is false; `outdated` is 0 or 1. */
 static bool checked(bool result, const struct mkpasswd_report *report)
 {
     char message[MKPASSWD_TEXT_SIZE];

@@ -1,5 +1,5 @@
 /* Fuzzes each call that hashes or reads a stored hash, with any password, any field and some
- * policies. The results must agree with libxcrypt, and with those of the other calls. */
+ * policies. The results must agree with libxcrypt's, and with each other. */
 #include "fuzz.h"
 
 #define HEAD ((size_t)5) /* bytes of the input before the password */
@@ -14,7 +14,7 @@ struct chosen {
     char text[LONGEST_FIELD]; /* the field, as a string */
     struct mkpasswd_policy policy;
     uint64_t budget;
-    size_t room; /* of `out` */
+    size_t room; /* the size of `out` */
     uint8_t byte;
 };
 
@@ -29,7 +29,7 @@ static const struct mkpasswd_policy policies[] = {
     {2, 0, 0},
 };
 
-/* Many fields begin like this, which chance wouldn't find. */
+/* Beginnings of valid fields, which the fuzzer wouldn't find by chance. */
 static const char *const fronts[] = {"", "$1$", "$5$", "$6$", "$5$rounds=", "$6$rounds=1000$",
     "$7$", "$7$2/..../....", "*0", "$1$xxxxxxxx$UYCIxa628.9qXjpQCjM4a.", "$7$4/....0....", "!$1$"};
 
@@ -133,8 +133,9 @@ static void audit(const struct chosen *chosen)
         must((report.error == MKPASSWD_ERROR_OVER_BUDGET) == (bound.cost > policy.budget));
 }
 
-/* Returns what a login by this policy may cost: the limit from mkpasswd_limit, or 0 if there is no
- * budget and a new hash of this password costs more. */
+/* Returns what a login by this policy may cost: its budget, or without one the limit that
+ * mkpasswd_limit reports. Without a budget, returns 0 if a new hash of this password costs more
+ * than the limit. */
 static uint64_t limit_of(const struct mkpasswd_policy *policy, size_t length)
 {
     struct mkpasswd_report report = unfilled_report();
@@ -252,7 +253,7 @@ int LLVMFuzzerTestOneInput(const uint8_t *data, size_t size)
         return 0;
     choose(&chosen, data, size);
     hash(&chosen);
-    choose(&chosen, data, size); /* again, since hash() has used its page */
+    choose(&chosen, data, size); /* again, since hash() has overwritten a page */
     verify(&chosen);
     audit(&chosen);
     policy = chosen.policy;

@@ -1,6 +1,6 @@
-/* Fuzzes pam_mkpasswd.so with any file, conversation and arguments, and checks which logins it
- * accepts, and what a renewal or a change of password leaves. This file plays PAM: what users type
- * and services pass is part of the input. */
+/* Fuzzes pam_mkpasswd.so with any file, conversation and arguments. Checks which logins it accepts,
+ * and what the file has after a renewal or a change of password. This program takes PAM's place:
+ * what users type and services pass is part of the input. */
 #define _GNU_SOURCE /* for memmem */
 #include <mkpasswd.h>
 #include <security/pam_ext.h>
@@ -83,8 +83,8 @@ int pam_prompt(pam_handle_t *pam, int style, char **response, const char *format
     return PAM_SUCCESS;
 }
 
-/* Counts the words of a failed login's log entry, since no blank or line feed of the input may be
- * in it. */
+/* Takes the place of PAM's function. Counts the words in the log entry of a failed login, since no
+ * blank or line feed of the input may get into it. */
 void pam_syslog(const pam_handle_t *pam, int priority, const char *format, ...)
 {
     char entry[8 * PART_SIZE];
@@ -101,7 +101,7 @@ void pam_syslog(const pam_handle_t *pam, int priority, const char *format, ...)
     MUST(strchr(entry, '\n') == NULL);
     for (const char *place = entry; *place != '\0'; place++)
         words += *place == ' ';
-    MUST(words == 10); /* two, six fields, an empty one and user= */
+    MUST(words == 10); /* two words, six fields, an empty word and the field user= */
 }
 
 /* ---- The input */
@@ -124,7 +124,7 @@ static void cut_into_parts(const uint8_t *data, size_t size)
     }
 }
 
-/* Makes the field a hash of the old password, which chance wouldn't find. */
+/* Makes the field a hash of the old password, which the fuzzer wouldn't find by chance. */
 static void make_matching_field(uint8_t kind)
 {
     static const char *const settings[] = {

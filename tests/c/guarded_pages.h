@@ -6,7 +6,7 @@
 
 #define PAGE ((size_t)4096)
 
-/* Returns this many bytes, a multiple of a page. */
+/* Returns `size` bytes between two inaccessible pages. The size must be a multiple of PAGE. */
 static uint8_t *new_pages(size_t size)
 {
     int flags = MAP_PRIVATE | MAP_ANONYMOUS;
@@ -19,7 +19,7 @@ static uint8_t *new_pages(size_t size)
     return pages + PAGE;
 }
 
-/* Puts bytes at the end of a page, and makes it read-only. */
+/* Copies bytes to the end of a page, makes the page read-only, and returns the copy's address. */
 static uint8_t *at_end_of(uint8_t *page, const uint8_t *bytes, size_t len)
 {
     uint8_t *place = page + PAGE - len;

@@ -1,4 +1,4 @@
-/* A login by the library: `log_in PASSWORD FIELD` returns 0 if it is accepted. */
+/* A login by the library: `log_in PASSWORD FIELD` returns 0 if the login is accepted. */
 #include <mkpasswd.h>
 
 int main(int argc, char **argv)

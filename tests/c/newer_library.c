@@ -1,6 +1,6 @@
-/* mkpasswd_login of a newer library than the Python package knows. It is linked with this tree's
- * calls, whose own login gets another name. The environment sets the answer: NEWER_ANSWER is the
- * result, and NEWER_ERROR the error in the report. */
+/* mkpasswd_login as in a library that is newer than the Python package. It is linked with this
+ * tree's other calls; their mkpasswd_login gets another name. Two environment variables set what it
+ * answers: NEWER_ANSWER the result, and NEWER_ERROR the error in the report. */
 #include <mkpasswd.h>
 #include <stdlib.h>
 #include <string.h>

@@ -1,5 +1,6 @@
-/* A caller's own test for a null pointer after a call, which a compiler could remove if the header
- * declared the pointer nonnull. Without arguments `field` is null, and the program returns 0. */
+/* A caller that tests a pointer for null only after a call. If the header declared the pointer
+ * nonnull, a compiler could remove that test. Without arguments `field` is null, and the program
+ * returns 0. */
 #include <mkpasswd.h>
 
 int main(int count, char **arguments)

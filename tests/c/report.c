@@ -1,4 +1,4 @@
-/* Writes the bytes of four reports, so that a test sees where each field is: of a hash with N = 64
+/* Writes the bytes of four reports, which show a test where each field is: of a hash with N = 64
  * and r = 8, so that each count has a different value; of a limit, which has rounds; of an audit of
  * an outdated hash, which has a scheme, N, r and p; and of an invalid setting. */
 #include <mkpasswd.h>

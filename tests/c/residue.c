@@ -1,5 +1,5 @@
 /* Makes a call three times and stops after each, so that a test can read the memory of the process.
- * The third password differs in every byte.
+ * The third password differs from the others in every byte.
  *
  * usage: residue CALL TEXT METHOD ROUNDS LENGTH LOCKED
  *

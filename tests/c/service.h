@@ -1,5 +1,5 @@
-/* What README's login needs from its service: a function that stores hashes, and a library that
- * prints its work. A compiler reads this first (-include), since README's code isn't changed. */
+/* What README's login needs here: a function that stores hashes, and a call that prints how much
+ * work it did. The compiler reads this first (-include), so that README's code needs no change. */
 #ifndef SERVICE_H
 #define SERVICE_H
 

@@ -1,5 +1,5 @@
-/* Comparisons of a call's result that are always or never true, since it is a bool. A compiler must
- * warn about each marked line. */
+/* Comparisons that are always or never true, since a call's result is a bool. A compiler must warn
+ * about each marked line. */
 #include <mkpasswd.h>
 
 static bool login(void)

@@ -1,4 +1,4 @@
-/* Calls with a larger size than `out` has. gcc must warn about each marked line. */
+/* Calls whose size argument is larger than `out`. gcc must warn about each marked line. */
 #include <mkpasswd.h>
 
 int main(void)
