@@ -16,7 +16,7 @@ from support.process import Changes
 NO_TESTS_SELECTED = 5  # pytest's exit status if -k selects no test
 EXIT_STATUS = pytest.StashKey[int]()
 PR_SET_PDEATHSIG = 1  # of prctl(2)
-SBIN = "/usr/sbin:/sbin"  # where services are, and which root's PATH may lack
+SBIN = "/usr/sbin:/sbin"  # the folders of services, which even root's PATH may lack
 
 
 @pytest.fixture(scope="session", name="program")
@@ -101,7 +101,7 @@ def reason_of(report: pytest.TestReport) -> str:
 
 
 def print_skipped(reports: list[pytest.TestReport]) -> None:
-    """Prints the skipped tests below the reason of each."""
+    """Prints the skipped tests, grouped by the reason why they were skipped."""
     tests_by_reason = defaultdict(list)
     for report in reports:
         tests_by_reason[reason_of(report)].append(report.nodeid)

@@ -1,4 +1,4 @@
-"""The installed library, and C programs that use it. Each worker builds its own once."""
+"""The installed library, and C programs that use it. Each worker builds them once for itself."""
 from __future__ import annotations
 
 import pytest

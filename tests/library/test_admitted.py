@@ -48,8 +48,8 @@ INVALID = (
         for policy in CLAMPED
     ),
 )
-# The tests take as budgets what new hashes of passwords of these lengths cost, one more, and one
-# less.
+# For each of these lengths, the budgets are the cost of a new hash of such a password, one more,
+# and one less.
 LENGTHS_OF_BUDGETS = (0, 8, 64, 65, 169, 1023, 1024)
 TOO_LONG = (LONGEST_PASSWORD + 1, GREATEST_32 + 1, GREATEST_32 + 9, GREATEST)
 LENGTHS = (0, 64, 169, LONGEST_PASSWORD, *TOO_LONG)
@@ -57,7 +57,7 @@ RANDOM_BYTES = System(random_bytes=bytes(range(1, 25)))
 
 
 def budgets_of(policy: Policy) -> list[int]:
-    """Returns 0 for none, the least and the greatest budget, and those around some costs."""
+    """Returns 0, which means none, the least and the greatest budget, and some around costs."""
     setting = policy.setting
     costs = [cost(setting, length) for length in LENGTHS_OF_BUDGETS]
     near_costs = [price + step for price in costs for step in (-1, 0, 1)]
@@ -88,7 +88,7 @@ def test_calls_report_the_same_in_eight_threads(driver: Driver) -> None:
 def test_a_budget_admits_the_longest_password_whose_hash_costs_no_more(
     driver: Driver, policy: Policy
 ) -> None:
-    """Tests lengths whose cost differs from the next length's."""
+    """Tests those lengths whose cost differs from that of the next length."""
     setting = policy.setting
     for length in (0, 8, 64, 168):
         budget = cost(setting, length + 1) - 1

@@ -16,7 +16,7 @@ from support.needs import built
 from support.process import Word, assert_result, run
 
 RANDOM_BYTES = b"".join(number.to_bytes(8, "little") for number in (1, 2, 3))
-# With memory, with each allocation refused, and without random numbers.
+# With enough memory, with each allocation refused in turn, and without random numbers.
 SYSTEMS = (*(System(number, RANDOM_BYTES) for number in range(5)), System())
 ARM = "aarch64-linux-gnu-gcc"
 

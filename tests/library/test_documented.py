@@ -36,7 +36,7 @@ def fixture_service(builder: Builder, tmp_path_factory: pytest.TempPathFactory) 
 
 @pytest.fixture(scope="session", name="digests_of_a_login")
 def fixture_digests_of_a_login(service: Path) -> bytes:
-    """The work of a login that succeeds, as the service prints it."""
+    """The number of digests of a login that succeeds, as the service prints it."""
     result = run(service, b"password", CURRENT)
     assert_result(result, stderr=result.stderr)
     return result.stderr

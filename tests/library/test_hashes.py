@@ -28,7 +28,7 @@ from support.policies import POLICIES
 from support.stored_fields import KNOWN_HASHES, LONGEST_PASSWORD, SCRYPT_WITH_LONGEST_SALT
 
 CHEAP = 500_000
-# Lengths at which a digest's block, or another byte of the encoded length, begins.
+# Lengths at which a new block of a digest, or a new byte of the encoded length, begins.
 LENGTHS = (
     *(0, 1, 7, 8, 15, 16, 17, 31, 32, 33, 55, 56, 63, 64, 65),
     *(111, 112, 127, 128, 129, 200),
@@ -141,18 +141,18 @@ def with_odd_characters() -> list[Hashed]:
 
 
 def of_md5crypt() -> list[Hashed]:
-    """Returns hashes with salts of 0 to 12 characters, which md5crypt cuts to 8."""
+    """Returns hashes with salts of 0 to 12 characters, which md5crypt truncates to 8."""
     lengths = (number % 13 for number in range(111))
     return by_libxcrypt([b"$1$" + salt for salt in salts(random.Random(1), lengths)])
 
 
 def of_sha256crypt() -> list[Hashed]:
-    """Returns hashes with salts of 0 to 18 characters, which sha256crypt cuts to 16."""
+    """Returns hashes with salts of 0 to 18 characters, which sha256crypt truncates to 16."""
     return by_libxcrypt(settings_of_sha_crypt(b"$5$", random.Random(5)))
 
 
 def of_sha512crypt() -> list[Hashed]:
-    """Returns hashes with salts of 0 to 18 characters, which sha512crypt cuts to 16."""
+    """Returns hashes with salts of 0 to 18 characters, which sha512crypt truncates to 16."""
     return by_libxcrypt(settings_of_sha_crypt(b"$6$", random.Random(6)))
 
 

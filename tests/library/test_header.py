@@ -94,7 +94,7 @@ def test_each_field_of_a_report_is_in_its_place(builder: Builder) -> None:
 
 
 def test_no_two_fields_are_equal_in_all_reports() -> None:
-    """Otherwise the test above would miss two exchanged fields."""
+    """Otherwise the test above would miss it if two fields were swapped."""
     reports = [call.expected(System()) for call in REPORTED]
     values = [tuple(getattr(report, name) for report in reports) for name in FIELDS]
     assert len(set(values)) == len(values)

@@ -1,7 +1,7 @@
 """mkpasswd_limit and mkpasswd_rounds of the shared library, for 100,000 policies.
 
-The expected reports follow from the formulas of docs/FORMATS.md, without the model or the header,
-which test_admitted.py uses.
+The expected reports follow from the formulas of docs/FORMATS.md. Unlike test_admitted.py, this uses
+neither the model nor the header.
 """
 from __future__ import annotations
 
@@ -61,7 +61,7 @@ def fixture_library() -> ctypes.CDLL:
 def answer_of(returned: int, report: bytes) -> Answer:
     """Returns the answer of a call. Fails if its report says that it hashed or audited."""
     error, outdated, length, scheme, rounds, *others = REPORT.unpack(report)
-    cost = others.pop(3)  # after n, r and p
+    cost = others.pop(3)  # it follows n, r and p
     assert (outdated, scheme, others) == (0, 0, [0] * 8)
     return Answer(returned, error, length, cost, rounds)
 

@@ -133,7 +133,7 @@ def test_an_invalid_password_is_reported_before_an_invalid_policy(
     ],
 )
 def test_a_budget_limits_the_work(driver: Driver, field: bytes, budget: int) -> None:
-    """That includes the dummy hash of a login without a hash to compare with."""
+    """That includes the dummy hash, which a login makes if it has no hash to compare with."""
     driver.assert_matches_model(in_each_form(Login(b"password", field, 6, 5000, budget)))
 
 

@@ -44,7 +44,7 @@ def affordable() -> list[Policy]:
 
 
 def new_by(policy: Policy) -> list[New]:
-    """Returns calls with each password, room and budget, or fewer for expensive policies."""
+    """Returns calls with each password, size of `out` and budget, fewer for expensive policies."""
     length, price = length_of_hash(policy.setting), cost(policy.setting, 8)
     calls = []
     for room in (0, 1, 2, 3, length, length + 1, TEXT_SIZE):

@@ -25,11 +25,11 @@ CALLED = {
 # Matches a call of another object's function, or of a static function of this object.
 CALL = re.compile(r"PLT32\s+(\w+)|\t(?:call|jmp) .*<(wipe_stack|hash_anew)>$", re.MULTILINE)
 FUNCTION = re.compile(r"^\w+ <(\S+)>:\n(.*?)\n(?=\n|\Z)", re.MULTILINE | re.DOTALL)
-# Match the call that hashes, and the comparison of a byte with the stored hash's.
+# These match the call that hashes, and the comparison of a byte with one of the stored hash.
 HASHED = re.compile(r"^.*\bcrypt_core::hash::hash_by\b.*\n", re.MULTILINE)
 BYTE_COMPARED = re.compile(r"\txor +[^\n]*\([^\n]*,1\),%\w+\n")
 JUMP_ON_A_TEST = re.compile(r"\t((?:test|cmp)\w* [^\n]*)\n[^\n]*\tj")
-# A test of a 64-bit register, or against a number above 0, tests a length.
+# An instruction that tests a 64-bit register, or compares with a number above 0, tests a length.
 OF_A_LENGTH = re.compile(r"[ ,]%r(?:[a-d]x|[sd]i|[sb]p|\d+)\b| \$0x[1-9a-f]\w*,")
 COMPARES_WORDS = re.compile(r"memcmp|bcmp|repz|pmovmsk|ptest")
 
@@ -54,7 +54,7 @@ def fixture_functions(folder: Path) -> dict[str, str]:
 
 @pytest.fixture(scope="module", name="comparisons")
 def fixture_comparisons(functions: dict[str, str]) -> dict[str, str]:
-    """The instructions of each comparing function, from where it has computed the hash."""
+    """The instructions of each function that compares hashes, after the call that hashes."""
     found = {}
     for name, body in functions.items():
         _, *parts = HASHED.split(body)
@@ -87,7 +87,7 @@ def test_a_function_calls_its_proved_one_and_wipes_the_stack(
     functions: dict[str, str], name: str
 ) -> None:
     calls = [first or second for first, second in CALL.findall(functions[name])]
-    # The stack protector's call ends the process.
+    # The stack protector calls this only to end the process.
     calls = [called for called in calls if called != "__stack_chk_fail"]
     assert sorted(calls) == CALLED[name], f"the instructions of {name}:\n{functions[name]}"
 

@@ -1,7 +1,7 @@
 """Published examples in which an allocation fails, and the largest scrypt hashes.
 
-A test in a crate can't make an allocation fail, and no clause rules out that a call reports a lack
-of memory that isn't there. The expected numbers are literals, besides the model's.
+A test in a crate can't make an allocation fail, and no clause rules out that a call reports a
+failed allocation when none has failed. The expected numbers are both literals and the model's.
 """
 from __future__ import annotations
 
@@ -60,8 +60,8 @@ def test_scrypt_makes_only_three_allocations(driver: Driver) -> None:
     )
 
 
-# With N = 2, r = 1 and p = 1 the table has 2 rows of 32 words, and the scratches have 128 bytes
-# and 64 words.
+# With N = 2, r = 1 and p = 1 the table has 2 rows of 32 words, the byte scratch has 128 bytes, and
+# the word scratch 64 words.
 @pytest.mark.parametrize(
     ("refused", "table", "scratch"),
     [

@@ -1,4 +1,4 @@
-"""A login by the library takes as long for each kind of field.
+"""A login by the library takes equally long for each kind of field.
 
 No clause keeps a compiler from dropping a hash whose result nobody reads. The tests count
 instructions, which don't depend on how busy the machine is.
@@ -15,7 +15,7 @@ pytestmark = [pytest.mark.needs("valgrind"), pytest.mark.xdist_group("the time o
 
 POLICY = Policy(SHA512CRYPT, 5000)
 FIELDS = fields_of(POLICY)
-# Before the rounds SHA-crypt digests the salt 16 to 271 times, as the first byte of a digest says.
+# Before its rounds, SHA-crypt digests the salt 16 to 271 times, depending on a byte of a digest.
 TOLERANCE = 0.01
 
 
@@ -27,7 +27,7 @@ def fixture_client(builder: Builder) -> Client:
 
 @pytest.fixture(scope="module", name="expected")
 def fixture_expected(client: Client) -> float:
-    """The instructions of a login with a wrong password."""
+    """The number of instructions of a login with a wrong password."""
     return client.instructions(POLICY, WRONG, FIELDS[WRONG])
 
 

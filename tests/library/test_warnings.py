@@ -60,7 +60,7 @@ SMALL_ROOM = Caller(
 def compiled(
     compiler: str, source: Path, installed: Installed, program: Path, *words: Word
 ) -> Result:
-    """Compiles a program with the static library, and returns how that went."""
+    """Compiles a program with the static library, and returns the compiler's result."""
     language = "c++" if "+" in compiler else "c"
     library: list[Word] = ["-x", "none", *installed.static]
     return run(compiler, *words, "-x", language, source, *library, "-o", program)
@@ -69,7 +69,7 @@ def compiled(
 def compiled_with_warnings(
     compiler: str, source: Path, installed: Installed, program: Path
 ) -> Result:
-    """Compiles it with the usual warnings, in C++ also about old-style casts."""
+    """Compiles a program with the usual warnings, in C++ also those about old-style casts."""
     words = ["-Wall", "-Wextra", "-O1"]
     if "+" in compiler:
         words.append("-Wold-style-cast")
@@ -193,7 +193,7 @@ REFUSED = {
 
 
 def compiled_statement(compiler: str, statement: str, installed: Installed, folder: Path) -> Result:
-    """Compiles a function that returns a statement's result, and returns how that went."""
+    """Compiles a function with this statement, and returns the compiler's result."""
     source = folder / "caller.c"
     source.write_text(FUNCTION.replace("STATEMENT", statement), encoding="ascii")
     words = ["-Wall", "-Wextra", "-fsyntax-only", f"-I{installed.include}"]

@@ -1,8 +1,8 @@
 """Calls leave nothing of a password in memory.
 
 The test reads the memory of a process that makes a call three times, the third time with a
-password that differs in every byte. Eight bytes in a row that the third call changes are then
-from the password, or computed from it.
+password that differs from the others in every byte. If the third call changes eight bytes in a row,
+they are from the password, or computed from it.
 """
 from __future__ import annotations
 
@@ -83,7 +83,7 @@ def memory_of(process: subprocess.Popen[bytes]) -> Memory:
 
 
 def changed_runs(old: bytes, new: bytes) -> list[bytes]:
-    """Returns the runs of bytes that differ, as exclusive ors."""
+    """Returns the runs of bytes that differ, as the exclusive or of old and new."""
     if old == new:
         return []
     size = max(len(old), len(new))
