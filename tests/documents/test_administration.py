@@ -1,7 +1,7 @@
 """The recipes for administrators, followed with password files in a scratch folder.
 
-The commands are the document's, except for the paths of files and cron's schedule. chpasswd and
-useradd are the system's, and work on the files in the scratch folder, which id reads too.
+The commands are the document's, except for the paths of files and cron's schedule. The system's
+chpasswd, useradd and id work on the files in the scratch folder.
 """
 from __future__ import annotations
 
@@ -21,7 +21,7 @@ from support.process import Changes, Result, run
 pytestmark = pytest.mark.needs("root", "chpasswd")
 
 AGED = ":19000:0:99999:7:::"  # the fields after the hash in a shadow file
-# The settings by which useradd gives new accounts the same ages.
+# The settings that make useradd write the same fields for new accounts.
 AGES = "PASS_MIN_DAYS 0\nPASS_MAX_DAYS 99999\nPASS_WARN_AGE 7\n"
 SECONDS_OF_DAY = 86_400
 SCHEDULE = re.compile(r"^(?:\S+ ){5}root ", re.MULTILINE)  # at the start of a line for cron
@@ -52,7 +52,10 @@ class Entry:
     rest: str  # the date of the last change, and the later fields
 
     def has_new_password(self, password: str, not_before: int) -> bool:
-        """Returns whether the field is a hash of recommended cost, and changed since that date."""
+        """Returns whether the field is a hash of the password, with the recommended cost.
+
+        The date of the change must be `not_before` or later, and the other fields unchanged.
+        """
         dates = [AGED.replace("19000", str(day)) for day in range(not_before, today() + 1)]
         is_recommended = self.field.startswith(RECOMMENDED)
         return is_recommended and self.rest in dates and is_hash_of(self.field, password)
@@ -110,17 +113,17 @@ class Followed:
 
     @property
     def lines(self) -> list[str]:
-        """The lines that it printed, with single blanks between words."""
+        """The lines that the recipe printed, with single blanks between words."""
         text = self.result.stdout.decode()
         return [" ".join(line.split()) for line in text.splitlines()]
 
     @property
     def errors(self) -> str:
-        """What it printed on standard error."""
+        """What the recipe printed on standard error."""
         return self.result.stderr.decode()
 
     def lacks(self, expected: str) -> str:
-        """Returns the message of a failure."""
+        """Returns the message of an assertion: what was expected instead of this result."""
         return f"{self.block.place}\nexpected: {expected}\n{self.result}"
 
 
@@ -184,14 +187,14 @@ SCHOOL = (
 
 
 def passwords_in(path: Path) -> dict[str, str]:
-    """Returns the passwords in a list, without its heading."""
+    """Returns the passwords in a list by name. Checks the list's heading."""
     heading, *rows = path.read_text(encoding="utf-8-sig").splitlines()
     assert heading == "last;first;name;password", heading
     return {name: password for _, _, name, password in [row.split(";") for row in rows]}
 
 
 def follow_generated_passwords(machine: Machine) -> Followed:
-    """Follows both commands. Returns the second one, or the first one if it fails."""
+    """Follows both commands of the recipe. Returns the second one, or the first if it fails."""
     machine.write("users.csv", SCHOOL)
     followed = machine.follow("made passwords")
     if followed.result.status != 0:
@@ -433,7 +436,7 @@ class OnSmallDisk:
         return [field for field in self.fields if field != OUTDATED]
 
     def lacks(self, expected: str) -> str:
-        """Returns the message of a failure."""
+        """Returns the message of an assertion: what was expected instead of this result."""
         places = ", ".join(str(marked(mark, "sh").place) for mark in self.recipe.marks)
         return f"{places}\nexpected: {expected}\nnew fields: {self.new}\n{self.result}"
 

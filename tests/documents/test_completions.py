@@ -1,6 +1,6 @@
-"""Completions in bash, zsh and fish, as a user sees them who presses Tab.
+"""Completions in bash, zsh and fish, as a user who presses Tab sees them.
 
-A shell offers the options of the help and the methods of the formats. It offers no other values,
+A shell offers the options that the help lists and the names of methods. It offers no other values,
 and files only after a redirection or where pwhash reads or writes one.
 """
 from __future__ import annotations

@@ -42,7 +42,7 @@ HISTORY = "CHANGELOG.md"  # it may name former targets of make
 
 
 def sentence_of(place: Place) -> str:
-    """Describes the command at a place by its block, or else by its line."""
+    """Describes the command at a place: its document, its block or else its line, and its text."""
     name, number = name_of(place.path), place.line
     where = f"line {number}"
     if not is_manual(place.path):
@@ -162,7 +162,7 @@ PASSWORD = b"password"
 
 
 def cost_rows() -> list[CostRow]:
-    """Returns the rows of all documents that have options with -m, and a cost."""
+    """Returns those rows of tables in all documents that have options with -m and a cost."""
     row = re.compile(r"\|.*?`(-m [^`]*)`[^|]*\| (\d+) \|.*")
     rows = []
     for path in documents():
@@ -174,7 +174,7 @@ def cost_rows() -> list[CostRow]:
 
 
 def expected_at(row: CostRow, expected: str, result: Result) -> str:
-    """Returns the message of a failure."""
+    """Returns the message of an assertion about a row."""
     return f"{row.place} says that a hash costs {row.cost}\nexpected: {expected}\n{result}"
 
 

@@ -130,12 +130,12 @@ def test_the_manual_of_pwhash_has_the_options_of_each_help(words: list[str]) -> 
 
 
 def written(method: Method) -> str:
-    """Returns the name of a method, for a test's name."""
+    """Returns the name of a method, as part of a test's name."""
     return method.name
 
 
 def row_of(method: Method) -> re.Match[str] | None:
-    """Returns a method's row in the table of mkpasswd's manual, which may have a short name."""
+    """Returns a method's row in the table of mkpasswd's manual. It may include a short name."""
     prefix = re.escape(method.prefix.decode())
     salts = rf"1 to {method.longest_salt} +{method.drawn_salt} characters"
     row = rf"^{method.name} +(?P<short>\S+ +)?{prefix} +{salts}$"

@@ -1,7 +1,8 @@
 """docs/SPEED.md: the statistics of its ratios, and how tools/bench writes it.
 
-The bootstrap's intervals can be computed exactly. The median of a resample of n different numbers
-is at most the k-th smallest if more than half of its n draws are, each with the probability k / n.
+The bootstrap's intervals can be computed exactly: the median of a resample of n different numbers
+is at most the k-th smallest of them if more than half of the n draws are, and each draw is with
+probability k / n.
 """
 from __future__ import annotations
 
@@ -90,12 +91,12 @@ def test_ratio_on_the_page(median: float, lower: float, upper: float, text: str)
 
 
 def results_of(part: Part, *rows: Row) -> Results:
-    """A run that measured one part."""
+    """Returns the results of a run that measured one part."""
     return Results({part: Measured(CONDITIONS, rows)})
 
 
 def ratio_between(lower: float, upper: float) -> Comparison:
-    """A ratio with this interval."""
+    """Returns a comparison whose ratio has this interval."""
     return Comparison("md5crypt", "libxcrypt", Ratio(lower, Interval(lower, upper), 25))
 
 
@@ -167,7 +168,7 @@ def test_results_that_are_written_can_be_read(tmp_path: Path) -> None:
 
 @pytest.fixture(name="tree")
 def fixture_tree(tmp_path: Path) -> Path:
-    """A copy of what tools/bench needs for the part `seconds`, in a repository of its own."""
+    """A new repository with a copy of what tools/bench needs for the part `seconds`."""
     tree = tmp_path / "tree"
     for folder in ("docs", "tests/support", "tools/measure_speed"):
         shutil.copytree(ROOT / folder, tree / folder)
@@ -183,7 +184,7 @@ def fixture_tree(tmp_path: Path) -> Path:
 
 
 def program_of(folder: Path, script: str) -> dict[str, str]:
-    """The environment in which this script is measured in place of mkpasswd."""
+    """Returns the environment in which tools/bench measures this script instead of mkpasswd."""
     program = folder / "program"
     program.write_text(f"#!/bin/sh\n{script}\n", encoding="ascii")
     program.chmod(0o755)
@@ -191,7 +192,7 @@ def program_of(folder: Path, script: str) -> dict[str, str]:
 
 
 def changed_files(tree: Path) -> str:
-    """The documents that a run has changed, as git lists them."""
+    """Returns the documents that a run has changed, as git lists them."""
     status: Result = run("git", "-C", tree, "status", "--porcelain", "docs").required()
     return status.stdout.decode()
 
