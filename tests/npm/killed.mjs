@@ -1,5 +1,5 @@
-// Kills a worker during calls. Reports the results of these calls, of later and of refused ones,
-// and how many workers were started. Then the process must end by itself.
+// Kills a worker during calls. Reports the results of these calls, of later calls and of refused
+// ones, and how many workers were started. Then the process must end by itself.
 import os from 'node:os';
 import { syncBuiltinESMExports } from 'node:module';
 import threads from 'node:worker_threads';

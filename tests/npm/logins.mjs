@@ -1,7 +1,7 @@
 // Reads rows as JSON, [password, field]. Reports for each the results of a policy's login,
-// loginAsync, verify, needsRehash, describe and passwordProblem, how many digests login did by the
-// module's reports, its new hash, and whether the module's memory is as it was before the first
-// call. tests/web/test_npm.py has the expected reports.
+// loginAsync, verify, needsRehash, describe and passwordProblem, how many digests login computed
+// according to the module's reports, its new hash, and whether the module's memory is as it was
+// before the first call. tests/web/test_npm.py has the expected reports.
 import { readFileSync } from 'node:fs';
 
 const PLACE_OF_DIGESTS = 40; // the offset in a report

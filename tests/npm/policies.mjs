@@ -1,4 +1,4 @@
-// Reports the policies, or errors, that these values give, by title.
+// Reports, by title, which policy or error each of these values gives.
 import { Policy, limit, passwordProblem } from 'mkpasswd';
 
 class Config {

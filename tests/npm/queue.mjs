@@ -21,8 +21,8 @@ async function outcomeOf(call) {
     }
 }
 
-// Measures until a result is small enough, and returns the least of some tries: the machine may be
-// busy.
+// Measures until a result is small enough, but at most TRIES times, and returns the least result:
+// the machine may be busy.
 async function leastOf(measure, enough) {
     let least = Infinity;
     for (let count = 0; count < TRIES && least > enough; count++) {
@@ -64,7 +64,8 @@ function median(numbers) {
     return numbers.toSorted((one, other) => one - other)[numbers.length >> 1];
 }
 
-// Returns by how much most failures miss a multiple of the failure time in a long queue.
+// Returns how long after a multiple of the failure time the failures in a long queue come, as the
+// median.
 async function lateness() {
     const failureTime = 100;
     const queue = new LoginQueue({ policy, failureTime });

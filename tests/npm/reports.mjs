@@ -1,5 +1,5 @@
-// Reports the results of calls over a module that always reports the same: an error of a newer
-// module, or zeros. The arguments are the module's result and the error in its report.
+// Makes all calls inside the module report the same, an error of a newer module or zeros. Prints
+// what the package's calls then return. The arguments are the result and the error in the report.
 const [returned, error] = process.argv.slice(2).map(Number);
 const REPORT_SIZE = 80;
 const WITHOUT_REPORT = ['web_scheme_name', 'web_message', 'web_need', 'web_login_need'];

@@ -119,6 +119,6 @@ def browser(
 @pytest.fixture(scope="module")
 def server(browser: Browser, web_build: Path) -> Iterator[WebServer]:
     """A web server with the page, for one browser."""
-    del browser  # naming the fixture gives each browser a server of its own
+    del browser  # naming the fixture gives each browser its own server
     with serving(web_build) as started:
         yield started

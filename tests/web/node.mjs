@@ -1,6 +1,6 @@
-// Runs mkpasswd.mjs and the page's worker in node, and reports their results: for the rows, for
-// each line of standard input (a password and its hash in hexadecimal), for other passwords, for
-// the cost of a scrypt hash, and for audits. test_node.py has the expected results.
+// Runs mkpasswd.mjs and the page's worker in node, and reports their results: for checks that they
+// must refuse, for each line of standard input (a password and its hash in hexadecimal), for other
+// passwords, for the cost of a scrypt hash, and for audits. test_node.py has the expected results.
 import { readFileSync } from 'node:fs';
 import vm from 'node:vm';
 
@@ -31,7 +31,7 @@ function audited([stored, method, rounds, budget]) {
     return outcomeOf(() => String(new Policy({ method, rounds, budget }).describe(stored)));
 }
 
-// With the defaults, and with the module's recommended rounds.
+// Results with the defaults, and with the module's recommended rounds.
 const longest = 'x'.repeat(168);
 const longer = 'x'.repeat(169);
 const standard = hash(longest);

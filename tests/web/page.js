@@ -47,7 +47,8 @@ function damaged(stored) {
     return [front, stored.slice(0, -9), `${stored}$x`, `${front}$${digest.slice(1)}z`];
 }
 
-// Makes a hash with a method, and checks it with the right password, a wrong one, and damaged.
+// Makes a hash with a method, and checks it with the right password and a wrong one. Then checks
+// damaged copies of it.
 async function makeAndCheck(method) {
     set({ password: PASSWORD, repeat: PASSWORD, method });
     const isHashLeft = isShown(element('made'));
@@ -98,7 +99,7 @@ async function visitScrypt() {
 
 // ---- Where a hash goes
 
-// Returns the page's messages when a text with an invalid name is copied.
+// Returns the page's messages when the visitor copies a text with an invalid name.
 function refusedNames() {
     return ['', 'a b', '1ann'].map((name) => {
         set({ name });
@@ -184,7 +185,7 @@ async function visitStop() {
 
 // ---- Generated passwords
 
-// Counts each character in generated passwords, when each random byte comes equally often.
+// Counts each character in generated passwords if all random bytes come equally often.
 function frequencies() {
     let byte = 0;
     crypto.getRandomValues = (bytes) => {

@@ -94,13 +94,13 @@ async function atOnce(rows) {
     return { matches: results.map((result) => result !== false), most: watched.most };
 }
 
-// Does the same with this many bytes of free memory.
+// Reports the same with this many bytes of free memory.
 async function inFreeMemory([free, ...rows]) {
     process.availableMemory = () => free;
     return atOnce(rows);
 }
 
-// Does the same if a call finds no memory while another one runs.
+// Reports the same if a call finds no memory while another one runs.
 async function crowded(rows) {
     watched.isCrowded = true;
     return atOnce(rows);

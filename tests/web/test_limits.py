@@ -107,7 +107,7 @@ def test_random_policies_have_the_models_limits(node: str, web_build: Path, seed
 
 
 def refusal_of_longer_password(length: int) -> str:
-    """Returns the error for a password one byte longer than a policy admits."""
+    """Returns the error for a password that is one byte longer than a policy admits."""
     if length == LONGEST_PASSWORD:
         return "Refused: password too long: it may have 1024 bytes"
     return f"TooCostly: over budget: a password may have at most {length} bytes with these rounds"

@@ -34,7 +34,7 @@ SCRYPT_SETTING = "$7$46..../....SodiumChloride"  # N is 64, r is 8
 
 @dataclass(frozen=True)
 class Refusal:
-    """A stored hash, a password, and the result of verify: false, or the reason of its error."""
+    """A stored hash, a password, and what verify gives: false, or an error with this reason."""
 
     title: str
     stored: str
@@ -104,7 +104,7 @@ WRAPPED_ROUNDS = 2**32 + 5000
 
 @dataclass(frozen=True)
 class Audit:
-    """A field, a policy, and `describe`'s text for the field, or the reason of its error."""
+    """A field, a policy, and what `describe` gives: a text, or an error with this reason."""
 
     title: str
     found: str
@@ -233,7 +233,7 @@ def random_hash(generator: random.Random, number: int) -> Stored:
     """Returns the hash of a random password, mostly short, at most as long as libxcrypt accepts."""
     longest = 39 if number % 9 else LONGEST_PASSWORD
     length = generator.randint(0, longest)
-    # A byte of 1 is left for node.mjs, which makes a wrong password with it.
+    # The byte 1 is reserved for node.mjs, which makes wrong passwords with it.
     password = bytes(generator.randint(2, 255) for _ in range(length))
     prefixes = ("$1$", "$5$", "$6$", "$5$rounds=1001$", "$6$rounds=1999$", "$7$46..../....")
     prefix = prefixes[number % len(prefixes)]
@@ -260,7 +260,7 @@ def report(
     node: str, web_build: Path, hashes: list[Stored], tmp_path_factory: pytest.TempPathFactory
 ) -> Report:
     """The report of node.mjs."""
-    # In a folder without a package.json, as a user may copy it.
+    # The module is in a folder without a package.json, since a user may copy it into one.
     module = tmp_path_factory.mktemp("module") / "mkpasswd.mjs"
     module.write_bytes((web_build / "mkpasswd.mjs").read_bytes())
     words = (

@@ -75,7 +75,7 @@ def test_typescript_accepts_uses_and_refuses_misuses(
 # ---- The queue of logins
 
 
-# Fields for a wrong password. Passwords that no hash can have follow.
+# Fields that are checked with a wrong password. After them come passwords that can't be hashed.
 FIELDS_OF_FAILURES = {
     "a hash": crypt(b"password", b"$6$rounds=5000$saltsaltsaltsalt").decode(),
     "a hash with more rounds": crypt(b"password", b"$6$rounds=20000$saltsaltsaltsalt").decode(),
@@ -92,7 +92,7 @@ FIELDS_OF_FAILURES = {
 IMPOSSIBLE_PASSWORDS = ("x" * 1025, "x\0y", "\ud83d")
 FAILURE_MILLISECONDS = 1000  # in queue.mjs
 MOST_MILLISECONDS_APART = 5  # between failures that are called at once
-MOST_MILLISECONDS_LATE = 25  # of a hundred: without multiples it would be about fifty
+MOST_MILLISECONDS_LATE = 25  # after a multiple of 100; at random moments it would be about 50
 GREATEST_SLOWDOWN = 1.2
 
 
@@ -292,7 +292,7 @@ class Work(enum.Enum):
     """Which work a login does."""
 
     OF_THE_FIELD = enum.auto()
-    OF_A_NEW_HASH = enum.auto()  # hides that the field can't be checked
+    OF_A_NEW_HASH = enum.auto()  # to hide that the field can't be checked
     NONE = enum.auto()
 
 
@@ -602,9 +602,10 @@ UNCHECKED_FIELDS = {
 
 @pytest.fixture(scope="module")
 def steps(user: Site, web_build: Path) -> Report:
-    """The steps of logins in a module that counts them: a wrong password, and the others.
+    """The number of steps of each login, counted inside the module.
 
-    No clause keeps a compiler from removing a dummy hash.
+    The first login is with a wrong password, the others with fields that can't be checked. No
+    clause keeps a compiler from removing a dummy hash.
     """
     module = user.folder / "logged.wasm"
     options = ("--enable-bulk-memory", "--log-execution")
@@ -631,7 +632,7 @@ def polluted(user: Site) -> Report:
 
 
 def test_wrong_password_throws_if_all_objects_match(polluted: Report) -> None:
-    """Even false has these properties."""
+    """Without the error it would look like a match, since even false has these properties."""
     errors = [message.split(",")[0] for message in polluted["wrong"]]
     assert errors == ["Object.prototype has matches or new"] * 8
 

@@ -1,6 +1,6 @@
 """The programs of the npm package's README: each is run, or compiled as TypeScript.
 
-A failure takes 5 seconds there; here it takes less.
+The README's programs answer a failed login after 5 seconds, the tests' copies sooner.
 """
 from __future__ import annotations
 
@@ -18,14 +18,14 @@ pytestmark = [pytest.mark.needs("npm"), pytest.mark.xdist_group("npm"), pytest.m
 
 
 def program_of_readme(web_build: Path, heading: str, language: str = "js") -> str:
-    """The first program below a heading, of any level, in the README of the package."""
+    """Returns the first program below a heading, of any level, in the package's README."""
     readme = (web_build / "npm/README.md").read_text(encoding="utf-8")
     sections = re.split(r"^##+ ", readme, flags=re.MULTILINE)
     (section,) = [part for part in sections if part.startswith(f"{heading}\n")]
     return section.split(f"```{language}\n")[1].split("```\n")[0]
 
 
-# What stands before the first program: it is for a name and a password.
+# The code before the README's first program, which uses a name and a password.
 OF_A_SERVICE = """
 const [name, password] = process.argv.slice(2);
 const [users, entered] = [new Map([['old', '$1$xxxxxxxx$UYCIxa628.9qXjpQCjM4a.']]), []];
@@ -37,14 +37,14 @@ console.log(JSON.stringify({ entered, stored: users.get(name) }));
 
 
 def login_of_readme(user: Site, program: str, name: str, password: str) -> Report:
-    """Who is let in by the first program, and what is stored then."""
+    """Returns whom the first program lets in, and what is stored then."""
     text = OF_A_SERVICE + program + REPORT_OF_A_SERVICE
     (user.folder / "program.mjs").write_text(text, encoding="utf-8")
     return user.report_of("program.mjs", name, password)
 
 
 def faster(program: str) -> str:
-    """A program where a failure takes less than its five seconds."""
+    """Returns a program in which a failure takes less than the usual five seconds."""
     changed = program.replace("new LoginQueue()", "new LoginQueue({ failureTime: 1000 })")
     assert changed != program, "the program makes no queue with the usual time"
     return changed
@@ -80,7 +80,7 @@ def test_program_of_readme_renews_an_outdated_hash(user: Site, login_program: st
 
 
 @pytest.mark.parametrize("change", ["users.set(name, '!')", "users.delete(name)"])
-def test_program_of_readme_refuses_who_was_locked_meanwhile(
+def test_program_of_readme_refuses_a_user_who_was_locked_meanwhile(
     user: Site, login_program: str, change: str
 ) -> None:
     after = "const result = await queue.login(password, field);\n"
@@ -90,7 +90,9 @@ def test_program_of_readme_refuses_who_was_locked_meanwhile(
     assert report["entered"] == [], report
 
 
-def test_program_of_readme_keeps_who_registered_first(user: Site, login_program: str) -> None:
+def test_program_of_readme_keeps_the_first_of_two_registrations(
+    user: Site, login_program: str
+) -> None:
     while_hashing = "users.set('ann', 'of the first');\n"
     before = "if (!users.has('ann'))"
     changed = login_program.replace(before, while_hashing + before)
@@ -130,7 +132,7 @@ def test_program_of_readme_tells_why_a_login_failed(
     assert report["reason"] == reason, report
 
 
-# A queue with room for one login, and a user whose password is "password".
+# A queue that takes one login at a time, and a user whose password is "password".
 OF_A_BUSY_SERVICE = """
 import { LoginQueue, Policy } from 'mkpasswd';
 const policy = new Policy({ rounds: 1000 });
@@ -145,7 +147,7 @@ console.log(JSON.stringify({ right, wrong, both }));
 """
 
 
-def test_program_of_readme_answers_by_statuses_of_http(user: Site, web_build: Path) -> None:
+def test_program_of_readme_answers_with_http_statuses(user: Site, web_build: Path) -> None:
     program = program_of_readme(web_build, "Too many logins")
     text = OF_A_BUSY_SERVICE + program + STATUSES
     (user.folder / "statuses.mjs").write_text(text, encoding="utf-8")
@@ -173,7 +175,7 @@ const both = [statusOfLogin('ann', 'x'), statusOfLogin('ann', 'x')];
 const busy = await Promise.all([...both, status('password')]);
 console.log(JSON.stringify({ wrong, kept, right, others, busy, stored: users.get('bob') }));
 """
-# How long a right password takes, a wrong one, and one whose check throws, in milliseconds.
+# The times in milliseconds of a right password, a wrong one, and two whose check throws.
 OLD_TIMES = """
 async function timed(password, field) {
     users.set('bob', field);
@@ -191,7 +193,7 @@ OLD_FAILURE = 2000  # milliseconds
 
 @pytest.fixture(scope="module")
 def old_service(web_build: Path) -> str:
-    """The programs with a login by statuses and by hashes of bcrypt."""
+    """The programs for logins that answer with statuses, and for users with hashes of bcrypt."""
     statuses = program_of_readme(web_build, "Too many logins")
     moving = program_of_readme(web_build, "Users with hashes of bcrypt")
     service = OF_A_BUSY_SERVICE.replace("size: 1", "size: 2")  # a right password takes two places
@@ -215,7 +217,7 @@ def test_program_of_readme_hides_an_old_check_that_throws(user: Site, old_servic
         assert failure["status"] == 403 and failure["time"] >= OLD_FAILURE, report
 
 
-# Each change with what happens to the field while the new password is hashed.
+# Changes of the password. The last two meet another change of the field while they hash.
 CHANGES = """
 const FIRST = users.get('ann');
 async function changed(name, password, chosen, meanwhile) {
@@ -243,7 +245,7 @@ console.log(JSON.stringify({ ...of, busy, first: FIRST }));
 
 @pytest.fixture(scope="module")
 def changes(user: Site, web_build: Path) -> Report:
-    """What the program makes of changes of a password."""
+    """What the program does with changes of a password."""
     statuses = program_of_readme(web_build, "Too many logins")
     changing = program_of_readme(web_build, "When a user changes the password")
     text = OF_A_BUSY_SERVICE + statuses + changing + CHANGES
@@ -264,7 +266,7 @@ def test_program_of_readme_refuses_a_change(changes: Report, change: str, status
 
 
 @pytest.mark.parametrize(("change", "stored"), [("locked", "!"), ("reset", "$1$another")])
-def test_program_of_readme_keeps_what_came_during_a_change(
+def test_program_of_readme_keeps_another_change_made_meanwhile(
     changes: Report, change: str, stored: str
 ) -> None:
     assert (changes[change]["status"], changes[change]["stored"]) == (409, stored), changes
@@ -274,7 +276,8 @@ def test_program_of_readme_changes_no_password_while_busy(changes: Report) -> No
     assert changes["busy"] == [403, 503], changes
 
 
-# Requests to the whole service, and their statuses. The first password was changed.
+# Requests to the whole service, whose statuses are printed. After a change of the password, the
+# last two have the old and the new one.
 REQUESTS = """
 import { once } from 'node:events';
 if (!server.listening) await once(server, 'listening');
@@ -303,7 +306,7 @@ process.exit();
 
 
 def without_imports(program: str) -> str:
-    """A program whose names the file imports already."""
+    """Returns a program without its imports, for a file that has imported these names already."""
     return re.sub(r"^import .*\n", "", program, flags=re.MULTILINE)
 
 
@@ -324,7 +327,9 @@ def test_program_of_readme_is_a_whole_service(user: Site, whole_service: str) ->
     assert statuses == [200, 403, 400, 400, 400, 413, 404, 400, 200, 403, 200]
 
 
-def test_program_of_readme_refuses_who_is_locked_meanwhile(user: Site, web_build: Path) -> None:
+def test_program_with_statuses_refuses_a_user_who_is_locked_meanwhile(
+    user: Site, web_build: Path
+) -> None:
     program = program_of_readme(web_build, "Too many logins")
     after = "const result = await queue.login(password, field);\n"
     changed = program.replace(after, f"{after}users.set(name, '!');\n")
@@ -341,7 +346,7 @@ def test_program_of_readme_measures_the_costliest_login(user: Site, web_build: P
     assert re.fullmatch(r"the costliest login: [\d.]+m?s\n", printed), printed
 
 
-# Hashes that cost less than a new one and more, and fields without a hash.
+# Hashes that cost less and more than a new one, and fields that have none of our hashes.
 STORED = """
 const stored = ['!', '', '$2b$x', '$1$xxxxxxxx$UYCIxa628.9qXjpQCjM4a.', '$7$CU..../....x$x'];
 const users = new Map(stored.map((field, place) => [place, field]));
@@ -369,7 +374,7 @@ def test_program_of_readme_makes_hashes_by_another_policy(user: Site, web_build:
     assert made.startswith("$7$") and made == crypt(b"password", made.encode()).decode(), made
 
 
-# What stands before the programs of README, in TypeScript.
+# The code before the README's programs, in TypeScript.
 LET_IN = "declare function letIn(name: string): void;\n"
 USERS = "declare const users: Map<string, string>;\n"
 TYPED = "declare const name: string, password: string;\n"
@@ -402,7 +407,7 @@ def test_typescript_accepts_programs_of_readme(
     assert_accepted(user, declared + program)
 
 
-# What stands before the functions of README.
+# The code before the README's functions.
 FUNCTIONS_USE = """
 import { Busy, LoginQueue, describe, passwordProblem } from 'mkpasswd';
 declare const queue: LoginQueue;
@@ -413,7 +418,7 @@ declare function setImmediate(call: (value: unknown) => void): void;
 
 
 def with_types(program: str) -> str:
-    """A program in which each parameter of a function is a string."""
+    """Returns a program that declares each parameter of a function as a string."""
     return re.sub(
         r"function (\w+)\(([\w, ]+)\)",
         lambda match: f"function {match[1]}({match[2].replace(',', ': string,')}: string)",
@@ -432,7 +437,8 @@ def test_typescript_accepts_functions_of_readme(user: Site, web_build: Path) -> 
     assert_accepted(user, FUNCTIONS_USE + with_types("".join(functions)))
 
 
-# What decides by a login in TypeScript: a password of any type, with the right hash and others.
+# Calls of the decision in TypeScript, and its results: for right and wrong passwords, an unknown
+# name, and a password that isn't a string.
 DECISIONS = """
 const field = '$1$xxxxxxxx$UYCIxa628.9qXjpQCjM4a.';
 const tries = [['password', field], ['passwort', field], ['password', undefined], [5, field]];

@@ -214,7 +214,7 @@ class Pages:
     module_without_webassembly: Path  # the same, but its security policy refuses WebAssembly
 
 
-# The module and a script that uses it, and reports through the document's title.
+# A page with a script that uses the module and reports through the document's title.
 MODULE_PAGE = """<!DOCTYPE html><meta charset="utf-8"><title>running</title>
 <meta http-equiv="Content-Security-Policy" content="default-src 'none'; \
 script-src 'unsafe-inline' 'wasm-unsafe-eval'; worker-src blob:">
@@ -239,7 +239,7 @@ async function visit() {
 document.title = JSON.stringify(await visit().catch(String));
 </script>
 """
-# The same with a security policy that refuses WebAssembly. The module is inside a function, since
+# The same, for a security policy that refuses WebAssembly. The module is inside a function, since
 # WebKit sends no event if a module throws.
 REFUSED_MODULE_PAGE = """<!DOCTYPE html><meta charset="utf-8"><title>running</title>
 <meta http-equiv="Content-Security-Policy" content="default-src 'none'; \
@@ -298,7 +298,7 @@ def pages(web_build: Path, tmp_path_factory: pytest.TempPathFactory) -> Pages:
 
 @pytest.fixture(scope="module")
 def page_script(server: WebServer) -> str:
-    """page.js as the body of a function, after the values that it needs."""
+    """page.js as the body of a function, preceded by definitions of the values that it needs."""
     values = {
         "SERVER": server.address,
         "ROWS": [[row.stored, row.password] for row in UNCHECKED],
@@ -343,7 +343,7 @@ def opened(browser: Browser, web_build: Path, page_script: str) -> Report:
 
 @pytest.fixture(params=["served", "opened"], ids=["from a server", "from a file"])
 def page(request: pytest.FixtureRequest, browser: Browser) -> Report:
-    """Each of these two reports."""
+    """The report about the page from the server, and then the one from a file."""
     del browser  # naming the fixture runs each test in each browser
     report: Report = request.getfixturevalue(request.param)
     return report
@@ -373,7 +373,7 @@ def without_time(answer: str) -> str:
 
 
 def of_libxcrypt(password: str, stored: str) -> str:
-    """Returns libxcrypt's hash with a setting or the setting of a hash."""
+    """Returns libxcrypt's hash of a password with a setting, or with the setting of a hash."""
     return crypt(password.encode(), stored.encode()).decode()
 
 
@@ -402,7 +402,7 @@ def test_page_says_how_long_a_hash_took(page: Report, method: str) -> None:
 
 def test_page_says_how_long_a_hash_will_take(page: Report) -> None:
     some_seconds = r"(a|a quarter of a|half a|\d+) seconds?"
-    form = rf"Takes (a moment|about ({some_seconds}|\d+ (minutes|hours)))\."  # hours if it's busy
+    form = rf"Takes (a moment|about ({some_seconds}|\d+ (minutes|hours)))\."  # hours if busy
     assert re.fullmatch(form, page["estimate"])
 
 
@@ -611,7 +611,7 @@ def test_hash_with_the_recommended_rounds_is_not_outdated(page: Report) -> None:
 
 @dataclass(frozen=True)
 class Flaw:
-    """A way in which page.js damages a hash, in its order, and the page's name for it."""
+    """A way of damaging a hash, in the order of page.js, and the page's name for it."""
 
     title: str
     name: str  # with placeholders for the lengths of the digest

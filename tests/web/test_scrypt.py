@@ -1,6 +1,6 @@
 """mkpasswd.mjs and scrypt in node: hashes, and their memory.
 
-scrypt.mjs reports what the calls do. Each of its parts runs in a process of its own. The expected
+scrypt.mjs reports what the calls do. Each of its parts runs in a separate process. The expected
 hashes are libxcrypt's and hashlib's.
 """
 from __future__ import annotations
@@ -25,7 +25,7 @@ MEBIBYTE = 1 << 20
 MEMORY_OF_DEFAULT = 64 * MEBIBYTE  # with N = 2^14 and r = 32, the program's default
 MOST_GROWTH = 20  # MiB
 LOGINS = 20
-# With this option node gives an instance at most 600 pages of 64 KiB, too few for the default.
+# With this option node gives an instance at most 600 pages of 64 KiB, too few for the default cost.
 TOO_LITTLE_MEMORY = "--wasm-max-mem-pages=600"
 
 OUT_OF_MEMORY = "Refused: MKPASSWD_ERROR_OUT_OF_MEMORY"
@@ -66,7 +66,7 @@ HASH_OF_SHA = of_libxcrypt(PASSWORD, "$6$rounds=656000$saltsaltsaltsalt")
 
 @pytest.fixture(scope="module")
 def report_of(node: str, web_build: Path) -> Callable[..., Report]:
-    """A function that runs a part of scrypt.mjs with its rows and with options of node."""
+    """A function that runs a part of scrypt.mjs with given rows and options of node."""
 
     def run_part(part: str, rows: Any, *options: str) -> Report:
         script, module = ROOT / "tests/web/scrypt.mjs", web_build / "mkpasswd.mjs"
@@ -105,7 +105,7 @@ def test_right_password_matches_and_wrong_one_does_not(
 
 @pytest.fixture(scope="module")
 def without_memory(report_of: Callable[..., Report]) -> Report:
-    """The results of calls if no instance can have the memory for the default cost."""
+    """The results of calls if no instance can get the memory for the default cost."""
     rows = [PASSWORD, HASH_OF_DEFAULT, HASH_OF_SMALL, HASH_OF_SHA]
     return report_of("withoutMemory", rows, TOO_LITTLE_MEMORY)
 
