@@ -1,4 +1,4 @@
-"""Fixtures for the tests of the Python package, which they import by support/package.py."""
+"""Fixtures for the tests of the Python package, which support/package.py imports."""
 from __future__ import annotations
 
 from typing import Any
@@ -9,13 +9,13 @@ from support.package import Cook
 
 @pytest.fixture(scope="session", name="cook")
 def fixture_cook(tmp_path_factory: pytest.TempPathFactory) -> Cook:
-    """Runs the recipes of docs/PYTHON.md."""
+    """An object that runs the recipes of docs/PYTHON.md in a scratch folder."""
     return Cook(tmp_path_factory.mktemp("recipes"))
 
 
 @pytest.fixture(name="digests")
 def fixture_digests(monkeypatch: pytest.MonkeyPatch) -> list[int]:
-    """A list that gets the number of digests of each call that hashes."""
+    """A list to which each call that hashes adds its number of digests."""
     from mkpasswd import _library
 
     numbers: list[int] = []

@@ -22,7 +22,7 @@ pytestmark = [
 UNLOCKED = "is not match('[!*]')"
 HASH = "mkpasswd_hash"
 VERIFY = "mkpasswd_verify"
-# Ansible would make a boolean of a message that consists only of the answer.
+# Without the "it is", Ansible would turn a message that is True or False into a boolean.
 TASKS = {
     "lock": f"it is {{{{ ('!' + stored) {UNLOCKED} }}}}",
     "asterisk": f"it is {{{{ '*' {UNLOCKED} }}}}",

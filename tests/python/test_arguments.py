@@ -20,7 +20,7 @@ with package_under_test():
 
 @dataclass(frozen=True)
 class Call:
-    """A call with one open argument."""
+    """A call in which one argument is left open."""
 
     title: str
     function: Callable[[Any], object]
@@ -39,7 +39,7 @@ WITH_FIELD = [
     Call("cost(.., 8)", lambda field: cost(field, 8)),
 ]
 A_NUMBER: Any = 0
-# These also accept None, and the last one an empty setting.
+# These also accept None, and the last one also accepts an empty setting.
 WITH_FIELD_OR_NONE = [
     Call("setting(..)", lambda salt: Policy().setting(A_NUMBER if salt is None else salt)),
     Call("describe(..)", lambda field: describe(A_NUMBER if field is None else field)),
@@ -125,7 +125,7 @@ OTHER_ROUNDS = [-1, 1, 12, 999, 10**9, 2**32 - 1, 2**32 + 5000, 2**64 + 5000]
 @pytest.mark.parametrize("rounds", OTHER_ROUNDS)
 @pytest.mark.parametrize("method", ["sha256crypt", "sha512crypt"])
 def test_rounds_that_no_hash_has_are_refused(method: str, rounds: int) -> None:
-    """The command and the calls for C clamp them, so a hash with 12 rounds would have 1000."""
+    """The command and the calls for C clamp rounds: whoever asks them for 12 gets 1000."""
     error = error_of(Policy, method, rounds)
     assert str(error) == "rounds must be 1000 to 999999999, or 0 for 656000"
 
@@ -159,7 +159,7 @@ def test_an_unknown_method_is_refused_by_its_argument(method: str) -> None:
 
 @pytest.mark.parametrize("rounds", [1, 5, 12, 2**32 - 1])
 def test_a_cost_that_scrypt_does_not_have_is_refused_by_its_argument(rounds: int) -> None:
-    """Unlike the library's message, Python's names the argument and its numbers."""
+    """Unlike the library's message, Python's names the argument and its range."""
     error = error_of(Policy, "scrypt", rounds)
     assert isinstance(error, Refused) and error.reason is Reason.ROUNDS
     assert str(error) == "rounds must be 6 to 11, or 0 for 7"
@@ -213,7 +213,7 @@ def test_a_str_is_hashed_as_utf8(password: str, setting: str) -> None:
 
 
 def test_the_bytes_of_a_surrogate_are_accepted() -> None:
-    """They may be Latin-1."""
+    """As bytes they are valid, for example as Latin-1."""
     assert crypt_call(b"\xed\xa0", "$1$salt") == crypt(b"\xed\xa0", "$1$salt")
 
 
@@ -230,7 +230,7 @@ def test_the_bytes_of_a_surrogate_are_accepted() -> None:
     ],
 )
 def test_a_login_takes_its_field_by_name(given: tuple[str, ...]) -> None:
-    """Positional arguments could be swapped, and so open accounts."""
+    """A service that swapped positional arguments could accept wrong passwords."""
     error = error_of(mkpasswd.login, *given)
     assert error.__class__ is TypeError
 

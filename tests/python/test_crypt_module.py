@@ -112,7 +112,7 @@ def test_the_same_rounds_are_refused(theirs: Any, name: str, rounds: object) -> 
 
 
 def test_the_first_method_is_the_default(theirs: Any) -> None:
-    """Ours has the recommended rounds, which theirs doesn't know."""
+    """Our default has the recommended rounds; theirs has none."""
     assert crypt.crypt("x")[:17] == crypt.mksalt()[:17] == "$6$rounds=656000$"
     assert theirs.mksalt()[:3] == "$6$"
 

@@ -127,7 +127,7 @@ def test_a_hash_by_another_policy_needs_a_new_one(stored: str, policy: Policy) -
 
 
 def test_the_cost_of_scrypt_counts_the_messages_of_rfc_7914() -> None:
-    """They are in section 6. docs/FORMATS.md adds up their lengths."""
+    """The messages are in section 6 of the RFC. docs/FORMATS.md adds up their lengths."""
     n, r = 2**14, 32
     expected = 4 * r * 168 + 164 + 128 * r + 2 * n * 128 * r
     assert cost("$7$CU..../....salt", 8) == expected
@@ -200,7 +200,7 @@ def test_another_scheme_has_its_name_in_crypt_5(field: str, scheme: str | None) 
 def test_a_description_has_the_rounds_or_the_cost_of_scrypt(
     field: str, numbers: tuple[object, ...]
 ) -> None:
-    """By crypt(5): 1,000 for md5crypt, 5,000 if the field has no rounds, and C is N=2^14."""
+    """crypt(5) says so: md5crypt has 1,000 rounds, the default is 5,000, and `C` is N = 2^14."""
     found = describe(field)
     assert (found.rounds, found.n, found.r, found.p) == numbers
 

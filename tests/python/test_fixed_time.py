@@ -1,7 +1,7 @@
 """Failed logins are answered a fixed time after they began, and block nothing until then.
 
 A busy machine can be late, so a test passes if one of several attempts is in time: a difference
-that an attacker could use would be in all of them.
+that an attacker could use would show in every attempt.
 """
 from __future__ import annotations
 
@@ -64,7 +64,7 @@ FAILURES = [
 
 
 def seconds_beyond(logins: FixedTime, moment: float, wait: Any, *arguments: Any) -> float:
-    """Returns how many seconds after this moment, counted from its start, a login is refused."""
+    """Returns when a login is refused: how many seconds after it began, less `moment`."""
     began = time.monotonic()
     login, password, field = arguments
     assert wait(logins, login, *password, field=field) is False
@@ -87,7 +87,7 @@ def test_failures_of_all_kinds_are_answered_at_the_same_moment(
 
 @WAYS
 def test_an_error_is_raised_at_that_moment_too(wait: Any) -> None:
-    """Otherwise an error of the database, say, would show that the name exists."""
+    """Otherwise an error, for example of the database, could show that the name exists."""
     logins = FixedTime(seconds=0.3, threads=1, queued=1, failed=10)
     began = time.monotonic()
     error = error_of(wait, logins, raise_an_error)
@@ -117,7 +117,7 @@ def test_only_true_is_a_success(answer: Any) -> None:
 def test_a_failure_that_takes_longer_is_answered_at_a_multiple_of_the_time(
     takes: float, answered: float
 ) -> None:
-    """Otherwise the time would show, on a busy machine, what was checked."""
+    """Otherwise, on a busy machine, the time would show what was checked."""
     logins = FixedTime(seconds=0.2, threads=1, queued=1, failed=10)
 
     def be_slow() -> bool:
@@ -293,7 +293,7 @@ def test_a_worker_answers_when_its_parent_had_no_login() -> None:
 
 
 def test_a_worker_raises_an_error_when_its_parent_had_a_login() -> None:
-    """Without threads it could answer nothing, and users would wait forever."""
+    """Without threads the worker could answer nothing, and users would wait forever."""
     before = f'assert logins.submit(login, "password", field={MD5!r}).result({LONGEST_WAIT})'
     result = run_python(WORKER.format(before=before)).required()
     message = b"RuntimeError: fork() copied no threads of FixedTime: make one in each process\n"
@@ -301,7 +301,7 @@ def test_a_worker_raises_an_error_when_its_parent_had_a_login() -> None:
     assert b"True" not in result.stdout and b"False" not in result.stdout, result
 
 
-def test_a_system_without_more_threads_takes_no_place_in_the_queue(
+def test_a_login_takes_no_place_in_the_queue_if_no_thread_can_start(
     monkeypatch: pytest.MonkeyPatch,
 ) -> None:
     logins = FixedTime(seconds=0, threads=2, queued=0, failed=10)

@@ -75,7 +75,7 @@ LOCKED = ("locked", "locked bcrypt")
 
 
 def code_of_service() -> str:
-    """Returns the code of a reader who follows the document."""
+    """Returns the code that a reader who follows the document has in the end."""
     fixed_time = recipe("failures after a fixed time")
     sections = [
         whole_login_of_a_moving_service(),

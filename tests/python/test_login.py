@@ -116,7 +116,7 @@ def test_a_wrong_type_is_an_error(password: object, field: object) -> None:
 
 
 def test_a_hash_that_costs_up_to_the_budget_matches_by_a_policy_that_costs_as_much() -> None:
-    """So a service can move to a method that costs more than half of its budget."""
+    """This lets a service move to a method that costs more than half of its budget."""
     stored = crypt("password", "$6$rounds=900000$salt")
     policy = Policy("scrypt", budget=mkpasswd.cost("$7$CU..../....salt", 8) + 5000)
     assert policy.budget is not None and policy.budget < 2 * mkpasswd.cost(stored, 8)
@@ -144,7 +144,7 @@ UNCHECKED = [None, "", "!" + SHA512, "$y$j9T$salt$x", "$5$rounds=0$a$x", COSTLY]
 
 @pytest.fixture(name="works")
 def fixture_works(monkeypatch: pytest.MonkeyPatch) -> list[Any]:
-    """A list that gets the work of each login."""
+    """A list to which each login adds its work."""
     works = []
     call = _library.login
 
@@ -159,7 +159,7 @@ def fixture_works(monkeypatch: pytest.MonkeyPatch) -> list[Any]:
 
 @pytest.mark.parametrize("policy", POLICIES, ids=[policy.method for policy in POLICIES])
 def test_a_login_does_the_same_work_for_every_name(works: list[Any], policy: Policy) -> None:
-    """Tries a wrong password with a hash by the policy, and with fields that can't be checked."""
+    """Tries a wrong password with a hash by the policy and with fields that can't be checked."""
     for field in policy.hash("password"), *UNCHECKED:
         assert not policy.login("passw0rd", field=field)
     counts = {(work.digests, work.mixes, work.table) for work in works}

@@ -191,7 +191,7 @@ def test_wrong_calls_refuse_everybody(decisions: dict[str, Any], each: Lines) ->
 def test_a_mistake_in_the_document_accepts_a_wrong_password(
     decisions: dict[str, Any], each: Lines
 ) -> None:
-    """If one of them no longer does, the document is out of date."""
+    """If one of these mistakes no longer accepts it, the document is out of date."""
     assert is_in(decisions, each, WRONG)
 
 

@@ -20,7 +20,7 @@ pytestmark = [
 FRONT = "$6$rounds=656000$"
 # A hash that costs more than the budgets of the recipes.
 BEYOND = "$6$rounds=20000000$saltstring$" + "x" * 86
-# No hash can have these passwords. passlib itself has a limit of 4,096 characters.
+# These passwords can't be hashed. passlib itself has a limit of 4,096 characters.
 IMPOSSIBLE = ["x" * 1025, "x" * 5000, "x\0", "\ud800"]
 IMPOSSIBLE_IDS = ["1025 bytes", "5000 bytes", "a zero byte", "a lone surrogate"]
 NAMES = ["md5_crypt", "sha256_crypt", "sha512_crypt"]
@@ -129,7 +129,7 @@ OTHERS = pytest.mark.parametrize(
 
 @pytest.fixture(name="like_recommended")
 def fixture_like_recommended(ours: Any) -> Any:
-    """Our handler of sha512_crypt with that policy."""
+    """Our handler of sha512_crypt with that cheaper policy."""
     return ours.sha512_crypt.using(budget=BUDGET, default_rounds=ROUNDS)
 
 
@@ -208,7 +208,7 @@ def test_a_failed_login_costs_what_an_unknown_name_does(
     quick: Any, digests: list[int], password: str, field: str | None
 ) -> None:
     stored = field or quick.hash("password")
-    quick.dummy_verify()  # the first one also makes a hash
+    quick.dummy_verify()  # the first call also makes a hash
     digests.clear()
     quick.dummy_verify()
     unknown = sum(digests)

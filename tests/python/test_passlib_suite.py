@@ -23,13 +23,13 @@ with needed("python3-passlib"), warnings.catch_warnings():
     SUITE = importlib.import_module("passlib.tests.test_handlers")
 
 pytestmark = pytest.mark.filterwarnings("ignore")
-NO_BUDGET = 2**42  # more than any hash costs; passlib's tests know no budget
+NO_BUDGET = 2**42  # more than any hash costs; passlib's tests set no budget
 
 
 def suite_of(name: str) -> Any:
-    """Returns passlib's tests of a handler, except for one.
+    """Returns passlib's tests of a handler, except for one test.
 
-    It expects verify() to raise an error above 4,096 characters, where our handlers return False.
+    That one expects an error from verify() above 4,096 characters. Our handlers return False.
     """
     assert mkpasswd.__version__
     handler = type(name, (getattr(HANDLERS, name),), {"budget": NO_BUDGET})

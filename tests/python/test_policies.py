@@ -1,4 +1,4 @@
-"""Policies, their hashes, and what those may cost."""
+"""Policies, their hashes, and what these hashes may cost."""
 from __future__ import annotations
 
 import copy
@@ -82,8 +82,8 @@ def test_a_new_hash_is_libxcrypts_with_a_new_salt(policy: Policy, front: str) ->
     assert policy.hash("pässword") != stored
 
 
-# The last policy costs less than 150,000,000, the lowest limit, and the one before it costs more
-# than the recommended one.
+# A hash by the last policy costs less than 150,000,000, the lowest limit. A hash by the one before
+# it costs more than one by the recommended policy.
 OWN_HASHES = [*map(Policy, METHODS), Policy("scrypt", 9), Policy("sha512crypt", 1000)]
 
 
@@ -159,7 +159,7 @@ def test_a_limit_is_as_documented(policy: Policy, limit: Limit) -> None:
 
 
 def dearest_setting(limit: int) -> tuple[str, str]:
-    """Returns settings with the most thousands of rounds within a limit, and with one more."""
+    """Returns settings with the most rounds within a limit, in steps of 1000, and one step more."""
 
     def setting(rounds: int) -> str:
         return f"$6$rounds={rounds}$saltsaltsaltsalt"

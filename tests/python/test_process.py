@@ -19,7 +19,7 @@ COUNT = 40
 
 
 def test_other_threads_run_during_a_hash() -> None:
-    """If the call kept the interpreter's lock, this thread would hardly get processor time."""
+    """If a login kept the interpreter's lock, this thread would hardly get processor time."""
     stored = mkpasswd.Policy(rounds=1_000_000).hash("password")
     spent: list[float] = []
 
@@ -99,7 +99,7 @@ MESSAGE = b"ImportError: mkpasswd needs its C library, libmkpasswd.so.3, and cou
 
 @pytest.mark.parametrize("kind", ["an empty file", "garbage", "another library"])
 def test_a_file_that_is_not_the_library_is_named(kind: str, tmp_path: Path) -> None:
-    """The loader stops at such a file, instead of finding the system's library after it."""
+    """The loader stops at such a file instead of going on to the system's library."""
     place = tmp_path / SONAME
     place.write_bytes(b"garbage" * 100 if kind == "garbage" else b"")
     if kind == "another library":

@@ -192,7 +192,7 @@ def test_a_failed_renewal_leaves_the_old_hash_and_accepts_the_login(
 def test_two_simultaneous_logins_renew_a_hash_once(
     database: sqlite3.Connection, login: Any, monkeypatch: pytest.MonkeyPatch
 ) -> None:
-    """The second one comes while the first one hashes, and both are accepted."""
+    """The second login comes while the first one hashes, and both are accepted."""
     new, answers = _library.new, []
 
     def come_between(*arguments: Any) -> Any:
@@ -482,7 +482,7 @@ def fixture_fixed_time(
 
 @pytest.fixture(name="answer", params=["threads", "asyncio"])
 def fixture_answer(fixed_time: dict[str, Any], request: pytest.FixtureRequest) -> Any:
-    """The document's function for threads, and the one for asyncio."""
+    """The document's function for threads, and then the one for asyncio."""
     if request.param == "threads":
         return fixed_time["answer"]
     return lambda *words: asyncio.run(fixed_time["answer_later"](*words))
@@ -500,7 +500,7 @@ def test_a_wrong_password_is_answered_after_six_seconds(answer: Any, name: str) 
 
 
 def test_the_costliest_login_is_measured(cook: Cook, capsys: pytest.CaptureFixture[str]) -> None:
-    """The test replaces the policy by a cheaper one."""
+    """The test replaces the policy with a cheaper one."""
     imported = "import mkpasswd\n"
     cheaper = f"{imported}\nmkpasswd = mkpasswd.Policy(rounds=1000)\n"
     cook.run(replace_lines(recipe("measure the costliest login"), {imported: cheaper}))

@@ -30,7 +30,7 @@ WRONG: list[tuple[str, Any]] = [
 
 
 def all_of(error: BaseException | None) -> str:
-    """Returns everything that a log or a debugger could show of an error and its causes."""
+    """Returns everything that a log or a debugger could show about an error and its causes."""
     assert error is not None
     text = "".join(traceback.format_exception(type(error), error, error.__traceback__))
     while error is not None:

@@ -26,7 +26,7 @@ METHODS_OF_VALUES = (
     "encode",
 )
 COMPARISONS = ("__eq__", "__lt__", "__le__", "__gt__", "__ge__", "__contains__")
-# None of these methods says what an object's value is.
+# Each of these methods lies about an object's value.
 LIES: dict[str, Any] = {
     **dict.fromkeys(METHODS_OF_VALUES, none),
     **dict.fromkeys(COMPARISONS, true),

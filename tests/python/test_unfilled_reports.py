@@ -69,7 +69,7 @@ def test_a_call_that_returns_a_value_raises_an_error(call: Callable[[], object])
 
 @pytest.mark.needs("python3-django")
 def test_django_refuses_every_login(monkeypatch: pytest.MonkeyPatch) -> None:
-    """The hasher has asked the library for the rounds before that."""
+    """Only two calls fill no report: the hasher asks the library for its rounds before them."""
     hasher = importlib.import_module("mkpasswd.django").MkpasswdPasswordHasher()
     monkeypatch.setattr(type(hasher), "policy", POLICY)
     silent = _library.Answer(False, _library.Report())

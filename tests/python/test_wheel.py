@@ -58,7 +58,7 @@ def fixture_wheel(folder: Path) -> Path:
 
 
 def test_a_wheel_has_the_same_bytes_elsewhere(wheel: Path, folder: Path) -> None:
-    """The second one is built later, in another folder, and with another umask."""
+    """The second wheel is built later, in another folder, and with another umask."""
     command = ("sh", "-c", 'umask 077 && "$0" "$1" second', ROOT / "tools/wheel", LIBRARY)
     run(*command, cwd=folder, env={"TZ": "Asia/Tokyo"}).required()
     again = only_file(folder / "second")
