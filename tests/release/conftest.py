@@ -1,4 +1,4 @@
-"""The archive, the packages and the roots. Each worker that needs one builds it once."""
+"""The archive, the packages and the roots. Each worker builds those that it needs once."""
 from __future__ import annotations
 
 import shutil

@@ -1,6 +1,6 @@
-"""The archive, as a user sees it who unpacks it.
+"""The archive, as a user who unpacks it sees it.
 
-It is reproducible, and has right checksums and a README that is true.
+It is reproducible, and its checksums and its README are right.
 """
 from __future__ import annotations
 
@@ -146,7 +146,7 @@ def commands_of_readme(archive: Archive, prefix: Path) -> list[str]:
 
 
 def command_with(archive: Archive, prefix: Path, part: str) -> str:
-    """Returns the README's first command that contains this."""
+    """Returns the README's first command that contains `part`."""
     commands = commands_of_readme(archive, prefix)
     found = [command for command in commands if part in command and str(prefix) in command]
     assert found, f"expected a command with `{part}` in\n" + "\n".join(commands)

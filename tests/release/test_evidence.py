@@ -118,7 +118,7 @@ def test_an_unknown_part_is_refused(tree: MeasuredTree) -> None:
 # ---- Interruptions
 
 NAMED = 'echo {} > "$fakes/sleeper.part"; mv "$fakes/sleeper.part" "$fakes/sleeper"'
-# Scripts for the fake make that leave a file and then wait, in a child or in themselves.
+# Scripts for the fake make. They leave a file and then wait, in a child or in the script itself.
 WAITS = f"touch half-built; sleep 300 & {NAMED.format('$!')}; wait\n"
 WAITS_ITSELF = f"touch half-built; {NAMED.format('$$')}; exec sleep 300\n"
 

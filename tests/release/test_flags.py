@@ -41,7 +41,7 @@ class Tree:
     folder: Path
 
     def make(self, *words: Word) -> Result:
-        """Runs make, which takes the proved objects for up to date."""
+        """Runs make in a way that takes the proved objects as up to date."""
         kept = [word for name in PROVED for word in ("-o", f"build/{PROCESSOR}/{name}")]
         return run("make", *kept, *words, cwd=self.folder, env=NOTHING_OF_MAKE)
 
@@ -171,7 +171,7 @@ def test_the_library_makes_all_calls_with_sanitizers(
 
 
 def test_the_module_loads_with_sanitizers(sanitized: Tree) -> None:
-    """make fuzz tests its calls with clang's sanitizers."""
+    """`make fuzz` tests the module's calls with clang's sanitizers."""
     script = "import ctypes, sys; ctypes.CDLL(sys.argv[1]).pam_sm_authenticate"
     runtime = run("gcc", "-print-file-name=libasan.so").required().stdout.decode().strip()
     changes = {"LD_PRELOAD": os.path.realpath(runtime), "ASAN_OPTIONS": "detect_leaks=0"}

@@ -367,7 +367,7 @@ HEADINGS = ["Proved", "Its tests proved", "First mutant", "Mutants", "Run"]
 
 
 def shown_times(tree: ToolTree) -> dict[str, dict[str, str]]:
-    """Returns the gate's table of its last run: for each crate, the cells by heading."""
+    """Returns the table of the gate's last run: for each crate, the cells by heading."""
     rows = []
     for line in lines_of(tree.run("gate", "--times").required()):
         if line.startswith("|"):

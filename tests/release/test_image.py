@@ -75,7 +75,7 @@ class Podman:
 def fixture_podman(image: Path) -> Iterator[Podman]:
     """Podman with the image.
 
-    Its folder is not pytest's: podman refuses paths of more than 50 characters for its state.
+    Its folder isn't pytest's, since podman refuses paths of more than 50 characters for its state.
     """
     with tempfile.TemporaryDirectory() as folder:
         podman = Podman(Path(folder))

@@ -29,7 +29,7 @@ def places(**given: str) -> dict[str, str | None]:
 
 @dataclass(frozen=True)
 class Destination:
-    """A folder below which to install, as packagers do."""
+    """A folder below which files are installed, as packagers do it with DESTDIR."""
 
     folder: Path
 
@@ -46,7 +46,7 @@ def fixture_installation(
 ) -> tuple[Path, Result]:
     """A folder with the installed files, and the result of the command.
 
-    The umask excludes others. The archive is packed first, so that everything is built.
+    The umask lets no other user read files. Packing the archive first builds all of them.
     """
     assert archive.tree.is_dir()
     destination = Destination(tmp_path_factory.mktemp("installed"))

@@ -1,8 +1,8 @@
 """The name mkpasswd belongs to whois, even if our packages are installed, upgraded or purged.
 
-In 2.0.1, mkpasswd-default took the name from whois. An upgrade removes that package and restores
-whois' files, and leaves an administrator's own files alone. Each test begins in a root that no
-other test changes.
+In 2.0.1, the package mkpasswd-default took the name from whois. An upgrade removes this package,
+restores the files of whois, and leaves an administrator's own files alone. Each test begins in a
+root that no other test changes.
 """
 from __future__ import annotations
 
@@ -55,7 +55,7 @@ dpkg-divert --list '*mkpasswd*' | wc -l
 
 @dataclass(frozen=True)
 class Names:
-    """The holders of the three files that both packages have, and what is beside these files."""
+    """The holders of the three files that both packages have, and the files that were moved."""
 
     command: str
     manual: str

@@ -68,7 +68,7 @@ def fixture_site(
 
 @pytest.fixture(scope="module", name="site_with_module")
 def fixture_site_with_module(site: Site, with_module: Namespaces) -> Site:
-    """The site, with the PAM module and the file of hashes that its recipe makes.
+    """The site, with the PAM module and the file of hashes that the module's recipe makes.
 
     The file also has names that few services accept.
     """

@@ -51,7 +51,7 @@ def fixture_prepared(site: Site) -> Site:
 
 @dataclass(frozen=True)
 class Plays:
-    """The recipe's play, first with --check, so that it only says what it would change."""
+    """Two runs of the recipe's play. The first, with --check, only says what it would change."""
 
     checked: Played
     played: Played

@@ -78,7 +78,7 @@ class TestLoginsByPam(PamLoginTests):
     def fixture_door(
         self, site_with_module: Site, tmp_path_factory: pytest.TempPathFactory
     ) -> Iterator[Door]:
-        # Apache's workers are unprivileged.
+        # Apache's workers run as www-data, which must be able to read the file.
         file = site_with_module.machine.path("/etc/example.passwords")
         shutil.chown(file, group="www-data")
         file.chmod(0o640)

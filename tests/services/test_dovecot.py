@@ -18,7 +18,7 @@ pytestmark = [pytest.mark.needs("namespaces", "dovecot"), pytest.mark.xdist_grou
 
 PORT = 8080
 REFUSED = 77  # doveadm's status for a refused login
-# The first lines, and the name of a setting, depend on the version.
+# The first lines, and the name of the setting for the address, depend on Dovecot's version.
 CONFIGURATION = """\
 %s
 protocols =
@@ -41,7 +41,7 @@ service anvil {
 
 @dataclass(frozen=True)
 class Version:
-    """The configuration of a version. GUIDE has a recipe for each."""
+    """The configuration for a version of Dovecot. GUIDE has a recipe for each version."""
 
     name: str
     first_lines: str

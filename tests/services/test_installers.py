@@ -19,7 +19,7 @@ NEEDS_DEBCONF = pytest.mark.needs("debconf-set-selections", "debconf-communicate
 
 @pytest.fixture(scope="module", name="preseed")
 def fixture_preseed(site: Site) -> Site:
-    """The site after each command of the recipe ran alone, since each asks for a password."""
+    """The site after following the recipe. Each command ran alone, since it asks for a password."""
     (site.folder / "preseed.cfg").write_text(PRESEED, encoding="ascii")
     for command in marked("preseed", "sh").code.splitlines():
         result = site.answer(command)

@@ -18,7 +18,7 @@ TOO_LITTLE_MEMORY = ("prlimit", "--as=60000000")
 
 @dataclass(frozen=True)
 class InvalidArguments:
-    """Arguments with which all logins are refused, and the log entry."""
+    """Arguments with which the module refuses all logins, and the log entry for that."""
 
     arguments: str
     answer: Answer
@@ -41,13 +41,13 @@ def invalid_together(arguments: str, reason: str) -> InvalidArguments:
 
 
 def shadow(path: str) -> InvalidArguments:
-    """Returns a name of the system's own file, which the module refuses."""
+    """Returns a path of the system's own password file, which the module refuses."""
     log = f"invalid argument: file={path} is /etc/shadow"
     return InvalidArguments(f"file={path}", Answer.BROKEN, log)
 
 
 def unreadable(path: str, reason: str) -> InvalidArguments:
-    """Returns the name of a file that can't be read."""
+    """Returns the path of a file that can't be read."""
     return InvalidArguments(f"file={path}", Answer.UNAVAILABLE, f"{path}: {reason}")
 
 

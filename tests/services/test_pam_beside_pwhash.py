@@ -94,7 +94,7 @@ class Outcome:
 
 @dataclass
 class Administrator:
-    """Changes lines with pwhash, and repeats runs that are killed."""
+    """Changes lines with pwhash, kills some of the runs, and repeats these."""
 
     machine: Namespaces
     watcher: Watcher
@@ -102,7 +102,7 @@ class Administrator:
     results: list[Result] = field(default_factory=list)
 
     def change(self, words: Sequence[str], name: str) -> None:
-        """Changes a line, after some runs that are killed."""
+        """Changes a line. Kills some of the runs, and repeats until one of them isn't killed."""
         command = self.machine.entering(PWHASH, "set", *words, FILE, name)
         while self.randoms.random() < SHARE_OF_KILLED:
             life = self.randoms.uniform(0.1, LONGEST_RUN)
@@ -127,7 +127,7 @@ class Administrator:
 
 
 def visit(machine: Namespaces, randoms: random.Random, turn: int) -> list[Result]:
-    """Has each user log in and change the password, in random order. Kills some of that."""
+    """Has each user log in and change the password, in random order. Kills some of these runs."""
     visits = []
     for name in USERS + TO_LOCK:
         old, new = passwords_of(name)

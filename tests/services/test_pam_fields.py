@@ -29,7 +29,7 @@ class Line:
 
 
 def lines_of_schemes() -> Iterator[Line]:
-    """Yields a line for each scheme. The module refuses other schemes than ours."""
+    """Yields a line for each scheme. The module refuses schemes other than ours."""
     for scheme in OURS:
         yield Line(scheme, scheme, HASHES[scheme], accepts=True)
     for scheme in OTHERS:

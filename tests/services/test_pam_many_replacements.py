@@ -1,8 +1,8 @@
 """pam_mkpasswd.so with pamtester: a thousand renewals and a thousand password changes in parallel.
 
-Many of them are killed. Meanwhile an administrator locks accounts, by a script that follows the
-manual's protocol and is killed too, and by renaming an edited file over the old one, and changes
-the file's mode.
+Many of them are killed. Meanwhile an administrator changes the file's mode, and locks accounts in
+two ways: by a script that follows the manual's protocol and is sometimes killed too, and by
+renaming an edited file over the old one.
 """
 from __future__ import annotations
 
@@ -54,7 +54,7 @@ def passwords_of(name: str) -> tuple[bytes, bytes]:
 
 @dataclass
 class Judge:
-    """Finds what is wrong with the file. It remembers which lines are right."""
+    """Finds what is wrong with the file. Remembers which lines it has found right."""
 
     right: set[bytes] = field(default_factory=set)
     locked: set[str] = field(default_factory=set)  # the names that the administrator has locked
@@ -226,7 +226,7 @@ def visit_machine(machine: Namespaces, visit: Visit) -> Result:
 
 @contextlib.contextmanager
 def beside(watcher: Watcher, administrator: Administrator) -> Iterator[None]:
-    """Runs the watcher and the administrator while the block runs."""
+    """Runs the watcher and the administrator during the `with` block."""
     with ThreadPoolExecutor(2) as pool:
         ended = [pool.submit(watcher.watch), pool.submit(administrator.work)]
         try:

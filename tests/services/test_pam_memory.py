@@ -19,7 +19,7 @@ WITH_OLD = "chauthtok(PAM_CHANGE_EXPIRED_AUTHTOK)"
 NEW = b"another password"
 # So many other accounts that no later allocation overwrites all of the file's memory.
 OTHERS = b"".join(b"other%d:%b\n" % (number, HASHES["sha256crypt"]) for number in range(100))
-LEAST_FOUND = 16  # the fewest consecutive characters that count as a rest of a digest
+LEAST_FOUND = 16  # the fewest consecutive characters of a digest that count as a leak
 
 
 @pytest.fixture(scope="module", name="looked_at")
@@ -51,7 +51,7 @@ def field_of_ann(pam: Pam) -> bytes:
 
 
 def assert_no_hash_left(pam: Pam) -> None:
-    """Fails the test if a part of the old or the new hash is in the memory."""
+    """Fails the test if a part of the old or the new hash is in the service's memory."""
     memory = pam.machine.read(MEMORY)
     assert f"MEMORY={MEMORY}".encode() in memory, "the memory lacks the environment"
     for field in (SHA512, HASHES["sha256crypt"], field_of_ann(pam)):

@@ -16,7 +16,7 @@ pytestmark = [pytest.mark.needs("namespaces", "pamtester"), pytest.mark.xdist_gr
 
 ARGUMENTS = f"file={FILE} rounds=1000 budget=1000000"
 NEW = b"another password"
-WITH_OLD = "chauthtok(PAM_CHANGE_EXPIRED_AUTHTOK)"  # asks for the old password, as for users
+WITH_OLD = "chauthtok(PAM_CHANGE_EXPIRED_AUTHTOK)"  # asks even root for the old password
 BEFORE = b"one:x\n"
 BEHIND = b":19000:\0\nann:!\nno line"
 CONTENT = BEFORE + b"ann:" + SHA512 + BEHIND
@@ -125,7 +125,7 @@ def test_a_service_of_the_files_owner_can_change_passwords(pam: Pam) -> None:
     pam.machine.write(f"{folder}/passwords", b"ann:" + SHA512 + b"\n", 0o600)
     pam.set_arguments(ARGUMENTS.replace(FILE, f"{folder}/passwords"))
     pam.machine.run("chown", "-R", "4242:4242", folder).required()
-    # Root comes first, and creates the lock.
+    # Root changes the password first, which creates the lock.
     assert pam.call("ann", "chauthtok", WRONG, WRONG).answer is Answer.ACCEPTED
     call = pam.call("ann", "chauthtok", WRONG, NEW, NEW, through=OTHER_USER)
     assert call.answer is Answer.ACCEPTED, call.log
@@ -160,4 +160,4 @@ def test_the_program_of_the_guide_changes_a_password(pam: Pam, tmp_path: Path) -
     typed = b"\n".join((PASSWORD, NEW, NEW)) + b"\n"
     pam.machine.run(program, "ann", stdin=typed).required()
     assert_changed(pam, NEW)
-    assert pam.machine.run(program, "ann", stdin=typed).status == 1  # the old password
+    assert pam.machine.run(program, "ann", stdin=typed).status == 1  # PASSWORD is wrong now

@@ -41,7 +41,7 @@ def _arguments(pam: Pam) -> None:
 
 @pytest.fixture(scope="module", name="between")
 def fixture_between(tmp_path_factory: pytest.TempPathFactory) -> tuple[str, str]:
-    """A command that runs a login over a library that changes the file meanwhile."""
+    """The beginning of a command, which preloads a library that changes the file meanwhile."""
     library = preload_library("between", tmp_path_factory.mktemp("between"))
     return ("env", f"LD_PRELOAD={library}")
 
@@ -53,7 +53,7 @@ def is_renewed(line: bytes) -> bool:
 
 
 def others_beside(machine: Namespaces) -> list[str]:
-    """Returns the files beside the password file and its lock."""
+    """Returns the names of other files beside the password file and its lock."""
     names = [file.name for file in machine.path(FILE).parent.glob("passwords.*")]
     return sorted(name for name in names if name != NAME_OF_LOCK)
 
@@ -206,7 +206,7 @@ MOMENTS = ["fsync", "linkat", "exchange", "unlinkat"]
 
 
 def kill_login(pam: Pam, between: tuple[str, ...], moment: str) -> None:
-    """Logs in as the user `two`, and kills that at a moment of the renewal."""
+    """Logs in as the user `two`, and kills the login at a moment of the renewal."""
     killed = pam.login_result("two", PASSWORD, through=(*between, f"KILL={moment}"))
     assert killed.status == KILLED, killed
 
@@ -317,7 +317,7 @@ def remounted(blocking: str, usual: str) -> Blocking:
 
 
 def nothing(_: Namespaces) -> AbstractContextManager[None]:
-    """Blocks nothing: the command around the login does that."""
+    """Blocks nothing: the obstacle's command or variables do that."""
     return contextlib.nullcontext()
 
 

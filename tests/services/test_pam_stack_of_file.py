@@ -78,7 +78,7 @@ def stacks() -> list[Stack]:
 
 @dataclass(frozen=True)
 class Visited:
-    """The result of each name's login with the password, and the file afterwards."""
+    """The result of a login with the password for each name, and the file afterwards."""
 
     stack: Stack
     logins: dict[str, Login] = field(default_factory=dict)

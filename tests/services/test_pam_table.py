@@ -130,7 +130,7 @@ ROWS = [
 
 @dataclass(frozen=True)
 class Expected:
-    """The manual's answers in a row. None means that a call doesn't get there."""
+    """The manual's answers in a row. None, a `-` in the table, means that there is no answer."""
 
     auth: Answer | None
     account: Answer | None

@@ -152,7 +152,7 @@ def log_in_while(
 
 @dataclass(frozen=True)
 class Replacement:
-    """A file that replaces one with a slow line during a login, and the verdict."""
+    """A file that replaces one with a slow line during a login, and the login's verdict."""
 
     title: str
     is_locked: bool
@@ -206,7 +206,7 @@ def fixture_short_line(door: Door) -> bytes:
 
 
 def remount(door: Door, size: str) -> None:
-    """Gives the disk another size."""
+    """Remounts the disk with another size."""
     door.site.machine.run("mount", "-o", f"remount,size={size}", "/srv").required()
 
 
