@@ -424,7 +424,8 @@ struct job {
     char line[2 * PAGE], first[2 * PAGE];
 };
 
-/* Returns what the call left in `out`, and the quotes for a string. Checks the bytes around it. */
+/* Returns what is in `out` after the call, and in `quote` the quotes if that is a string. Checks
+ * that the bytes around `out` are unchanged. */
 static const char *left_in(const struct job *job, const char **quote)
 {
     const uint8_t *page = job->out_page, *out = job->call.out, *byte, *end = NULL;
@@ -482,7 +483,7 @@ static int32_t make(struct job *job, bool has_report, int byte)
     return result;
 }
 
-/* Makes the call of a job twice, above the last STACK_LEFT bytes of its stack. */
+/* Makes the call of a job twice, with only STACK_LEFT bytes of its stack left. */
 __attribute__((noinline)) static void perform(struct job *job)
 {
     const struct kind *kind = job->kind;

@@ -61,7 +61,7 @@ static void write_memory(void)
     (void)close(file);
 }
 
-/* Replaces pam_end, before which all that PAM holds for a login is still in memory. */
+/* Replaces pam_end. Until PAM's own pam_end, all that PAM holds for a login is still in memory. */
 int pam_end(void *pam, int status)
 {
     int (*end)(void *, int);

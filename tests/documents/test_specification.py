@@ -230,7 +230,7 @@ def test_the_page_has_everything_that_a_call_depends_on(tree: Tree) -> None:
 
 
 def test_a_name_that_is_imported_twice_leads_to_both(tree: Tree) -> None:
-    """Only the checker knows which of them a clause means."""
+    """Only the checker knows which of the two definitions a clause means."""
     path = "crates/low/specs/Sums.antt"
     tree.change(path, "{limit as most}\n", "{limit as most}\nuse Rattle.low.specs.More.{most}\n")
     more = "abbrev pub most : ℕ\nmost = 20\n"

@@ -79,7 +79,7 @@ def test_a_refused_password_takes_no_work(
 
 # ---- Manuals
 
-# Matches what an example prints, and its code.
+# Matches an example: what it prints, and its code.
 EXAMPLE = re.compile(
     r"^\.\\\" prints: (?P<printed>.*?)\n\.Bd -literal.*?\n(?P<code>.*?)^\.Ed$",
     re.MULTILINE | re.DOTALL,

@@ -43,7 +43,7 @@ class Text:
 
     @property
     def length_of_hash(self) -> int:
-        """The length of its hash, or of some hash if the text is no setting."""
+        """The length of a hash with this setting, or a small number if the text isn't one."""
         try:
             return length_of_hash(read_setting(self.text))
         except Refused:
@@ -51,7 +51,7 @@ class Text:
 
     @property
     def cost(self) -> int:
-        """What a hash of "password" can cost, or a small number if the text is no setting."""
+        """What a hash of "password" can cost, or a small number if the text isn't a setting."""
         try:
             return cost(read_setting(self.text), 8)
         except Refused:

@@ -53,7 +53,7 @@ async function slowdown() {
     const alone = new LoginQueue({ policy });
     const beside = new LoginQueue({ policy, failureTime: 1_000_000 });
     for (let count = 0; count < 100; count++) beside.login('wrong', stored);
-    await beside.login(password, costly); // comes after all of them
+    await beside.login(password, costly); // ends once all of them are hashed
     return leastOf(async () => {
         const time = await timeOf(() => alone.login(password, costly));
         return await timeOf(() => beside.login(password, costly)) / time;

@@ -101,7 +101,7 @@ def test_each_line_is_answered_in_little_memory_while_the_pipe_is_open(program: 
 def status_after_reader_left(
     process: subprocess.Popen[bytes], output: IO[bytes], line: bytes
 ) -> int:
-    """Returns the status of a process whose output closes after ten of many lines."""
+    """Returns the status of a process whose output the reader closes after ten of many lines."""
     assert process.stdin is not None
     process.stdin.write(line * 10)
     process.stdin.flush()

@@ -1,4 +1,4 @@
-"""The package as filters in Ansible, by the recipe of docs/PYTHON.md."""
+"""The package's filters in Ansible, set up by the recipe in docs/PYTHON.md."""
 from __future__ import annotations
 
 import json

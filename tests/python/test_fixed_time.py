@@ -269,7 +269,7 @@ def test_a_cancelled_login_disturbs_no_other() -> None:
 
 # ---- Missing threads
 
-# A server's worker process, made by fork(). Its parent prints how it ends.
+# A server that makes a worker process by fork(), and prints the worker's status once it ends.
 WORKER = f"""
 import os
 from mkpasswd import Policy

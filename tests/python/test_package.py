@@ -127,7 +127,7 @@ USER = "user.py"
 
 
 def run_mypy(folder: Path, *words: str | Path) -> Result:
-    """Runs mypy without python3-typeshed's hints for passlib, whose classes are contradictory."""
+    """Runs mypy without python3-typeshed's hints for passlib, which contradict themselves."""
     mypy = ("/usr/bin/mypy", "--strict", "--no-site-packages", "--cache-dir", folder / "cache")
     return run(*mypy, *words, cwd=folder, env={"MYPYPATH": str(PACKAGE)})
 

@@ -1,7 +1,7 @@
 """passlib's own tests of its handlers, run on the package's handlers.
 
-The package makes every hash. passlib's tests skip what a handler over a library doesn't have, such
-as other backends.
+The package makes every hash. passlib's tests skip features that a handler over a library doesn't
+have, such as other backends.
 """
 from __future__ import annotations
 

@@ -316,7 +316,7 @@ def fixture_moving_login(moving: dict[str, Any]) -> Any:
 
 
 def old_hash(scheme: str, password: str) -> str:
-    """Returns a cheap hash of a service that moves."""
+    """Returns a cheap hash by a scheme that services move from."""
     if scheme == "bcrypt":
         handler = importlib.import_module("passlib.hash").bcrypt
         return str(handler.using(rounds=4).hash(password))

@@ -25,7 +25,7 @@ QUIETLY = settings(deadline=None, database=None, derandomize=True, max_examples=
 def fixture_home_of_hypothesis(tmp_path_factory: pytest.TempPathFactory) -> None:
     """A folder for hypothesis's files, which otherwise go into the current folder."""
     home = tmp_path_factory.mktemp("hypothesis")
-    set_home: Any = configuration.set_hypothesis_home_dir  # it has no types
+    set_home: Any = configuration.set_hypothesis_home_dir  # without type hints
     set_home(str(home))
 
 

@@ -35,7 +35,7 @@ print(_loaded.LIBRARY._name)
 
 
 def printed(result: Result) -> str:
-    """Returns what a command printed. It must have succeeded."""
+    """Returns what a command printed. Fails the test unless the command succeeded."""
     return result.required().stdout.decode().strip()
 
 

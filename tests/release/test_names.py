@@ -23,7 +23,7 @@ PROGRAM = "/debs/mkpasswd_*.deb"
 ALL = " ".join(f"/debs/{name}_*.deb" for name in PACKAGES)
 PROGRAM_2_0_1 = "/changed/mkpasswd/changed.deb"
 DEFAULT_2_0_1 = "/changed/mkpasswd-default/changed.deb"
-# dpkg must fail.
+# dpkg must fail, or the test does.
 FAILS = "if dpkg -i /changed/broken/changed.deb; then exit 1; fi"
 IS_REFUSED = f'if dpkg -i {DEFAULT_2_0_1}; then exit 1; fi; test -z "$(dpkg --audit)"'
 COMMAND = "/usr/bin/mkpasswd"
@@ -36,7 +36,7 @@ PURGES_ALL = f"{APT} purge {' '.join(PACKAGES)}"
 OURS = "ours"
 OF_WHOIS = "whois"
 OF_NOBODY = "nobody"
-# The holder of a file is the package with its checksum. Our links lead to the program's file.
+# The holder of a file is the package that lists its checksum. md5sum follows our links.
 HOLDERS = """
 cd /usr
 for file in bin/mkpasswd share/man/man1/mkpasswd.1.gz share/bash-completion/completions/mkpasswd

@@ -77,7 +77,7 @@ def test_another_path_umask_time_zone_and_locale_give_the_same_bytes(
 
 @pytest.fixture(scope="module", name="unpacked")
 def fixture_unpacked(packages: Packages, tmp_path_factory: pytest.TempPathFactory) -> Path:
-    """A folder with the unpacked packages, each in a folder of its name."""
+    """A folder with the unpacked packages, each in a folder named after it."""
     folder = tmp_path_factory.mktemp("unpacked")
     for name in PACKAGES:
         run("dpkg-deb", "-x", packages.file(name), folder / name).required()

@@ -239,7 +239,7 @@ def beside(watcher: Watcher, administrator: Administrator) -> Iterator[None]:
 
 @pytest.fixture(scope="module", name="with_file")
 def fixture_with_file(with_module: Namespaces) -> Namespaces:
-    """A machine without a system log, which the test would have to read."""
+    """A machine with the file. It has no system log, which the test would have to read."""
     names = NAMES + TO_LOCK
     hashes = [crypt(passwords_of(name)[0], b"$6$rounds=1000$abcdefgh") for name in names]
     lines = [b"%b:%b\n" % (name.encode(), field) for name, field in zip(names, hashes)]

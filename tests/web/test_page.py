@@ -22,7 +22,7 @@ from support.other_hashes import OTHER_HASHES
 from support.reports import Report, read_report
 from support.web_server import WebServer
 
-pytestmark = pytest.mark.usefixtures("web_build")  # skips the tests before a browser starts
+pytestmark = pytest.mark.usefixtures("web_build")  # can skip the tests before a browser starts
 
 PAGE_SCRIPT = ROOT / "tests/web/page.js"
 PASSWORD = "K\u00e4se \U0001f40e"  # the password that page.js types

@@ -155,7 +155,7 @@ def test_other_hashes_are_checked_even_without_memory_for_some(
 
 
 def workers() -> int:
-    """Returns the most workers that mkpasswd.mjs starts."""
+    """Returns how many workers mkpasswd.mjs starts at most."""
     return max(1, len(os.sched_getaffinity(0)) - 1)
 
 
