@@ -241,7 +241,7 @@ static void log_in_without_file(pam_handle_t *pam, int count, const char **argum
     MUST(status == PAM_SERVICE_ERR || status == PAM_AUTHINFO_UNAVAIL);
 }
 
-/* Makes a folder in memory for this process, where no other process renews hashes. */
+/* Makes an in-memory folder for this process alone, so that no other process renews its hashes. */
 static void make_folder(void)
 {
     char folder[] = "/dev/shm/fuzz_pam.XXXXXX";

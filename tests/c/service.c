@@ -1,5 +1,5 @@
-/* A service around README's login, which is compiled with it: `service PASSWORD [FIELD]`, with
- * `null` for no password. It returns 0 if the login is accepted. */
+/* A service around README's login, whose code is compiled together with this file. Its command is
+ * `service PASSWORD [FIELD]`, with `null` for no password. It returns 0 if it accepts the login. */
 #include "service.h"
 #include <string.h>
 

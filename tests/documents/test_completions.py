@@ -66,7 +66,7 @@ def fixture_surroundings(
 
 
 def in_shell(start: Start, name: str, *needed: str) -> object:
-    """Returns a shell as a parameter of tests."""
+    """Returns a shell as a parameter for tests, which they skip if something needed is missing."""
     return pytest.param(start, id=name, marks=pytest.mark.needs("python3-pexpect", *needed))
 
 

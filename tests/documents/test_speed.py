@@ -139,7 +139,7 @@ def test_the_command_compares_with_another_run(tmp_path: Path) -> None:
 # ---- The page and its file
 
 
-def test_a_table_is_written_anew_and_the_others_stay() -> None:
+def test_a_table_is_rewritten_and_the_others_stay() -> None:
     page = "A\n\n<!-- bench: ratios -->\nold\n\nB\n\n<!-- bench: cores -->\nkept\n\nC\n"
     table = (
         "| Time of a hash, mkpasswd's = 1 | libxcrypt | OpenSSL | libsodium | passlib |\n"

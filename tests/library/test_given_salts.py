@@ -91,7 +91,7 @@ def test_the_first_refusal_is_reported(driver: Driver, call: MakeSetting, error:
 
 
 @pytest.mark.parametrize("room", [None, 0, 1, 2, 3, 19, 20, 145])
-def test_a_setting_is_written_if_there_is_room(driver: Driver, room: int | None) -> None:
+def test_a_setting_is_written_if_out_is_large_enough(driver: Driver, room: int | None) -> None:
     driver.assert_matches_model(in_each_form(MakeSetting(6, 1000, b"salt", room)))
 
 

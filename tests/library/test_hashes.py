@@ -204,7 +204,7 @@ def test_a_setting_gives_the_hash(driver: Driver, rows: list[Hashed]) -> None:
     assert [answer.out for answer in answers] == expected
 
 
-def test_a_hash_as_the_setting_gives_itself_in_just_enough_room(
+def test_a_hash_as_the_setting_gives_itself_in_an_out_of_its_size(
     driver: Driver, rows: list[Hashed]
 ) -> None:
     driver.assert_matches_model([Hash(row.password, row.text, out_size=row.room) for row in rows])

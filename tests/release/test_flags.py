@@ -22,7 +22,7 @@ PROCESSOR = "x86-64-v2"
 PROVED = ("program.o", "libcrypt_c.a")
 FILES = ("mkpasswd", "libmkpasswd.a", "libmkpasswd.so.3", "pam_mkpasswd.so")
 STATIC = f"build/{PROCESSOR}/mkpasswd"
-# Variables by which make would influence another make.
+# Variables by which a make that runs the tests would influence the make that they run.
 NOTHING_OF_MAKE: dict[str, str | None] = {
     name: None
     for name in ("CC", "CFLAGS", "CPPFLAGS", "LDFLAGS", "CPU", "MAKEFLAGS", "MAKELEVEL", "TARGET")

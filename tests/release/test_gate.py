@@ -308,7 +308,7 @@ def arguments(tree: ToolTree, *words: str, help_text: str = "", env: str | None 
         pytest.param(("--anew",), "rt ci", "2: ci", id="an rt without the option"),
     ],
 )
-def test_rt_proves_everything_anew_if_it_is_asked_to_and_can(
+def test_rt_proves_everything_again_if_asked_and_able(
     tree: ToolTree, words: tuple[str, ...], help_text: str, expected: str
 ) -> None:
     assert arguments(tree, *words, help_text=help_text, env="2") == expected

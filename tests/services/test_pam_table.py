@@ -194,7 +194,7 @@ def fixture_prepared(pam: Pam, request: pytest.FixtureRequest) -> Iterator[Row]:
 
 
 def typed(*lines: bytes | None) -> list[bytes]:
-    """Returns the typed lines, or none if one of them isn't typed."""
+    """Returns the lines to type, or an empty list if one of them is None."""
     if None in lines:
         return []
     return [line for line in lines if line is not None]

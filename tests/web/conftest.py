@@ -101,7 +101,7 @@ def needing(name: str, *needed: str) -> Any:
 
 
 @pytest.fixture(
-    scope="module",  # so that it ends with its tests, not at the end of the run
+    scope="module",  # so that a browser ends with its tests, not at the end of the run
     params=[
         needing("Chromium", "chromium", "chromedriver", "python3-selenium"),
         needing("Firefox", "firefox-esr", "python3-websocket"),

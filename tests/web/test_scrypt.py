@@ -204,7 +204,7 @@ def test_login_without_scrypt_overtakes_those_that_wait_for_memory(
     assert report["most"] == min(2, workers()), report
 
 
-def test_login_without_memory_beside_others_is_tried_again(
+def test_login_that_finds_no_memory_during_others_is_tried_again(
     report_of: Callable[..., Report],
 ) -> None:
     rows = logins_at_once(6)
