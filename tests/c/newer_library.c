@@ -1,5 +1,5 @@
 /* mkpasswd_login as in a library that is newer than the Python package. It is linked with this
- * tree's other calls; their mkpasswd_login gets another name. Two environment variables set what it
+ * tree's library, whose own mkpasswd_login gets another name. Two environment variables set what it
  * answers: NEWER_ANSWER the result, and NEWER_ERROR the error in the report. */
 #include <mkpasswd.h>
 #include <stdlib.h>

@@ -175,7 +175,8 @@ const both = [statusOfLogin('ann', 'x'), statusOfLogin('ann', 'x')];
 const busy = await Promise.all([...both, status('password')]);
 console.log(JSON.stringify({ wrong, kept, right, others, busy, stored: users.get('bob') }));
 """
-# The times in milliseconds of a right password, a wrong one, and two whose check throws.
+# The times in milliseconds of a right password, a wrong one, one whose check throws, and one for a
+# user without a field.
 OLD_TIMES = """
 async function timed(password, field) {
     users.set('bob', field);
