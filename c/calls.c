@@ -1,6 +1,6 @@
-/* The exported functions that hash. Each calls the proved function of the same name, and then wipes
- * the stack that it used, which held the password and what was computed from it. heap.c wipes
- * memory. The proved code itself (crates/crypt_c) exports the functions that don't hash.
+/* The exported functions that hash. Each calls its proved counterpart, mkpasswd_proved_*(), and
+ * then wipes the stack that was used, which held the password and what was computed from it. heap.c
+ * wipes memory. The proved code itself (crates/crypt_c) exports the functions that don't hash.
  *
  * mkpasswd_new_bytes() also draws the random numbers for a salt, since the proved code has no
  * random device. */
@@ -11,7 +11,7 @@
 /* More bytes of stack than any proved function uses. */
 #define STACK_BYTES ((size_t)24 * 1024)
 
-/* The number of random numbers that make a salt. */
+/* How many random numbers, of 64 bits each, a salt is made from. */
 #define NUMBERS_OF_A_SALT 3
 
 /* The proved functions (crates/crypt_c/src/lib.rt). */

@@ -4,18 +4,20 @@
  * huge page, and heap.c asks for as many huge pages as the block fills. A system without huge pages
  * ignores this.
  *
- * The size of a block is stored in front of it, since not every service's allocator can tell it.
+ * The size of a block is stored in front of it, since not every allocator that a service may use
+ * can report it.
  *
- * With -DKEEPS=1, for a program of one thread, the large block that was freed last is kept for the
- * next one of the same size, and freed before one of another size is allocated. Nothing is wiped
- * then (docs/SECURITY.md): the program has the passwords until it ends, and scrypt writes every row
- * of a table before it reads it.
+ * With -DKEEPS=1, for single-threaded programs, the large block that was freed last is kept. The
+ * next large allocation reuses it if the size is the same, and otherwise frees it first. Nothing is
+ * wiped in this mode (docs/SECURITY.md): the program has the passwords in memory until it ends, and
+ * scrypt writes every row of a table before it reads it.
  *
  * Libraries (-DKEEPS=0) keep no block, since a service wants its memory back, and wipe what they
  * free.
  */
 /* glibc's checked versions of memcpy and the like would check nothing here, since the compiler
- * doesn't know the size of any block. musl, which the library links with too, doesn't have them. */
+ * doesn't know the size of any block. musl, which the library can also be linked with, doesn't have
+ * them. */
 #undef _FORTIFY_SOURCE
 #define _GNU_SOURCE /* for MADV_HUGEPAGE */
 #include <malloc.h>
@@ -28,14 +30,15 @@
 /* A block of at least this size is large. */
 #define HUGE_PAGE ((uintptr_t)2 << 20)
 
-/* glibc's malloc always maps a block of at least this size by itself, whatever was freed before. */
+/* glibc's malloc always gives a block of at least this size a mapping of its own, whatever was
+ * freed before. */
 #define MAPPED ((size_t)32 << 20)
 
-/* The size of a line of the processor's cache, and of the page within which it prefetches lines. */
+/* The sizes of a cache line and of the page within which the processor prefetches lines. */
 #define CACHE_LINE ((size_t)64)
 #define SMALL_PAGE 4096
 
-/* malloc aligns a block to this if its size is a multiple of it. */
+/* malloc aligns a block to this many bytes if the block's size is a multiple of them. */
 #define ALIGNMENT 16
 
 /* The bytes in front of a block: its size, and what malloc returned. */
@@ -49,7 +52,7 @@ _Static_assert(sizeof(struct head) == ALIGNMENT, "a block is aligned like what m
 typedef uint64_t quarter __attribute__((vector_size(16)));
 
 /* The result of an allocation. Proved code has no null pointers, so if `is_there` is false, `block`
- * points to some byte. */
+ * points to an arbitrary byte. */
 struct allocation {
     bool is_there;
     void *block;
@@ -75,8 +78,8 @@ static void write_zeros(char *line)
     quarters[3] = zeros;
 }
 
-/* Gives the whole huge pages of a block that malloc mapped by itself back to the system, which
- * takes less time than writing zeros. Returns the number of bytes in these pages. */
+/* Gives the whole huge pages of a block with a mapping of its own back to the system, which takes
+ * less time than writing zeros. Returns the number of bytes in these pages. */
 static size_t give_pages_back(char *block, size_t size)
 {
     size_t pages = size < MAPPED ? 0 : size / HUGE_PAGE * HUGE_PAGE;
@@ -87,8 +90,8 @@ static size_t give_pages_back(char *block, size_t size)
 }
 
 /* Wipes a block. A large one is wiped from its end to its beginning, so that the part that the next
- * table uses first is still in the cache. The line a page below is prefetched meanwhile, since by
- * itself the processor prefetches only within a page. */
+ * table uses first is still in the cache. Meanwhile this prefetches the line a page below, since
+ * the processor itself prefetches only within a page. */
 static void wipe(char *block, size_t size)
 {
     size_t begin = give_pages_back(block, size);
@@ -110,7 +113,7 @@ static void give_back(struct head *head)
         free(head->start);
 }
 
-/* Returns the kept block if it has this size, and otherwise frees it. */
+/* Returns the kept block if it has this size. Otherwise frees it and returns null. */
 static struct head *take_kept(size_t size)
 {
     struct head *head = kept;

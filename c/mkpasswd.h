@@ -16,20 +16,20 @@
  * mkpasswd_audit(): is current), the limit is reported, or `out` has the result. It returns false
  * in every other case. The return value is the whole answer; the report only says why, for a log.
  *
- * A password and a field have types of their own, so a compiler refuses them in the wrong order. It
- * can't notice a caller who makes a field of what was typed and a password of what is stored. Such
- * a login lets in everybody who types a hash of the stored string, even if that is `!`, a hash or
- * empty.
+ * Passwords and fields have separate types, so a compiler rejects them in the wrong order. It can't
+ * notice when a caller makes a field from what was typed and a password from what is stored. Such a
+ * login lets in everybody who types a hash of the stored string, even if that string is `!`, a hash
+ * or empty.
  *
  * Pointers may be null. A null password is refused like one with a zero byte, a null field counts
  * as an unknown name, a null salt is empty, a null policy is the recommended one, a null `out` has
- * no room, and a null report is not written.
+ * a size of 0, and a null report is not written.
  *
  * If several errors apply, the first one in this order is reported: password, setting, method,
- * salt, rounds, budget, room in `out`, random numbers, memory. For mkpasswd_login() and
+ * salt, rounds, budget, size of `out`, random numbers, memory. For mkpasswd_login() and
  * mkpasswd_audit() the order is password, method, rounds, field, budget, memory. There is one
- * exception: if a login can't check the stored hash and has no memory for the hash that it makes
- * instead, it reports that, not the field's error.
+ * exception: if a login can't check the stored hash and has no memory for the dummy hash that it
+ * makes instead, it reports the memory error, not the field's.
  *
  * After an error, mkpasswd_new(), mkpasswd_hash() and mkpasswd_setting() leave the string "*0" in
  * `out` ("*1" if the given setting begins with "*0"), cut to fit. No password matches it, so a
@@ -42,12 +42,12 @@
  *
  * The caller makes sure of this:
  * - A pointer that isn't null is valid for its number of bytes.
- * - `out` and the report overlap nothing else that the call is given.
+ * - `out` and the report overlap nothing else that is passed to the call.
  * - Until the call returns, no other thread writes to its input, or reads or writes its output.
  * - malloc and free belong to one allocator of private memory, which aligns a block to every power
  *   of two up to 16 that divides its size, as the C library's does.
- * - A signal handler makes no call, and neither does the child of fork(2) in a process with threads
- *   before it runs execve(2).
+ * - No call is made in a signal handler or, if a process with threads calls fork(2), in the child
+ *   before execve(2).
  * - 64 KiB of stack are free. A call uses about 25 KiB.
  *
  * The calls that hash wipe the stack that they used, the memory that they free and, if the
@@ -131,13 +131,13 @@ enum mkpasswd_error {
     MKPASSWD_ERROR_PASSWORD_ZERO_BYTE = 2,
     /* setting too long: more than 384 bytes */
     MKPASSWD_ERROR_SETTING_TOO_LONG = 3,
-    /* bad character: no setting has it; also for a line end */
+    /* bad character: one that no setting may have, such as a line feed */
     MKPASSWD_ERROR_BAD_CHARACTER = 4,
     /* unknown scheme: none of $1$, $5$, $6$, $7$ */
     MKPASSWD_ERROR_UNKNOWN_SCHEME = 5,
     /* bad rounds: `rounds=` without a valid number */
     MKPASSWD_ERROR_BAD_ROUNDS = 6,
-    /* bad cost: scrypt's is not eleven of ./0-9A-Za-z */
+    /* bad cost: scrypt's is not eleven characters of ./0-9A-Za-z */
     MKPASSWD_ERROR_BAD_COST = 7,
     /* scrypt range: N, r or p is invalid */
     MKPASSWD_ERROR_SCRYPT_RANGE = 8,
@@ -157,11 +157,11 @@ enum mkpasswd_error {
     MKPASSWD_ERROR_LOCKED = 15,
     /* no hash: the field is empty */
     MKPASSWD_ERROR_NO_HASH = 16,
-    /* no scheme: the field is a password, say, or a damaged hash */
+    /* no scheme: the field may be a password or a damaged hash */
     MKPASSWD_ERROR_NO_SCHEME = 17,
     /* over budget: the hash can cost more than the budget */
     MKPASSWD_ERROR_OVER_BUDGET = 18,
-    /* too few bytes: `out` has no room for the result and a zero byte */
+    /* too few bytes: `out` is too small for the result and a zero byte */
     MKPASSWD_ERROR_TOO_FEW_BYTES = 19,
     /* no random numbers: the system gave none */
     MKPASSWD_ERROR_NO_RANDOM_NUMBERS = 20,
@@ -197,10 +197,10 @@ struct mkpasswd_policy {
     uint32_t rounds;
     /* The most bytes that a hash may digest and mix, counted as in a report's `cost`. 0 is twice
      * the cost of this policy's new hash of a password of 64 bytes, but at least 150000000, which
-     * can take more than a second. (`pwhash calibrate` finds a budget for a time.) Nobody who logs
-     * in can raise it: a longer password whose new hash would cost more is refused at once,
-     * whatever is stored. mkpasswd_limit() reports the longest password that is accepted, and the
-     * limit. With a large enough budget of your own all MKPASSWD_PASSWORD_LIMIT bytes work.
+     * can take more than a second. (`pwhash calibrate` finds a budget for a time.) No password can
+     * raise it: one so long that its new hash would cost more is refused at once, whatever is
+     * stored. mkpasswd_limit() reports the longest password that is accepted, and the limit. A
+     * large enough budget of your own allows all passwords of up to MKPASSWD_PASSWORD_LIMIT bytes.
      *
      * Only scrypt needs memory: 64 MiB for each new hash at its recommended rounds, and never more
      * than half as many bytes as the budget. */
@@ -254,16 +254,16 @@ struct mkpasswd_report {
 
 /* ---- Passwords and fields ---- */
 
-/* Makes a password of a string. */
+/* Makes a password from a string. */
 static inline struct mkpasswd_password mkpasswd_password(const char *text);
 
-/* Makes a password of bytes; one with a zero byte is refused. */
+/* Makes a password from bytes. The calls refuse one with a zero byte. */
 static inline struct mkpasswd_password mkpasswd_password_bytes(const void *bytes, size_t length);
 
-/* Makes a field of a string. */
+/* Makes a field from a string. */
 static inline struct mkpasswd_field mkpasswd_field(const char *text);
 
-/* Makes a field of bytes. */
+/* Makes a field from bytes. */
 static inline struct mkpasswd_field mkpasswd_field_bytes(const void *bytes, size_t length);
 
 /* ---- What a service calls ---- */
@@ -281,11 +281,11 @@ static inline struct mkpasswd_field mkpasswd_field_bytes(const void *bytes, size
  * is then MKPASSWD_ERROR_OUT_OF_MEMORY), or if it can cost more than the limit; if the budget is 0,
  * such a password is not hashed for any field.
  *
- * An invalid password, method or rounds are refused at once, whatever the field is. Any other wrong
- * password costs what the stored hash costs. So the time of a login shows hashes that have another
- * cost, or a shorter salt, than those of mkpasswd_new(); only outdated ones are ever replaced. A
- * dead hash, such as one that was cut, costs the same as a wrong password, and the error is
- * MKPASSWD_ERROR_DEAD: nobody gets in until the account has a new hash. */
+ * An invalid password, method or number of rounds is refused at once, whatever the field is. Any
+ * other wrong password costs what the stored hash costs. So the time of a login shows hashes that
+ * have another cost, or a shorter salt, than those of mkpasswd_new(); only outdated ones are ever
+ * replaced. A dead hash, such as one that was cut, costs the same as a wrong password, and the
+ * error is MKPASSWD_ERROR_DEAD: nobody gets in until the account has a new hash. */
 MKPASSWD_CHECKED static inline bool mkpasswd_login(struct mkpasswd_password password,
     struct mkpasswd_field field, const struct mkpasswd_policy *policy,
     struct mkpasswd_report *report);
@@ -344,12 +344,12 @@ MKPASSWD_CHECKED static inline bool mkpasswd_limit(
 
 /* Reports rounds with which a new hash of any password of the given length is within the limit of
  * mkpasswd_limit(), for a service that must hash longer passwords too. They are the policy's own
- * rounds, or as many fewer rounds of SHA-crypt as surely fit. With a budget of 0 there always are
- * some; with a budget of your own the call returns false with MKPASSWD_ERROR_OVER_BUDGET if even
- * 1000 rounds cost more. `cost` is the cost of the hash. A policy with fewer rounds has a lower
- * limit of its own, so give it the `cost` of mkpasswd_limit() as its budget, and use the same
- * budget for logins. These rounds show how long the password is to whoever sees the hash, and the
- * hash is outdated at once. */
+ * rounds or, if SHA-crypt with these costs too much, as many as are sure to be within the limit.
+ * With a budget of 0 there always are some; with a budget of your own the call returns false with
+ * MKPASSWD_ERROR_OVER_BUDGET if even 1000 rounds cost more. `cost` is the cost of the hash. A
+ * policy with fewer rounds has a lower limit of its own, so give it the `cost` of mkpasswd_limit()
+ * as its budget, and use the same budget for logins. Whoever sees the hash can tell from fewer
+ * rounds how long the password is, and such a hash is outdated at once. */
 MKPASSWD_CHECKED static inline bool mkpasswd_rounds(
     size_t password_length, const struct mkpasswd_policy *policy, struct mkpasswd_report *report);
 
@@ -369,8 +369,8 @@ MKPASSWD_CHECKED MKPASSWD_WRITES(4, 5) static inline bool mkpasswd_hash(
     size_t out_size, struct mkpasswd_report *report);
 
 /* Puts the setting with a given salt into `out`. A salt has at least one character, and at most 8
- * for md5crypt, 16 for SHA-crypt and 86 for scrypt, each of them one of ./0-9A-Za-z. It is for
- * tests, and for values from other programs; two passwords with the same salt can be guessed
+ * for md5crypt, 16 for SHA-crypt and 86 for scrypt, each of them one of ./0-9A-Za-z. This call is
+ * for tests, and for values from other programs; two passwords with the same salt can be guessed
  * together. */
 MKPASSWD_CHECKED MKPASSWD_WRITES(3, 4) static inline bool mkpasswd_setting(
     const struct mkpasswd_policy *policy, const char *salt, char *out, size_t out_size,
@@ -386,7 +386,7 @@ MKPASSWD_CHECKED static inline bool mkpasswd_bound(
 /* Puts the message for an error, with a zero byte, into `out` and returns true. For any other
  * number, including 0, which is no error, it puts "unknown reason" there and returns false. If
  * `out` is too small, it puts as much there as fits, with the zero byte, and returns false. So
- * `out` holds a string in each case, unless it has no room at all. */
+ * `out` holds a string in each case, unless its size is 0. */
 MKPASSWD_WRITES(2, 3)
 static inline bool mkpasswd_message(uint32_t error, char *out, size_t out_size);
 
@@ -401,7 +401,7 @@ static inline bool mkpasswd_scheme_name(uint32_t scheme, char *out, size_t out_s
  * and for other languages, and return 1 for true and 0 for false. No pointer may be null, even if
  * its number of bytes is 0. A method, rounds or budget of 0 means the same as in a policy. */
 
-/* MKPASSWD_VERSION of the library that is linked. */
+/* Returns the MKPASSWD_VERSION of the library that is linked. */
 MKPASSWD_EXPORT uint32_t mkpasswd_version(void);
 
 MKPASSWD_EXPORT MKPASSWD_CHECKED MKPASSWD_NONNULL(8) int32_t
@@ -641,7 +641,7 @@ static inline bool mkpasswd_scheme_name(uint32_t scheme, char *out, size_t out_s
         == 1;
 }
 
-/* Other languages and the proved code read a report at these places. */
+/* Other languages and the proved code read a report at these offsets. */
 typedef char mkpasswd_report_has_80_bytes[sizeof(struct mkpasswd_report) == 80 ? 1 : -1];
 typedef char mkpasswd_report_has_cost_at_32[offsetof(struct mkpasswd_report, cost) == 32 ? 1 : -1];
 typedef char mkpasswd_report_has_work_at_40[offsetof(struct mkpasswd_report, work) == 40 ? 1 : -1];

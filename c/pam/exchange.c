@@ -29,8 +29,8 @@ static bool write_note(const struct place *place, const struct pair *pair)
     return symlinkat(note, place->folder, place->exchange_name) == 0;
 }
 
-/* Reads the number at *text, and steps over it. It doesn't call strtoumax: a module that is built
- * with glibc 2.38 or later couldn't be loaded with an earlier glibc then. */
+/* Reads the number at *text, and steps over it. It doesn't call strtoumax: a module built with
+ * glibc 2.38 or later then couldn't be loaded with an earlier glibc. */
 static uintmax_t read_number(const char **text)
 {
     uintmax_t number = 0;
@@ -112,8 +112,8 @@ bool end_earlier_exchange(const struct place *place)
 }
 
 /* Whether a file is still as it was: the same file, and nobody has written to it or changed its
- * owner or mode. The time of the last change (ctime) can't say so, since the exchange itself sets
- * it. */
+ * owner or mode. The time of the last change (ctime) can't show that, since the exchange itself
+ * sets it. */
 static bool is_unchanged(const struct stat *now, const struct stat *before)
 {
     return is_same_file(now, before) && now->st_size == before->st_size
@@ -122,8 +122,8 @@ static bool is_unchanged(const struct stat *now, const struct stat *before)
         && now->st_uid == before->st_uid && now->st_gid == before->st_gid;
 }
 
-/* Whether a file is the same one, and nobody has changed anything of it, attributes included. This
- * works only before an exchange, which sets the time of the last change (ctime). */
+/* Whether a file is the same one, and nobody has changed anything about it, attributes included.
+ * This works only before an exchange, which sets the time of the last change (ctime). */
 static bool is_untouched(const struct stat *now, const struct stat *before)
 {
     return is_same_file(now, before) && now->st_ctim.tv_sec == before->st_ctim.tv_sec

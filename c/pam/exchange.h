@@ -1,11 +1,11 @@
-/* Puts a new file in the place of the old one, so that no version of the file is ever lost. */
+/* Puts a new file in place of the old one, so that no version of the file is ever lost. */
 #ifndef PAM_MKPASSWD_EXCHANGE_H
 #define PAM_MKPASSWD_EXCHANGE_H
 
 #include "place.h"
 #include "replacement.h"
 
-/* Ends an exchange whose process was killed: puts back a version of somebody else's, and removes
+/* Ends an exchange whose process was killed: puts back somebody else's version, and removes
  * whatever else the exchange left. If this fails, errno says why. */
 bool end_earlier_exchange(const struct place *place);
 

@@ -1,9 +1,10 @@
-/* All calls of the proved library. What mkpasswd_login() returns is the whole answer to a login. */
+/* Makes all calls of the proved library. What mkpasswd_login() returns is the whole answer to a
+ * login. */
 #include "hashes.h"
 #include <string.h>
 
-/* The budget has to allow a new hash of each password of up to this many bytes. If it didn't,
- * unknown names would be refused at once. */
+/* The budget has to allow a new hash of each password of up to this many bytes. Otherwise unknown
+ * names would be refused at once. */
 #define USUAL_LENGTH 64
 
 #define NO_ERROR 0

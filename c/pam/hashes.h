@@ -21,7 +21,7 @@ struct check {
     bool lacks_memory; /* nothing was checked */
 };
 
-/* Finds the number of a method by its name. */
+/* Finds the number of a method by its name. Returns false for an unknown name. */
 bool find_method(const char *name, uint32_t *method);
 
 /* Whether the policy is valid, and its budget allows a new hash of each password of up to 64 bytes.

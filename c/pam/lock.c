@@ -1,4 +1,4 @@
-/* Takes and releases the lock: flock(2) of a file beside the password file, which is never
+/* Takes and releases the lock: flock(2) of a file beside the password file. The lock file is never
  * removed. */
 #include "lock.h"
 #include <errno.h>
@@ -61,8 +61,8 @@ static bool is_in_place(int lock, const struct place *place)
         && is_same_file(&locked, &named);
 }
 
-/* Locks an open file if nobody else holds it. It doesn't wait in flock(2), which only a signal
- * could end. */
+/* Locks an open file if nobody else holds it. It doesn't wait in flock(2), since only a signal
+ * could end that wait. */
 static enum lock_state lock_file(int lock, const struct place *place)
 {
     if (flock(lock, LOCK_EX | LOCK_NB) != 0)
@@ -96,8 +96,8 @@ enum lock_state take_lock(const struct place *place, int *lock)
     return state;
 }
 
-/* Unlocks the file before it closes it. A child that the service has started meanwhile has a copy
- * of the descriptor, which would keep the lock. */
+/* Unlocks the file before closing it: a child that the service has started meanwhile has a copy of
+ * the descriptor, which would keep the file locked. */
 void release_lock(int lock)
 {
     int error = errno;

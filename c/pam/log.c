@@ -16,8 +16,8 @@ struct word {
     char text[WORD_SIZE];
 };
 
-/* Makes one word of a text that a stranger may have chosen. With a blank or a line feed in it they
- * could forge the values that follow, or another entry. */
+/* Turns a text that a stranger may have chosen into one word. With a blank or a line feed, the text
+ * could forge the values that follow it, or another entry. */
 static struct word word_of(const char *text)
 {
     struct word word = {""};

@@ -19,7 +19,7 @@ void log_field(pam_handle_t *pam, const struct options *options, const struct li
 void log_change(const pam_handle_t *pam, const char *name);
 
 /* Logs why a field was not replaced. It logs nothing if somebody else changed the file, since that
- * is no fault. */
+ * is not a failure. */
 void log_replacement(
     pam_handle_t *pam, const struct options *options, const char *what, enum outcome outcome);
 
