@@ -13,8 +13,8 @@
 
 #define MODE_BITS 07777
 
-/* Opens a file without a name, which is gone if this process is killed. On a file system that has
- * no such files it gets its name at once. */
+/* Opens a file without a name, which is gone if this process is killed. On a file system that
+ * doesn't support such files, it gets its name at once. */
 static bool open_new_file(const struct place *place, struct new_file *new)
 {
     new->fd = openat(place->folder, ".", O_TMPFILE | O_RDWR | O_CLOEXEC, S_IRUSR | S_IWUSR);
@@ -137,8 +137,8 @@ static bool has_value(int fd, const char *name, const char *value, size_t len)
     return is_same;
 }
 
-/* Gives a file an attribute of another one. If the file has the value already, as it may have a
- * label, it doesn't set it, since this process may not be allowed to. */
+/* Gives a file an attribute of another one. Sets nothing if the file already has the value, as it
+ * may in the case of a label, since this process may not be allowed to set it. */
 static bool copy_attribute(int to, int from, const char *name)
 {
     char *value = malloc(XATTR_SIZE_MAX);

@@ -22,7 +22,7 @@ bool name_new_file(const struct place *place, struct new_file *new);
 /* Removes the file's name, if it has one. */
 void remove_new_file(const struct place *place, const struct new_file *new);
 
-/* Closes the file. Without a name it is gone then. */
+/* Closes the file. A file without a name is then gone. */
 void close_new_file(const struct new_file *new);
 
 #endif

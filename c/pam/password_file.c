@@ -37,7 +37,8 @@ static int read_bytes(struct password_file *file)
     return 0;
 }
 
-/* Wipes the bytes and frees them. They have the hashes of all names, and the service runs on. */
+/* Wipes the bytes and frees them. They contain the hashes of all users, and the service keeps
+ * running. */
 static void wipe_and_free_bytes(struct password_file *file)
 {
     if (file->bytes == NULL)
@@ -71,7 +72,7 @@ void close_password_file(struct password_file *file)
     errno = error;
 }
 
-/* Returns where a character is, or the end if it isn't there. */
+/* Returns where a character first is, or `end` if it isn't there. */
 static const char *find_character(const char *start, const char *end, char character)
 {
     const char *place = memchr(start, character, (size_t)(end - start));

@@ -22,8 +22,8 @@ struct line {
     struct mkpasswd_field field;
 };
 
-/* Reads a regular file. A path that isn't absolute begins at the folder. Returns 0, or the number
- * of the error; then the file has no bytes. The caller closes the file in each case. */
+/* Reads a regular file. A relative path starts at the folder. Returns 0, or the number of the
+ * error; after an error the file has no bytes. The caller closes the file in each case. */
 int read_password_file(int folder, const char *path, struct password_file *file);
 
 void close_password_file(struct password_file *file);

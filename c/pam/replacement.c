@@ -18,7 +18,7 @@ static enum outcome put_in_place(
         return FAILED;
     outcome = exchange_files(place, &old->status, &new->status);
     if (outcome == DONE)
-        (void)fsync(place->folder); /* some file systems can't */
+        (void)fsync(place->folder); /* some file systems don't support this */
     return outcome;
 }
 
