@@ -16,7 +16,7 @@ const RECOMMENDED_BUDGET = 0;
 // ---- What the module takes
 
 // Returns a copy, since a worker may read the bytes later. A lone surrogate becomes U+FFFD, which
-// no setting has.
+// no setting contains.
 function toBytes(text, name = 'setting', allowed = 'a string or a Uint8Array') {
     if (text instanceof Uint8Array) return new Uint8Array(text);
     if (typeof text === 'string') return new TextEncoder().encode(text);
@@ -45,12 +45,12 @@ function decodeBase64(text) {
     return Uint8Array.from(atob(text), (digit) => digit.charCodeAt(0));
 }
 
-// Returns a budget or a length as a number of 64 bits.
+// Returns a budget or a length as a 64-bit integer.
 function toUint64(number) {
     return BigInt(Math.max(0, Math.min(number, Number.MAX_SAFE_INTEGER)));
 }
 
-// Returns rounds as a number of 32 bits. WebAssembly would drop the upper bits of a greater one.
+// Returns rounds as a 32-bit integer. WebAssembly would drop the upper bits of a greater number.
 function toUint32(rounds) {
     const isUint32 = rounds === rounds >>> 0;
     return isUint32 ? rounds : NEITHER;
@@ -98,8 +98,8 @@ const NO_MODULE = 'WebAssembly is refused: '
     + "allow 'wasm-unsafe-eval' in script-src of the Content-Security-Policy of the page";
 
 // Returns what `make` returns: the compiled module or an instance. The module's bytes are valid, so
-// this fails only for lack of memory, which is a RangeError, or because a policy of the page
-// forbids it. WebKit applies that policy only to instances.
+// this fails only with a RangeError, if there isn't enough memory, or because the page's Content
+// Security Policy forbids it. WebKit applies that policy only to instances.
 function runEngine(make) {
     try {
         return make();
@@ -116,7 +116,7 @@ function compileModule(base64) {
 const REPORT_SIZE = 80;
 const OUT_SIZE = 145;
 const NEED_SIZE = 16;
-const MAX_BYTES = 4096; // that are passed of a password or a field; the module accepts fewer
+const MAX_BYTES = 4096; // of a password or field that are passed on; the module accepts fewer
 const ALIGNMENT = 16; // of the report and of the bytes that are passed
 const WORD_SIZE = 4;
 const PAGE_SIZE = 65536; // the memory of an instance grows by pages
@@ -130,7 +130,7 @@ function sizeOf({ words, bytes }) {
 }
 
 // An instance of the module. The report, `out` and the bytes that are passed are in its free
-// memory. Behind them is the memory that it lends to a call with scrypt.
+// memory. After them comes the memory that it lends to a call with scrypt.
 class Instance {
     #compiled;
     #need;
@@ -219,7 +219,8 @@ class Instance {
         }
     }
 
-    // Copies bytes into the memory, and puts their address and their number in their place.
+    // Copies the byte arrays among the arguments into the memory. Returns the arguments with the
+    // address and length of each array in its place.
     #copyIn(args) {
         let end = this.#passed;
         const words = [];

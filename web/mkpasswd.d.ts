@@ -23,7 +23,7 @@ export type Verdict = Match | (false & { readonly matches?: undefined; readonly 
 
 /**
  * Why a password can't be hashed: it has a zero byte, or more bytes than the policy's `limit`
- * allows, or half of a character, such as "\ud800", which has no bytes.
+ * allows, or a lone surrogate, such as "\ud800": half of a character, which UTF-8 can't encode.
  */
 export type PasswordProblem = 'zero byte' | 'too long' | 'lone surrogate';
 
@@ -70,8 +70,8 @@ export interface Limit {
  */
 export class Refused extends Error {
     /**
-     * The error's name in mkpasswd.h, such as MKPASSWD_ERROR_BAD_ROUNDS. Without memory it is
-     * MKPASSWD_ERROR_OUT_OF_MEMORY.
+     * The error's name in mkpasswd.h, such as MKPASSWD_ERROR_BAD_ROUNDS. If scrypt finds no memory,
+     * it is MKPASSWD_ERROR_OUT_OF_MEMORY.
      */
     readonly reason: string;
 }

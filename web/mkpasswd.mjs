@@ -37,7 +37,7 @@ function isPlainObject(value) {
     return prototype === null || Object.getPrototypeOf(prototype) === null;
 }
 
-// Returns the own properties of an object, and throws if it has others than `names`.
+// Returns the own properties of an object, and throws if one is not among `names`.
 function readOptions(value, owner, names) {
     if (!isPlainObject(value)) {
         throw new TypeError(`${owner} is made from a plain object with ${listNames(names)}, `
@@ -153,8 +153,8 @@ class Match {
 
 const ABSENT = { __proto__: null, value: undefined };
 
-// Returns what a login returns, false or a promise, and makes sure that it has no `matches`. If
-// another script has set that in Object.prototype, everybody would get in.
+// Returns what a login returns, false or a promise, and makes sure that it has no `matches`.
+// Otherwise, if another script had set that in Object.prototype, everybody would get in.
 function guardVerdict(result) {
     if (result !== false) {
         return Object.defineProperties(result, { __proto__: null, matches: ABSENT, new: ABSENT });
@@ -221,7 +221,7 @@ const PROBLEMS = {
 
 const NO_LIMIT = 'an integer (2 ** 42 for no limit)';
 
-// Each is bound to its policy, so that it can be called without it.
+// Each is bound to its policy, so that it can be called without `this`.
 const CALLS_OF_A_POLICY = [
     'hash', 'hashAsync', 'login', 'loginAsync', 'verify', 'needsRehash', 'describe',
     'passwordProblem',

@@ -37,7 +37,7 @@ const GENERATED_LENGTH = 20;
 
 // ---- State
 
-const rates = {}; // for each method: the cost and the time of a hash that was measured
+const rates = {}; // for each method: the cost of a hash, and the time measured for it
 // The rounds for the kinds of methods that aren't chosen. Those of the chosen kind are in the
 // field.
 const keptRounds = { md5crypt: '1000' };
@@ -184,7 +184,7 @@ function progressElements(form) {
     return form.querySelectorAll('progress, [data-stop]');
 }
 
-// Shows how far the running hash should be, judged by its cost.
+// Shows how far the running hash should have got, judging by its cost.
 function showProgress() {
     const { form } = running;
     const bar = form.querySelector('progress');
@@ -414,8 +414,8 @@ function showPassword(id, isShown) {
     element('repeat').placeholder = isShown ? 'Not needed while it is shown' : '';
 }
 
-// Returns a random character. Bytes above the greatest multiple of their count are skipped, so that
-// all characters are equally likely.
+// Returns a random character. Skips bytes from the greatest multiple of the number of characters
+// on, so that all characters are equally likely.
 function randomCharacter() {
     const count = GENERATED_CHARACTERS.length;
     const end = 256 - (256 % count);
@@ -434,7 +434,7 @@ function generatePassword(id) {
     showText(element('generated').querySelector('[role=status]'), '20 random characters.');
 }
 
-// Returns whether the text to copy lacks a valid name. If so, the page says it.
+// Returns whether the text to copy lacks a valid name. If so, the page says so.
 function lacksName(id, place) {
     const name = element('name');
     if (id !== 'snippet' || element('named').hidden || name.validity.valid) return false;

@@ -19,10 +19,10 @@ class Pool {
     #countOfWorkers = 0;
     #usedMemory = 0; // bytes that running calls need
     #idle = [];
-    #waiting = []; // calls that no worker has yet
+    #waiting = []; // calls that no worker has taken yet
 
     // `start` starts a worker, and takes a function for its answers and one for its end. `memory`
-    // returns how many bytes all calls may use at once at the moment.
+    // returns how many bytes all calls together may use at the moment.
     constructor({ cores, start, memory }, compiled) {
         this.#start = start;
         this.#memory = memory;
@@ -55,7 +55,7 @@ class Pool {
         return this.#idle.length > 0 || this.#countOfWorkers < this.#maxWorkers;
     }
 
-    // Takes the next call that can start out of the queue, if there is one.
+    // Removes the next call that can start from the queue, and returns it. There may be none.
     #takeNext() {
         const [first] = this.#waiting;
         if (!first) return undefined;

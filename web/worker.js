@@ -15,8 +15,8 @@ function postCost(method, setting, password) {
     postMessage({ method, cost });
 }
 
-// Returns the setting of a hash that is measured: it has 5000 rounds, 1000 with md5crypt, and
-// scrypt's fewest, which take little memory.
+// Returns the setting of the hash to measure: with 5000 rounds, 1000 for md5crypt, and for scrypt
+// the fewest, which take little memory.
 function measuredSetting(method) {
     return calls.setting(method, method === 'scrypt' ? 6 : 5000);
 }
