@@ -29,7 +29,7 @@ _ROUNDS = {
 _SALT_LENGTHS = {"md5crypt": 8, "sha256crypt": 16, "sha512crypt": 16, "scrypt": 22}
 _SALT_CHARACTERS = "./0123456789ABCDEFGHIJKLMNOPQRSTUVWXYZabcdefghijklmnopqrstuvwxyz"
 
-# The errors for a field that isn't a valid setting of our methods.
+# The errors for a field that isn't a valid setting of one of these methods.
 NO_SETTING = frozenset(
     {
         Reason.SETTING_TOO_LONG,
@@ -64,8 +64,8 @@ class Refused(ValueError):
 class TooCostly(Refused):
     """The hash can cost more than the budget, so nothing was hashed.
 
-    `cost` is what it can cost. str() leaves that out, since it depends on the length of the
-    password, and frameworks log messages.
+    `cost` is the most that the hash can cost. str() leaves it out, since it depends on the length
+    of the password, and frameworks log messages.
     """
 
     __module__ = "mkpasswd"
@@ -83,7 +83,7 @@ class TooCostly(Refused):
 
 
 def encode(value: Text, name: str) -> bytes:
-    """Returns the bytes of an argument. Raises TypeError for what is neither str nor bytes."""
+    """Returns the bytes of an argument. Raises TypeError unless it is str or bytes."""
     if isinstance(value, bytes):
         return bytes.__getitem__(value, slice(None))
     if isinstance(value, str):
@@ -115,7 +115,7 @@ def require_integer(value: Any, name: str, kind: str = "an int") -> int:
 
 
 def require_length(value: int) -> int:
-    """Returns the length of a password in bytes, which ctypes would reduce modulo 2^64."""
+    """Returns a password's length in bytes, cut to fit: ctypes would reduce it modulo 2^64."""
     number = require_integer(value, "password_len")
     if number < 0:
         raise ValueError("password_len is negative")
@@ -171,7 +171,7 @@ def new_salt(method: str) -> str:
 
 
 def error_from(answer: Answer, limit: int = NO_LIMIT) -> Exception:
-    """Returns the exception for a call of the library that failed, and had this budget."""
+    """Returns the exception for a call of the library that failed with this budget."""
     reason = answer.reason
     text = message(answer.report.error)
     if reason is Reason.OVER_BUDGET:

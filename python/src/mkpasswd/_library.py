@@ -155,7 +155,7 @@ def limit(numbers: Numbers) -> Answer:
 
 
 def rounds(password_len: int, numbers: Numbers) -> Answer:
-    """Reports rounds with which each password of this length is within that limit."""
+    """Reports rounds with which each password of this length is within the policy's limit."""
     return _call(_ROUNDS, password_len, *numbers)
 
 

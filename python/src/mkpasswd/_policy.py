@@ -1,6 +1,6 @@
-"""The policy of a service, whose methods are the calls of the package, and their results.
+"""The policy of a service, whose methods are the package's calls, and the types of their results.
 
-Commands that start often import the package, so its modules import nothing slow.
+Commands that are started often import the package, so its modules import nothing slow.
 """
 from __future__ import annotations
 
@@ -58,7 +58,7 @@ _STATES: Dict[Optional[Reason], State] = {
 class Description(NamedTuple):
     """What describe() returns. str() of it is what `mkpasswd --audit` prints after the name.
 
-    An attribute is None if the field has no such thing.
+    An attribute is None if it doesn't apply to the field.
 
     state    a State
     scheme   the name in crypt(5) of the method, or of another scheme if that is known
@@ -333,7 +333,7 @@ class Policy:
         Give each password a salt of its own, as hash() does: passwords with the same salt can be
         guessed together.
 
-        Raises Refused if the salt is empty, too long for the method, or has other characters than
+        Raises Refused if the salt is empty, too long for the method, or has a character other than
         ./0-9A-Za-z.
         """
         given = _calls.new_salt(self._method) if salt is None else salt
@@ -343,7 +343,7 @@ class Policy:
         return answer.text
 
     def for_length(self, password_len: int) -> Policy:
-        """Return a policy by which a password of this length is within this policy's limit.
+        """Return a policy with which a password of this length is within this policy's limit.
 
         It is this policy itself if that allows the password, and otherwise one with fewer rounds of
         SHA-crypt. It is for services that can't refuse long passwords. `password_len` is in bytes.

@@ -39,7 +39,7 @@ METHOD_SHA512 = _Method("SHA512", "6", 16, 106)
 METHOD_SHA256 = _Method("SHA256", "5", 16, 63)
 METHOD_MD5 = _Method("MD5", "1", 8, 34)
 
-#: Methods that the standard library has, too, but not this module: mksalt() raises Refused.
+#: Methods of the standard library that this module doesn't support: mksalt() raises Refused.
 METHOD_BLOWFISH = _Method("BLOWFISH", "2b", 22, 60)
 METHOD_CRYPT = _Method("CRYPT", None, 2, 13)
 
@@ -87,7 +87,7 @@ def crypt(
     salt of the first of them.
 
     If it isn't a setting of these methods, the result is "*0" ("*1" if the salt begins with "*0"),
-    which no password matches. So it is for "$2b$" and other schemes that crypt(3) may know.
+    which no password matches. That includes "$2b$" and other schemes that crypt(3) may know.
 
     >>> crypt("password", "!")
     '*0'

@@ -109,7 +109,7 @@ class MkpasswdPasswordHasher(BasePasswordHasher):
         return False
 
     def harden_runtime(self, password: str, encoded: str) -> None:
-        """Hash so often that this and verify() together cost as much as a new hash."""
+        """Make up for a cheaper verify(), so that both together cost as much as a new hash."""
         field = self._field(encoded)
         # A password that can't be hashed costs nothing for an unknown name either.
         with suppress(MemoryError, ValueError):
@@ -157,12 +157,12 @@ class MkpasswdPasswordHasher(BasePasswordHasher):
         return rest if rest[:1] in ("", "!", "*") else dollar + rest
 
     def _policy_for(self, password: str) -> Policy:
-        """Returns the policy by which a hash of this password is within the limit."""
+        """Returns the policy with which a hash of this password is within the limit."""
         return self.policy.for_length(len(_calls.encode_password(password)))
 
     @staticmethod
     def _remaining_policy(policy: Policy, password_len: int, field: str) -> Optional[Policy]:
-        """Returns the policy of a hash that makes up for what verify() did less, or None."""
+        """Returns a policy whose hash makes up for the rounds that verify() didn't do, or None."""
         if policy.cost(field, password_len) > policy.limit().cost:
             return None  # verify() has made a new hash
         stored = policy.describe(field)

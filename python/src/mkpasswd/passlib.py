@@ -1,4 +1,4 @@
-"""passlib's handlers md5_crypt, sha256_crypt and sha512_crypt, with hashing by mkpasswd.
+"""passlib's handlers md5_crypt, sha256_crypt and sha512_crypt, with mkpasswd doing the hashing.
 
     handlers = [mkpasswd.passlib.sha512_crypt, mkpasswd.passlib.md5_crypt]
     context = passlib.context.CryptContext(handlers, deprecated="auto")
@@ -51,7 +51,7 @@ class _Crypt(GenericHandler, metaclass=ABCMeta):
     def using(
         cls, relaxed: bool = False, budget: Union[int, str, None] = None, **options: Any
     ) -> Any:
-        """Like passlib's, with the option `budget`, which is a str in a file of options.
+        """Like passlib's, with the option `budget`, which is a str if it comes from a file.
 
         Raises ValueError for a budget that isn't a number, or that is too low for passwords of
         1,024 bytes.
@@ -97,7 +97,7 @@ class _Crypt(GenericHandler, metaclass=ABCMeta):
 
 
 def _parse_budget(budget: str) -> int:
-    """Returns the budget in a file of options."""
+    """Returns the budget that a file of options gives."""
     try:
         return int(budget)
     except ValueError:

@@ -24,7 +24,7 @@ class Accounts:
         self.odd = 0  # how many lines aren't UTF-8, or have a zero byte
 
     def lines_to_check(self, groups: LineGroups) -> LineGroups:
-        """Makes lines name:field:password from name:password, or from a password for all names."""
+        """Turns lines name:password, or passwords for all names, into name:field:password."""
         for group in groups:
             if not group:
                 yield []
@@ -42,7 +42,7 @@ class Accounts:
                 yield tries
 
     def _names_for(self, line: Line) -> Iterable[tuple[bytes, bytes]]:
-        """Returns the accounts for which a line is tried, each with the password."""
+        """Returns the accounts for which a line's password is tried, each with that password."""
         if line.refused_row is not None:
             return ()
         self._note(line)

@@ -1,4 +1,4 @@
-"""pwhash calibrate: finds rounds and a budget with which no login takes longer than a time.
+"""pwhash calibrate: finds rounds and a budget with which no login takes longer than a given time.
 
 The time covers one hash, which is what a login computes. A login that renews a hash computes two,
 but only if the password is right, and once for each account.
@@ -67,7 +67,7 @@ def run(options: CalibrateOptions, session: Session) -> bool:
 
 
 def costliest_within(method: str, cost_limit: int) -> CalibratedPolicy:
-    """Returns the policy with the most rounds whose budget is at most this, else the cheapest one.
+    """Returns the policy with the most rounds within a budget, or the cheapest if there is none.
 
     The library's own limit has a floor. If that is too high, the budget is the limit without it.
     """

@@ -28,7 +28,7 @@ from pwhash.table import lines_of
 from pwhash.text import display_name, printable
 from pwhash.workers import Memory, Workers
 
-# Refusals of a password for every account.
+# Refusals that apply to a password whatever the account.
 PASSWORD_REFUSALS = (LINE_TOO_LONG, PASSWORD_TOO_LONG, PASSWORD_ZERO_BYTE)
 
 
@@ -170,7 +170,7 @@ class Checking:
         return cost <= policy.budget
 
     def _without_repeated_message(self, answer: Answer) -> Answer:
-        """Returns an answer without its message, if another line of a list had the same one."""
+        """Returns an answer without its message, if an earlier line of a list had the same one."""
         if answer.message is None:
             return answer
         sentence = f"pwhash: {self._describe(answer)}"

@@ -113,7 +113,7 @@ def read_options(arguments: Sequence[str]) -> Options:
 
 
 def mark_operands(arguments: Sequence[str]) -> List[str]:
-    """Returns the arguments, with a mark in front of each one behind --.
+    """Returns the arguments, with a mark in front of each one after --.
 
     If options may stand between operands, argparse (that of Python 3.11, for one) parses the
     operands twice. By the second time it has forgotten the --, and would take them for options.
@@ -174,7 +174,7 @@ class Parser(argparse.ArgumentParser):
         self.add_argument("--version", action=ShowVersion, nargs=0, help=version_text)
 
     def error(self, message: str) -> NoReturn:
-        """Refuses the arguments with argparse's message, but hides values, maybe passwords."""
+        """Refuses the arguments with argparse's message, but hides values: they can be secret."""
         option, ignored, _ = message.partition(": ignored explicit argument ")
         raise self.usage_error(f"{option} takes no value" if ignored else message)
 
@@ -467,7 +467,7 @@ def install_options(parser: Parser, parsed: argparse.Namespace) -> Options:
 
 
 def read_mode(parser: Parser, parsed: argparse.Namespace) -> Optional[int]:
-    """Returns the mode of a new password file, which only its owner may write and nobody run."""
+    """Returns a new password file's mode. Refuses one that lets others write or anybody run it."""
     if parsed.mode is None:
         return None
     mode = int(parsed.mode, 8) if MODE.fullmatch(parsed.mode) else None
