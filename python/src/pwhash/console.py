@@ -1,7 +1,7 @@
 """The outputs of a run, and the progress line on the terminal.
 
 All output is bytes, since names have no encoding. It isn't buffered, so that an error such as a
-full disk or a closed pipe arises at the line that is lost.
+full disk or a closed pipe is raised at the line that is lost.
 """
 
 from __future__ import annotations
@@ -22,7 +22,7 @@ from pwhash.text import printable_text
 STDIN, STDOUT, STDERR = 0, 1, 2
 OUTPUT_NAMES = {STDOUT: "standard output", STDERR: "standard error"}
 RETRY_SECONDS = 0.02
-# How long a run that ends waits for a reader, and how many bytes a pipe then takes for sure.
+# How long an ending run waits for a reader, and how many bytes a ready pipe is sure to take.
 LAST_MILLISECONDS = 100
 LAST_BYTES = select.PIPE_BUF
 CLEAR_LINE = "\r\x1b[K"
@@ -72,7 +72,7 @@ class Console:
             raise
 
     def write_to_terminal(self, text: str) -> bool:
-        """Writes to the terminal, wherever the outputs go. Returns whether it did.
+        """Writes to the terminal, even if the outputs are redirected. Returns whether it did.
 
         It doesn't if there is no terminal, or if the process is in the background.
         """
@@ -102,7 +102,7 @@ class Console:
             self.write_to_terminal(CLEAR_LINE)
 
     def end_last_line(self, fd: int) -> None:
-        """Ends the last line of a file after the shell's >>, so that answers begin a new one."""
+        """Ends the last line of a file that >> appends to, so that answers begin a new one."""
         status = os.fstat(fd)
         is_added_to = fcntl.fcntl(fd, fcntl.F_GETFL) & os.O_APPEND
         if not stat.S_ISREG(status.st_mode) or not is_added_to or not status.st_size:

@@ -14,7 +14,7 @@ from pwhash.options import Service
 from pwhash.text import DECOMPOSED, is_utf8, is_visible
 
 SEPARATOR = re.compile(rb"[,;\t| ]")
-# A line without unusual characters. Only its name and password as words may be doubtful.
+# A line without unusual characters: only what its name and password say can be doubtful.
 PLAIN_LINE = re.compile(rb"[!-9;-~]+:[!-~]+")
 
 LONGEST_OF_CRYPT = 511

@@ -8,7 +8,7 @@ import errno
 import os
 from collections.abc import Iterator
 
-# Which limit a user can raise after an error of the system.
+# The limits that a user can raise, by the errors of the system that they cause.
 LIMITS = {errno.EMFILE: " (ulimit -n)", errno.EFBIG: " (ulimit -f)"}
 
 
@@ -24,7 +24,7 @@ class Status(enum.IntEnum):
 class Stop(Exception):
     """Ends the run as a failure, with a sentence for the user.
 
-    The advice says how to continue, if that isn't by the same command with --resume.
+    The advice says how to continue, if the same command with --resume wouldn't do that.
     """
 
     status = Status.FAILED
@@ -48,14 +48,14 @@ class ProblemsFound(Stop):
 
 
 def reason_of(error: OSError) -> str:
-    """Returns an error of the system in words, without the name of the file."""
+    """Describes an error of the system, without the name of the file."""
     number = error.errno or 0
     return f"{os.strerror(number)}{LIMITS.get(number, '')}"
 
 
 @contextlib.contextmanager
 def errors_named(name: str) -> Iterator[None]:
-    """Turns errors of the system in the block into sentences that begin with the name."""
+    """Turns an error of the system in the block into a Stop whose sentence begins with the name."""
     try:
         yield
     except OSError as error:

@@ -38,7 +38,7 @@ class Pair(NamedTuple):
 
 
 def exchange_files(place: Place, old: os.stat_result, new: os.stat_result) -> Outcome:
-    """Exchanges the new file, which has its name, for the old one, unless that has changed."""
+    """Exchanges the new file, already named, for the old one, unless that has changed."""
     pair = Pair(old.st_ino, new.st_ino)
     held: List[int] = []
     try:
@@ -59,9 +59,9 @@ def exchange_files(place: Place, old: os.stat_result, new: os.stat_result) -> Ou
 
 
 def clean_up(place: Place, pair: Pair, is_known: bool) -> None:
-    """Removes the file that came out, and then the note. If it fails, the next exchange does it.
+    """Removes the file that came out, and then the note. If this fails, the next exchange does it.
 
-    If it isn't known which file came out, that may be somebody's version, which stays.
+    If it isn't known which file came out, the file may be somebody's version, so it stays.
     """
     with contextlib.suppress(OSError, Stop):
         if is_known:
@@ -109,7 +109,7 @@ def swap(place: Place) -> None:
 
 
 def is_untouched(now: os.stat_result, before: os.stat_result) -> bool:
-    """Whether a file is the same one, and nobody has changed anything of it, attributes included.
+    """Whether a file is the same one, unchanged in every way, attributes included.
 
     This works only before an exchange, which sets the time of the last change (ctime).
     """

@@ -30,11 +30,11 @@ TRUTHS = frozenset(
     ]
 )
 # Values that spreadsheets change when they save a table: ### in a narrow column, a long number,
-# formulas; and what Python and pandas write for no value.
+# formulas; and what Python and pandas write for a missing value.
 CHANGED = re.compile(
     r"#{3,}|[+-]?[0-9](?:[.,][0-9]+)?E[+-]?[0-9]+|=\"[^\"]*\"|'[=+@-].*|null|None|na[nN]|NaN"
 )
-# What databases export for no value.
+# What databases export for a missing value.
 NOTHING = frozenset(["NULL", "\\N", "(null)"])
 
 

@@ -55,7 +55,7 @@ class Field(NamedTuple):
 
     @property
     def is_surely_locked(self) -> bool:
-        """Whether the mark can't be part of a password as it is, as behind {PLAIN}."""
+        """Whether the mark can't be part of a plain password, as it can after {PLAIN}."""
         if self.outer_mark:
             return True
         return bool(self.mark) and (self.is_for_crypt or self.is_of_other_scheme)
@@ -86,7 +86,7 @@ class Field(NamedTuple):
         return self.is_for_crypt and mkpasswd.describe(self.stored).state in HASHES
 
     def can_be_locked(self) -> bool:
-        """Whether a mark would lock the field. It would only become part of a plain password."""
+        """Whether a mark would lock the field, and not just become part of a plain password."""
         if self.prefix.upper() in IN_BASE64 or not self.data():
             return True
         # Services treat a damaged hash as a hash.

@@ -75,7 +75,7 @@ class Selection:
             self._skipping.append(self.locked)
 
     def lines(self) -> LineGroups:
-        """Reads the lines to hash. Names get a placeholder as password."""
+        """Reads the lines to hash. Names get a placeholder as their password."""
         groups = lines_of(self._source)
         if self._generate is not None:
             groups = with_placeholders(groups, self._generate)

@@ -154,7 +154,7 @@ def store_passwords(
 def report_useless_passwords(
     passwords: Dict[bytes, bytes], groups: LineGroups, generate: Generate, console: Console
 ) -> None:
-    """Names the passwords of a list that get no hash, such as those of accounts locked since."""
+    """Reports names in a list whose password gets no hash, such as accounts locked since then."""
     hashed_names = {name_of(line) for group in groups for line in group}
     useless = [printable(name) for name in passwords if name not in hashed_names]
     if useless:

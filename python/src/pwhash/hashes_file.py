@@ -29,7 +29,7 @@ REASONS = {
     mkpasswd.State.DEAD: "dead: no password matches, since the hash was cut or changed",
     mkpasswd.State.NO_SCHEME: "no scheme: a password as it is, or a damaged hash",
 }
-# The only prefixes that these services know. They compare them exactly.
+# The only prefixes that these services know, in exactly this spelling.
 PREFIXES_OF_SERVICES = {Service.APACHE: (b"{SHA}",), Service.NGINX: (b"{SHA}", b"{SSHA}")}
 
 

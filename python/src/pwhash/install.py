@@ -1,4 +1,4 @@
-"""pwhash install: puts a file of hashes in the place of a service's password file."""
+"""pwhash install: puts a file of hashes in place of a service's password file."""
 
 from __future__ import annotations
 
@@ -97,7 +97,7 @@ def find_group(name: str) -> int:
 def refuse_unfit(
     place: Place, found: os.stat_result, requested: Requested, hashes: HashesFile
 ) -> None:
-    """Refuses to replace a system file, or one that others than its owner can replace."""
+    """Refuses to replace a system file, or one that somebody other than its owner can replace."""
     refuse_strange_file(place, found)
     system_files.refuse_place(place, found)
     if os.path.samestat(found, hashes.status):
@@ -116,7 +116,7 @@ class Content:
         self._hashes = hashes
 
     def changed(self, content: bytes) -> bytes:
-        """The new content in place of the present one."""
+        """Returns the content that replaces the present one."""
         system_files.refuse_shape(content, self._file_name)
         refuse_other_file(content, self._file_name)
         before = read_fields(content)
@@ -155,7 +155,7 @@ def refuse_other_file(content: bytes, file_name: str) -> None:
 
 
 def read_commented_names(content: bytes) -> Set[bytes]:
-    """Returns the names in lines behind a #, as when somebody keeps a user out that way."""
+    """Returns the names in commented-out lines: somebody may keep a user out that way."""
     lines = content.split(b"\n")
     return {line.lstrip(b"# ").partition(b":")[0] for line in lines if line.startswith(b"#")}
 
