@@ -130,7 +130,7 @@ def is_over_budget(policy: Policy, length: int) -> bool:
 
 
 def describe_length_limit(policy: Policy) -> str:
-    """Says how long a password may be by a policy."""
+    """Says how long a password may be under a policy."""
     if policy.longest is None:
         return "with these rounds even the empty password costs more"
     return f"with these rounds and this budget a password may have at most {policy.longest} bytes"
@@ -169,7 +169,7 @@ def memory_of_new_hash(policy: Policy) -> int:
 
 
 def memory(stored: bytes) -> int:
-    """Returns how many bytes of memory a hash with this setting takes: 0 if it is no setting."""
+    """Returns how many bytes of memory a hash with this setting takes: 0 for an invalid one."""
     answer = _library.bound(stored, 0)
     return answer.report.work.table + answer.report.work.scratch if answer.is_yes else 0
 
@@ -230,7 +230,7 @@ def auditing_policy(policy: Policy) -> mkpasswd.Policy:
 
 
 def refusal_from(answer: Answer) -> Refusal:
-    """Returns why a call refused. Raises Stop if the machine or the library is at fault."""
+    """Returns why a call failed. Raises Stop if the machine or the library is to blame."""
     if answer.reason is None:
         raise unexpected_report_error(answer)
     if answer.reason in (Reason.OUT_OF_MEMORY, Reason.NO_RANDOM_NUMBERS):

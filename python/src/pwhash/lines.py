@@ -1,4 +1,4 @@
-"""The lines of a run, and the rules that each line has to keep.
+"""The lines of a run, and the rules that each line has to follow.
 
 The rules, their order and their messages are those of mkpasswd, which reads the same lines.
 """

@@ -69,7 +69,7 @@ class ListWriter:
         sync_folder_of(path)
 
     def remove(self) -> None:
-        """Removes them all."""
+        """Removes all lists of this run, and their folder."""
         for path in self._files:
             with contextlib.suppress(OSError):
                 os.unlink(path)
@@ -105,9 +105,9 @@ def read(path: str, is_folder: bool, saved: os.stat_result) -> Dict[bytes, bytes
 
 
 def refuse_later(path: str, saved: os.stat_result) -> None:
-    """Refuses a list that was written after the run saved its state, as an edited one.
+    """Refuses a list that was written after the run saved its state, such as an edited one.
 
-    The clocks of other file systems may differ.
+    It accepts a list on another file system, whose clock may differ.
     """
     with errors_named(display_name(path)):
         status = os.lstat(path)

@@ -1,6 +1,7 @@
-"""The lock of a password file: flock(2) of a file beside it, which is never removed.
+"""The lock of a password file: flock(2) of a file beside it. The lock file is never removed.
 
-pam_mkpasswd(8) describes it. At a login, a renewal waits a second for it. pwhash waits longer.
+pam_mkpasswd(8) describes it. A login that renews a hash waits up to a second for the lock. pwhash
+waits longer.
 """
 
 from __future__ import annotations

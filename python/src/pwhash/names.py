@@ -6,15 +6,15 @@ from array import array
 from typing import Dict, Optional
 
 FIRST_SIZE = 1 << 8  # a power of two, as is each later size
-TABLES = 16  # only one grows at a time, so that only little is in memory twice
+TABLES = 16  # only one grows at a time, so that little is in memory twice
 HASH_MASK = (1 << 64) - 1
 
 
 class Table:
     """A hash table from names to numbers, which stores the hash of a name and not the name.
 
-    Python hashes names with a secret of each process. In one of 37 million runs, two of a million
-    names have the same hash of 64 bits; then a line is called doubtful by mistake.
+    Python hashes names with a secret that differs in each process. In one of 37 million runs, two
+    of a million names have the same hash of 64 bits; then a line is called doubtful by mistake.
     """
 
     def __init__(self) -> None:
@@ -23,7 +23,7 @@ class Table:
         self._count = 0
 
     def first(self, key: int, number: int) -> int:
-        """Returns the number that came first with this key, and stores it if it is this one."""
+        """Returns the first number that came with this key. Stores this one if the key is new."""
         slot = self._slot(key)
         if self._keys[slot] == 0:
             self._keys[slot], self._numbers[slot] = key, number

@@ -76,7 +76,7 @@ class NewFile:
 
 
 def open_nameless(place: Place) -> int:
-    """Opens a file without a name, if it can get one later, which it only does by /proc."""
+    """Opens a file without a name. Fails without /proc, through which it would get one later."""
     fd = os.open(".", NAMELESS, OWN_MODE, dir_fd=place.folder)
     if not os.path.exists(f"/proc/self/fd/{fd}"):
         os.close(fd)
@@ -97,7 +97,7 @@ def opened_new(place: Place) -> Iterator[NewFile]:
 def copy_attributes(source: int, target: int) -> None:
     """Gives a file all extended attributes of another one, and no others.
 
-    A new file may have got others from its folder, such as an ACL.
+    A new file may have inherited others from its folder, such as an ACL.
     """
     wanted = attributes(source)
     for name in attributes(target):
@@ -105,7 +105,8 @@ def copy_attributes(source: int, target: int) -> None:
             os.removexattr(target, name)
     for name in wanted:
         value = os.getxattr(source, name)
-        # If the file has the value already, as it may have a label, setting it may be forbidden.
+        # If the file already has the value, as it may in the case of a label, setting it may be
+        # forbidden.
         if value_of(target, name) != value:
             os.setxattr(target, name, value)
 

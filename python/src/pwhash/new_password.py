@@ -84,7 +84,7 @@ def find_stored(password: bytes) -> Optional[str]:
 
 
 def find_odd_characters(password: bytes) -> Optional[str]:
-    """Finds characters that nobody sees."""
+    """Finds characters that nobody can see."""
     text = password.decode(errors="replace")
     if not is_visible(text.replace("\0", "")):  # a zero byte is refused later
         return (

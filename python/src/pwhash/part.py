@@ -83,7 +83,7 @@ class Part:
         return describe_change(self._source, self) or ""
 
     def _become_out(self) -> None:
-        """Links the open file as OUT, whatever file has its name now. Without links, renames it."""
+        """Links the open file as OUT, not what now has its name. If it can't, renames the part."""
         try:
             link = f"/proc/self/fd/{self.fd}"
             # Only linkat follows the link, and Python calls it only if a folder is given. The path
@@ -97,7 +97,7 @@ class Part:
             self._rename()
 
     def _rename(self) -> None:
-        """Renames the part, and replaces no other file."""
+        """Renames the part without replacing another file."""
         try:
             system.rename_to_new(self.path, self._out)
         except FileExistsError:
@@ -129,7 +129,7 @@ class Part:
         )
 
     def _remove_names(self, console: Console) -> None:
-        """Removes the saved options while the part's lock keeps others out, then its name."""
+        """Removes the saved options while the part is locked, and then the part's name."""
         try:
             if self.is_resumable:
                 resume_state.remove(self.path)
@@ -160,7 +160,7 @@ def opened(out: str, source: Source, options: Optional[FileOptions]) -> Iterator
     """Opens OUT.part for this run alone. `options` are those of pwhash file, which can resume."""
     path = part_of(out)
     if options is not None:
-        resume_state.read(path)  # this refuses other files of that name before it makes a part
+        resume_state.read(path)  # this refuses another file of that name before a part is made
     part = Part(out, open_part(path, source, options), source, options is not None)
     try:
         yield part
@@ -239,7 +239,7 @@ def lock(fd: int, path: str) -> None:
 def refuse_to_go_on(
     path: str, status: os.stat_result, source: Source, options: Optional[FileOptions]
 ) -> None:
-    """Refuses a part of an earlier run, unless --resume is given and it is of the same FILE."""
+    """Refuses a part of an earlier run, unless --resume is given and FILE is the same."""
     exists = f"{display_name(path)} already exists"
     if options is None:
         raise UsageError(f"{exists}: remove it, or name another file after -o.")
@@ -256,7 +256,7 @@ def refuse_another_file(
     before, now = resume_state.read(path), resume_state.current_state(options, source)
     name = display_name(path)
     both = f"{name} and {display_name(resume_state.path_of(path))}"
-    if before is None:  # of GNU parallel, for example: only the times can be compared
+    if before is None:  # it is GNU parallel's, for example: only the times can be compared
         refuse_newer(path, status, source)
         before = ResumeState(now.file, now.choice, b"")
     if before == resume_state.INCOMPLETE:

@@ -1,4 +1,4 @@
-"""Reads a hash that was pasted, from an e-mail perhaps: with blanks, line breaks or a whole line.
+"""Reads a hash pasted from an e-mail, say: with blanks, line breaks or the rest of its line.
 
 No hash contains any of these, so they can be left out.
 """
@@ -56,7 +56,7 @@ def piped_both(console: Console) -> Pasted:
             "pwhash verify FILE NAME."
         )
     pasted = without_blanks(first)
-    while not pasted and first is not None:  # behind blank lines, a hash may take its time
+    while not pasted and first is not None:  # after blank lines, a hash may take a while to come
         first = lines.next()
         pasted = without_blanks(first or b"")
     while is_cut(pasted):
@@ -78,7 +78,8 @@ def field_of_pasted(pasted: bytes) -> bytes:
     """Returns the field with the hash from a pasted hash or line, perhaps in quotes."""
     line = without_blanks(pasted).strip(QUOTES)
     name, colon, rest = line.partition(b":")
-    # Behind a hash without a name may be further fields, or the next line, which is of another.
+    # After a hash without a name there may be further fields, or the line of
+    # the next name.
     if not colon or begins_like_hash(without_prefix(name)):
         return name
     return rest.partition(b":")[0].strip(QUOTES)

@@ -25,7 +25,7 @@ EVEN_FOR_SUPERUSER = (
 
 
 class Place(NamedTuple):
-    """A password file: its open folder, its name, and the names in pam_mkpasswd(8) beside it."""
+    """A password file: its open folder, its name, and the names of the files beside it."""
 
     path: str  # as the user typed it
     folder: int
@@ -59,7 +59,7 @@ class Place(NamedTuple):
             return None
 
     def sync(self) -> None:
-        """Flushes the names in the folder to disk. Some file systems can't."""
+        """Flushes the names in the folder to disk, if the file system supports that."""
         with contextlib.suppress(OSError):
             os.fsync(self.folder)
 
@@ -81,7 +81,7 @@ def open_place(path: str) -> Iterator[Place]:
 
 
 def refuse_set_id() -> None:
-    """Refuses to run with the rights of another user than the caller."""
+    """Refuses to run with the rights of a user or group other than the caller's."""
     if len(set(os.getresuid())) != 1 or len(set(os.getresgid())) != 1:
         raise UsageError(
             "a set-user-ID or set-group-ID program runs pwhash, which then changes no file. "
