@@ -10,7 +10,7 @@ import signal
 from pwhash import system
 from pwhash.console import STDERR
 
-# A run may keep many lines, none of which is garbage, so collections are rare.
+# A run may keep many lines, and none of them is garbage, so Python rarely looks for any.
 OBJECTS_BETWEEN_COLLECTIONS = 1 << 20
 
 

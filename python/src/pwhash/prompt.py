@@ -159,7 +159,8 @@ def cant_hide_error() -> Stop:
 def restore(terminal: Terminal) -> None:
     """Restores the terminal, and discards unread input, so that no shell gets it.
 
-    In the background the terminal belongs to another program, which has set it.
+    If the process is in the background, the terminal belongs to another program, and stays as it
+    is.
     """
     if is_in_background(terminal.fd):
         return

@@ -41,7 +41,7 @@ def replace(place: Place, change: Change, session: Session) -> None:
 
 @contextlib.contextmanager
 def errors_named_of(place: Place) -> Iterator[None]:
-    """Turns errors of the system in the block into sentences, which say that the file stays."""
+    """Turns an error of the system in the block into a Stop that says that the file stays."""
     try:
         yield
     except OSError as error:

@@ -1,4 +1,4 @@
-"""Continues the OUT.part of an earlier run, once its lines are compared with the input's."""
+"""Continues the OUT.part of an earlier run, after comparing its lines with the input's."""
 
 from __future__ import annotations
 

@@ -36,7 +36,7 @@ class ResumeState(NamedTuple):
     options: bytes  # the options that change a line before it is hashed
 
 
-# Stands for an incomplete file, since its run ended while it wrote that.
+# Stands for a file that is incomplete, since its run ended while writing it.
 INCOMPLETE = ResumeState(b"", b"", b"")
 
 
@@ -46,7 +46,7 @@ def path_of(part: str) -> str:
 
 
 def current_state(options: FileOptions, source: Source) -> ResumeState:
-    """Returns what this run saves. Not the ctime, since reading and chmod change that."""
+    """Returns what this run saves. That isn't the ctime, which reading and chmod change."""
     status = source.initial_status
     file = f"{status.st_size} bytes, time {status.st_mtime_ns}, inode {status.st_ino}"
     return ResumeState(file.encode(), choice_options(options), line_options(options))

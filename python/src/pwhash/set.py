@@ -26,7 +26,7 @@ from pwhash.single import generated, refusal_error
 from pwhash.text import is_visible, printable
 from pwhash.workers import run_in_thread
 
-# The prefix of a new hash if the old one's doesn't fit it.
+# The prefix of a new hash if the old hash's prefix doesn't fit it.
 NEW_PREFIXES = {
     Service.APACHE: b"",
     Service.NGINX: b"",
@@ -50,7 +50,7 @@ def run(options: SetOptions, session: Session) -> bool:
 
 
 def refuse_unfit(place: Place) -> None:
-    """Refuses a system file, and one that others than its owner can replace."""
+    """Refuses a system file, and one that somebody other than its owner can replace."""
     status = find_file(place)
     system_files.refuse_place(place, status)
     refuse_open_folder(place, status.st_uid)
@@ -147,7 +147,7 @@ class Line:
         return old._replace(stored=self.new_hash)
 
     def _fits(self, prefix: bytes) -> bool:
-        """Whether the new hash may stand behind a prefix, so that the service finds it there.
+        """Whether the new hash may follow a prefix, so that the service finds it there.
 
         Of the prefixes for crypt(3), Apache and nginx know none, and LDAP's servers only {CRYPT}.
         """

@@ -55,7 +55,7 @@ def generated(policy: Policy, console: Console) -> bytes:
 
 
 def random_letter_or_digit() -> str:
-    """Returns a letter or digit, all equally likely. The module secrets is slow to import."""
+    """Returns a letter or digit, each equally likely. The module secrets is slow to import."""
     while True:
         number = os.urandom(1)[0] & 63
         if number < len(LETTERS):

@@ -41,7 +41,7 @@ class Source:
         refuse_as_output(self.initial_status, self.name, console)
         if os.isatty(self.fd):
             console.say("reading lines from the terminal, which shows them; Ctrl-D ends them.")
-        # Standard input can be a file of which another program has read the beginning.
+        # Standard input can be a file whose beginning another program has read.
         self._start = os.lseek(self.fd, 0, os.SEEK_CUR) if self.is_regular else 0
         # With a total of 0, no progress is shown.
         self.total = self._count() if self.is_regular and wanted.counts_lines else 0
@@ -65,7 +65,7 @@ class Source:
             first, rest = first + len(whole), rest[:LONGEST_KEPT]
 
     def is_ready(self) -> bool:
-        """Waits a moment for input or its end, and returns whether there is any."""
+        """Waits a moment for input or its end, and returns whether either came."""
         poll = select.poll()
         poll.register(self.fd, select.POLLIN)
         return bool(poll.poll(IDLE_MILLISECONDS))

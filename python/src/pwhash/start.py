@@ -28,7 +28,7 @@ def start(library: str, command: str, arguments: "list[str]") -> NoReturn:
         # From here on an error in a module that is being loaded ends the process with status 3.
         watch_unforeseen()
         run = importlib.import_module("pwhash.run").run
-    except PermissionError as error:  # of a module: ctypes raises OSError alone
+    except PermissionError as error:  # of a module: ctypes raises plain OSError
         fail(f"{error.filename} can't be read. Install pwhash so that every user can read it.")
     except OSError:
         fail(

@@ -11,16 +11,16 @@ AT_FDCWD, RENAME_NOREPLACE, RENAME_EXCHANGE = -100, 1, 2
 
 
 def forbid_dumps() -> None:
-    """Tells the kernel to give this process's memory to no core dump and no other program."""
+    """Forbids core dumps of this process, and access to its memory by unprivileged processes."""
     control = getattr(ctypes.CDLL(None), "prctl", None)
     if control is not None:
         control(PR_SET_DUMPABLE, 0, 0, 0, 0)
 
 
 def rename_to_new(old: str, new: str) -> None:
-    """Renames a file, and replaces no other one.
+    """Renames a file without replacing another one.
 
-    Raises the OSError ENOSYS or EINVAL if the kernel or the file system can't do that.
+    Raises OSError with ENOSYS or EINVAL if the kernel or the file system can't do that.
     """
     rename(AT_FDCWD, old, new, RENAME_NOREPLACE)
 
@@ -28,7 +28,7 @@ def rename_to_new(old: str, new: str) -> None:
 def exchange(folder: int, first: str, second: str) -> None:
     """Exchanges two files of an open folder in one step.
 
-    Raises the OSError ENOSYS or EINVAL if the kernel or the file system can't do that.
+    Raises OSError with ENOSYS or EINVAL if the kernel or the file system can't do that.
     """
     rename(folder, first, second, RENAME_EXCHANGE)
 
