@@ -48,7 +48,7 @@ class Columns(NamedTuple):
     width: int  # the number of fields in the first row
 
     def wanted_in(self, row: Row) -> Row:
-        """Returns the fields of a row that are in the first two columns above."""
+        """Returns the fields of a row in the columns `name` and `second`."""
         indexes = [self.name] if self.second is None else [self.name, self.second]
         return [cell(row, index) for index in indexes]
 
@@ -239,7 +239,7 @@ class Table:
         return self._joined_lines(row) or self._refused_fields(row, columns)
 
     def _refused_fields(self, row: Row, columns: Columns) -> Optional[str]:
-        """Says what is wrong with the fields that are used of a row, or returns None."""
+        """Says what is wrong with the fields of a row that are used, or returns None."""
         if columns.second is not None and columns.second >= len(row):
             return "no field in the column of --by" if self._names_only else "no password field"
         if columns.name >= len(row):
@@ -250,7 +250,7 @@ class Table:
         return "a colon in the name" if ":" in name else None
 
     def _joined_lines(self, row: Row) -> Optional[str]:
-        """Refuses a row of several lines: a stray quote may have joined them, up to the next one.
+        """Refuses a row of several lines. A stray quote may have joined them, up to the next quote.
 
         That can happen in any field, and in a heading too.
         """

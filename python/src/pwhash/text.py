@@ -39,7 +39,7 @@ def printable(data: bytes) -> str:
 
 
 def printable_text(text: str) -> str:
-    """Does the same for text that may contain the bytes of a file's name."""
+    """Does what printable() does, for text that may contain the bytes of a file's name."""
     return printable(text.encode("utf-8", "surrogateescape"))
 
 

@@ -73,7 +73,7 @@ def run(options: VerifyOptions, session: Session) -> bool:
 
 
 def ask_for_password(options: VerifyOptions, console: Console) -> Attempt:
-    """Finds the hash of a name in a file, and asks for the password if that can match."""
+    """Finds the hash of a name in a file, and asks for the password if one can match."""
     line = find_only_line(options, console)
     whose = f"{display_name(options.path)}, line {line.number} ({printable(line.name)})"
     stored = whole_hash(line.field, whose)

@@ -72,9 +72,9 @@ class Memory:
 
     @contextlib.contextmanager
     def reserved(self, size: int) -> Iterator[None]:
-        """Waits until this much memory is left, and reserves it during the block.
+        """Waits until this much memory is free, and reserves it during the block.
 
-        If no other hash has any, it doesn't wait, whatever the size.
+        If no other hash has reserved any, it doesn't wait, whatever the size.
         """
         if not size:
             yield
@@ -125,7 +125,7 @@ class Workers:
             self._start_thread()
 
     def _done(self, max_waiting: int) -> Iterator[List[Answer]]:
-        """Yields the answers that are ready, and waits while more than `most` jobs are queued."""
+        """Yields answers that are ready. Waits while more than `max_waiting` jobs are queued."""
         while self._order and (len(self._order) > max_waiting or self._order[0].is_done()):
             job = self._order.popleft()
             answers = job.result()
