@@ -143,7 +143,7 @@ def write_times(times: Times) -> None:
 
 
 def times_in(values: Any) -> Times:
-    """Returns the times in a file's JSON. Raises some error if it has none."""
+    """Returns the times in a file's JSON. Raises an exception if it has none."""
     return Times(
         date=str(values["date"]),
         jobs=int(values["jobs"]),

@@ -78,7 +78,7 @@ def skipped_tests(log: str) -> Iterator[tuple[str, str]]:
 
 
 def last_line_of_tests(lines: list[str]) -> int:
-    """Returns the index of the tests' last line, which read_tests found, from the end."""
+    """Returns the index, from the end, of the tests' last line, which read_tests found."""
     pattern = re.compile(r"\d+ passed, \d+ failed, \d+ skipped")
     return next(after for after, line in enumerate(reversed(lines)) if pattern.fullmatch(line))
 

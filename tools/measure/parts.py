@@ -266,7 +266,7 @@ def parts_of(repository: Repository, commit: str, sizes: Sizes) -> Iterator[Part
 
 
 def check_in(debian: Debian) -> Part:
-    """Returns the part of make check in a root of Debian."""
+    """Returns the part that runs make check in a root of Debian."""
     measure = functools.partial(measure_check, debian=debian)
     name = f"check-{debian.number}"
     where = f"in a new root of Debian {debian.number}"

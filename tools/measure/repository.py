@@ -40,7 +40,7 @@ class Repository:
         return self.git("rev-parse", "HEAD")
 
     def changes(self) -> list[str]:
-        """Returns the files with uncommitted changes, except the page tools/evidence writes."""
+        """Returns the files with uncommitted changes, except the page of tools/evidence."""
         return self.git("status", "--porcelain", "--", ".", f":(exclude){PAGE}*").splitlines()
 
     def hash_of(self, commit: str, files: str) -> str:
