@@ -42,7 +42,7 @@ class Result:
 
     part: str
     commit: str
-    begun: str  # in the format TIME, like the end
+    begun: str  # in the format TIME, like `ended`
     ended: str
     seconds: float
     processor_seconds: float
@@ -54,7 +54,7 @@ class Result:
     found: Found | None
 
     def has_sizes(self, sizes: Mapping[str, int]) -> bool:
-        """Returns whether as much was measured as these sizes say, or more."""
+        """Returns whether at least as much was measured as these sizes say."""
         return all(self.sizes.get(name, 0) >= size for name, size in sizes.items())
 
 
@@ -98,7 +98,7 @@ def decoded(kind: Any, value: Any) -> Any:
 
 
 def read_result(path: Path, found_type: type) -> Result:
-    """Reads the result in a file, of a part that finds facts of this type."""
+    """Reads from a file the result of a part that finds facts of this type."""
     try:
         whole = json.loads(path.read_text(encoding="utf-8"))
         found = whole.pop("found")

@@ -164,8 +164,8 @@ class Workplace:
     def built_clone(self) -> Iterator[Path]:
         """Provides a clone of the commit that keeps its build for other parts.
 
-        An interrupted part may leave something half built, so that the next part gets a new clone,
-        which begins with rt's saved proofs in this tree.
+        An interrupted part may leave something half built. So the next part then gets a new clone,
+        which begins with the proofs that rt has saved in this tree.
         """
         clone, in_use = self.folder / "clone", self.folder / "clone.in-use"
         if in_use.exists():

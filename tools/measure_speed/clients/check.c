@@ -1,4 +1,4 @@
-/* Checks lines `name:hash:password` as mkpasswd --check does, but by a library:
+/* Checks lines `name:hash:password` as mkpasswd --check does, but with a library:
  *
  *     check libmkpasswd|libxcrypt
  */

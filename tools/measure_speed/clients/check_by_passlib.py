@@ -1,6 +1,6 @@
-"""Checks lines `name:hash:password` as mkpasswd --check does, but by passlib's code in Python.
+"""Checks lines `name:hash:password` as mkpasswd --check does, but with passlib's code in Python.
 
-passlib's other backend for these hashes is libxcrypt, which is measured by itself.
+passlib's other backend for these hashes is libxcrypt, which is measured separately.
 """
 from __future__ import annotations
 

@@ -1,4 +1,4 @@
-/* Derives a key of 32 bytes by scrypt and prints it in hexadecimal, COUNT times:
+/* Derives a key of 32 bytes with scrypt and prints it in hexadecimal, COUNT times:
  *
  *     derive openssl|libsodium LOG_N R P SALT PASSWORD COUNT
  */

@@ -1,4 +1,4 @@
-/* Logs in COUNT times by mkpasswd_login, and prints 1 for each login that succeeds and 0 for each
+/* Logs in COUNT times with mkpasswd_login, and prints 1 for each login that succeeds and 0 for each
  * that fails. Without FIELD the name is unknown.
  *
  *     log_in METHOD ROUNDS COUNT PASSWORD [FIELD]

@@ -1,6 +1,6 @@
-// Logs in once by our module for node. Prints 1 if that succeeds and 0 if not, and what the module
-// reports of its work: the bytes that it digested, and how often it mixed a row of scrypt's table.
-// Without FIELD the name is unknown.
+// Logs in once with our module for node. Prints 1 if that succeeds and 0 if not, and what the
+// module reports of its work: the bytes that it digested, and how often it mixed a row of scrypt's
+// table. Without FIELD the name is unknown.
 //
 //     log_in.mjs MODULE METHOD ROUNDS PASSWORD [FIELD]
 const METHODS = { 1: 'md5crypt', 5: 'sha256crypt', 6: 'sha512crypt', 7: 'scrypt' };

@@ -1,4 +1,4 @@
-"""Logs in by the Python package, with the arguments and the output of log_in.c."""
+"""Logs in with the Python package. Arguments and output are those of log_in.c."""
 from __future__ import annotations
 
 import sys

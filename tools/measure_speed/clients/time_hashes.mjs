@@ -1,5 +1,5 @@
-// Checks a password and its hash COUNT times by our module for node. Prints whether all match, and
-// how much processor time that took, in microseconds:
+// Checks a password and its hash COUNT times with our module for node. Prints whether they match
+// each time, and how much processor time that took, in microseconds:
 //
 //     time_hashes.mjs MODULE PASSWORD HASH WARM_UPS COUNT
 //
