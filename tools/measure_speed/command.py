@@ -151,7 +151,7 @@ def compile_clients(options: Options, programs: Programs) -> None:
 
 
 def measure_part(part: Part, options: Options, programs: Programs) -> Iterator[Row]:
-    """Measures one row after the other."""
+    """Measures a part, and yields each row as soon as it is measured."""
     folder, duration = programs.folder, options.seconds_of_ratio
     measures: dict[Part, Callable[[], Iterator[Row]]] = {
         Part.INSTRUCTIONS: lambda: counts.measure(programs),
@@ -197,9 +197,9 @@ def print_tables(results: Results) -> None:
 
 
 def replace_files(texts: dict[Path, str]) -> None:
-    """Writes all new files first, then puts them in the places of the old ones.
+    """Writes all new files first, then puts them in place of the old ones.
 
-    Signals wait meanwhile, so that they don't end the run between two files.
+    Signals are blocked meanwhile, so that they don't end the run between two files.
     """
     signals = {signal.SIGINT, signal.SIGTERM}
     with tempfile.TemporaryDirectory(dir=DOCUMENTS) as folder:
@@ -228,7 +228,7 @@ def write_documents(results: Results) -> None:
 
 
 def compare_with(path: Path) -> int:
-    """Prints in which numbers two runs disagree. Returns 1 if there are any."""
+    """Prints the numbers in which two runs disagree. Returns 1 if there are any."""
     if not path.exists():
         raise Stop(f"{path} doesn't exist")
     first, second = read_results(path), read_results(RESULTS)

@@ -1,4 +1,4 @@
-"""Tasks of whole commands: one hash, a file of lines on some processors, an audit."""
+"""Tasks that are whole commands: one hash, a file of lines on several processors, an audit."""
 from __future__ import annotations
 
 import os
@@ -13,11 +13,11 @@ from .settings import MD5CRYPT, PASSWORD, SALT, SHA512CRYPT, hash_of, scrypt
 PWHASH = str(ROOT / "bin/pwhash")
 MD5CRYPT_OPTIONS = ("-m", "md5crypt", "-S", "xxxxxxxx")
 LINES = 16
-ROUNDS = 50_000  # so that each of these lines takes some hundredths of a second
+ROUNDS = 50_000  # so that each of these lines takes a few hundredths of a second
 
 
 def md5crypt_task(*command: str) -> Task:
-    """Returns the task of reading a password and printing its hash by md5crypt."""
+    """Returns the task of reading a password and printing its md5crypt hash."""
     return Task(command, PASSWORD + b"\n", hash_of(MD5CRYPT) + b"\n")
 
 
@@ -29,7 +29,7 @@ def largest_scrypt_task() -> Task:
 
 
 def file_task(count: int) -> Task:
-    """Returns the task of hashing the passwords of a file by pwhash, on so many processors."""
+    """Returns the task of hashing a file's passwords with pwhash, on this many processors."""
     stored_hash = hash_of(b"$6$rounds=%d$%b" % (ROUNDS, SALT))
     names = [b"user%d" % number for number in range(LINES)]
     options = ("-R", str(ROUNDS), "-S", SALT.decode())
@@ -50,7 +50,7 @@ def start_task(count: int) -> Task:
 
 
 def on_processors(count: int) -> tuple[str, ...]:
-    """Returns what stands before a command to run it on so many processors."""
+    """Returns the words in front of a command that run it on this many processors."""
     allowed = sorted(os.sched_getaffinity(0))
     if count > len(allowed):
         raise Stop(f"there are {len(allowed)} processors, and {count} are needed")
@@ -58,7 +58,7 @@ def on_processors(count: int) -> tuple[str, ...]:
 
 
 def audit_task(lines: int) -> Task:
-    """Returns the task of auditing so many lines, which have six fields by turns."""
+    """Returns the task of auditing this many lines, in which six fields alternate."""
     old, new = hash_of(MD5CRYPT), hash_of(SHA512CRYPT)
     fields = (new, old, b"!" + new, b"$6$rounds=999999999$a$b", new[:99], b"$y$j9T$x$x")
     findings = [finding_of(field) for field in fields]

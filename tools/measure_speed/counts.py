@@ -14,13 +14,13 @@ from .results import Count
 from .settings import MD5CRYPT, SALT, Workload, scrypt
 
 MD5CRYPT_ROUNDS = 1000
-# SHA-crypt has 42 kinds of rounds, in a cycle. The difference has each of them equally often.
+# SHA-crypt has 42 kinds of rounds, in a cycle. The difference contains each of them equally often.
 FEW_ROUNDS, MORE_ROUNDS = 1000, 1000 + 100 * 42
 
 
 @dataclass(frozen=True)
 class Difference:
-    """Two workloads, of which the second has some units of work more."""
+    """Two workloads. The second has some more units of work than the first."""
 
     unit: str
     less: Workload
@@ -34,7 +34,7 @@ class Difference:
 
 
 def md5crypt_rounds() -> Difference:
-    """Returns rounds of md5crypt. Each hash has equally many, so there are more hashes."""
+    """Returns workloads that differ in rounds of md5crypt. Each further hash adds 1000."""
     more_hashes = 10
     return Difference(
         "a round of md5crypt",
@@ -45,7 +45,7 @@ def md5crypt_rounds() -> Difference:
 
 
 def sha_crypt_rounds(method: str, prefix: bytes) -> Difference:
-    """Returns rounds of SHA-crypt."""
+    """Returns workloads that differ in rounds of SHA-crypt."""
     few, more = (
         Workload(b"%brounds=%d$%b" % (prefix, rounds, SALT)) for rounds in (FEW_ROUNDS, MORE_ROUNDS)
     )
@@ -53,14 +53,14 @@ def sha_crypt_rounds(method: str, prefix: bytes) -> Difference:
 
 
 def scrypt_mixing(r: int, log_n: int) -> Difference:
-    """Returns blocks of 64 bytes that scrypt mixes: N rows of 2 r blocks, each of them twice."""
+    """Returns workloads that differ in mixed blocks: scrypt mixes N rows of 2 r blocks twice."""
     less, more = Workload(scrypt(log_n, r, 1)), Workload(scrypt(log_n + 2, r, 1))
     rows = (4 - 1) << log_n
     return Difference(f"64 bytes mixed by scrypt, r = {r}", less, more, 2 * rows * 2 * r)
 
 
 def scrypt_pbkdf2(r: int) -> Difference:
-    """Returns what scrypt does for each p: mainly PBKDF2, since N = 4, libxcrypt's least."""
+    """Returns workloads that differ in p: mainly in PBKDF2, since N = 4, libxcrypt's least."""
     few, more = 8, 104
     less_and_more = (Workload(scrypt(2, r, few)), Workload(scrypt(2, r, more)))
     return Difference(f"scrypt's PBKDF2, for each p, r = {r}", *less_and_more, more - few)

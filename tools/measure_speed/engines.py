@@ -1,6 +1,6 @@
 """Our module in engines of JavaScript, which measure how long their own hashes take.
 
-So neither the start of an engine counts nor the hashes that it makes first, to compile the module.
+So neither the start of an engine counts, nor the first hashes, during which it compiles the module.
 """
 from __future__ import annotations
 
@@ -64,7 +64,7 @@ class ModuleInNode:
 
 @contextlib.contextmanager
 def running_chromium(folder: Path) -> Iterator[Browser]:
-    """Runs Chromium beside the block."""
+    """Runs Chromium during the block."""
     profile = folder / "chromium"
     profile.mkdir()
     try:
@@ -81,7 +81,7 @@ class ModuleInChromium:
     browser: Browser
     folder: Path
     workload: Workload
-    runs: int  # of which the fastest counts
+    runs: int  # the fastest one counts
 
     def measure(self) -> float:
         """Opens the page, and returns the elapsed time of the hashes in seconds.

@@ -12,8 +12,8 @@ LEVEL = 0.99
 RESAMPLES = 10_000
 SEED = 1
 LARGE = 0.1  # a difference from 1
-# All pairs of a ratio are measured within seconds, and meet the machine in one state. In another
-# state the median can be one or two hundredths away, which the bootstrap can't know.
+# All pairs of a ratio are measured within seconds, while the machine is in one state. In another
+# state the median can differ by one or two hundredths, which the bootstrap can't know.
 BETWEEN_RUNS = 0.01
 
 
@@ -63,7 +63,7 @@ class Ratio:
 
     @property
     def bounds(self) -> Interval:
-        """The interval, widened by what two runs differ in besides."""
+        """The interval, widened by how much two runs may differ besides."""
         return Interval(
             self.interval.lower * (1 - BETWEEN_RUNS), self.interval.upper * (1 + BETWEEN_RUNS)
         )

@@ -1,8 +1,8 @@
-"""Logins: that a failed login costs the same for each kind of stored field.
+"""Logins: whether a failed login costs the same for each kind of stored field.
 
 For C and Python, instructions are counted: the difference between two logins and one. An engine of
-JavaScript compiles the module while it runs, and differently in each run. So for node the work
-counts that the module's own reports give.
+JavaScript compiles the module while it runs, and differently in each run. So for node, what counts
+is the work that the module itself reports.
 """
 from __future__ import annotations
 
@@ -32,14 +32,14 @@ BYTES_OF_MIXING = 128 * 32  # by scrypt with r = 32, as a policy's hashes have i
 
 @dataclass(frozen=True)
 class Policy:
-    """A service's method and rounds. They are few, so that what surrounds a hash shows."""
+    """A service's method and rounds. The rounds are few, so that the work around a hash shows."""
 
     method: Method
     rounds: int
 
     @property
     def setting(self) -> bytes:
-        """A setting of its hashes, with a salt as long as the library draws it."""
+        """A setting of its hashes, with a salt as long as those that the library draws."""
         return recommended_setting(self.method, self.rounds, b"x" * self.method.drawn_salt).text
 
     @property
@@ -97,7 +97,7 @@ class Client:
     environment: dict[str, str | None] = dataclasses.field(default_factory=dict)
 
     def task(self, policy: Policy, kind: str, field: bytes | None, logins: int) -> Task:
-        """Returns the task of so many logins. Only those with the right password succeed."""
+        """Returns the task of this many logins. Only those with the right password succeed."""
         words = (policy.number, str(policy.rounds), str(logins), *password_and_field(field))
         line = b"1\n" if kind == RIGHT else b"0\n"
         return Task(

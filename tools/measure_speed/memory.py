@@ -1,4 +1,4 @@
-"""Memory: the most that a command has at once."""
+"""Memory: the most that a command uses at once."""
 from __future__ import annotations
 
 from collections.abc import Iterator

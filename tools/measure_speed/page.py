@@ -179,7 +179,7 @@ def logins(results: Results) -> str:
 
 
 def memory(results: Results) -> str:
-    """The most memory that commands have."""
+    """The most memory that commands use."""
     table = []
     for row in results.rows(Part.MEMORY, Memory):
         share = f"{row.kibibytes / row.table:.3f}" if row.table else ""
@@ -217,7 +217,7 @@ def upstream_version(version: str) -> str:
 
 
 def where(results: Results) -> str:
-    """When, where and of what the parts were measured: a line for all that have it in common."""
+    """When, where and on which code parts were measured: a line for all that share these."""
     groups = defaultdict(list)
     for part in (part for part in Part if part in results.parts):
         in_common = replace(results.parts[part].conditions, versions={})
@@ -226,7 +226,7 @@ def where(results: Results) -> str:
 
 
 def line_of(parts: Sequence[Part], results: Results) -> str:
-    """The line of parts that were measured on the same day, on one machine and of the same code."""
+    """The line of parts that were measured on the same day and machine, with the same code."""
     conditions = results.parts[parts[0]].conditions
     versions: dict[str, str] = {}
     for part in parts:

@@ -1,6 +1,6 @@
 """Runs commands, and measures their time, instructions or memory.
 
-A command must end with the expected status and output, so that nothing is measured that did
+A command must end with the expected status and output, so that no command is measured that did
 something else.
 """
 from __future__ import annotations
@@ -36,7 +36,7 @@ class Task:
     stdin: bytes = b""
     expected_output: bytes = b""
     expected_status: int = 0
-    environment: dict[str, str | None] = field(default_factory=dict)  # what differs from ours
+    environment: dict[str, str | None] = field(default_factory=dict)  # differing from ours
 
 
 @dataclass(frozen=True)
@@ -56,7 +56,7 @@ def check_result(task: Task, result: Result) -> None:
 
 
 def run_task(task: Task, prefix: tuple[str, ...] = ()) -> Result:
-    """Runs a task, whose command is the end of another one if there is a prefix."""
+    """Runs a task, with the prefix in front of its command."""
     command = (*prefix, *task.command)
     try:
         result = run(*command, stdin=task.stdin, env=task.environment, timeout=TIMEOUT)
@@ -72,7 +72,7 @@ def processors() -> int:
 
 
 def processor_time_of_children() -> float:
-    """Returns the seconds of all children that have ended and been waited for."""
+    """Returns the processor seconds of all children that have ended and been waited for."""
     usage = resource.getrusage(resource.RUSAGE_CHILDREN)
     return usage.ru_utime + usage.ru_stime
 
@@ -109,17 +109,17 @@ def map_on_all_processors(
 
 
 def peak_memory(process: subprocess.Popen[bytes]) -> int:
-    """Returns the most memory that a process has had so far, in KiB; 0 once it has ended."""
+    """Returns the most memory that a process has used so far, in KiB; 0 once it has ended."""
     status = Path(f"/proc/{process.pid}/status").read_text(encoding="utf-8", errors="replace")
     found = re.search(r"^VmHWM:\s*(\d+)", status, re.MULTILINE)
     return int(found[1]) if found else 0
 
 
 def measure_peak_memory(task: Task, folder: Path) -> int:
-    """Runs a task that takes some time, and returns the most memory that it had, in KiB.
+    """Runs a task that takes some time, and returns the most memory that it used, in KiB.
 
-    The kernel is asked while the task runs: the maximum that it gives afterwards includes this
-    process, of which the child was a copy at first.
+    It asks the kernel while the task runs: the maximum that the kernel reports afterwards includes
+    this process's memory, since the child began as a copy of it.
     """
     input_path, output_path = folder / "stdin", folder / "stdout"
     input_path.write_bytes(task.stdin)

@@ -1,6 +1,6 @@
-"""The programs that are measured: ours, and those that it is compared with.
+"""The programs that are measured: ours, and those that ours are compared with.
 
-Each turns a workload into a task: a command, its input, and the output that proves that it made or
+Each turns a workload into a task: a command, its input, and the output that shows that it made or
 checked all hashes.
 """
 from __future__ import annotations
@@ -34,7 +34,7 @@ class Program(Protocol):
         """Its name on the page."""
 
     def task(self, workload: Workload) -> Task:
-        """Returns the task of making or checking so many hashes."""
+        """Returns the task of making or checking the workload's hashes."""
 
 
 @dataclass(frozen=True)
@@ -82,7 +82,7 @@ class Libsodium:
 
 
 def derivation_task(library: str, derive: str, workload: Workload) -> Task:
-    """Returns the task of deriving keys by a library's scrypt. The client prints each key."""
+    """Returns the task of deriving keys with a library's scrypt. The client prints each key."""
     cost = workload.scrypt_cost
     if cost is None:
         raise Stop(f"{library} makes no hashes of {workload.setting.decode()}")
@@ -101,7 +101,7 @@ class Programs:
 
     @property
     def mkpasswd(self) -> Program:
-        """Our program, by the default build."""
+        """Our program, in its default build."""
         return Checker("mkpasswd", (MKPASSWD, "--check"))
 
     @property
