@@ -93,7 +93,8 @@ def say(text: str) -> None:
     try:
         print(text.encode(encoding, "backslashreplace").decode(encoding), end="", flush=True)
     except OSError as error:
-        # When Python exits it would try again to print the rest, and fail with a traceback.
+        # Otherwise Python, when it exits, would try to print the rest again, and fail with a
+        # traceback.
         os.dup2(os.open(os.devnull, os.O_WRONLY), sys.stdout.fileno())
         raise Stop(f"standard output: {error.strerror}") from None
 

@@ -1,4 +1,4 @@
-"""The command pwhash: what it takes to start, and how many processors it makes use of."""
+"""The command pwhash: how long it takes to start, and how much faster it is on more cores."""
 from __future__ import annotations
 
 import time
@@ -26,16 +26,16 @@ def commands() -> dict[str, TimedTask]:
 
 
 def measure_starts(seconds: float) -> Iterator[Comparison]:
-    """Measures how long commands take that make one hash."""
+    """Measures how long commands that make one hash take."""
     base = TimedTask(md5crypt_task(MKPASSWD, *MD5CRYPT_OPTIONS))
     for name, command in commands().items():
         yield compare("one hash of md5crypt", name, base, command, seconds)
 
 
 def on_processors(count: int) -> TimedTask:
-    """Returns the side of a file that is hashed on so many processors.
+    """Returns the side that hashes a file on this many processors.
 
-    Several threads hash it at once, so what counts is the time that elapses.
+    Several threads hash the file at once, so what counts is the time that elapses.
     """
     return TimedTask(file_task(count), start_task(count), Clock.ELAPSED, RUNS_IF_ELAPSED)
 
@@ -56,7 +56,7 @@ def processor_ticks() -> tuple[int, int]:
 
 
 def is_machine_idle() -> bool:
-    """Whether the processors are idle while this process waits for a second."""
+    """Whether the processors are idle while this process waits one second."""
     idle_before, total_before = processor_ticks()
     time.sleep(1)
     idle_after, total_after = processor_ticks()

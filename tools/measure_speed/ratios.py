@@ -1,8 +1,8 @@
 """Ratios: how long another program, or another build, takes in comparison with mkpasswd.
 
 The two sides take turns, and each turn is short. So what slows the machine for a while slows both
-turns of a pair, and their ratio stays. The median of many such ratios counts, with its interval:
-some pairs go wrong, as where something slows only one of the two turns.
+turns of a pair, and their ratio stays the same. The median of many such ratios counts, with its
+interval: some pairs go wrong, such as when something slows only one of the two turns.
 """
 from __future__ import annotations
 
@@ -21,7 +21,7 @@ from .programs import Program, Programs
 from .results import Comparison
 from .settings import MD5CRYPT, SALT, Workload, scrypt
 
-# Most take some hundredths of a second. Longer turns would make pairs go wrong more often.
+# Most take a few hundredths of a second. Longer turns would make pairs go wrong more often.
 WORKLOADS = {
     "md5crypt": Workload(MD5CRYPT, hashes=200, warm_up_hashes=200),
     "sha256crypt": Workload(b"$5$rounds=50000$" + SALT),
@@ -48,7 +48,7 @@ class Clock(enum.Enum):
 
 
 class Side(Protocol):
-    """One of the two that are compared."""
+    """One of the two things that are compared."""
 
     def measure(self) -> float:
         """Runs once, and returns the seconds that count."""
@@ -56,12 +56,12 @@ class Side(Protocol):
 
 @dataclass(frozen=True)
 class TimedTask:
-    """A task; and if the start of its program isn't to count, a task that only starts it."""
+    """A task, and a second one that only starts the program, if that start isn't to count."""
 
     task: Task
     start: Task | None = None
     clock: Clock = Clock.PROCESSOR
-    runs: int = 1  # of which the fastest counts
+    runs: int = 1  # the fastest one counts
 
     def measure(self) -> float:
         """Runs the task, and returns the seconds that it took without its start."""

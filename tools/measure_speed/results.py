@@ -31,7 +31,7 @@ class Part(enum.Enum):
 
 @dataclass(frozen=True)
 class Conditions:
-    """When and where a part was measured, and what."""
+    """When and where a part was measured, and which code and packages."""
 
     date: str
     crates: str  # the hash of that folder in git
@@ -83,7 +83,7 @@ class Login:
 
 @dataclass(frozen=True)
 class Memory:
-    """The most memory that a command had."""
+    """The most memory that a command used."""
 
     row: str
     program: str
@@ -101,7 +101,7 @@ class Seconds:
     row: str
     fastest: float
     runs: int
-    cost: int = 0  # of a hash; 0 for what isn't a hash
+    cost: int = 0  # of a hash; 0 if it isn't a hash
 
     def __str__(self) -> str:
         return f"{self.row:40} {1e3 * self.fastest:27,.5g} ms"
@@ -182,7 +182,7 @@ def read_part(part: Part, value: dict[str, Any]) -> Measured:
 
 
 def parse_results(text: str) -> Results:
-    """Reads what a file holds. Raises ValueError for what tools/bench doesn't write."""
+    """Reads what a file holds. Raises ValueError if it isn't as tools/bench writes it."""
     try:
         found = json.loads(text)
         return Results({Part(name): read_part(Part(name), value) for name, value in found.items()})

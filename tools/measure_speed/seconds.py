@@ -1,6 +1,6 @@
-"""Seconds: a few times of one machine, for orientation.
+"""Seconds: a few times on one machine, for orientation.
 
-Each is the fastest of some runs, since other work on the machine can only make a run longer.
+Each is the fastest of several runs, since other work on the machine can only make a run longer.
 """
 from __future__ import annotations
 
@@ -46,7 +46,7 @@ RUNS = 15
 
 
 def cost_of(setting: bytes, length: int) -> int:
-    """Returns the most that a hash of a password of so many bytes costs."""
+    """Returns the most that a hash of a password of this many bytes costs."""
     return cost(read_setting(setting), length)
 
 

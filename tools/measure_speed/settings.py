@@ -43,7 +43,7 @@ class Workload:
 
     @property
     def without_hashes(self) -> Workload:
-        """The same without any hash: a program that gets this only starts and ends."""
+        """The same without any hash: a program that gets this workload only starts and ends."""
         return replace(self, hashes=0)
 
     @property
@@ -67,9 +67,9 @@ def hash_of(setting: bytes, password: bytes = PASSWORD) -> bytes:
 
 
 def scrypt_digest(stored_hash: bytes) -> bytes:
-    """Returns the 32 bytes that a hash of scrypt ends in.
+    """Returns the 32 bytes of the digest at the end of a scrypt hash.
 
-    Each of its characters stands for six bits, the lowest first.
+    Each character of the digest stands for six bits, the lowest first.
     """
     digits = stored_hash.rpartition(b"$")[2]
     return number_of(digits).to_bytes(33, "little")[:32]

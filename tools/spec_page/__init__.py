@@ -10,6 +10,6 @@ frame      tools/specification.md, with its placeholders filled
 
 Patterns read the sources. Each line of a file of specs/ must have a known form, and so must the
 parts of the code for the page: imports for clauses, types, views and calls. Any other form is an
-error, since nobody would notice what the page lacks. rt itself shows single definitions (rt lemma),
-but not a call with everything that its clauses depend on.
+error, since otherwise nobody would notice what the page lacks. rt itself shows single definitions
+(rt lemma), but not a call with everything that its clauses depend on.
 """

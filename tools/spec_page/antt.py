@@ -11,7 +11,7 @@ from .imports import IMPORT
 from .sources import Entry, Place, Stop, lines_of
 
 # The first line of a definition: `abbrev pub cost_part : Scheme → List ℕ`, `pub record Parts ..`.
-# Its other lines are indented further, also those that begin with `record report { error = 0 }`.
+# Its other lines are indented further, including any like `record report { error = 0 }`.
 DEFINITION = re.compile(
     r"(?P<indent>(?:  )?)(?:pub )?"
     r"(?P<kind>abbrev|unfoldable|record|data) (?:pub )?(?P<name>[^\s{-]\S*)"
@@ -46,7 +46,7 @@ def definitions_of(path: str) -> Mapping[str, Entry]:
 
 
 def read_definitions(path: str) -> Iterator[Definition]:
-    """Yields the definitions of a file. Stops at any other line that isn't allowed around them."""
+    """Yields the definitions of a file. Stops at a line that may not stand between definitions."""
     lines = lines_of(path)
     section = ""
     comment: list[str] = []
