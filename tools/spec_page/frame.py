@@ -63,7 +63,7 @@ def parts_of(text: str) -> Iterator[Union[str, Slot]]:
 
 
 def without_braces(text: str, start: int, end: int) -> str:
-    """Returns a part of the frame, in which no placeholder may be."""
+    """Returns a part of the frame, and stops if a placeholder in it isn't well formed."""
     braces = text.find("{{", start, end)
     if braces != -1:
         raise Stop(f"{place_at(text, braces)}: what these braces begin is no place of the page")

@@ -16,7 +16,7 @@ IMPORT = re.compile(r"\s*(?:pub |ghost )?use Rattle\b")
 NAMES = re.compile(r"\s*(?:pub |ghost )?use Rattle\.(?P<module>\w+(?:\.\w+)+)\.\{(?P<names>.+)\};?")
 # A module by another name: `use Rattle.run_core.specs.declared.line.Kind.TheVariants as kinds`
 MODULE = re.compile(r"\s*(?:pub |ghost )?use Rattle\.(?P<module>\w+(?:\.\w+)+) as (?P<here>\w+);?")
-# A name of a list, perhaps with the one that it has here: `Holds as HoldsMd5`, `◌≡◌`
+# A name in a list, perhaps with its local name: `Holds as HoldsMd5`, `◌≡◌`
 NAME = re.compile(r"(?P<name>[^\s{},]+)(?: as (?P<here>\w+))?")
 
 

@@ -62,7 +62,7 @@ def text_of(piece: Piece, anchors: Mapping[Entry, str]) -> str:
 
 
 def links_of(entry: Entry, anchors: Mapping[Entry, str]) -> Iterator[str]:
-    """Links to the entries that one uses, in the order of their names."""
+    """Yields links to the entries that an entry uses, in the order of their names."""
     used = [
         (meaning.name, meaning.place.path, word, meaning)
         for word, meanings in names_of(entry).items()

@@ -30,7 +30,7 @@ DECLARED = re.compile(
 
 @dataclass(frozen=True, order=True)
 class Outside:
-    """A name of a module of the toolchain, or its whole module, whose name is empty."""
+    """A name in a module of the toolchain. An empty name stands for the whole module."""
 
     module: str
     name: str
@@ -67,8 +67,8 @@ def reached(start: Iterable[Entry]) -> Reached:
 def names_of(entry: Entry) -> Mapping[str, tuple[Meaning, ...]]:
     """Returns what the words of an entry mean, other than itself.
 
-    Every word counts that its file declares or imports, even if it is only an argument's name. So
-    the page may have a definition too many, but lacks none.
+    Every word that the entry's file declares or imports counts, even if it is only an argument's
+    name. So the page may have a definition too many, but lacks none.
     """
     pairs = names_of_definition(entry) if entry.is_definition else names_of_code(entry)
     names: dict[str, tuple[Meaning, ...]] = {}
