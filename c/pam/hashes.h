@@ -43,7 +43,7 @@ void wipe_hash(struct hash *hash);
 enum field_problem {
     NO_PROBLEM,        /* some password may match */
     CLOSED_ON_PURPOSE, /* the field is empty or locked */
-    NEEDS_NEW_HASH,    /* the field has something that no password matches */
+    NEEDS_NEW_HASH,    /* the field holds something that no password matches */
 };
 
 /* Returns whether some password can match a field, and puts the reason why not into the message. It

@@ -50,8 +50,8 @@ static void log_refusal(pam_handle_t *pam, const struct options *options,
     log_failure(pam, account->name, &account->line);
 }
 
-/* Checks the password before anything else. So an unreadable file takes as much time as an unknown
- * name, and that as much as a wrong password. */
+/* Checks the password before anything else. So an unreadable file and an unknown name take as much
+ * time as a wrong password. */
 static int check_account(pam_handle_t *pam, const struct options *options,
     const struct account *account, const char *password, bool *is_outdated)
 {
@@ -116,7 +116,7 @@ int pam_sm_setcred(pam_handle_t *pam, int flags, int count, const char **argumen
     return read_options(pam, count, arguments, &options) ? PAM_SUCCESS : PAM_SERVICE_ERR;
 }
 
-/* Returns whether the account may log in by a hash, or have it replaced. */
+/* Returns PAM_SUCCESS if the account may log in with a hash or have it replaced, else why not. */
 static int status_of_account(
     const pam_handle_t *pam, const struct options *options, const struct account *account)
 {
@@ -161,8 +161,8 @@ static bool needs_old_password(int flags)
     return getuid() != 0 || (flags & PAM_CHANGE_EXPIRED_AUTHTOK) != 0;
 }
 
-/* Returns whether the password may be changed. PAM asks for the old one only in the first round,
- * and keeps it for the second. */
+/* Returns PAM_SUCCESS if the password may be changed, else why not. PAM asks for the old one only
+ * in the first round, and keeps it for the second. */
 static int check_old_password(
     pam_handle_t *pam, int flags, const struct options *options, const struct account *account)
 {
@@ -217,7 +217,7 @@ static int answer_change(pam_handle_t *pam, int flags, enum outcome outcome)
     return PAM_AUTHTOK_ERR;
 }
 
-/* Replaces the field that was checked with a hash of the new password. */
+/* Puts a hash of the new password in place of the field that was checked. */
 static int store_hash(pam_handle_t *pam, int flags, const struct options *options,
     const struct account *account, const char *hash)
 {

@@ -39,7 +39,8 @@ static bool write_bytes(int fd, const char *bytes, size_t len)
     return true;
 }
 
-/* Whether this process may write a file of this size. A write beyond its limit would kill it. */
+/* Whether this process may write a file of this size. A write beyond the limit would kill the
+ * process. */
 static bool is_within_limit(size_t size)
 {
     struct rlimit limit;
@@ -85,7 +86,7 @@ static bool has_owner_and_mode(int fd, const struct stat *wanted)
 }
 
 /* Gives a file the owner and mode of another one. It sets the owner first, since that clears bits
- * of the mode. It looks at the result, since the system may drop bits silently. */
+ * of the mode. Then it checks the result, since the system may drop bits silently. */
 static bool copy_owner_and_mode(int fd, const struct stat *old)
 {
     if (fchown(fd, old->st_uid, old->st_gid) != 0)
@@ -165,8 +166,8 @@ static bool copy_named_attributes(const struct names *names, int to, int from)
     return true;
 }
 
-/* Removes the attributes that the new file got from its folder and the old one doesn't have, such
- * as an ACL. */
+/* Removes the attributes, such as an ACL, that the new file inherited from its folder and that the
+ * old one doesn't have. */
 static bool remove_others(const struct names *own, const struct names *wanted, int fd)
 {
     const char *end = own->bytes + own->len;

@@ -30,7 +30,7 @@ static int read_bytes(struct password_file *file)
 
         if (len < 0)
             return errno;
-        if (len == 0) /* somebody has cut the file meanwhile */
+        if (len == 0) /* somebody has truncated the file meanwhile */
             break;
         file->size += (size_t)len;
     }
