@@ -180,9 +180,9 @@ export class Policy {
     verify(password: Text, field: Text): boolean;
 
     /**
-     * Returns whether a new hash by this policy would replace the stored one, because that is of
-     * another method or has fewer rounds (for scrypt a smaller N * r * p). It is false for a locked
-     * or empty field. Throws Refused if the setting is invalid or of another scheme.
+     * Returns whether a new hash by this policy would replace the stored one, because the stored
+     * one is of another method or has fewer rounds (for scrypt a smaller N * r * p). It is false
+     * for a locked or empty field. Throws Refused if the setting is invalid or of another scheme.
      */
     needsRehash(stored: Text): boolean;
 
@@ -240,8 +240,8 @@ export interface LoginQueueOptions {
  * times, and so on. So make `failureTime` longer than the costliest login takes, and `size` less
  * than the number of such logins that your workers run in that time: README.md has a formula.
  *
- * The calls need no `this`. Throws RangeError for a number below 0 (for `size` below 1) or above 2
- * ** 31 - 1, and TypeError for other options.
+ * The calls need no `this`. Throws RangeError for a number below 0 (for `size` below 1) or above
+ * 2147483647, and TypeError for other options.
  */
 export class LoginQueue {
     constructor(options?: LoginQueueOptions);

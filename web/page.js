@@ -76,14 +76,14 @@ function describeSeconds(seconds) {
     return `${Math.round(seconds / 3600)} hours`;
 }
 
-// Returns in words how long something took.
+// Describes how long something took.
 function describeMeasuredTime(milliseconds) {
     if (milliseconds < 100) return `less than 0.1${NO_BREAK_SPACE}s`;
     const seconds = milliseconds / 1000;
     return seconds < 9.95 ? `${seconds.toFixed(1)}${NO_BREAK_SPACE}s` : describeSeconds(seconds);
 }
 
-// Returns in words about how long something will take.
+// Describes about how long something will take.
 function describeExpectedTime(milliseconds) {
     const seconds = milliseconds / 1000;
     if (seconds < 0.15) return 'a moment';
@@ -129,14 +129,14 @@ function warningOfRounds() {
     return chosenKind === 'md5crypt' ? WEAK : '';
 }
 
-// Returns the milliseconds that a new hash will take, from the measured one. That had 5000 rounds;
-// for scrypt it had 6, and each further one doubles the time.
+// Returns the milliseconds that a new hash will take, judging by the measured one. The measured one
+// had 5000 rounds; for scrypt it had 6, and each further round doubles the time.
 function timeOfRounds(rounds) {
     const { time } = rates[valueOf('method')];
     return chosenKind === 'scrypt' ? time * 2 ** (rounds - 6) : (time * rounds) / 5000;
 }
 
-// Returns in words the memory that a hash of scrypt with these rounds takes: 64 MiB for 7.
+// Describes the memory that a scrypt hash with these rounds takes: 64 MiB for 7.
 function memoryOfRounds(rounds) {
     return `${2 ** (rounds - 1)}${NO_BREAK_SPACE}MiB of memory`;
 }

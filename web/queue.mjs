@@ -6,7 +6,7 @@ export class Busy extends Error {
     }
 }
 
-const MAX_MILLISECONDS = 2 ** 31 - 1; // that setTimeout takes
+const MAX_MILLISECONDS = 2 ** 31 - 1; // the longest time that setTimeout takes
 
 // Returns an option of a queue, or throws unless it is an integer from `least` to MAX_MILLISECONDS.
 function readInteger(least, value, name) {
