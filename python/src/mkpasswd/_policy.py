@@ -240,10 +240,10 @@ class Policy:
         >>> mkpasswd.hash("password").startswith("$6$rounds=656000$")
         True
 
-        Raises ValueError if the password can't be hashed, since it has a zero byte, a lone
+        Raises ValueError if the password can't be hashed because it has a zero byte, a lone
         surrogate or more than 1,024 bytes. Raises TooCostly, which is a ValueError too, if the hash
-        would cost more than the budget, so that login() would not accept it. Nothing is hashed
-        then.
+        would cost more than the budget, so that login() would not accept it. In either case nothing
+        is hashed.
 
         Raises MemoryError if there is too little memory for scrypt, and OSError if the system has
         no random bytes.
@@ -367,7 +367,7 @@ class Policy:
 
 def _state_of(answer: Answer) -> State:
     """Returns the state that an audit reports."""
-    # The scheme is 0 in a report that no call has filled.
+    # The scheme is 0 in a report that no call has filled in.
     if answer.report.error == 0 and answer.report.scheme != 0:
         return State.OUTDATED if answer.report.outdated == 1 else State.CURRENT
     state = _STATES.get(answer.reason)

@@ -1,4 +1,4 @@
-"""A password hasher for Django, by the recommended policy, or by that of a class of your own:
+"""A password hasher for Django, with the recommended policy or that of a class of your own:
 
     class SitePasswordHasher(MkpasswdPasswordHasher):
         rounds = 900000

@@ -42,7 +42,7 @@ class FixedTime:
     `threads` is how many logins run at once, `queued` how many more may wait for a thread, and
     `failed` how many failures may wait for their time. Above these numbers, submit() raises Busy.
 
-    The threads start with the first login. Until then, a server may make its worker processes by
+    The threads start with the first login. Until then, a server may make its worker processes with
     fork(), and each process has these limits for itself. After that, fork() copies no thread, and
     submit() raises RuntimeError in the new process.
 
@@ -55,7 +55,7 @@ class FixedTime:
         self._seconds = float(seconds)
         self._max_running = threads + queued
         self._max_failed = failed
-        self._lock = threading.Lock()  # of the members below
+        self._lock = threading.Lock()  # guards the members below
         self._running = 0
         self._failed = 0
         self._pool = ThreadPoolExecutor(threads, thread_name_prefix="login")

@@ -20,7 +20,7 @@ from pwhash.text import printable
 
 
 def run(options: AuditOptions, session: Session) -> bool:
-    """Audits the lines of a file. Returns whether one needs care.
+    """Audits the lines of a file. Returns whether any of them needs attention.
 
     It hashes nothing, so it needs no threads.
     """

@@ -179,7 +179,7 @@ class Parser(argparse.ArgumentParser):
         raise self.usage_error(f"{option} takes no value" if ignored else message)
 
     def usage_error(self, message: str) -> UsageError:
-        """Returns the error for wrong arguments, with a hint at --help."""
+        """Returns the error for wrong arguments, which points to --help."""
         return UsageError(f"{message}. See {self.prog} --help.")
 
     def flag(self, name: str, text: str) -> None:

@@ -27,7 +27,7 @@ from pwhash.workers import Memory, Workers
 
 
 def run(options: FileOptions, session: Session) -> bool:
-    """Hashes the lines of a pipe, or of a file, in which it looks for problems first.
+    """Hashes the lines of a pipe, or those of a file after looking for problems in it.
 
     Returns whether a line was refused or left out.
     """

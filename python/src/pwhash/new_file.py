@@ -42,8 +42,8 @@ class NewFile:
     def give(self, owner: Owner, mode: int) -> None:
         """Gives the file its owner and mode.
 
-        It sets the owner first, since that clears bits of the mode. It looks at the result, since
-        the system may drop bits silently.
+        It sets the owner first, since that clears bits of the mode. Then it checks the result,
+        since the system may drop bits silently.
         """
         os.fchown(self.fd, owner.user, owner.group)
         os.fchmod(self.fd, mode)

@@ -59,7 +59,7 @@ class Input(NamedTuple):
     """A file of lines, and how to read it."""
 
     path: Optional[str]  # None stands for standard input
-    windows: bool = False  # lines end with a carriage return, and begin with a byte order mark
+    windows: bool = False  # lines may end with a carriage return, and begin with a byte order mark
     columns: Optional[str] = None  # those of a table that have the name and the password
     unlock: bool = False  # leave out the marks in front of a locked hash
     counts_lines: bool = True  # for the progress line

@@ -157,7 +157,7 @@ def refuse_changed(source: Source, part: Optional[Part]) -> None:
 
 @contextlib.contextmanager
 def opened(out: str, source: Source, options: Optional[FileOptions]) -> Iterator[Part]:
-    """Opens OUT.part for this run alone. `options` are those of pwhash file, which can resume."""
+    """Opens OUT.part for this run alone. Only pwhash file, which can resume, gives options."""
     path = part_of(out)
     if options is not None:
         resume_state.read(path)  # this refuses another file of that name before a part is made
