@@ -78,8 +78,7 @@ def field_of_pasted(pasted: bytes) -> bytes:
     """Returns the field with the hash from a pasted hash or line, perhaps in quotes."""
     line = without_blanks(pasted).strip(QUOTES)
     name, colon, rest = line.partition(b":")
-    # After a hash without a name there may be further fields, or the line of
-    # the next name.
+    # After a hash without a name there may be further fields, or the next name's line.
     if not colon or begins_like_hash(without_prefix(name)):
         return name
     return rest.partition(b":")[0].strip(QUOTES)

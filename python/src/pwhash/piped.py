@@ -19,7 +19,7 @@ class PipedLines:
         self._waiting: List[bytes] = []
 
     def password(self) -> bytes:
-        """Returns the first line."""
+        """Returns the first line, which is the password."""
         line = self.next()
         if line is None:
             raise UsageError("standard input is empty: its first line has to be the password.")

@@ -52,7 +52,7 @@ class Place(NamedTuple):
         return f"{self.name}.mkpasswd.exchange"
 
     def read_status(self, name: str) -> Optional[os.stat_result]:
-        """Returns the status of the file with a name in the folder, or None."""
+        """Returns the status of a file in the folder, by its name, or None if there is none."""
         try:
             return os.stat(name, dir_fd=self.folder, follow_symlinks=False)
         except FileNotFoundError:

@@ -63,7 +63,7 @@ class Job(Generic[Result]):
 
 
 class Memory:
-    """Limits the memory that hashes of scrypt use at once to half of what is free."""
+    """Limits the memory that scrypt hashes use at once to half of what is free."""
 
     def __init__(self) -> None:
         self._limit = machine.free_memory() // 2
