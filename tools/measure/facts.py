@@ -49,7 +49,7 @@ class Soak:
 
 @dataclass(frozen=True)
 class Fuzz:
-    """Random calls without a fault."""
+    """Random calls in which the fuzzer found no fault."""
 
     seed: int
     calls: int

@@ -1,4 +1,4 @@
-"""Reads the output of commands, and fails if it isn't as it should be."""
+"""Reads the output of commands, and fails if it isn't as expected."""
 
 from __future__ import annotations
 

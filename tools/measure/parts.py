@@ -118,7 +118,7 @@ def measure_soak(place: Workplace) -> Soak:
 
 
 def measure_fuzz(place: Workplace, target: str) -> Fuzz:
-    """Runs a fuzzer's target, which makes random calls."""
+    """Runs a fuzz target, which makes random calls."""
     seconds = f"FUZZ_SECONDS={place.options.sizes.fuzz_seconds}"
     fuzzer = f"FUZZERS=build/fuzz/{target}"
     with place.built_clone() as clone:
@@ -182,7 +182,7 @@ def new_clone_on_proofs(place: Workplace, built: Path, folder: Path) -> Path:
 
 
 def build_as_other_user(place: Workplace, clone: Path) -> None:
-    """Builds everything that is released as another user, who owns the clone and its folder."""
+    """Builds, as another user who owns the clone and its folder, everything that is released."""
     home = clone.parent
     need_other_user_in(place, home)
     place.run("chown", "-R", OTHER_USER, home, cwd=home)
@@ -274,14 +274,14 @@ def check_in(debian: Debian) -> Part:
 
 
 def soak_of(sizes: Sizes) -> Part:
-    """Returns the part of the soak."""
+    """Returns the part that runs the soak."""
     files = (*BUILT, "tools/soak", "tests/support")
     lines = {"lines": sizes.lines}
     return Part("soak", "make soak LINES={lines}", "in a clone", files, Soak, measure_soak, lines)
 
 
 def fuzzer_of(target: str, sizes: Sizes) -> Part:
-    """Returns the part of a fuzzer."""
+    """Returns the part that runs a fuzzer."""
     measure = functools.partial(measure_fuzz, target=target)
     command = f"make fuzz FUZZERS=build/fuzz/{target} FUZZ_SECONDS={{seconds}}"
     files = (*BUILT, "tests/c")

@@ -51,7 +51,7 @@ class Repository:
         return known
 
     def computed_hash(self, commit: str, files: str) -> str:
-        """Computes such a hash with git."""
+        """Computes the hash of a file, of a folder, or of all files, with git."""
         if files != ALL_FILES:
             return self.git("rev-parse", "--verify", f"{commit}:{files}")
         listed = self.git("ls-tree", "-r", "--full-tree", commit).splitlines()

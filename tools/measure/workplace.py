@@ -79,7 +79,7 @@ def toolchain() -> str:
 
 
 def end_group(process: subprocess.Popen[bytes]) -> None:
-    """Ends a process group, first by SIGTERM, and then by SIGKILL."""
+    """Ends a process group, first with SIGTERM, and then with SIGKILL."""
     with contextlib.suppress(ProcessLookupError):
         os.killpg(process.pid, signal.SIGTERM)
     with contextlib.suppress(subprocess.TimeoutExpired):
@@ -156,7 +156,7 @@ class Workplace:
     # Clones
 
     def new_clone(self, folder: Path) -> Path:
-        """Makes a clone of the commit in which nothing is built."""
+        """Makes a clone of the commit, in which nothing is built yet."""
         self.repository.clone(self.commit, folder)
         return folder
 

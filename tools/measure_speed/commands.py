@@ -41,7 +41,7 @@ def file_task(count: int) -> Task:
 
 
 def start_task(count: int) -> Task:
-    """Returns the same task with a file of one line, whose hash takes next to no time."""
+    """Returns file_task() with a file of one line, whose hash takes next to no time."""
     return Task(
         (*on_processors(count), PWHASH, "file", *MD5CRYPT_OPTIONS),
         b"user1:%b\n" % PASSWORD,
