@@ -211,7 +211,7 @@ def copy_python(folder: Path, *packages: str) -> None:
 
 
 def install_below(folder: Path, **places: str) -> None:
-    """Installs what make has built below a folder with tools/install and these variables."""
+    """Installs, below a folder, what make has built: by tools/install, with these variables."""
     environment = {**os.environ, **places, "DESTDIR": str(folder)}
     done = subprocess.run([ROOT / "tools/install"], env=environment, check=False)
     if done.returncode != 0:

@@ -19,7 +19,7 @@ WORKLOADS = {
 
 
 def table_size(workload: Workload) -> int:
-    """Returns the KiB of scrypt's table, 0 for another method."""
+    """Returns the size of scrypt's table in KiB, or 0 for another method."""
     cost = workload.scrypt_cost
     return 0 if cost is None else (128 * cost.r << cost.log_n) >> 10
 

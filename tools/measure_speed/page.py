@@ -69,7 +69,7 @@ def format_time(time: float) -> str:
 
 
 def decimals_of(ratio: float) -> int:
-    """Returns how many decimals show a hundredth of a ratio."""
+    """Returns how many decimals to show of a ratio: the fewer, the larger it is."""
     if ratio < 10:
         return 2
     return 1 if ratio < 100 else 0
@@ -188,7 +188,7 @@ def memory(results: Results) -> str:
 
 
 def times(results: Results) -> str:
-    """The seconds."""
+    """The times of hashes and of an audit."""
     table = []
     for row in results.rows(Part.SECONDS, Seconds):
         if row.row.startswith(seconds.SLOWEST):
@@ -244,7 +244,7 @@ def line_of(parts: Sequence[Part], results: Results) -> str:
 
 
 def machine_of_times(results: Results) -> str:
-    """The machine of the seconds."""
+    """The machine on which these times were measured."""
     runs = max(row.runs for row in results.rows(Part.SECONDS, Seconds))
     conditions = results.parts[Part.SECONDS].conditions
     return f"The fastest of {runs} runs each, on {machine(conditions)}.\n"

@@ -56,7 +56,7 @@ class Count:
 
 @dataclass(frozen=True)
 class Comparison:
-    """A ratio: the time of something, divided by that of what its part compares it with."""
+    """A ratio: the time of something, divided by the time of what it is compared with."""
 
     row: str
     name: str
@@ -147,7 +147,7 @@ class Results:
 
 
 def to_json(value: object) -> str:
-    """Formats a value in one line."""
+    """Formats a value on one line."""
     return json.dumps(value, separators=(",", ":"), ensure_ascii=False)
 
 

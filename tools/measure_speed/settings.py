@@ -38,7 +38,7 @@ class Workload:
     setting: bytes
     hashes: int = 1
     password: bytes = PASSWORD
-    # How many an engine of JavaScript makes before those that count, to compile the code.
+    # How many hashes a JavaScript engine makes before those that count, to compile the code.
     warm_up_hashes: int = 1
 
     @property

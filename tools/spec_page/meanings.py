@@ -65,7 +65,7 @@ def reached(start: Iterable[Entry]) -> Reached:
 
 @lru_cache(maxsize=None)
 def names_of(entry: Entry) -> Mapping[str, tuple[Meaning, ...]]:
-    """Returns what the words of an entry mean, other than itself.
+    """Returns what the words of an entry mean, other than the entry itself.
 
     Every word that the entry's file declares or imports counts, even if it is only an argument's
     name. So the page may have a definition too many, but lacks none.
@@ -96,7 +96,7 @@ def names_of_definition(entry: Entry) -> Iterator[tuple[str, Meaning]]:
 
 
 def names_of_code(entry: Entry) -> Iterator[tuple[str, Meaning]]:
-    """Yields the words of a type or a call that are types, and those that its clauses import."""
+    """Yields the types that a type or a call names, and what its clauses import."""
     code = COMMENT_OR_STRING.sub("", entry.code)
     clauses = CLAUSES.search(code)
     border = clauses.start() if clauses else len(code)
