@@ -1,4 +1,4 @@
-"""Sets up pytest: shared fixtures, skips for what is missing, slow tests first, a summary."""
+"""Shared fixtures, and hooks that skip tests, run slow ones first and print a summary."""
 from __future__ import annotations
 
 import ctypes
@@ -40,13 +40,13 @@ def fixture_commands(program: Path, tmp_path_factory: pytest.TempPathFactory) ->
 
 @pytest.fixture(scope="session", name="environment")
 def fixture_environment(commands: Path) -> Changes:
-    """The environment in which a shell finds the tree's commands first."""
+    """Changes to the environment that let a shell find the tree's commands first."""
     return {"PATH": f"{commands}:{os.environ['PATH']}", "BASH_ENV": None}
 
 
 @pytest.fixture(autouse=True, name="heeded_signals")
 def fixture_heeded_signals() -> Iterator[None]:
-    """Lets ^C and ^\\ reach what a test starts, even if a shell runs the tests in the background.
+    """Lets ^C and ^\\ reach a test's processes, even if a shell runs the tests in the background.
 
     A shell without job control starts background commands with these signals ignored.
     """
@@ -68,7 +68,7 @@ def pytest_configure(config: pytest.Config) -> None:
     """Adds SBIN to PATH, and makes sure that SIGTERM ends workers and the commands of their tests.
 
     A worker gets SIGTERM when the main process dies. SIGTERM then acts like ^C, so that a test
-    still ends what it has started.
+    can still end the processes that it has started.
     """
     os.environ["PATH"] = f"{os.environ['PATH']}:{SBIN}"
     if is_worker(config):

@@ -13,7 +13,7 @@ from support.pwhash_copies import Copy, copied
 
 @pytest.fixture(autouse=True, name="folder")
 def fixture_folder(tmp_path: Path, monkeypatch: pytest.MonkeyPatch) -> Path:
-    """A scratch folder, which becomes the current one."""
+    """A scratch folder, which becomes the current one. The locale becomes C.UTF-8."""
     monkeypatch.chdir(tmp_path)
     monkeypatch.setenv("LC_ALL", "C.UTF-8")
     return tmp_path

@@ -1,4 +1,4 @@
-"""pwhash appends to a file, by the shell's >>, whose last line has no line feed."""
+"""The shell's >> appends pwhash's output to a file, even if its last line has no line feed."""
 from __future__ import annotations
 
 

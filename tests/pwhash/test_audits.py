@@ -17,7 +17,7 @@ from support.pwhash_runs import MD5, pwhash, save, shell
 )
 @pytest.mark.parametrize("source", ["pipe", "file", "nothing"])
 def test_an_audit_needs_a_file(words: tuple[str, ...], source: str) -> None:
-    """Cron, ssh and Ansible make standard input a pipe, so a pipe doesn't mean that lines come."""
+    """Cron, ssh and Ansible make standard input a pipe, so a pipe needn't have any input."""
     save("fields", b"eve:secret\n")
     redirected = {"pipe": 'cat fields | "$@"', "file": '"$@" < fields', "nothing": '"$@" <&-'}
     done = shell(redirected[source], "audit", *words)
@@ -67,7 +67,7 @@ ANN = ACCOUNTS[0]
 
 
 def audited(*words: str) -> list[str]:
-    """Returns the rows of an audit of all accounts, with single blanks between columns."""
+    """Audits all accounts. Returns the printed lines, with single blanks between columns."""
     save("shadow", b"".join(account.line + b"\n" for account in ACCOUNTS))
     done = pwhash("audit", *words, "shadow")
     assert (done.status, done.err) == (1, b""), done

@@ -1,7 +1,7 @@
-"""pwhash calibrate: the rounds and the budget for a time, on a machine of known speed.
+"""pwhash calibrate: the rounds and the budget that fit a time, on a machine of known speed.
 
 The expected numbers follow from the formulas of docs/FORMATS.md. A real machine is measured only
-if its speed doesn't change what is expected.
+where its speed doesn't change the expected numbers.
 """
 from __future__ import annotations
 
@@ -37,13 +37,13 @@ def seconds_of_cost(*_):
     return 10 / 1_000_000_000
 '''
 COST_OF_SECOND = 100_000_000
-FLOOR = 150_000_000  # the lowest limit that the library sets by itself
+FLOOR = 150_000_000  # the library's lowest default limit
 EVER = "999999s"
 
 
 @pytest.fixture(name="calibrate")
 def fixture_calibrate(copy: Copy) -> Copy:
-    """A copy of pwhash that runs on such a machine."""
+    """A copy of pwhash that measures the speed of the machine in SPEED."""
     (copy.modules / "pwhash/speed.py").write_text(SPEED, encoding="ascii")
     return copy
 
@@ -73,14 +73,15 @@ def policy_in(line: str) -> Policy:
 @pytest.mark.parametrize(
     ("given", "expected"),
     [
-        # The time allows a cost of 30,000,000, of which a new hash of 64 bytes may have half. With
-        # 1000 more rounds it costs 15,104,016 or 15,030,832. Scrypt's lowest cost is 67,136,932.
+        # The time allows a cost of 30,000,000. A new hash of a 64-byte password may cost half of
+        # that; with 1000 more rounds it would cost 15,104,016 (sha512crypt) or 15,030,832
+        # (sha256crypt). Scrypt's lowest cost is 67,136,932.
         pytest.param(
             "300ms",
             [Policy(SHA512CRYPT, 77_000, 29_820_992), Policy(SHA256CRYPT, 92_000, 29_738_624)],
             id="far below the floor of the library's limit",
         ),
-        # The time allows 140,000,000, more than twice scrypt's lowest cost.
+        # The time allows a cost of 140,000,000, more than twice scrypt's lowest cost.
         pytest.param(
             "1.4s",
             [
@@ -90,8 +91,8 @@ def policy_in(line: str) -> Policy:
             ],
             id="a little below it",
         ),
-        # The time allows 200,000,000. The budgets are the library's limits for these rounds, and
-        # for scrypt the floor.
+        # The time allows a cost of 200,000,000. The budgets are the library's default limits for
+        # these rounds; scrypt's is the floor.
         pytest.param(
             "2s",
             [
@@ -131,7 +132,7 @@ def test_more_time_never_gives_fewer_rounds_or_a_lower_budget(calibrate: Copy, m
 
 @pytest.mark.parametrize("given", ["50ms", "300ms", "1.4s", "1.5s", "3s", EVER])
 def test_a_budget_is_the_librarys_limit_for_the_policy(calibrate: Copy, given: str) -> None:
-    """It admits a new hash of 64 bytes. From the floor on, it needn't be given."""
+    """The budget admits a new hash of a 64-byte password. From FLOOR on, it needn't be given."""
     for policy in policies_in(answer(calibrate, given).stdout):
         name = next(name for name, number in NUMBERS.items() if number == policy.method)
         limit = mkpasswd.Policy(name, policy.rounds, policy.budget).limit()
@@ -148,7 +149,7 @@ def test_a_budget_is_the_librarys_limit_for_the_policy(calibrate: Copy, given: s
 def test_too_little_time_for_the_fewest_rounds_is_reported(
     calibrate: Copy, given: str, method: str
 ) -> None:
-    """The fewest rounds need budgets of 341,280, 405,344 and 134,273,864: ten nanoseconds each."""
+    """The fewest rounds need budgets of 341,280, 405,344 and 134,273,864, at 10 ns per unit."""
     done = calibrate.run("calibrate", given, "-m", method)
     assert (done.status, done.stdout) == (1, b"") and done.stderr.count(b"\n") == 1, done
     assert method.encode() in done.stderr and b"even with -R" in done.stderr, done
@@ -315,7 +316,7 @@ def test_a_machine_is_measured() -> None:
     assert (done.status, done.out) == (1, b"") and done.err.count(b"takes longer") == 3, done
 
 
-def test_a_signal_ends_it_at_once() -> None:
+def test_a_signal_ends_a_calibration_at_once() -> None:
     with started("calibrate", "300ms") as process:
         wait_for(lambda: working_threads(process.pid, process.pid) > 0)
         begun = time.monotonic()

@@ -149,7 +149,7 @@ def test_a_changed_file_is_named_even_without_out(redirected: bool) -> None:
     ],
 )
 def test_a_replaced_part_or_list_makes_no_out(change: Callable[[], None]) -> None:
-    """OUT would have only some of the users."""
+    """Otherwise OUT would have only some of the users."""
     with slow_run() as process:
         change()
         done = ended(process)

@@ -1,4 +1,4 @@
-"""pwhash where /dev has no terminal: it creates none, and takes no file for one."""
+"""pwhash where /dev has no terminal: it creates no file there, and takes none for the terminal."""
 from __future__ import annotations
 
 import shlex
@@ -19,7 +19,7 @@ EMPTY_DEV = """
 
 
 def test_pwhash_creates_no_dev_tty() -> None:
-    """The next program would take a file /dev/tty for the terminal."""
+    """If pwhash created a file /dev/tty, the next program would take it for the terminal."""
     script = f"""
         {EMPTY_DEV}
         "$@" || echo status $?

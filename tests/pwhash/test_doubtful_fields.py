@@ -1,4 +1,4 @@
-"""Lines that aren't accounts: fields that a spreadsheet damaged or quoted, headings, rows."""
+"""Doubtful lines: fields that a spreadsheet damaged or quoted, headings, and rows of tables."""
 from __future__ import annotations
 
 
@@ -105,7 +105,7 @@ def test_a_tables_row_is_doubtful_in_a_list(row: str) -> None:
     assert done.status == 1 and b"--csv" in done.err, done
 
 
-def test_a_name_with_a_blank_is_perhaps_of_another_column() -> None:
+def test_a_name_with_a_blank_may_come_from_another_column() -> None:
     table = save("people", b"person,password\nAnn Lee,secret\nbob,pw2\n")
     words = ("file", *MD5CRYPT, "--csv", "--columns", "person,password", table, "-o", "hashes")
     done = pwhash(*words)

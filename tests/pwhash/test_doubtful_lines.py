@@ -1,4 +1,4 @@
-"""Doubtful lines, which hardly anybody means as they are: none is hashed without a decision."""
+"""Doubtful lines, which are probably mistakes: none is hashed unless the user accepts it."""
 from __future__ import annotations
 
 import os

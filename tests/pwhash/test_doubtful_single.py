@@ -1,4 +1,6 @@
-"""One doubtful password, typed or piped, hashed or set in a file: refused, or hashed if accepted.
+"""A single doubtful password, typed or piped, to be hashed or set in a file.
+
+pwhash refuses it unless --accept-doubtful is given.
 
 test_terminals.py has more about typed passwords, and test_one_password_of_a_pipe.py about piped
 ones.

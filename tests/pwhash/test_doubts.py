@@ -1,4 +1,4 @@
-"""Lines that hardly anybody means: decomposed accents, lost characters, repeated names."""
+"""Lines that are probably mistakes: decomposed accents, lost characters, repeated names."""
 
 from __future__ import annotations
 
@@ -27,7 +27,7 @@ def test_a_lost_character_is_doubtful_and_no_other_encoding_is_guessed() -> None
     assert b"FFFD" in done.err and b"iconv" not in done.err, done
 
 
-# Decomposed accents: letter and accent are two characters.
+# Decomposed accents: the letter and its accent are two characters.
 
 DECOMPOSED = unicodedata.normalize("NFD", "Grüße").encode()
 
@@ -67,7 +67,7 @@ def test_a_piped_password_with_decomposed_accents_is_refused() -> None:
 
 
 def test_a_typed_password_with_decomposed_accents_is_reported_and_hashed() -> None:
-    """The keyboard that sends it will send the same at every login."""
+    """A keyboard that sends decomposed accents now will send them at every login."""
     terminal = at_terminal(MD5CRYPT, [DECOMPOSED + b"\r"] * 2)
     assert terminal.status == 0 and b"NFC" in terminal.screen, terminal
     assert terminal.screen.split()[-1] == hashed(DECOMPOSED), terminal

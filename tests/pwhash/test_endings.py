@@ -41,7 +41,7 @@ EACH_SIGNAL = pytest.mark.parametrize(
 
 
 def is_asleep(process: int) -> bool:
-    """Returns whether a process sleeps for a tenth of a second, as while it waits for a reader."""
+    """Returns whether a process sleeps for 0.1 s, as it does while it waits for a reader."""
     for _ in range(5):
         if state_of(process) != "S":
             return False
@@ -65,7 +65,7 @@ def test_a_signal_ends_a_run_whose_messages_nobody_reads(number: signal.Signals)
 @pytest.mark.needs("strace")
 @EACH_SIGNAL
 def test_a_signal_after_out_has_its_name_does_not_change_the_status(number: signal.Signals) -> None:
-    """strace delays the calls that remove the other names by three seconds."""
+    """strace delays the calls that remove the file's other names, by three seconds."""
     save("list", users(3) + b"no colon\n")
     inject = "inject=unlink,unlinkat:delay_enter=3000000"
     command = ["strace", "-f", "-qq", "-o", "/dev/null", "-e", inject, PWHASH, "file", *MD5CRYPT]
@@ -160,7 +160,7 @@ def test_a_library_that_was_cut_short_is_named(copy: Copy) -> None:
 
 
 def test_a_library_of_another_version_is_named(copy: Copy, folder: Path) -> None:
-    """The library has the right name, but not the calls."""
+    """The library has the right name, but lacks the calls."""
     save("other.c", b"int other;\n")
     library = folder / copy.library.name
     soname = f"-Wl,-soname,{copy.library.name}"
@@ -262,7 +262,7 @@ def test_a_truncated_first_module_never_ends_with_status_0(copy: Copy, left: byt
 
 
 def test_planted_modules_and_libraries_are_not_loaded(folder: Path) -> None:
-    """Neither the current folder nor the environment names any."""
+    """pwhash loads none from the current folder, or from the paths in the environment."""
     save("json.py", b"raise SystemExit(0)\n")
     save("mkpasswd.py", b"raise SystemExit(0)\n")
     save("libmkpasswd.so.3", b"no library")

@@ -1,4 +1,4 @@
-"""pwhash file --generate: a new password for each name, in lists for people.
+"""pwhash file --generate: a new password for each name, in lists to hand out.
 
 Hashes are compared with libxcrypt's.
 """
@@ -22,7 +22,7 @@ LETTERS = re.compile(
 
 
 def rows_of(path: str, separator: str = ",") -> dict[bytes, bytes]:
-    """Returns the passwords in a list by name, read as CSV."""
+    """Reads a list as CSV. Returns its passwords by name."""
     text = read(path).decode("utf-8-sig")
     heading, *rows = csv.reader(io.StringIO(text), delimiter=separator)
     assert heading == ["name", "password"], text
@@ -30,7 +30,7 @@ def rows_of(path: str, separator: str = ",") -> dict[bytes, bytes]:
 
 
 def assert_hashes_of(passwords: dict[bytes, bytes], path: str = "hashes") -> None:
-    """Fails unless a file has the right hash of each name, and no other line."""
+    """Fails unless a file has a line with the right hash for each name, and no other names."""
     lines = [line.partition(b":") for line in read(path).splitlines()]
     assert {name for name, _, _ in lines} == set(passwords), lines
     for name, _, stored in lines:
@@ -42,7 +42,7 @@ def mode(path: str) -> int:
 
 
 def assert_refused(done: Ended, reason: bytes, *files: str) -> None:
-    """Fails unless a run ended with status 2 and a reason, and left only these files."""
+    """Fails unless a run ended with status 2, this reason and no output, and left these files."""
     assert done.status == 2 and done.out == b"" and reason in done.err, done
     assert set(os.listdir()) == set(files), (os.listdir(), done)
 
@@ -84,7 +84,7 @@ def test_a_length_can_be_chosen(length: int) -> None:
     assert_hashes_of(passwords)
 
 
-def test_names_can_come_from_a_file_of_windows() -> None:
+def test_names_can_come_from_a_windows_file() -> None:
     save("names", BOM + b"ann\r\nbob\r\n")
     done = pwhash(*WORDS, "names", "--windows", "--passwords", "list")
     assert done.status == 0 and list(rows_of("list")) == [b"ann", b"bob"], done
@@ -108,7 +108,7 @@ def test_a_repeated_name_has_one_password() -> None:
     assert_hashes_of({**rows_of("lists/5a.csv"), **rows_of("lists/5b.csv")})
 
 
-# ---- Names that spreadsheets would compute
+# ---- Names that spreadsheets would take for formulas
 
 FORMULAS = [
     pytest.param(b"=1+1", id="equals"),
@@ -242,7 +242,7 @@ def test_a_row_that_is_not_an_account_is_refused(row: bytes, reason: str) -> Non
     assert_hashes_of(rows_of("lists/5a.csv"))
 
 
-def test_a_row_without_the_column_of_names_is_refused_for_that() -> None:
+def test_a_row_without_the_column_of_names_is_refused_for_that_reason() -> None:
     save("table", b"class;surname;name\n5a;M\xfcller;ann\n5a;eve\n")
     done = pwhash(*BY_CLASS, "table")
     assert done.status == 1 and b"no field in the column of names" in done.err, done

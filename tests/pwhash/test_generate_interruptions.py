@@ -1,4 +1,4 @@
-"""pwhash file --generate that ends early: no hash remains without its password in a list.
+"""Runs of pwhash file --generate that end early: each hash they leave has its password in a list.
 
 Hashes are compared with libxcrypt's.
 """
@@ -47,7 +47,10 @@ def fixture_table(folder: pathlib.Path) -> None:
 
 
 def passwords_in(lists: str = "lists") -> dict[bytes, bytes]:
-    """Returns the passwords in all lists. A list may be cut only while there are no hashes."""
+    """Returns the passwords in all lists by name.
+
+    Call it only once there are hashes: until then a list may be truncated.
+    """
     path = pathlib.Path(lists)
     files = sorted(path.iterdir()) if path.is_dir() else [path]
     rows = [line.partition(b";") for file in files for line in file.read_bytes().splitlines()]
@@ -55,7 +58,7 @@ def passwords_in(lists: str = "lists") -> dict[bytes, bytes]:
 
 
 def hashes_in(name: str) -> dict[bytes, bytes]:
-    """Returns the hashes in the whole lines of a file, which may not exist."""
+    """Returns the hashes in the complete lines of a file, or none if the file doesn't exist."""
     if not os.path.exists(name):
         return {}
     lines = [line.partition(b":") for line in read(name).split(b"\n")[:-1]]
@@ -63,7 +66,7 @@ def hashes_in(name: str) -> dict[bytes, bytes]:
 
 
 def assert_passwords_of(hashes: dict[bytes, bytes], most: int) -> None:
-    """Fails unless each hash has a password in a list. Computes at most `most` hashes again."""
+    """Fails unless each hash has a password in a list. Recomputes at most `most` hashes."""
     passwords = passwords_in() if hashes else {}
     assert set(hashes) <= set(passwords), set(hashes) - set(passwords)
     for name in random.sample(sorted(hashes), min(most, len(hashes))):
@@ -71,7 +74,10 @@ def assert_passwords_of(hashes: dict[bytes, bytes], most: int) -> None:
 
 
 def assert_whole(done: Ended) -> None:
-    """Fails unless the run has made the hash of each name's password."""
+    """Fails unless the run succeeded, with a hash for each name and no stray files.
+
+    Recomputes five of the hashes.
+    """
     assert done.status == 0, done
     hashes = hashes_in("hashes")
     assert len(hashes) == COUNT and set(os.listdir()) == {"table", "hashes", "lists"}, done
@@ -87,7 +93,7 @@ def remove_all() -> None:
 
 
 def seconds_of_run() -> float:
-    """Returns how long a run takes here."""
+    """Returns how many seconds a run takes here."""
     begun = time.monotonic()
     assert_whole(pwhash(*WORDS))
     remove_all()
@@ -95,7 +101,7 @@ def seconds_of_run() -> float:
 
 
 def stopped(number: signal.Signals, seconds: float) -> Ended:
-    """Runs pwhash, and sends it a signal after some time, if it hasn't ended by then."""
+    """Runs pwhash, and sends it a signal after `seconds`, unless it has ended by then."""
     with started(*WORDS) as process:
         time.sleep(seconds)
         process.send_signal(number)
@@ -139,7 +145,7 @@ def assert_does_not_resume(*words: str, reason: bytes) -> None:
 
 @pytest.mark.usefixtures("interrupted")
 class TestResuming:
-    """A killed run, which goes on with --resume unless something has changed."""
+    """A killed run, which --resume continues unless something has changed."""
 
     def test_a_run_goes_on_with_the_same_passwords(self) -> None:
         before, made = passwords_in(), hashes_in(PART)
@@ -266,7 +272,7 @@ def test_a_run_with_one_list_goes_on_too() -> None:
     assert read("lists") == before, done
 
 
-def test_who_was_locked_meanwhile_is_named_and_stands_in_a_list_without_a_hash() -> None:
+def test_a_name_locked_between_the_runs_is_reported_and_gets_no_hash() -> None:
     last = b"user%d" % (COUNT - 1)
     fields = {b"user%d" % n: b"$1$ab$x" for n in range(COUNT)}
     save("shadow", b"".join(b"%s:%s:::::::\n" % line for line in fields.items()))
@@ -303,7 +309,7 @@ def test_of_two_simultaneous_runs_with_the_same_lists_one_makes_everything() -> 
     assert not os.path.exists(PART) and not os.path.exists("others.part"), results
 
 
-# The first run may fail on the small disk, and what it leaves is copied. The next one has room.
+# The first run may fail on the small disk; its files are copied. The next one has enough space.
 SMALL_THEN_LARGE = """
 mkdir full left && mount -t tmpfs -o size=PAGESk,mode=700 none full && cd full
 status=0; "$@" || status=$?

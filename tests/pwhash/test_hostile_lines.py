@@ -35,7 +35,7 @@ FIELDS = [
 
 
 def lines_of_passwords(seed: int) -> list[bytes]:
-    """Returns lines of --batch: passwords, refusals of each kind, long lines, imitated answers."""
+    """Returns lines for --batch: passwords, and lines that are refused, long or like answers."""
     source = random.Random(seed)
     return [
         source.choice(ODD_LINES) if source.random() < 0.3 else b"user%d:password%d" % (n, n)
@@ -44,7 +44,7 @@ def lines_of_passwords(seed: int) -> list[bytes]:
 
 
 def lines_of_fields(seed: int) -> list[bytes]:
-    """Returns lines of --check: stored fields of each kind, and malformed lines among them."""
+    """Returns lines for --check: stored fields of each kind, and some malformed lines."""
     source = random.Random(seed)
     return [
         line if source.random() < 0.1 else b"u%d:%b:password" % (n, source.choice(FIELDS))
@@ -54,14 +54,14 @@ def lines_of_fields(seed: int) -> list[bytes]:
 
 @dataclass(frozen=True)
 class Job:
-    """A command of pwhash, and mkpasswd's mode that does the same."""
+    """A command of pwhash, and the mode of mkpasswd that does the same."""
 
     title: str
     command: str
     mode: str
     words: tuple[str, ...]
-    more: tuple[str, ...] = ()  # options by which pwhash hashes doubtful lines
-    more_of_file: tuple[str, ...] = ()  # such options for a file
+    more: tuple[str, ...] = ()  # options that make pwhash hash doubtful lines
+    more_of_file: tuple[str, ...] = ()  # further options if the lines are in a file
 
     def __str__(self) -> str:
         return self.title
@@ -108,7 +108,7 @@ def test_lines_of_a_file_get_the_answers_of_mkpasswd(program: Path, job: Job) ->
 
 
 def first_difference(expected: Result, done: Result) -> str:
-    """Describes the first line that differs in an output. pytest would compare megabytes."""
+    """Describes the first line that differs in an output. pytest itself compares megabytes."""
     for name, wanted, came in (
         ("stdout", expected.stdout, done.stdout),
         ("stderr", expected.stderr, done.stderr),

@@ -62,7 +62,7 @@ def test_pwhash_asks_once_it_is_in_the_foreground() -> None:
 
 
 def test_a_signal_ends_pwhash_in_the_background_after_it_has_asked() -> None:
-    """It is stopped at its prompt, and continued in the background, where it must not ask."""
+    """pwhash is stopped at its prompt, and continued in the background, where it must not ask."""
     script = """
         echo "job $job"
         fg %1 > /dev/null

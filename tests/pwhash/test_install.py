@@ -1,4 +1,4 @@
-"""pwhash install: which files of hashes it installs, and what it keeps of the password file."""
+"""pwhash install: which files of hashes it installs, and what it keeps of the replaced file."""
 from __future__ import annotations
 
 import grp
@@ -38,7 +38,7 @@ STARTED = ("/usr/bin/python3", "-I", "-S", str(PACKAGE / "pwhash/start.py"), str
 
 
 def beside() -> list[str]:
-    """Returns the files in the current folder."""
+    """Returns the names of the files in the current folder."""
     return sorted(path.name for path in Path().iterdir())
 
 
@@ -328,7 +328,7 @@ def test_a_folder_that_others_can_write_is_refused(has_target: bool) -> None:
         pytest.param(b"\x7fELF\0\0\n\xff", id="a program"),
     ],
 )
-def test_what_is_no_password_file_is_not_replaced(content: bytes) -> None:
+def test_a_file_that_holds_no_passwords_is_not_replaced(content: bytes) -> None:
     save("hashes", HASHES)
     save("target", content)
     done = pwhash(*INSTALL)
@@ -387,7 +387,7 @@ def test_after_simultaneous_runs_one_whole_file_remains() -> None:
     with ThreadPoolExecutor(4) as pool:
         runs = [pool.submit(pwhash, "install", f"hashes{number}", "target") for number in range(8)]
     ends = [run.result() for run in runs]
-    # Of two runs that both find no file, one creates it.
+    # If several runs find no file, one of them creates it and the others fail.
     assert all(done.status in (0, 3) for done in ends), "\n".join(map(str, ends))
     assert any(done.status == 0 for done in ends) and read("target") in contents
 
@@ -443,7 +443,7 @@ def test_a_signal_while_the_file_is_written_undoes_nothing(has_target: bool) -> 
 
 @pytest.mark.needs("namespaces")
 @pytest.mark.parametrize("has_target", [True, False], ids=["a file", "a new file"])
-def test_a_machine_without_proc_is_enough(has_target: bool) -> None:
+def test_install_works_without_proc(has_target: bool) -> None:
     save("hashes", HASHES)
     if has_target:
         save("target", OLD)
@@ -453,7 +453,7 @@ def test_a_machine_without_proc_is_enough(has_target: bool) -> None:
 
 @pytest.mark.needs("cc")
 @pytest.mark.parametrize("has_target", [True, False], ids=["a file", "a new file"])
-def test_a_file_system_without_o_tmpfile_is_enough(has_target: bool, folder: Path) -> None:
+def test_install_works_on_a_file_system_without_o_tmpfile(has_target: bool, folder: Path) -> None:
     library = preload_library("between", folder)
     save("hashes", HASHES)
     if has_target:

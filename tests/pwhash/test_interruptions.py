@@ -1,4 +1,4 @@
-"""Runs interrupted at any moment: they write only right lines, and can be resumed."""
+"""Runs interrupted at any moment: they write only correct lines, and can be resumed."""
 from __future__ import annotations
 
 import glob
@@ -45,7 +45,7 @@ class Interrupted:
     finished: int = 0
 
     def run_once(self) -> None:
-        """Runs the command until a signal at a random moment, or to its end."""
+        """Runs the command to its end, or until it gets a signal at a random moment."""
         number = self.source.choice(NUMBERS)
         goal = size_of_part() + self.source.randrange(6000)
         with started_program("/bin/sh", "-c", f"exec {self.command}") as process:
@@ -59,7 +59,7 @@ class Interrupted:
         if os.path.exists("out"):
             assert read("out") == self.expected, done
             os.remove("out")
-            if number == signal.SIGKILL:  # it can come before the part's name is removed
+            if number == signal.SIGKILL:  # SIGKILL can come before the part is removed
                 for left in glob.glob(f"{PART}*"):
                     os.remove(left)
             self.command = FIRST
@@ -74,7 +74,7 @@ class Interrupted:
 
 @pytest.mark.slow
 def test_the_printed_command_resumes_an_interrupted_run(program: Path) -> None:
-    """Sends forty signals, at moments from a fixed seed."""
+    """Sends forty signals, at random moments from a fixed seed."""
     save("my lines", LINES)
     expected = run(program, "--batch", *WORDS, stdin=LINES).stdout
     interrupted = Interrupted(random.Random(5), expected)
@@ -92,7 +92,7 @@ def test_ctrl_c_while_modules_load_ends_pwhash_without_a_message(copy: Copy) -> 
 
 
 def test_ctrl_c_at_any_moment_of_the_start_ends_pwhash_by_the_signal() -> None:
-    """It may come while the shell, Python or the modules start, or when pwhash asks for lines."""
+    """Ctrl-C may come while the shell or Python starts, modules load, or pwhash asks for lines."""
     for milliseconds in range(0, 400, 5):
         process = started("file")
         time.sleep(milliseconds / 1000)
