@@ -1,4 +1,4 @@
-"""Joined lists: headings and byte order marks inside them are no users."""
+"""Joined lists: headings and byte order marks inside them don't become users."""
 from __future__ import annotations
 
 
@@ -46,7 +46,7 @@ def test_a_heading_on_any_line_is_doubtful(heading: bytes) -> None:
 
 
 def test_the_option_windows_drops_marks_of_joined_lists() -> None:
-    """`cat` joins two of Notepad's lists like that."""
+    """`cat` makes such a list out of two lists from Notepad."""
     lists = BOM + b"ann:password\r\n" + BOM + b"bob:password\r\neve:password\n"
     expected = b"".join(name + b":" + MD5.encode() + b"\n" for name in (b"ann", b"bob", b"eve"))
     done = pwhash("file", *MD5CRYPT, "--windows", stdin=lists)

@@ -6,7 +6,7 @@ from support.policy_limits import LONGEST_PASSWORD, SHA256CRYPT, SHA512CRYPT, Po
 from support.pwhash_runs import pwhash
 
 NAMES = {SHA256CRYPT: "sha256crypt", SHA512CRYPT: "sha512crypt"}
-# Odd numbers of rounds for which a password of 1,024 bytes is above the limit.
+# Numbers of rounds for which a password of 1,024 bytes is above the limit.
 ROUNDS = (656_000, 656_001, 300_007, 1_234_567, 98_765_432, 999_999_999)
 
 

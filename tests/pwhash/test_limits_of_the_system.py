@@ -1,4 +1,4 @@
-"""Systems that lack something: Python, open files, memory, processes."""
+"""Systems without Python or with low limits, and hostile inherited state."""
 from __future__ import annotations
 
 import os
@@ -46,7 +46,7 @@ def test_with_few_open_files_there_is_a_result_or_a_message(
 
 
 @pytest.mark.parametrize("kibibytes", range(4000, 60000, 4000))
-def test_with_little_memory_no_message_has_python_in_it(kibibytes: int) -> None:
+def test_with_little_memory_no_python_error_or_password_is_shown(kibibytes: int) -> None:
     save("passwords", users(20) + b"secret:TopSecret\xfc\n")
     words = ("file", *MD5CRYPT, "--accept-doubtful", "passwords")
     done = shell(f'ulimit -v {kibibytes}; exec "$@"', *words)
@@ -57,7 +57,7 @@ def test_with_little_memory_no_message_has_python_in_it(kibibytes: int) -> None:
 
 
 def seen_under(limit: str, limits: range, expected: bytes) -> set[int]:
-    """Returns the statuses under these limits. Fails if a line is lost, or counts as refused."""
+    """Returns the exit statuses under these limits. Fails if a line is lost or refused."""
     lines = users(50)
     statuses = set()
     for most in limits:
@@ -84,7 +84,7 @@ def test_a_run_is_complete_or_fails(limit: str, limits: range) -> None:
 
 
 def run_as_somebody(copy: Copy, most: int) -> Result:
-    """Runs pwhash as a user without other processes, under a limit of processes."""
+    """Runs pwhash as a user without other processes, who may have at most `most`."""
     user = 60000 + os.getpid() % 5000
     limit = ("prlimit", f"--nproc={most}", "setpriv", f"--reuid={user}", "--regid=65534")
     before = (*limit, "--clear-groups", "--")
@@ -92,8 +92,8 @@ def run_as_somebody(copy: Copy, most: int) -> Result:
 
 
 @pytest.mark.needs("root")
-def test_a_limit_of_processes_does_not_hang_a_run(copy: Copy) -> None:
-    """It must not wait forever for a process that can't be started."""
+def test_a_limit_on_processes_does_not_hang_a_run(copy: Copy) -> None:
+    """pwhash must not wait forever for a process that can't be started."""
     statuses = [run_as_somebody(copy, most).status for most in range(1, 9)]
     assert set(statuses) == {0, 3} and statuses[0] == 3, statuses
 

@@ -32,7 +32,7 @@ def rows_of(path: str, separator: str = ";") -> list[list[str]]:
 
 
 def assert_passwords_fit(rows: list[list[str]]) -> None:
-    """Fails unless each row ends with a name and the password of its hash."""
+    """Fails unless each row ends with a name and the password whose hash belongs to the name."""
     lines = [line.partition(b":") for line in read("hashes").splitlines()]
     fields = {name: field for name, _, field in lines}
     for *_, name, password in rows:
@@ -153,13 +153,13 @@ def test_invalid_columns_are_refused(words: list[str], reason: bytes) -> None:
         ),
     ],
 )
-def test_other_options_are_needed(words: str, reason: bytes) -> None:
+def test_list_columns_needs_other_options(words: str, reason: bytes) -> None:
     save("table", b"last;login\nXu;ann\n")
     done = pwhash(*words.split())
     assert done.status == 2 and reason in done.err and os.listdir() == ["table"], done
 
 
-# A run that takes some seconds.
+# A run that takes a few seconds.
 COSTLY = ["20000" if word == "1000" else word for word in (*BY_CLASS, *NAMES)]
 
 

@@ -47,7 +47,7 @@ def test_a_row_of_128_kib_is_hashed() -> None:
 
 @pytest.mark.parametrize("kept", [131070, 131071, 131072])
 def test_the_middle_of_a_long_row_is_never_lost_in_a_pipe(kept: int) -> None:
-    """The end of such a row once followed its first 128 KiB, as the end of the password."""
+    """pwhash once joined the end of such a row to its first 128 KiB, as part of the password."""
     begin = b"ann," + b"x" * (kept - len(b"ann,,real")) + b",real"
     process = started("file", "--csv", *MD5CRYPT)
     assert process.stdin
@@ -60,7 +60,7 @@ def test_the_middle_of_a_long_row_is_never_lost_in_a_pipe(kept: int) -> None:
 
 
 def test_a_row_whose_line_feed_is_in_the_next_block_is_not_cut() -> None:
-    """pwhash reads blocks of 256 KiB, of which it once kept only 128 KiB, a whole row."""
+    """pwhash reads blocks of 256 KiB. It once kept 128 KiB of a row and took that for all of it."""
     heading = b"third,name,password\n"
     begin = b"x" * 131050 + b",ann,password"
     row = begin + b"y" * ((1 << 18) - len(heading) - len(begin))
@@ -70,7 +70,7 @@ def test_a_row_whose_line_feed_is_in_the_next_block_is_not_cut() -> None:
 
 
 def test_a_row_of_many_lines_has_a_limit() -> None:
-    """pwhash once held all of it: a row of 30 MB took 480 MiB."""
+    """pwhash once kept all of such a row in memory: one of 30 MB took 480 MiB."""
     row = b'ann,pw1,"x' + b'\nx",",' * 400000 + b'"\n'
     save("table", b"name,password\n" + row)
     done = shell('ulimit -v 400000; exec "$@"', "file", "--csv", *MD5CRYPT, "table")

@@ -1,4 +1,4 @@
-"""pwhash looks at all lines of a file before it hashes any. The user decides about problems."""
+"""pwhash looks at all lines of a file before it hashes any. The user decides about bad ones."""
 from __future__ import annotations
 
 import os
@@ -22,7 +22,7 @@ LINES = [
 
 
 def looked_at() -> Ended:
-    """Runs pwhash file --look over the lines."""
+    """Saves LINES, and runs pwhash file over them without an option for problems."""
     save("lines", b"\n".join(LINES) + b"\n")
     return pwhash(*TO_OUT)
 

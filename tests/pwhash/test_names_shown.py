@@ -1,4 +1,4 @@
-"""Control sequences of a terminal in a name never reach the terminal."""
+"""No control sequence in a name reaches the terminal."""
 from __future__ import annotations
 
 import os

@@ -171,6 +171,6 @@ def test_the_message_names_no_budget_if_none_admits_the_password(
         ),
     ],
 )
-def test_what_is_wrong_is_named(words: str, password: bytes, reason: str) -> None:
+def test_each_mistake_is_named(words: str, password: bytes, reason: str) -> None:
     done = pwhash(*words.split(), stdin=password)
     assert (done.status, done.out) == (2, b"") and reason in done.err.decode(), done

@@ -1,4 +1,4 @@
-"""One password from a pipe that nobody can mean: pwhash refuses it and names the reason."""
+"""A piped password that is probably a mistake: pwhash refuses it and names the reason."""
 from __future__ import annotations
 
 

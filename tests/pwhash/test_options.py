@@ -116,7 +116,7 @@ def test_an_option_may_stand_between_file_and_name(words: tuple[str, ...]) -> No
     assert read("users") != b"ann:" + MD5.encode() + b"\n"
 
 
-def test_a_word_behind_two_dashes_is_no_option() -> None:
+def test_a_word_after_two_dashes_is_not_an_option() -> None:
     done = pwhash("verify", "--quiet", "--", "--budget", "ann", stdin=b"x\n")
     assert done.status == 3 and b"--budget" in done.err and b"No such file" in done.err, done
 
@@ -129,13 +129,13 @@ def test_a_word_behind_two_dashes_is_no_option() -> None:
         pytest.param(("./--lock", "--quiet", "--", "-ann"), id="between"),
     ],
 )
-def test_words_behind_two_dashes_are_file_and_name(words: tuple[str, ...]) -> None:
+def test_words_after_two_dashes_are_file_and_name(words: tuple[str, ...]) -> None:
     save("--lock", b"-ann:" + MD5.encode() + b"\n")
     done = pwhash("verify", *words, stdin=b"password\n")
     assert (done.status, done.out) == (0, b"yes, the password matches\n"), done
 
 
-def test_an_option_behind_two_dashes_is_a_word_too_many() -> None:
+def test_an_option_after_two_dashes_is_a_word_too_many() -> None:
     save("list", b"ann:password\n")
     done = pwhash("file", "-m", "md5crypt", "--", "list", "--accept-doubtful")
     assert (done.status, done.out) == (2, b"") and b"too many" in done.err, done

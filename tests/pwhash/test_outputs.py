@@ -42,7 +42,7 @@ def test_a_reader_that_stops_ends_the_run_quietly(words: tuple[str, ...], lines:
     ],
 )
 def test_no_out_is_lost_because_of_standard_error(redirected: str) -> None:
-    """A run whose result is a file goes on if nobody reads its messages."""
+    """A run whose result is a file continues even if nobody reads its messages."""
     save("passwords", users(50) + b"no colon\n" + users(50).replace(b"user", b"other"))
     script = redirected.replace('"$@"', 'sleep 0.2; "$@"')
     done = shell(script, "file", *MD5CRYPT, "passwords", "-o", "hashes", "--skip-refused")
@@ -96,7 +96,7 @@ def test_a_full_standard_error_does_not_change_the_status(
 
 
 @pytest.mark.needs("namespaces")
-def test_a_run_on_a_full_disk_resumes_once_there_is_room() -> None:
+def test_a_run_on_a_full_disk_resumes_once_there_is_space() -> None:
     lines = save("lines", users(1000))
     script = """
         mkdir full

@@ -1,4 +1,4 @@
-"""pwhash never prints into the file that it reads, nor control sequences of a terminal."""
+"""pwhash never prints into the file that it reads, and no control sequences to a terminal."""
 
 from __future__ import annotations
 
@@ -72,7 +72,7 @@ def test_the_terminal_shows_why_nothing_is_added() -> None:
     assert b"list is standard error too" in screen, screen
 
 
-def test_another_file_is_added_to() -> None:
+def test_output_can_be_appended_to_another_file() -> None:
     save("list", b"ann:password\n")
     save("hashes", b"eve:!\n")
     done = shell('exec "$@" < list >> hashes', "file", *MD5CRYPT)

@@ -1,4 +1,4 @@
-"""OUT.part: pwhash writes only the user's own, and touches no other file."""
+"""OUT.part: pwhash writes it only if it is the user's own, and touches no other file."""
 from __future__ import annotations
 
 import os
@@ -27,7 +27,7 @@ from support.pwhash_runs import (
 
 
 def run_in_the_open_folder(*words: str) -> Ended:
-    """Runs pwhash as root in a folder that everybody can write."""
+    """Runs pwhash in a folder that everybody can write."""
     os.chmod(".", 0o777)
     return pwhash("file", *MD5CRYPT, "passwords", "-o", "hashes", *words)
 
@@ -71,7 +71,7 @@ def part_for_all() -> None:
 def test_a_part_that_is_not_only_the_users_is_never_written(
     put: Callable[[], None], words: tuple[str, ...]
 ) -> None:
-    """Its owner could add lines before chpasswd reads them."""
+    """Somebody else could add lines before chpasswd reads the file."""
     save("passwords", b"ann:password\n")
     put()
     before = os.lstat("hashes.part")
@@ -102,7 +102,7 @@ def test_the_input_file_is_not_removed() -> None:
 
 @pytest.mark.needs("strace")
 def test_another_users_file_is_not_mistaken_for_out() -> None:
-    """Without hard links pwhash renames the part. strace delays that by a second."""
+    """Without hard links pwhash renames the part. strace delays the renaming by two seconds."""
     save("list", users(3))
     command = ["strace", "-f", "-qq", "-o", "log", "-e", "trace=linkat,renameat2"]
     command += ["-e", "inject=linkat:error=EPERM", "-e", "inject=renameat2:delay_enter=2000000"]
@@ -118,7 +118,7 @@ def test_another_users_file_is_not_mistaken_for_out() -> None:
 
 @pytest.mark.needs("strace")
 def test_a_part_that_another_run_made_out_is_left_alone() -> None:
-    """Another run may end before this one locks the part. strace delays that by a second."""
+    """Another run may end before this one locks the part. strace delays the lock by two seconds."""
     save("list", b"ann:password\n")
     os.utime("list", (1e9, 1e9))
     save_part("hashes.part", b"ann:" + MD5.encode() + b"\n")

@@ -1,4 +1,4 @@
-"""How many hashes pwhash computes at once: as the machine's or the control group's limits allow."""
+"""pwhash computes as many hashes at once as the machine and its control group allow."""
 from __future__ import annotations
 
 import pathlib
@@ -53,7 +53,7 @@ def test_no_more_threads_work_than_there_are_processors(
 
 
 MEBIBYTE = 1 << 20
-OWN = 30  # mebibytes that a run takes besides its hashes
+OWN = 30  # mebibytes that a run takes in addition to its hashes
 
 
 LITTLE_MEMORY = [

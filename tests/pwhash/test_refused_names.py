@@ -1,4 +1,4 @@
-"""Names whose first line is refused: a later line of the name may be an old one."""
+"""Names whose first line is refused get no hash: a later line may hold an old password."""
 from __future__ import annotations
 
 import re

@@ -38,7 +38,7 @@ def test_an_option_with_a_value_may_be_given_only_once(
         pytest.param(("file", "--for", "apache", "--for", "ldap"), id="--for"),
     ],
 )
-def test_two_files_are_refused(words: tuple[str, ...]) -> None:
+def test_two_values_for_one_option_are_refused(words: tuple[str, ...]) -> None:
     save("list", b"ann:x\n")
     save("other", b"ann:x\n")
     done = pwhash(*words, "-m", "md5crypt", stdin=b"ann:x\n")

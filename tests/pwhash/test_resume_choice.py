@@ -1,4 +1,4 @@
-"""pwhash resumes a part only with the options by which its run skipped lines."""
+"""pwhash resumes a part only with the options that decided which lines its run skipped."""
 from __future__ import annotations
 
 import os
@@ -26,20 +26,20 @@ WORDS = ("file", *SLOW, "list", "-o", "hashes")
 
 @pytest.fixture(autouse=True, name="saved_list")
 def fixture_saved_list(folder: Path) -> None:
-    """A list in the scratch folder that has two lines to skip."""
+    """A list in the scratch folder, with two lines to skip."""
     del folder  # it is the current folder
     save("list", users(COUNT) + b"no colon\ndan: x\n")
 
 
 def terminated(process: subprocess.Popen[bytes]) -> Ended:
-    """Sends a signal to a run once its part has lines, unless it has ended by then."""
+    """Sends SIGTERM to a run once its part has lines, unless the run has ended by then."""
     wait_for(lambda: process.poll() is not None or has_begun())
     process.send_signal(signal.SIGTERM)
     return ended(process)
 
 
 def interrupt(*choice: str) -> None:
-    """Runs pwhash until a signal ends it halfway. Repeats a run that is faster than the signal."""
+    """Runs pwhash until a signal ends it halfway. Repeats a run that ends before the signal."""
     for _ in range(20):
         done = terminated(started(*WORDS, *choice, stdin=subprocess.DEVNULL))
         if os.path.exists("hashes.part"):

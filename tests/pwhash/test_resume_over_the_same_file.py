@@ -1,4 +1,4 @@
-"""pwhash file --resume continues only with the same file that the part was begun with."""
+"""pwhash file --resume continues a part only with the file that the part was begun with."""
 
 from __future__ import annotations
 
@@ -46,9 +46,9 @@ def fixture_passwords(folder: Path) -> None:
 def interrupted(
     *words: str, part: str = "hashes.part", source: str = os.devnull, begun: bytes = b""
 ) -> Ended:
-    """Runs pwhash until a signal ends it halfway, perhaps over a part that already has lines.
+    """Runs pwhash until a signal ends it halfway. Repeats a run that ends before the signal.
 
-    Repeats a run that is faster than the signal.
+    If `begun` is given, the part has these lines from the start.
     """
     for _ in range(20):
         if begun:
@@ -64,7 +64,7 @@ def interrupted(
 
 
 def terminated(process: subprocess.Popen[bytes], part: str, size: int) -> Ended:
-    """Sends SIGTERM to a run once its part is longer than `size`, unless it has ended by then."""
+    """Sends SIGTERM to a run once its part is longer than `size`, unless the run has ended."""
     wait_for(lambda: process.poll() is not None or size_of(part) > size)
     process.send_signal(signal.SIGTERM)
     return ended(process)
@@ -81,7 +81,7 @@ def lines_in(name: str) -> int:
 
 
 def printed_command(done: Ended) -> str:
-    """Returns the command that the run prints for going on."""
+    """Returns the command that the run prints for resuming it."""
     return done.err.decode().split("To go on:\n")[1].strip()
 
 
@@ -107,7 +107,7 @@ def copy_over() -> None:
 
 
 def rename_over() -> None:
-    """Replaces the list by a backup of the same size and time."""
+    """Replaces the list with a backup of the same size and time."""
     save("backup", other_passwords())
     os.utime("backup", OLD)
     os.rename("backup", "passwords")
@@ -141,7 +141,7 @@ def test_a_part_of_another_file_is_not_resumed(change: Callable[[], object], sou
     assert b"--resume" not in done.err and read("hashes.part") == part, done
 
 
-def test_the_commands_of_the_refusal_make_new_hashes() -> None:
+def test_following_the_advice_after_a_refusal_makes_new_hashes() -> None:
     interrupted(*WORDS)
     copy_over()
     assert pwhash(*WORDS, "--resume").status == 2
@@ -208,7 +208,7 @@ def test_a_part_with_truncated_options_is_not_resumed(
 
 @pytest.mark.parametrize("cut", CUTS)
 def test_an_empty_part_with_truncated_options_loses_nothing(cut: Callable[[], None]) -> None:
-    """A power cut at the very beginning leaves such files."""
+    """A power failure at the very beginning can leave such files."""
     interrupted(*WORDS)
     cut()
     save("hashes.part", b"")
@@ -236,7 +236,7 @@ def test_the_printed_command_resumes_after_a_full_disk(words: tuple[str, ...], b
     assert done.out == b"status 3\n200\nhashes\n" and b"To go on" in done.err, done
 
 
-# The command that a run prints for going on.
+# The command that a run prints for resuming it.
 
 
 @pytest.mark.parametrize(
