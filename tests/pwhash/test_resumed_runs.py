@@ -58,7 +58,7 @@ def test_resume_refuses_a_forged_line_in_the_middle(middle: bytes) -> None:
     assert done.status == 0 and read("hashes").startswith(b"\n".join(kept) + b"\nzoe:$5$"), done
 
 
-def test_resume_refuses_another_salt_in_the_middle_than_the_given_one() -> None:
+def test_resume_refuses_a_salt_in_the_middle_that_is_not_the_given_one() -> None:
     save("passwords", b"ann:a\nbob:b\neve:c\nzoe:d\n")
     salts = ["$1$xxxxxxxx", "$1$yyyyyyyy", "$1$xxxxxxxx"]
     kept = [
@@ -216,7 +216,7 @@ def test_a_list_newer_than_the_part_is_not_resumed() -> None:
     assert done.status == 2 and not os.path.exists("out"), done
 
 
-def test_resume_without_a_part_begins() -> None:
+def test_resume_without_a_part_starts_from_the_beginning() -> None:
     save("lines", LINES)
     done = pwhash(*RESUMED)
     assert done.status == 1 and read("out") == WHOLE, done

@@ -1,4 +1,4 @@
-"""pwhash set keeps changes that others make meanwhile, and works on other file systems."""
+"""pwhash set keeps changes that others make during its run, and copes with limited file systems."""
 from __future__ import annotations
 
 import os
@@ -21,12 +21,12 @@ STARTED = ("/usr/bin/python3", "-I", "-S", str(PACKAGE / "pwhash/start.py"), str
 
 @pytest.fixture(scope="module", name="between")
 def fixture_between(tmp_path_factory: pytest.TempPathFactory) -> str:
-    """A library between pwhash and the system that changes the file during a run."""
+    """A library for LD_PRELOAD that changes the file, or fails calls, during a run of pwhash."""
     return str(preload_library("between", tmp_path_factory.mktemp("between")))
 
 
 def met(between: str, *variables: str) -> Ended:
-    """Sets Ann's password while somebody else does what the variables say."""
+    """Sets Ann's password while the library does what the variables say."""
     command = ("env", f"LD_PRELOAD={between}", *variables, *STARTED, *SET)
     return ended(started_program(*command), b"password\n")
 
@@ -36,7 +36,7 @@ def beside() -> list[str]:
 
 
 def version(number: int) -> bytes:
-    """Returns another user's version of the file. Each version locks another name."""
+    """Returns another user's version of the file. Each version has one more locked name."""
     locked = b"".join(b"other%d:!\n" % each for each in range(number))
     return locked + b"ann:x\n"
 
@@ -79,7 +79,7 @@ def test_an_unsuitable_file_system_is_named(between: str, variable: str, reason:
     assert beside() == LEFT, done
 
 
-def test_a_file_system_without_o_tmpfile_is_enough(between: str) -> None:
+def test_set_works_on_a_file_system_without_o_tmpfile(between: str) -> None:
     save("passwords", version(1))
     done = met(between, "NO_TMPFILE=1")
     expected = version(1).replace(b"ann:x\n", ANN)

@@ -36,12 +36,12 @@ OTHER_USER = ("setpriv", "--reuid=65534", "--regid=65534", "--clear-groups")
 
 
 def set_ann(*words: str) -> Ended:
-    """Sets Ann's password, after which the file is AFTER."""
+    """Sets Ann's password, which turns BEFORE into AFTER."""
     return pwhash(*(words or SET), stdin=b"password\n")
 
 
 def beside() -> list[str]:
-    """Returns the files in the current folder."""
+    """Returns the names of the files in the current folder."""
     return sorted(path.name for path in pathlib.Path().iterdir())
 
 
@@ -122,7 +122,7 @@ def test_root_can_change_the_file_of_a_service() -> None:
 
 
 def assert_refused(done: Ended, reason: bytes) -> None:
-    """Fails unless nothing has changed, the message says why, and no password was asked for."""
+    """Fails unless the run was refused for this reason before it created the lock file."""
     assert done.status == 2 and reason in done.err, done
     assert not os.path.exists(LOCK), done
 
@@ -253,7 +253,7 @@ def test_a_file_of_the_system_is_refused(path: str, monkeypatch: pytest.MonkeyPa
 
 
 @pytest.mark.needs("namespaces")
-def test_the_superuser_is_not_told_to_be_the_superuser() -> None:
+def test_root_is_not_advised_to_use_sudo() -> None:
     save("passwords", BEFORE)
     script = 'mount --bind . .; mount -o remount,ro,bind .; cd "$PWD"; "$@"'
     done = in_namespace(script, *SET, stdin=b"password\n")

@@ -40,7 +40,7 @@ def traced(inject: str) -> Ended:
 
 
 def beside() -> list[str]:
-    """Returns the files in the current folder."""
+    """Returns the names of the files in the current folder."""
     return sorted(path.name for path in pathlib.Path().iterdir())
 
 
@@ -68,7 +68,7 @@ def test_a_killed_run_leaves_the_old_or_the_new_file(call: str, expected: bytes)
     assert killed.status == -signal.SIGKILL, killed
     assert read("passwords") == expected, killed
     done = pwhash("set", "--lock", "passwords", "last")
-    assert done.status == 2, done  # z is no hash
+    assert done.status == 2, done  # "z" isn't a hash
     done = pwhash(*SET, stdin=b"password\n")
     assert (done.status, read("passwords"), beside()) == (0, AFTER, LEFT), done
 
@@ -157,7 +157,7 @@ def test_a_full_disk_leaves_the_old_file() -> None:
     assert done.out.split() == [b"passwords", b"passwords.mkpasswd.lock", b"zeros"], done
 
 
-def test_a_limit_of_files_leaves_the_old_file() -> None:
+def test_a_limit_on_file_size_leaves_the_old_file() -> None:
     save("passwords", BEFORE)
     done = shell('ulimit -f 0; exec "$@"', *SET, stdin=b"password\n")
     assert done.status == 3 and b"ulimit -f" in done.err, done

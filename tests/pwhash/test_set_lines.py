@@ -1,4 +1,4 @@
-"""pwhash set: how the line of a name changes, while all others stay."""
+"""pwhash set: how a name's line changes, while all other lines stay the same."""
 from __future__ import annotations
 
 import re

@@ -15,7 +15,7 @@ CUT = "cut=$(wc -c < hashes.part); truncate -s $((cut / 2)) hashes.part; "
 
 
 def quick_recipe() -> str:
-    """Returns the recipe with fewer rounds."""
+    """Returns the recipe with fewer rounds, and with CUT before pwhash runs."""
     recipe = marked("several machines", "sh").code
     recipe = recipe.replace("-R 656000", "-R 1000").replace(" -o hashes", " -R 1000 -o hashes")
     assert "pwhash file passwords -R" in recipe, recipe

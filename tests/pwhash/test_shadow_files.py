@@ -21,7 +21,7 @@ SHADOW = b"ann:" + MD5.encode() + b":1:::\nbob:!:1:::\n"
 
 
 def bash(script: str) -> Ended:
-    """Runs a bash script, in which "$@" is pwhash, with little memory."""
+    """Runs a bash script with little memory, and with Ann's password on stdin. "$@" is pwhash."""
     command = ["bash", "-c", f"ulimit -v 400000; {script}", "bash", PWHASH]
     return ended(started_program(*command), b"ann:password\n")
 

@@ -1,4 +1,4 @@
-"""Signals to pwhash: they leave no core file, restore the terminal, and stop a hash."""
+"""Signals end pwhash even during a hash; it leaves no core file and restores the terminal."""
 from __future__ import annotations
 
 import contextlib
@@ -26,7 +26,7 @@ with needed("python3-pexpect"):
 
 
 def at_again(script: str = "", words: tuple[str, ...] = MD5CRYPT) -> pexpect.spawn[bytes]:
-    """Returns a terminal at which a password was typed once, at the prompt for the second time."""
+    """Returns a terminal at which pwhash has read a password and asks for it again."""
     script = f"{script}\nexec {PWHASH} {shlex.join(words)}"
     child = pexpect.spawn("/bin/sh", ["-c", script], timeout=60)
     child.expect(rb"Password: ")
@@ -80,7 +80,7 @@ SECONDS_TO_END = 1.0
 
 
 def give(process: subprocess.Popen[bytes], data: bytes) -> None:
-    """Writes and closes a process's standard input."""
+    """Writes data to a process's standard input, and closes it."""
     assert process.stdin
     process.stdin.write(data)
     process.stdin.close()
@@ -88,7 +88,7 @@ def give(process: subprocess.Popen[bytes], data: bytes) -> None:
 
 
 def is_hashing(process: int) -> bool:
-    """Returns whether another thread than the first has used 0.1 s of processor time."""
+    """Returns whether a thread other than the first has used 0.1 s of processor time."""
     for path in pathlib.Path(f"/proc/{process}/task").glob("*/stat"):
         with contextlib.suppress(OSError):
             text = path.read_text(encoding="latin-1").rpartition(")")[2]

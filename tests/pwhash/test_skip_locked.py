@@ -1,4 +1,4 @@
-"""pwhash file --skip-locked SHADOW skips the names that are locked there."""
+"""pwhash file --skip-locked SHADOW skips the names that are locked in SHADOW."""
 from __future__ import annotations
 
 import os

@@ -1,4 +1,4 @@
-"""pwhash file --skip-unknown PASSWD skips the names that have no line there."""
+"""pwhash file --skip-unknown PASSWD skips the names that have no line in PASSWD."""
 from __future__ import annotations
 
 import os
@@ -27,7 +27,7 @@ PASSWD = b"root:x:0:0::/root:/bin/sh\nann:x:1:1::/:/bin/sh\nbob:x:2:2::/:/bin/sh
 
 @pytest.fixture(autouse=True, name="files")
 def fixture_files(folder: os.PathLike[str]) -> None:
-    """A file with two accounts, and one with passwords for them and for Eve."""
+    """A file of accounts, and a list of passwords for Ann, Bob, and Eve, who has no account."""
     del folder  # it is the current folder
     save("passwd", PASSWD)
     save("list", LIST)

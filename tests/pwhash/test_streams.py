@@ -38,7 +38,7 @@ def written_until_it_waits(process: subprocess.Popen[bytes]) -> int:
 
 
 def test_nothing_is_read_while_nobody_reads_the_answers() -> None:
-    """Otherwise the memory of pwhash would grow."""
+    """Otherwise pwhash would take more and more memory."""
     with subprocess.Popen([PWHASH, "check"], stdin=-1, stdout=-1, bufsize=0) as process:
         try:
             assert written_until_it_waits(process) < GREATEST
@@ -48,7 +48,7 @@ def test_nothing_is_read_while_nobody_reads_the_answers() -> None:
 
 
 def test_a_non_blocking_output_gets_every_answer() -> None:
-    """Another program may have made it non-blocking. It is full until somebody reads."""
+    """Another program may have made the pipe non-blocking. It stays full until somebody reads."""
     save("lines", b"ann:!:x\n" * 100_000)
     reader, writer = os.pipe()
     os.set_blocking(writer, False)

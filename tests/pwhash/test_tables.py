@@ -1,4 +1,4 @@
-"""Rows of a table: which fields pwhash reads, and which rows it refuses by their lines."""
+"""Rows of a table: which fields pwhash reads, and which rows it refuses, naming their lines."""
 from __future__ import annotations
 
 import os
@@ -107,7 +107,7 @@ def test_a_row_without_a_name_or_password_is_tried_for_nobody(row: bytes) -> Non
 
 
 def test_rows_joined_by_a_stray_quote_are_refused() -> None:
-    """It joins the lines up to the next quote, so no file is made without these users."""
+    """The quote joins the lines up to the next one. No file may be made without their users."""
     table = b'name,password,note\nann,password,"\nbob,password,"\ncid,password,\n'
     done = pwhash("file", "--csv", *MD5CRYPT, stdin=table)
     assert done.status == 1 and lines_named_in(done.err) == [3], done
@@ -153,7 +153,7 @@ def test_lines_that_end_in_carriage_returns_alone_are_not_a_table() -> None:
         pytest.param(b"name,password\nann,password\rbob,password\n", id="in one row"),
     ],
 )
-def test_rows_that_a_carriage_return_ends_are_refused_in_words_of_our_own(table: bytes) -> None:
+def test_rows_that_a_carriage_return_ends_are_refused_without_pythons_message(table: bytes) -> None:
     done = pwhash("file", "--csv", *MD5CRYPT, stdin=table)
     assert (done.status, done.out) == (3, b""), done
     assert b"carriage return" in done.err and b"universal-newline" not in done.err, done

@@ -56,7 +56,10 @@ def test_a_typed_password_does_not_depend_on_the_locale(
 
 
 def typed_at(words: str, keys: bytes) -> tuple[int, bytes]:
-    """Types a password twice at a terminal, after stty. Returns the status and the screen."""
+    """Runs stty, then pwhash at a terminal, and sends the keys at both prompts.
+
+    Returns the status and what the terminal shows at the end.
+    """
     script = f"stty {words} && exec {PWHASH} {shlex.join(MD5CRYPT)}"
     child = pexpect.spawn("/bin/sh", ["-c", script], timeout=60)
     screen = b""

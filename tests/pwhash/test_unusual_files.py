@@ -56,7 +56,7 @@ def test_advice_that_was_followed_is_not_repeated() -> None:
     assert b"--windows" not in done.err, done
 
 
-def test_a_limit_of_files_is_named() -> None:
+def test_a_limit_on_file_size_is_named() -> None:
     save("list", b"ann:pw\n")
     done = shell('ulimit -f 0; exec "$@"', "file", *MD5CRYPT, "list", "-o", "hashes")
     assert done.status == 3 and b"ulimit -f" in done.err, done

@@ -1,6 +1,6 @@
-"""pwhash verify says yes or no only for complete hashes, with status 0 or 1, and else neither.
+"""pwhash verify says yes (status 0) or no (status 1) for complete hashes, and otherwise neither.
 
-Hashes and matches are libxcrypt's.
+The tests make their hashes with libxcrypt.
 """
 from __future__ import annotations
 
@@ -142,7 +142,7 @@ def test_a_pasted_hash_may_have_blanks_and_its_line_around_it(pasted: bytes, set
 
 
 def test_pwhash_does_not_wait_for_more_after_a_complete_hash() -> None:
-    """Here the reader of the answer ends the writer of the hash."""
+    """The writer of the hash ends only after pwhash does."""
     save("input", b"password\n" + MD5.encode() + b"\n")
     script = '{ cat input; read -r end < pipe; } | { "$@" verify; echo end > pipe; }'
     done = shell(f"mkfifo pipe; {script}")
@@ -194,7 +194,7 @@ def test_a_field_that_no_password_matches_is_neither_yes_nor_no(
     assert_refused(done.status, done.out, done.err, reason)
 
 
-def test_the_limit_is_a_logins_and_can_be_raised() -> None:
+def test_the_limit_is_that_of_a_login_and_can_be_raised() -> None:
     stored = hashed(SECRET, "$6$rounds=2000000$saltsalt")
     data = SECRET + b"\n" + stored
     assert pwhash("verify", "--budget", "100M", stdin=data).status == 2
@@ -245,18 +245,18 @@ def test_a_hash_before_the_password_is_named(first: bytes, second: bytes) -> Non
     assert_refused(done.status, done.out, done.err, b"the password first, then the hash")
 
 
-def test_behind_a_hash_that_was_cut_the_line_of_another_is_not_compared() -> None:
+def test_the_line_of_another_user_after_a_truncated_hash_is_not_compared() -> None:
     done = pwhash("verify", stdin=SECRET + b"\n" + MD5[:-1].encode() + b"\nbob:" + HASH + b"\n")
     assert (done.status, done.out) == (2, b"") and b"cut or changed" in done.err, done
 
 
-def test_a_hash_behind_a_blank_line_may_come_later() -> None:
+def test_a_hash_after_a_blank_line_may_come_later() -> None:
     script = f"(echo TopSecret; echo; sleep 0.5; echo '{HASH.decode()}') | \"$@\""
     done = shell(script, "verify")
     assert (done.status, done.out) == (0, YES), done
 
 
-def test_fields_behind_a_hash_without_a_name_are_left_out() -> None:
+def test_fields_after_a_hash_without_a_name_are_left_out() -> None:
     done = pwhash("verify", stdin=SECRET + b"\n" + HASH + b":19000:0:99999:7:::\n")
     assert (done.status, done.out) == (0, YES), done
 
