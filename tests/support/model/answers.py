@@ -103,7 +103,7 @@ class Job:
 
 @dataclass(frozen=True)
 class StoredHash:
-    """A field to check that begins with a setting."""
+    """A stored field that begins with a setting, in a line to check."""
 
     text: bytes
     setting: Setting
@@ -112,7 +112,7 @@ class StoredHash:
 
 @dataclass(frozen=True)
 class Parsed:
-    """A line that isn't refused, with what its answer needs. Nothing is hashed yet."""
+    """What the answer to a line needs, if the line isn't refused. Nothing is hashed yet."""
 
     name: bytes
     password: bytes = b""
@@ -170,10 +170,10 @@ def parse_check(job: Job, name: bytes, field: bytes, password: bytes) -> Parsed:
 
 
 class Answerer:
-    """Answers the lines of one run.
+    """Gives the expected answers to the lines of one run.
 
-    A salt that the program draws, and scrypt's digest of some passwords, are taken from the answer
-    that came. A salt that is drawn twice is wrong.
+    If the program draws a salt, the model takes it from the program's answer; a salt that is drawn
+    twice is wrong. It also accepts the program's verdict on scrypt hashes that it can't make.
     """
 
     def __init__(self, job: Job) -> None:
@@ -207,7 +207,7 @@ class Answerer:
         return work.text if self.job.shows_work else b""
 
     def setting_of_new(self, received_hash: bytes) -> Setting:
-        """Returns the setting of a new hash, with the salt that came if the program draws one."""
+        """Returns the setting of a new hash. A drawn salt is taken from the received hash."""
         setting = self.job.setting
         if self.job.new_hash.salt is not None:
             return setting
@@ -242,7 +242,10 @@ class Expected:
 
 
 def expected_of_lines(job: Job, given: bytes, answers: deque[bytes]) -> Iterator[Expected]:
-    """Yields what the program must print for each line, while the caller removes its answers."""
+    """Yields what the program must print for each line.
+
+    Before the next step, the caller must remove the answer to the last line from `answers`.
+    """
     answerer = Answerer(job)
     for number, line in enumerate(lines_of(given), job.first_line or 1):
         try:
@@ -257,7 +260,7 @@ def expected_of_lines(job: Job, given: bytes, answers: deque[bytes]) -> Iterator
 
 
 def differences(job: Job, given: bytes, result: Result) -> list[str]:
-    """Returns how a run differs from the model: the first line of each stream, and the status."""
+    """Returns how a run differs from the model: each stream's first wrong line, and the status."""
     left = {"stdout": deque(lines_of(result.stdout)), "stderr": deque(lines_of(result.stderr))}
     first_differences: dict[str, str] = {}
     status = 0

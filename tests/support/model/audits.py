@@ -62,7 +62,7 @@ def is_whole(setting: Setting, stored: bytes) -> bool:
 
 
 def other_scheme(stored: bytes) -> str | None:
-    """Returns the name of another scheme of crypt(5) whose hash a field looks like."""
+    """Returns the name of the other scheme of crypt(5) whose hash a field looks like, or None."""
     for prefix, name in OTHER_SCHEMES.items():
         if stored.startswith(prefix):
             return name
@@ -104,7 +104,7 @@ def finding_of(policy: AuditPolicy, stored: bytes) -> Finding:
 
 
 def finding_of_refused(stored: bytes, refusal: str) -> Finding:
-    """Returns what an audit reports for a field that begins with no setting."""
+    """Returns what an audit reports for a field that doesn't begin with a valid setting."""
     has_dollar = stored.startswith(b"$")
     if has_dollar and refusal != "unknown scheme":
         return Finding(f"malformed:{refusal}", is_bad=True)

@@ -1,8 +1,8 @@
 """A model of the calls for C: what each returns, reports and leaves in `out`, as mkpasswd.h says.
 
-A call's arguments have the names of the header, and a policy is three numbers. None is a null
-pointer, which an exported call doesn't accept. To the inline calls a null password is one with a
-zero byte, a null field or salt is empty, and a null `out` has no room.
+A call's arguments have the names of the header, and a policy is three numbers. None stands for a
+null pointer, which an exported call doesn't accept. The inline calls treat a null password as one
+with a zero byte, a null field or salt as empty, and a null `out` as a buffer of no bytes.
 """
 from __future__ import annotations
 
@@ -46,16 +46,16 @@ from .work import (
     work_of_length,
 )
 
-TEXT_SIZE = 145  # bytes, for any hash, setting or message
+TEXT_SIZE = 145  # bytes: enough for any hash, setting or message
 BUDGET = 150_000_000  # enough for the hashes of these tests
 GREATEST = 2**64 - 1  # the greatest number of 64 bits
 DRAWN = 24  # bytes that mkpasswd_new asks the system for
 NUMBER_SIZE = 8  # bytes of a random number
-DIGITS_OF_NUMBER = 10  # characters of a salt that a random number gives
+DIGITS_OF_NUMBER = 10  # characters of a salt that one random number gives
 
 
 class Reason(enum.IntEnum):
-    """Why a call fails: the header's name, the message, and the number, counted from 1."""
+    """Why a call fails: its name in the header, its message, and its number, counted from 1."""
 
     def __new__(cls, _message: str) -> Reason:
         number = len(cls.__members__) + 1
@@ -92,7 +92,7 @@ class Reason(enum.IntEnum):
 
 
 class Form(enum.Enum):
-    """How a call is made: by the exported function, or by the header's inline one in two ways."""
+    """How a call is made: of the exported function, or of the header's inline one in two ways."""
 
     EXPORTED = "pointers and lengths"
     LENGTHS = "a password and a field made of bytes"
@@ -208,7 +208,7 @@ class Report:
         self.length = len(text)
 
     def limit_cost(self, setting: Setting, length: int, budget: int) -> None:
-        """Reports the cost of hashing a password of this length, and refuses it over the budget."""
+        """Reports the cost of hashing a password of this length. Refuses a cost over the budget."""
         self.cost = cost(setting, length)
         if self.cost > budget:
             raise CallRefused(Reason.OVER_BUDGET)
@@ -222,7 +222,7 @@ class Report:
         return text
 
     def allocate(self, setting: Setting) -> None:
-        """Allocates as scrypt does: its table, its blocks, and two blocks to mix. Others don't."""
+        """Allocates scrypt's table, its blocks and two blocks to mix; nothing for other methods."""
         if setting.scrypt is None:
             return
         self.next_allocation()
@@ -233,7 +233,7 @@ class Report:
         self.scratch = scratch_of(setting)
 
     def next_allocation(self) -> None:
-        """Counts an allocation, and fails if the system refuses it."""
+        """Counts an allocation. Raises CallRefused if the system refuses it."""
         self.allocations += 1
         if self.allocations == self.system.refused_allocation:
             raise CallRefused(Reason.OUT_OF_MEMORY)
@@ -263,7 +263,7 @@ class Report:
 
 
 def scratch_of(setting: Setting) -> int:
-    """Returns how many bytes scrypt allocates besides its table."""
+    """Returns how many bytes scrypt allocates in addition to its table."""
     if setting.scrypt is None:
         return 0
     return 128 * setting.scrypt.r * setting.scrypt.p + 256 * setting.scrypt.r
@@ -298,7 +298,7 @@ def setting_of_field(field: bytes | None) -> Setting:
 
 
 def method_of(number: int, rounds: int, *, are_clamped: bool) -> Method:
-    """Returns the method of new hashes. Refuses invalid rounds, unless they are clamped."""
+    """Returns the method of new hashes. Refuses invalid rounds, unless SHA-crypt clamps them."""
     method = METHODS.get(number or RECOMMENDED_METHOD)
     if method is None:
         raise CallRefused(Reason.UNKNOWN_METHOD)
@@ -314,7 +314,7 @@ def method_of(number: int, rounds: int, *, are_clamped: bool) -> Method:
 
 
 def salt_of(numbers: tuple[int, int, int], length: int) -> bytes:
-    """Returns the salt that random numbers give: six bits a character, the lowest bits first."""
+    """Returns the salt that random numbers give: six bits per character, the lowest bits first."""
     digits = [
         numbers[place // DIGITS_OF_NUMBER] >> BITS_OF_DIGIT * (place % DIGITS_OF_NUMBER) & 63
         for place in range(length)
@@ -323,7 +323,7 @@ def salt_of(numbers: tuple[int, int, int], length: int) -> bytes:
 
 
 def limit_of(method: Method, rounds: int, budget: int, password: bytes) -> int:
-    """Returns the limit of a login or a new hash: the budget, or the policy's own if it is 0."""
+    """Returns the limit of a login or a new hash: the budget, or the policy's limit if it is 0."""
     return budget or login_limit(method, rounds, len(password))
 
 
@@ -354,7 +354,7 @@ class Call(ABC):
         return " ".join(words)
 
     def can_have(self, form: Form) -> bool:
-        """Returns whether a form can pass these arguments."""
+        """Returns whether this form can pass the call's arguments."""
         values = self.values.values()
         if form is Form.EXPORTED:
             return None not in values
@@ -407,11 +407,11 @@ class CallWithOut(Call):
 
     @property
     def token_for_refusal(self) -> bytes:
-        """The string that `out` gets with a refusal, which no password matches."""
+        """The string that a refused call writes to `out`. No password matches it."""
         return self.token
 
     def require_room(self, length: int) -> None:
-        """Refuses a text of this length if `out` has no room for it."""
+        """Refuses a text of this length if it doesn't fit into `out`."""
         if (self.out_size or 0) <= length:
             raise CallRefused(Reason.TOO_FEW_BYTES)
 
@@ -542,7 +542,7 @@ class NeedsRehash(Call):
 
 
 def error_of_audit(stored: bytes, reason: Reason) -> Reason:
-    """Returns the error of an audit of a field whose setting is refused for this reason."""
+    """Returns an audit's error for a field whose setting is refused for this reason."""
     if reason in (Reason.NO_HASH, Reason.LOCKED):
         return reason
     if stored.startswith(b"$"):
@@ -593,7 +593,7 @@ def costs_by_length(setting: Setting) -> list[int]:
 
 
 def rounds_of(setting: Setting) -> int:
-    """Returns the argument `rounds` that makes this setting of new hashes."""
+    """Returns the argument `rounds` that gives new hashes this setting."""
     if setting.scrypt is not None:
         return setting.scrypt.log_n - 7
     return 0 if setting.method is MD5CRYPT else setting.rounds

@@ -10,7 +10,7 @@ from .settings import Setting
 
 
 def packed(method: Method, digest: bytes) -> bytes:
-    """Returns a digest in the characters of a hash."""
+    """Encodes a digest in the characters of a hash."""
     text = b""
     for group in method.digest_order.split(","):
         places = [int(place) for place in group.split()]
@@ -25,7 +25,7 @@ def cycled(text: bytes, length: int) -> bytes:
 
 
 def second_digest(method: Method, password: bytes, salt: bytes) -> bytes:
-    """Returns the digest with which the rounds of md5crypt and SHA-crypt begin."""
+    """Returns the digest that the first round of md5crypt or SHA-crypt starts from."""
     first = method.digest(password + salt + password)
     message = password + salt
     of_one, of_zero = first, password
@@ -73,7 +73,7 @@ def hash_of(setting: Setting, password: bytes) -> bytes | None:
     """Returns the hash of a password, or None for scrypt hashes that libxcrypt refuses to make."""
     known = password
     if setting.method is SCRYPT and len(password) > libxcrypt.LONGEST_PASSWORD:
-        known = hashlib.sha256(password).digest()  # HMAC replaces a long key by its digest
+        known = hashlib.sha256(password).digest()  # HMAC replaces a long key with its digest
     text = hash_by_libxcrypt(setting, known)
     if text is None and setting.method is not SCRYPT:
         text = hash_by_hashlib(setting, password)

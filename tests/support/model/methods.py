@@ -21,7 +21,7 @@ class Method:
     longest_salt: int
     drawn_salt: int  # the length of a salt that the program draws
     recommended: int  # rounds, or scrypt's cost
-    digest_name: str  # hashlib's name of it
+    digest_name: str  # the digest's name in hashlib
     # The indexes of the digest's bytes in each group of characters, the highest byte first.
     digest_order: str = ""
 
@@ -41,7 +41,7 @@ class Method:
 
     @functools.cached_property
     def last_digits(self) -> bytes:
-        """The characters that a hash can end with: two or four bits of the digest are left."""
+        """The characters that a hash can end with: the last one encodes only two or four bits."""
         bits = 8 * self.digest_size % BITS_OF_DIGIT
         return ALPHABET[: 1 << bits]
 

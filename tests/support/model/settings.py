@@ -1,4 +1,4 @@
-"""Settings, with which hashes begin: reads and writes them, and says why one is refused."""
+"""Reads and writes settings, with which hashes begin, and says why a setting is refused."""
 from __future__ import annotations
 
 import re
@@ -100,12 +100,12 @@ class Setting:
         return 0 if self.method is MD5CRYPT else self.rounds
 
     def is_replaced_by(self, new: Setting) -> bool:
-        """Returns whether a hash with this setting is outdated if new hashes have the other."""
+        """Returns whether a hash with this setting is outdated if new hashes have `new`."""
         return self.method is not new.method or self.strength < new.strength
 
 
 def clamped_rounds(rounds: int) -> int:
-    """Returns how many rounds SHA-crypt does if it is asked for a number of rounds."""
+    """Returns how many rounds SHA-crypt does if a setting asks for this many."""
     return min(max(rounds, LEAST_ROUNDS), MOST_ROUNDS)
 
 
@@ -136,7 +136,7 @@ def read_rounds(text: bytes) -> tuple[int, bytes]:
 
 
 def read_scrypt(text: bytes) -> Setting:
-    """Reads a scrypt setting from what follows the prefix."""
+    """Reads a scrypt setting from the text after its prefix."""
     match = re.match(rb"(%b)(%b{5})(%b{5})([^$]*)" % (DIGIT, DIGIT, DIGIT), text)
     if match is None:
         raise Refused("bad cost")
@@ -152,7 +152,7 @@ def read_scrypt(text: bytes) -> Setting:
 
 
 def setting_of_options(method: Method, cost: int | None, salt: bytes | None) -> Setting:
-    """Returns the setting of a new hash by the options -m, -R and -S.
+    """Returns the setting that the options -m, -R and -S give a new hash.
 
     If the program draws the salt, the setting has a made-up salt of the same length.
     """
@@ -167,5 +167,5 @@ def setting_of_options(method: Method, cost: int | None, salt: bytes | None) -> 
 
 
 def recommended_setting(method: Method, cost: int | None, salt: bytes | None = None) -> Setting:
-    """Returns the same setting, but with the recommended cost for 0 or None, as calls have it."""
+    """Returns the same setting, but as in calls, a cost of 0 or None is the recommended one."""
     return setting_of_options(method, cost or method.recommended, salt)

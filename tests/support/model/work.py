@@ -1,4 +1,4 @@
-"""The work of a hash, which --work prints, and the cost, which is compared with a budget."""
+"""The work of a hash, which --work prints, and its cost, which is compared with a budget."""
 from __future__ import annotations
 
 from dataclasses import dataclass, replace
@@ -9,7 +9,7 @@ from .settings import SHA_CRYPT, Setting, clamped_rounds, recommended_setting
 
 LONGEST_PASSWORD = 1024
 LEAST_LOGIN_LIMIT = 150_000_000
-USUAL_LONGEST_PASSWORD = 64  # a limit is twice the cost of a password of this length
+USUAL_LONGEST_PASSWORD = 64  # a limit is twice the cost of hashing a password of this length
 HIGHEST_BYTE = 255
 
 
@@ -37,7 +37,7 @@ class Work:
 
 
 def binary_digits(length: int) -> str:
-    """Returns the binary digits of a length, and none for 0."""
+    """Returns the binary digits of a length, or an empty string for 0."""
     return f"{length:b}" if length else ""
 
 
@@ -65,7 +65,7 @@ def sha_crypt_work(setting: Setting, password: int, first_byte: int) -> Work:
 
 
 def scrypt_work(setting: Setting, password: int) -> Work:
-    """Returns scrypt's work with a password of this length. HMAC first digests a long one."""
+    """Returns scrypt's work with a password of this length. HMAC digests a long password first."""
     numbers = setting.scrypt_cost
     salt, blocks = len(setting.salt), numbers.r * numbers.p
     is_long = password > 64

@@ -7,5 +7,5 @@ The same seed, kind and number always give the same chunk.
   with a wrong one, or with one character of the hash changed. No option gives scrypt a cheap cost,
   so its hashes come from libxcrypt, and are only checked.
 - Hostile lines are built from pieces of the grammar, are at a limit, or are good lines with some
-  changes. They are for any mode, with any options and a budget; audits also run without one.
+  changes. They are for any mode, with any options and a budget; audits also run without a budget.
 """

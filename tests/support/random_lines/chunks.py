@@ -26,7 +26,7 @@ GOOD_HASHES = 16
 
 @dataclass(frozen=True)
 class Chunk:
-    """The kind and the number of some lines, which a seed determines."""
+    """A chunk's kind, its number, and how many lines it has. With a seed, these give the lines."""
 
     kind: Kind
     number: int
@@ -45,7 +45,7 @@ class Task:
 
 
 def chunks(kind: Kind, lines: int) -> list[Chunk]:
-    """Returns the chunks that have this many lines together."""
+    """Returns chunks that have this many lines in total."""
     made: list[Chunk] = []
     for size in itertools.cycle(SIZES[kind]):
         if lines <= 0:
@@ -122,7 +122,7 @@ def cheap_scrypt(source: Source) -> Setting:
 
 
 def line_to_check(source: Source, name: bytes, known: KnownHash) -> bytes:
-    """Returns a line to check: right, with a wrong password, or with another digit of the hash."""
+    """Returns a line to check: right, with a wrong password, or with a wrong digit in the hash."""
     text, password = known.text, known.password
     parts = source.by_weight(
         (50, lambda: (text, password)),
@@ -208,7 +208,7 @@ def good_setting(source: Source) -> Setting:
 
 
 def budget(source: Source, job: Job, lines: Sequence[bytes]) -> int | None:
-    """Returns a budget: a line's cost, just below it, or any number. For audits also None."""
+    """Returns a budget: a line's cost, one less, or any number. For audits also None."""
     highest = HIGHEST_COST
     if job.mode is Mode.AUDIT:
         highest = HIGHEST_AUDIT_BUDGET

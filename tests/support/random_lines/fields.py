@@ -40,7 +40,7 @@ def salt(source: Source, length: int) -> bytes:
 
 
 def with_another_digit(source: Source, text: bytes, start: int) -> bytes:
-    """Changes one character of a text, not before `start` and often the last one."""
+    """Changes one character of a text, at `start` or after it. Often that is the last one."""
     last = len(text) - 1
     place = last if source.chance(0.3) else source.between(min(start, last), last)
     others = ALPHABET.replace(text[place : place + 1], b"")
@@ -98,7 +98,7 @@ def cheap_cost(source: Source) -> ScryptCost:
 
 
 def cost_with_zeros(source: Source) -> ScryptCost:
-    """Returns numbers of which some are 0."""
+    """Returns numbers, some of which may be 0."""
     return ScryptCost(
         source.one_of(source.between(1, 8), 0), source.one_of(1, 0), source.one_of(1, 0)
     )
@@ -112,7 +112,7 @@ def cost_at_the_range(source: Source) -> ScryptCost:
 
 
 def cost_at_the_ceiling(source: Source) -> ScryptCost:
-    """Returns numbers whose product is the ceiling, or next to it."""
+    """Returns numbers whose product is the ceiling, or would be if r or p differed by 1."""
     log_n = source.between(1, LOG_OF_CEILING)
     log_r = source.between(0, LOG_OF_CEILING - log_n)
     r, p = 1 << log_r, 1 << (LOG_OF_CEILING - log_n - log_r)
@@ -155,7 +155,7 @@ def scrypt_field(source: Source) -> bytes:
 
 
 def field(source: Source) -> bytes:
-    """Returns a field from the grammar, with a hash that matches no password."""
+    """Returns a field from the grammar, perhaps with a hash, which no password matches."""
     text = prefix = source.one_of(*PREFIXES)
     if prefix == b"$7$":
         text += scrypt_field(source)
@@ -191,7 +191,7 @@ def hash_of_other_scheme(source: Source) -> bytes:
 
 
 def changed_hash(source: Source, text: bytes) -> bytes:
-    """Returns a good hash with a change, after which it may be no hash."""
+    """Returns a good hash with a change, which may no longer be a hash."""
     setting, digits = text.rsplit(b"$", 1)
     return source.by_weight(
         (20, lambda: with_another_digit(source, text, 3)),

@@ -33,7 +33,7 @@ class KnownHash:
 
 
 def hostile_line(source: Source, job: Job, hashes: Sequence[KnownHash]) -> bytes:
-    """Returns a line for a job. Its good hash, if it has one, is one of these."""
+    """Returns a line for a job. If the line has a good hash, that is one of `hashes`."""
     make = new_line if job.mode is Mode.BATCH else stored_line
     line = source.by_weight(
         (13, lambda: line_at_a_limit(source, job)),
@@ -90,7 +90,7 @@ def any_field(source: Source, text: bytes) -> bytes:
 
 
 def line_at_a_limit(source: Source, job: Job) -> bytes:
-    """Returns a line at a limit, of any job or of those that have a field."""
+    """Returns a line at a limit that the job's lines have. Some limits concern stored fields."""
     if job.mode is Mode.BATCH:
         return any_line_at_a_limit(source, b"")
     if source.chance(0.5):
@@ -142,7 +142,7 @@ def repeated_to_the_limit(source: Source) -> bytes:
 
 
 def scrypt_at_the_ceiling(source: Source) -> bytes:
-    """Returns a scrypt setting whose product is the ceiling, or next to it."""
+    """Returns a scrypt setting with numbers from cost_at_the_ceiling()."""
     cost = fields.cost_at_the_ceiling(source)
     return b"$7$" + cost.text + fields.salt(source, source.between(0, 9))
 
@@ -191,7 +191,7 @@ def mutated_once(source: Source, line: bytes) -> bytes:
 
 
 def with_another_bit(source: Source, byte: bytes) -> bytes:
-    """Flips a bit of a byte, if there is one."""
+    """Flips a random bit of a byte. An empty string stays as it is."""
     return bytes(value ^ 1 << source.between(0, 7) for value in byte)
 
 

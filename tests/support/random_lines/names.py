@@ -18,7 +18,7 @@ ZERO, LINE_FEED = 0, 10
 
 
 def name(source: Source) -> bytes:
-    """Returns a name, or something in its place."""
+    """Returns a name, sometimes an invalid one."""
     return source.by_weight(
         (45, lambda: source.characters(source.between(1, 9), LOWER)),
         (30, lambda: source.bytes_except(source.between(1, 64), b":\n")),

@@ -36,7 +36,7 @@ class Source:
         return chosen()
 
     def shuffled(self, items: Sequence[T]) -> list[T]:
-        """Returns the same items in another order."""
+        """Returns the same items in a random order."""
         return self.random.sample(items, len(items))
 
     def characters(self, length: int, choices: bytes) -> bytes:
@@ -52,7 +52,7 @@ class Source:
         return self.characters(length, bytes(set(range(256)) - set(excluded)))
 
     def changed_byte(self, old: int, excluded: Sequence[int]) -> int:
-        """Returns another byte, often with one bit flipped, that is none of these."""
+        """Returns a byte that isn't `old` or excluded. Often one bit of `old` is flipped."""
         new = old
         while new == old or new in excluded:
             one_bit = old ^ 1 << self.random.randrange(8)
