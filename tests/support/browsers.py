@@ -1,8 +1,8 @@
-"""Starts browsers without a window, opens an address in them and evaluates scripts there.
+"""Starts browsers without a window, opens addresses in them and evaluates scripts there.
 
 Selenium calls Debian's drivers for Chromium and WebKit. Debian has no driver for Firefox, but
 Firefox itself speaks WebDriver BiDi, which is JSON over a WebSocket. A browser and all its
-processes end with the `with` that started it, or after half an hour.
+processes end with the `with` block that started it, or after half an hour.
 """
 from __future__ import annotations
 
@@ -26,11 +26,11 @@ class Browser(Protocol):
     """A running browser."""
 
     def evaluate(self, address: str, script: str) -> Any:
-        """Opens an address, runs a function's body there, and returns or awaits its result."""
+        """Opens an address, runs a function's body there, and awaits and returns its result."""
 
 
 class DrivenBrowser:
-    """A browser with a driver, to which Selenium is connected."""
+    """A browser that Selenium controls through its driver."""
 
     def __init__(self, driver: Any) -> None:
         self._driver = driver
@@ -38,13 +38,13 @@ class DrivenBrowser:
         driver.set_script_timeout(SECONDS_TO_EVALUATE)
 
     def evaluate(self, address: str, script: str) -> Any:
-        """Opens an address, runs a function's body there, and returns or awaits its result."""
+        """Opens an address, runs a function's body there, and awaits and returns its result."""
         self._driver.get(address)
         return self._driver.execute_script(script)
 
 
 class Firefox:
-    """Firefox, controlled by WebDriver BiDi. An answer has the number of its command."""
+    """Firefox, controlled through WebDriver BiDi. Each answer has its command's number."""
 
     def __init__(self, address: str) -> None:
         import websocket
@@ -67,7 +67,7 @@ class Firefox:
         return answer["result"]
 
     def evaluate(self, address: str, script: str) -> Any:
-        """Opens an address, runs a function's body there, and returns or awaits its result.
+        """Opens an address, runs a function's body there, and awaits and returns its result.
 
         The result must be a string, a number or a boolean.
         """
@@ -132,7 +132,7 @@ def connected(port: int, options: Any) -> Browser:
     from selenium import webdriver
     from selenium.webdriver.remote.remote_connection import RemoteConnection
 
-    # A driver that hangs never answers.
+    # Without a limit, a driver that hangs would hang the test.
     RemoteConnection.set_timeout(SECONDS_TO_EVALUATE + SECONDS_TO_START)
     options.ignore_local_proxy_environment_variables()
     return DrivenBrowser(webdriver.Remote(f"http://127.0.0.1:{port}", options=options))
@@ -168,7 +168,7 @@ def started_with_log(
 
 
 def wait_for(find: Callable[[], Any], process: subprocess.Popen[bytes], folder: Path) -> Any:
-    """Calls `find` until it returns something, and returns that."""
+    """Calls `find` until it finds something, and returns that. Fails if the process ends first."""
     end = time.monotonic() + SECONDS_TO_START
     while process.poll() is None and time.monotonic() < end:
         found = find()
@@ -180,14 +180,14 @@ def wait_for(find: Callable[[], Any], process: subprocess.Popen[bytes], folder: 
 
 
 def wait_for_output(process: subprocess.Popen[bytes], folder: Path, pattern: str) -> str:
-    """Waits until the command prints a match of the pattern, and returns the match's group."""
+    """Waits until the command prints a match of the pattern, and returns the match's group 1."""
     log = folder / "log"
     match = wait_for(lambda: re.search(pattern, log.read_text(errors="replace")), process, folder)
     return str(match[1])
 
 
 def listening_port(process: subprocess.Popen[bytes]) -> int | None:
-    """Returns the port of 127.0.0.1 on which a process listens: WebKitWebDriver prints none."""
+    """Returns the local port that a process listens on, if any. WebKitWebDriver prints none."""
     sockets = {str(link.readlink()) for link in Path(f"/proc/{process.pid}/fd").iterdir()}
     for line in Path("/proc/net/tcp").read_text(encoding="ascii").splitlines()[1:]:
         fields = line.split()

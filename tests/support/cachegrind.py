@@ -1,8 +1,8 @@
-"""Counts the instructions of a command by valgrind's cachegrind.
+"""Counts the instructions of a command with valgrind's cachegrind.
 
-The count of a binary is the same in every run, however busy the machine is. Valgrind imitates a
-processor that has AVX2 if the machine's has, but neither AVX-512 nor instructions for SHA-256. Code
-that would use those runs as it does on a processor without them.
+The count of a binary is the same in every run, however busy the machine is. Valgrind emulates a
+processor that has AVX2 if the machine's has it, but neither AVX-512 nor instructions for SHA-256.
+Code that would use those runs as it does on a processor without them.
 """
 from __future__ import annotations
 
@@ -12,7 +12,7 @@ CACHEGRIND = ("valgrind", "--tool=cachegrind", "--cache-sim=no", "--cachegrind-o
 
 # The environment for counts that are compared with those of another machine. glibc chooses its
 # memcpy and memset by the processor, and cachegrind counts each byte that `rep movsb` moves. With
-# this variable it uses neither AVX nor `rep movsb`.
+# this variable glibc uses neither AVX nor `rep movsb`.
 EVERY_PROCESSOR = {
     "GLIBC_TUNABLES": "glibc.cpu.hwcaps=-AVX_Fast_Unaligned_Load,-AVX2,-AVX512F,-AVX512VL,-ERMS,"
     "-FSRM"
@@ -20,6 +20,6 @@ EVERY_PROCESSOR = {
 
 
 def instructions_in(stderr: bytes) -> int | None:
-    """The instructions that cachegrind printed; None if it printed no count."""
+    """Returns the count of instructions that cachegrind printed, or None if it printed none."""
     found = re.search(rb"I +refs: +([\d,]+)", stderr)
     return int(found[1].replace(b",", b"")) if found else None

@@ -1,4 +1,4 @@
-"""The calls of a careless service, which checks only their result."""
+"""The calls of a careless service, which looks at nothing but their results."""
 from __future__ import annotations
 
 from dataclasses import dataclass
@@ -38,7 +38,7 @@ CHEAP_SCRYPT = b"$7$2/..../....ab"
 
 @dataclass(frozen=True)
 class WrongPassword:
-    """A password other than "password", and the error that refuses it."""
+    """A password other than "password", and the error with which it is refused."""
 
     title: str
     password: bytes
@@ -59,7 +59,11 @@ WRONG_PASSWORDS = (
 
 
 def careless_logins() -> list[Verify]:
-    """Returns every field with the right password, then every password and budget with one hash."""
+    """Returns calls of mkpasswd_verify.
+
+    They check the right password against every field, then against one hash with each budget, and
+    then each wrong password against that hash.
+    """
     fields = [*(field.text for field in NEVER_OPEN), MD5CRYPT, SCRYPT_OF_PASSWORD.text]
     calls = [Verify(b"password", field) for field in fields]
     calls += [Verify(b"password", MD5CRYPT, budget) for budget in (0, COST - 1, COST, GREATEST)]
@@ -68,7 +72,7 @@ def careless_logins() -> list[Verify]:
 
 
 def calls_of_each_kind() -> list[Call]:
-    """Returns some of these calls and one of each other kind, to try a build of the library."""
+    """Returns some of these calls and some of every other kind, to try a build of the library."""
     calls: list[Call] = [
         call for call in careless_logins() if call.form is Form.STRINGS or call.stored == MD5CRYPT
     ]

@@ -25,8 +25,8 @@ PACKAGES = (
     "pwhash",
     "python3-mkpasswd",
 )
-# The other packages of a root: dependencies of ours, what tests need, and packages that ours
-# share names with.
+# The other packages of a root: those that ours depend on, those that tests need, and those that
+# share names with ours.
 OTHERS = (
     "autopkgtest",
     "bash-completion",
@@ -46,12 +46,12 @@ OTHERS = (
 # One worker runs all tests of a release, so that its root is made once.
 RELEASES = {"bookworm": "Debian 12", "trixie": "Debian 13"}
 OLDEST = "bookworm"
-# apt trusts its cache for a second after dpkg has changed something, so it runs without one.
+# For a second after dpkg has changed something, apt trusts a stale cache, so it runs without one.
 APT = "apt-get -q -y --no-install-recommends -o Dir::Cache::pkgcache="
 LONGEST_BUILD = 900  # seconds
 LONGEST_SCRIPT = 1200  # seconds that a script in a root may take
 LONGEST_BOOTSTRAP = 1800  # seconds
-LAST_LINES = 60  # that a failure shows of the script's output
+LAST_LINES = 60  # of the script's output, which a failure shows
 LAYER = """
 mount -t overlay overlay -o "lowerdir=$0,upperdir=$1/changes,workdir=$1/work" "$1/root"
 """
@@ -123,7 +123,7 @@ def build_packages(folder: Path) -> Packages:
 
 
 def change_package(package: Path, folder: Path, script: str, *words: Word) -> Path:
-    """Copies a package into a folder, and changes the copy by a script, which runs in its DEBIAN.
+    """Copies a package into a folder, and changes the copy with a script, run in its DEBIAN folder.
 
     The script gets the words as $0, $1 and so on.
     """
@@ -194,7 +194,7 @@ class Root:
 
 
 def need_layers(folder: Path) -> None:
-    """Skips the test unless an overlay can be mounted over a folder. Tries that in an empty one."""
+    """Skips the test unless overlays can be mounted. Tries that in this folder, which is empty."""
     lower = folder / "lower"
     lower.mkdir()
     with layer_over(lower, folder=folder / "attempt") as root:
@@ -205,7 +205,7 @@ def need_layers(folder: Path) -> None:
 
 @contextlib.contextmanager
 def layer_over(*lower: Path, folder: Path) -> Iterator[Root]:
-    """Mounts a writable root over others, in an empty or new folder, while the block runs."""
+    """Makes a writable root over others, in an empty or new folder. Removes it after the block."""
     for name in ("changes", "work", "root"):
         (folder / name).mkdir(parents=True)
     (folder / "changes").chmod(0o755)  # which is the mode of / in the root
@@ -216,5 +216,5 @@ def layer_over(*lower: Path, folder: Path) -> Iterator[Root]:
 
 
 def above(root: Root, folder: Path) -> contextlib.AbstractContextManager[Root]:
-    """Mounts a writable root over another one, which must not change any more."""
+    """Makes a writable root over another one, which must not change any more."""
     return layer_over(root.layer / "changes", *root.lower, folder=folder)

@@ -1,4 +1,4 @@
-"""Finds the blocks of code in documents, and the commands with output in documents and manuals.
+"""Finds blocks of code in documents, and commands with their output in documents and manuals.
 
 support/examples.py runs the commands. This module runs only mandoc, which renders the manuals.
 """
@@ -49,7 +49,7 @@ class Block:
 
 @dataclass(frozen=True)
 class Example:
-    """A command in a document or a manual, with the output that is shown."""
+    """A command in a document or a manual, with the output that is shown there."""
 
     place: Place
     command: str
@@ -84,7 +84,7 @@ def blocks_of(path: Path) -> list[Block]:
     """Returns the blocks of a document. A block without a closing fence ends with the document."""
     blocks: list[Block] = []
     lines = lines_of(path)
-    above = ""  # the last line before the block that isn't empty
+    above = ""  # the last nonempty line before the block
     number = 0
     while number < len(lines):
         fence = FENCE.fullmatch(lines[number])
@@ -119,7 +119,7 @@ def code_until_fence(lines: list[str], margin: str) -> list[str]:
 
 
 def all_blocks(*languages: str) -> list[Block]:
-    """Returns the blocks of all documents that are in these languages."""
+    """Returns the blocks in these languages, from all documents."""
     blocks = [block for path in documents() for block in blocks_of(path)]
     return [block for block in blocks if block.language in languages]
 

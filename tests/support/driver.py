@@ -1,4 +1,4 @@
-"""Runs programs built from tests/c/calls.c, which make the library's calls, and checks them."""
+"""Runs programs built from tests/c/calls.c, which call the library, and checks their answers."""
 from __future__ import annotations
 
 import dataclasses
@@ -35,7 +35,7 @@ def system_row(system: System, threads: int) -> str:
 
 
 def describe_value(name: str, value: object) -> str:
-    """Returns a value of an answer as text, an error with its message."""
+    """Returns a value of an answer as text. An error includes its message."""
     if name == "error" and isinstance(value, int):
         return f"{int(value)} ({MESSAGES.get(value, 'no error')})"
     return str(value)
@@ -47,7 +47,7 @@ def cut(text: str) -> str:
 
 
 def difference(expected: Answer, received: Answer) -> list[str]:
-    """Returns the differences between two answers, in two lines for each name."""
+    """Returns the differences between two answers: two lines for each value that differs."""
     lines = []
     for field in dataclasses.fields(Answer):
         wanted, got = getattr(expected, field.name), getattr(received, field.name)
@@ -85,7 +85,7 @@ class Driver:
     def assert_matches_model(
         self, calls: Sequence[Call], system: System = System(), threads: int = 1
     ) -> list[Answer]:
-        """Makes the calls, fails the test unless each answer is the model's, and returns them."""
+        """Makes the calls, and returns the answers. Fails the test unless each is the model's."""
         answers = self.answers(calls, system, threads)
         for call, received in zip(calls, answers):
             lines = difference(call.expected(system), received)
@@ -95,7 +95,7 @@ class Driver:
         return answers
 
     def assert_answer(self, call: Call, system: System = System(), **expected: int | str) -> None:
-        """Fails the test unless an answer has these values and is the model's."""
+        """Makes a call. Fails the test unless its answer has these values and is the model's."""
         received = self.answers([call], system)[0]
         by_the_rules = call.expected(system)
         lines = difference(dataclasses.replace(by_the_rules, **expected), received)

@@ -1,4 +1,4 @@
-"""Tests the program inside a wrapper command, as in another root or on another processor."""
+"""Tests the program through a wrapper command, say in another root or on another processor."""
 from __future__ import annotations
 
 import shlex
@@ -13,7 +13,7 @@ FILES = [f"program/test_{name}.py" for name in ("audits", "lines", "passwords", 
 
 
 def wrapper(script: Path, *command: Word) -> Path:
-    """Writes a script that runs the program by this command, and returns its path."""
+    """Writes a script that runs this command with further arguments, and returns its path."""
     words = shlex.join(str(word) for word in command)
     script.write_text(f'#!/bin/sh\nexec {words} "$@"\n', encoding="utf-8")
     script.chmod(0o755)
@@ -21,7 +21,7 @@ def wrapper(script: Path, *command: Word) -> Path:
 
 
 def assert_passes_the_tests_of_the_program(program: Path) -> None:
-    """Fails the test unless this program passes tests/program, run by two workers."""
+    """Fails the test unless this program passes the tests in FILES, run by two workers."""
     pytest = (sys.executable, "-B", "-m", "pytest", "-n", 2, "--color=no")
     environment = {"PROGRAM": str(program), "PYTEST_ADDOPTS": None}
     result = run(*pytest, *FILES, env=environment, cwd=ROOT / "tests", timeout=HOUR)

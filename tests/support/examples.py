@@ -1,7 +1,7 @@
 """Runs the examples of documents and manuals, and compares their output with the shown output.
 
-A command without -S whose output differs between two runs draws salts. Its output must then have
-the form that is shown, with other salts. Each hash, in the document and in the output, must be
+If a command without -S prints different output in two runs, it draws salts. Its output must then
+have the form that is shown, with other salts. Each hash, in the document and in the output, must be
 libxcrypt's hash of a word from the examples so far.
 """
 from __future__ import annotations
@@ -27,7 +27,7 @@ COMMAND_NOT_FOUND = re.compile(r": (\S+): command not found$", re.MULTILINE)
 
 @dataclass(frozen=True)
 class Played:
-    """An example with its output, standard output and standard error together."""
+    """An example, and what it printed on standard output and standard error together."""
 
     example: Example
     words: tuple[str, ...]  # possible passwords in the examples up to this one
@@ -47,7 +47,7 @@ class Played:
 
 
 class Player:
-    """Runs the examples of one document in order, each once, all in the same folder."""
+    """Runs the examples of one document in order, all in the same folder."""
 
     def __init__(self, examples: Sequence[Example], folder: Path, environment: Changes) -> None:
         self.examples = examples
@@ -57,7 +57,7 @@ class Player:
         self.played: list[Played] = []
 
     def play(self, number: int) -> Played:
-        """Runs the examples up to this one that haven't run yet, and returns this one's output."""
+        """Runs the examples up to this one that haven't run yet, and returns this one."""
         while len(self.played) <= number:
             example = self.examples[len(self.played)]
             self.words += words_of(example.command)
@@ -75,7 +75,7 @@ class Player:
 
 
 def words_of(command: str) -> list[str]:
-    """Returns the words of a command that can be passwords, the likeliest, quoted ones last."""
+    """Returns the words of a command that may be passwords. The likeliest, in quotes, are last."""
     bare = re.split(r"[\s:'\"|<>;]+|\\n", command)
     quoted = re.split(r"['\":]|\\n|\n", command)
     return [word for word in [*bare, *quoted] if WORD.fullmatch(word)]

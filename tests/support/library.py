@@ -42,7 +42,7 @@ class Installed:
 
     @property
     def shared(self) -> list[Word]:
-        """The compiler's arguments that link the shared library, with this path to find it."""
+        """The compiler's arguments that link the shared library, and its path for run time."""
         folder = self.libraries
         return [f"-I{self.include}", f"-L{folder}", f"-Wl,-rpath,{folder}", "-lmkpasswd"]
 
@@ -81,7 +81,7 @@ class Builder:
     folder: Path
 
     def build(self, source: Path, *words: Word) -> Path:
-        """Compiles a program without any warning, and returns its path."""
+        """Compiles a program, and returns its path. Fails the test at any warning."""
         program = self.folder / source.stem
         command = (COMPILER, "-std=c99", *WARNINGS, *words, source, *self.installed.static)
         assert_result(run(*command, "-o", program))

@@ -15,7 +15,7 @@ _library.crypt_rn.restype = ctypes.c_char_p
 def crypt_or_none(password: bytes, setting: bytes) -> bytes | None:
     """Returns the hash of a password, or None if libxcrypt refuses the password or the setting.
 
-    Each call has its own memory, so threads may call it at once.
+    Each call has its own memory, so several threads may call this at once.
     """
     assert b"\0" not in password + setting, "a C string has no zero byte"
     data = ctypes.create_string_buffer(SIZE_OF_CRYPT_DATA)

@@ -1,6 +1,6 @@
 """Tests for anything that users log in to: it accepts the right passwords and nothing else.
 
-A class of tests inherits them, and defines a fixture `door`.
+A class of tests inherits one of the classes here, and defines a fixture `door`.
 """
 from __future__ import annotations
 
@@ -35,7 +35,7 @@ class Door:
     service: Service | None = None
 
     def assert_verdict(self, name: str, password: str, expected: Verdict) -> None:
-        """Fails the test, with the service's log, unless a login has this verdict."""
+        """Fails the test unless a login has this verdict. The failure shows the service's log."""
         found = self.log_in(name, password)
         message = f"{name!r} with {password!r}: expected {expected.value}, got {found.value}"
         assert found is expected, f"{message}\n{self.service or ''}"
@@ -65,7 +65,7 @@ class LoginTests:
 class PamLoginTests(LoginTests):
     """Further tests for services whose passwords the PAM module checks.
 
-    To check the field of `hostile` would take longer than any service waits.
+    If the module didn't refuse the hash of `hostile`, checking it would outlast any service's wait.
     """
 
     takes_blank = False  # whether the service accepts names with a space
@@ -83,7 +83,7 @@ class PamLoginTests(LoginTests):
 
 
 def verdict_of(result: Result, *, refused: int) -> Verdict:
-    """Returns the verdict that a client's exit status shows: 0 for a login that is accepted."""
+    """Returns the verdict that a client's exit status shows: 0 if accepted, or else `refused`."""
     if result.status == 0:
         return Verdict.ACCEPTED
     assert result.status == refused, f"expected status: 0 or {refused}\n{result}"
@@ -112,7 +112,7 @@ def http_verdict(machine: Namespaces, port: int, name: str, password: str) -> Ve
 
 
 def pam_verdict(machine: Namespaces, service: str, name: str, password: str) -> Verdict:
-    """Logs in by PAM alone, and returns its verdict."""
+    """Logs in through PAM alone, and returns its verdict."""
     words = ("pamtester", service, name, "authenticate", "acct_mgmt")
     answer = answer_of(machine.run(*words, stdin=f"{password}\n".encode()))
     assert answer in (Answer.ACCEPTED, Answer.REFUSED), answer

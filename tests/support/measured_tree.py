@@ -89,7 +89,7 @@ MMDEBSTRAP = r"""#!/bin/sh
 while [ "${1#-}" != "$1" ]; do shift; done
 mkdir -p "$2/root" "$2/usr/local/bin"
 """
-# Stands in for the check in the root, which is the fourth argument after the options.
+# Stands in for the check in a root. The root is the fourth argument after the options.
 UNSHARE = r"""#!/bin/sh
 while [ "${1#-}" != "$1" ]; do shift; done
 [ "$1" != mmdebstrap ] || exec "$@"
@@ -142,7 +142,7 @@ class MeasuredTree:
 
     @property
     def environment(self) -> Changes:
-        """The environment in which the fake commands are found first."""
+        """Changes to the environment: the fake commands are first in PATH, and RT isn't set."""
         return {"PATH": f"{self.fakes}:/usr/sbin:/usr/bin:/sbin:/bin", "RT": None}
 
     @property
@@ -160,7 +160,7 @@ class MeasuredTree:
         return {line.split()[0]: line.split(maxsplit=1)[1] for line in lines}
 
     def not_measured(self) -> set[str]:
-        """Returns the parts that --list calls not measured for the commit."""
+        """Returns the parts whose state in --list is "not measured"."""
         return {name for name, state in self.states().items() if state == "not measured"}
 
     def page(self) -> str:
@@ -173,7 +173,7 @@ class MeasuredTree:
         return path.read_text(encoding="utf-8").splitlines() if path.exists() else []
 
     def kept(self, pattern: str) -> list[str]:
-        """Returns the kept files of measurements whose names match a pattern."""
+        """Returns the names of measurements' kept files that match a pattern."""
         return sorted(path.name for path in self.folder.glob(f"build/evidence/*/{pattern}"))
 
     def write(self, path: str, text: str) -> None:

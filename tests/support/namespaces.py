@@ -2,8 +2,8 @@
 
 One process holds the namespaces, and when it ends the kernel ends all processes in them. The test
 itself stays outside: nsenter runs commands inside, the machine's files are below /proc, and a
-thread can open sockets inside. Each machine has a loopback on which every port is free, and may
-change its /etc, so that such tests can run in parallel.
+thread can open sockets inside. Each machine has a loopback interface with every port free, and may
+change its own /etc, so that such tests can run in parallel.
 """
 from __future__ import annotations
 
@@ -22,7 +22,7 @@ from pathlib import Path
 from .process import Changes, Result, Word, run, started
 
 UNSHARE = ("unshare", "--mount", "--net", "--pid", "--fork", "--kill-child", "--mount-proc")
-# The namespaces end with the process that runs the tests, however that ends.
+# The namespaces end when the process that runs the tests does, for whatever reason.
 UNTIL_TESTS_END = ("setpriv", "--pdeathsig", "KILL", *UNSHARE)
 # The first process inside. It ignores SIGCHLD, so that the kernel reaps orphans.
 HOLDER = "trap '' CHLD; echo ready; exec sleep infinity"
@@ -116,7 +116,7 @@ class Namespaces:
         return self.path(path).read_bytes()
 
     def write(self, path: str, content: bytes | str, mode: int | None = None) -> None:
-        """Writes a file. By default it keeps its mode, or gets that of new files."""
+        """Writes a file. By default an existing file keeps its mode."""
         file = self.path(path)
         file.write_bytes(content.encode() if isinstance(content, str) else content)
         if mode is not None:
@@ -144,7 +144,7 @@ class Namespaces:
 
     @contextlib.contextmanager
     def network(self) -> Iterator[None]:
-        """Moves this thread into the machine's network for the block. New sockets stay there."""
+        """Moves this thread into the machine's network for the block. New sockets remain there."""
         with open("/proc/thread-self/ns/net", "rb") as outside:
             with open(f"/proc/{self.holder}/ns/net", "rb") as inside:
                 enter_network(inside.fileno())
@@ -174,7 +174,7 @@ def enter_network(descriptor: int) -> None:
 
 @contextlib.contextmanager
 def namespaces() -> Iterator[Namespaces]:
-    """Makes namespaces that end with the block. Only root can."""
+    """Makes namespaces that end with the block. Only root can do this."""
     words = (*UNTIL_TESTS_END, "sh", "-c", HOLDER)
     with started(*words, stdout=subprocess.PIPE, timeout=LONGEST) as process:
         assert process.stdout is not None
@@ -185,5 +185,5 @@ def namespaces() -> Iterator[Namespaces]:
         try:
             yield inside
         finally:
-            with contextlib.suppress(ProcessLookupError):  # it has ended, and so the block failed
+            with contextlib.suppress(ProcessLookupError):  # it ended early, so the block failed
                 os.kill(inside.holder, signal.SIGKILL)

@@ -1,7 +1,7 @@
-"""Skips tests for which this machine lacks a command, a file, a Python module or root.
+"""Skips tests if a command, a file, a Python module, root's rights or namespaces are missing.
 
-With STRICT=1 such a test fails instead. A test that makes no sense on this machine, as on another
-processor, is skipped even then.
+With STRICT=1 such a test fails instead. A test that makes no sense on this machine, for example
+because of its processor, is skipped even then.
 """
 from __future__ import annotations
 
@@ -23,7 +23,7 @@ PACKAGES = ROOT / "tests/packages.txt"
 
 
 def missing(what: str, remedy: str) -> NoReturn:
-    """Skips a test, or a module that is being imported; with STRICT=1 it fails."""
+    """Skips a test, or a module that is being imported. With STRICT=1 fails it instead."""
     reason = f"{what} is missing ({remedy})"
     if os.environ.get("STRICT") == "1":
         pytest.fail(reason, pytrace=False)
@@ -47,7 +47,7 @@ def package_of() -> dict[str, str]:
 
 
 def is_there(name: str) -> bool:
-    """Returns whether a file /.., a Python module python3-.., or else a command is installed."""
+    """Returns whether a file (/..), a Python module (python3-..) or else a command is installed."""
     if name.startswith("/"):
         return Path(name).exists()
     if name.startswith("python3-"):
@@ -65,7 +65,7 @@ def can_make_namespaces() -> bool:
 
 
 def need(*names: str) -> None:
-    """Skips the test if one of these is missing. `root` and `namespaces` are names too."""
+    """Skips the test if one of these is missing. They may include `root` and `namespaces`."""
     for name in names:
         if name == "root":
             if os.geteuid() != 0:
@@ -79,7 +79,7 @@ def need(*names: str) -> None:
 
 @contextlib.contextmanager
 def needed(*names: str) -> Iterator[None]:
-    """Skips the importing module of tests if one of these is missing, and else runs the block."""
+    """Skips the test module that is being imported if one of these is missing."""
     need(*names)
     yield
 

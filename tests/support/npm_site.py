@@ -1,4 +1,4 @@
-"""The folder of a user of the npm package, in which commands and scripts of node run."""
+"""A folder in which a user of the npm package runs commands and scripts in node."""
 from __future__ import annotations
 
 import json
@@ -18,11 +18,11 @@ class Site:
     folder: Path
 
     def run(self, *command: Word) -> Result:
-        """Runs a command in the folder, which has to succeed."""
+        """Runs a command, which must succeed, in the folder."""
         environment = {"HOME": str(self.folder), "NODE_OPTIONS": None, "NODE_PATH": None}
         return run(*command, cwd=self.folder, env=environment).required()
 
     def report_of(self, script: str, *arguments: Word, given: Any = None) -> Report:
-        """What a script reports that gets these arguments, and JSON as its input."""
+        """Runs a script with these arguments, and `given` as JSON input. Returns its report."""
         stdin = b"" if given is None else json.dumps(given).encode()
         return report_of_node(self.node, script, *arguments, folder=self.folder, stdin=stdin)

@@ -1,12 +1,12 @@
-"""Imports the Python package under test over the library under test.
+"""Imports the Python package under test, which loads the library under test.
 
 A module of tests imports the package like this, so that mypy knows its types:
 
     with package_under_test():
         import mkpasswd
 
-PACKAGE names a folder with a package mkpasswd, by default python/src, and LIBRARY a file named
-libmkpasswd.so.3. environment_of() passes both to the interpreters that a test starts.
+The variable PACKAGE names a folder with a package mkpasswd, by default python/src, and LIBRARY a
+file called libmkpasswd.so.3. environment_of() passes both to the interpreters that a test starts.
 """
 from __future__ import annotations
 
@@ -37,8 +37,8 @@ PACKAGE = Path(os.environ.get("PACKAGE", ROOT / "python/src")).absolute()
 def package_under_test() -> Iterator[None]:
     """Lets the block import the package. Skips the module's tests if the library isn't built.
 
-    The package loads its library by name, and finds the one of that name that is loaded here by
-    its path. So the environment, which other tests of this process share, needn't change.
+    The package loads its library by name, and gets the one that is loaded here by its path. So the
+    environment, which other tests in this process share, needn't change.
     """
     assert LIBRARY.name == SONAME, f"LIBRARY must name a file called {SONAME}"
     if not LIBRARY.is_file():
@@ -52,7 +52,7 @@ def package_under_test() -> Iterator[None]:
 
 
 def environment_of(library: Path = LIBRARY, package: Path = PACKAGE) -> dict[str, str | None]:
-    """Returns the environment in which an interpreter imports the package over a library."""
+    """Returns changes to the environment for an interpreter that imports the package."""
     return {
         "PYTHONPATH": str(package),
         "LD_LIBRARY_PATH": str(library.parent),
@@ -131,7 +131,7 @@ def line_changes(diff: str) -> dict[str, str]:
 
 
 def replace_lines(code: str, changes: dict[str, str]) -> str:
-    """Returns code of the document in which some lines are replaced."""
+    """Returns code of the document with some lines replaced. Each must occur exactly once."""
     for old, new in changes.items():
         assert code.count(old) == 1, f"expected {old!r} once in:\n{code}"
         code = code.replace(old, new)
@@ -139,7 +139,7 @@ def replace_lines(code: str, changes: dict[str, str]) -> str:
 
 
 class Cook:
-    """Runs code of docs/PYTHON.md from files in a folder, so that tracebacks show its lines."""
+    """Runs code of docs/PYTHON.md from a file in a folder, so that tracebacks show its lines."""
 
     def __init__(self, folder: Path) -> None:
         self.folder = folder
