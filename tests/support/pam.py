@@ -75,14 +75,17 @@ def answer_of(result: Result) -> Answer:
 
 
 def failure_of(name: str | None, rhost: str = "") -> str:
-    """Returns the log entry for a failed login to a service of root, by a name in the file."""
+    """Returns the log entry for a failed login to a service that runs as root.
+
+    The name is None if it isn't in the password file.
+    """
     items = f"logname= uid=0 euid=0 tty= ruser= rhost={rhost} "
     user = f" user={name}" if name is not None else ""
     return f"authentication failure; {items}{user}"
 
 
 class SystemLog:
-    """A machine's system log, received in place of its daemon."""
+    """A machine's system log, received in place of its log daemon."""
 
     def __init__(self, receiver: socket.socket) -> None:
         self.receiver = receiver
@@ -97,7 +100,7 @@ class SystemLog:
         return tuple(entries)
 
     def entries(self) -> tuple[str, ...]:
-        """Returns the same, but of pam_mkpasswd's entries only their text."""
+        """Returns the same entries, but without the prefix that PAM adds to pam_mkpasswd's."""
         texts = []
         for entry in self.raw_entries():
             beginning = re.match(r".*?pam_mkpasswd\([\w-]+:\w+\): ", entry, re.DOTALL)
@@ -154,7 +157,8 @@ class Pam:
     ) -> Result:
         """Logs in, and returns how pamtester ends.
 
-        Reads the log first: nothing else does, and a program that logs hangs at ten unread entries.
+        Empties the log first: nothing else reads it, and a program that logs blocks while ten
+        entries are unread.
         """
         self.log.entries()
         command = (*through, "pamtester", service, name, "authenticate", "acct_mgmt")
@@ -163,7 +167,7 @@ class Pam:
     def call(
         self, name: str, operation: str, *lines: bytes, through: tuple[Word, ...] = ()
     ) -> Login:
-        """Makes one call of PAM for a name, such as pam_chauthtok(3), and types these lines."""
+        """Makes one PAM call, such as pam_chauthtok(3), for a name, and types these lines."""
         self.log.entries()
         stdin = b"".join(line + b"\n" for line in lines)
         result = self.machine.run(*through, "pamtester", "example", name, operation, stdin=stdin)

@@ -26,7 +26,7 @@ OTHERS = ("yescrypt", "bcrypt", "descrypt", "bsdicrypt")
 SHA512 = HASHES["sha512crypt"]
 CUT = SHA512[:-1]
 HOSTILE = b"$6$rounds=999999999$saltsalt$" + b"a" * 86
-# A hash with the default policy of new hashes.
+# The beginning of a hash with the default policy, and such a hash.
 RECOMMENDED = b"$6$rounds=656000$"
 SHA512_RECOMMENDED = (
     RECOMMENDED + b"abcdefghijklmnop$fiPLN8PJZDrnKw45jP4lFu5V3YSzxzKd0fzICIEExvMrpKJaHNJay"

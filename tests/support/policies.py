@@ -22,7 +22,7 @@ class Policy:
 
     @property
     def setting(self) -> Setting:
-        """The setting of new hashes. Its salt means nothing."""
+        """The setting of new hashes, with an arbitrary salt."""
         return recommended_setting(METHODS[self.method or RECOMMENDED_METHOD], self.rounds)
 
 
@@ -63,7 +63,7 @@ INVALID_POLICIES = (
     InvalidPolicy("scrypt with cost 12", 7, 12, Reason.ROUNDS),
     InvalidPolicy("scrypt with the greatest number as cost", 7, GREATEST_32, Reason.ROUNDS),
 )
-# What the other calls refuse, since they don't clamp rounds.
+# Policies that all calls except mkpasswd_needs_rehash refuse, since they don't clamp rounds.
 INVALID_ROUNDS = (
     InvalidPolicy("the recommended method with 999 rounds", 0, 999, Reason.ROUNDS),
     InvalidPolicy("sha512crypt with 999 rounds", 6, 999, Reason.ROUNDS),

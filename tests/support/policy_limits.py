@@ -27,7 +27,7 @@ SALT_LENGTH = {MD5CRYPT: 8, SHA256CRYPT: 16, SHA512CRYPT: 16, SCRYPT: 22}
 
 @dataclass(frozen=True)
 class Policy:
-    """A service's arguments for mkpasswd_login() and mkpasswd_new(). Its method isn't 0."""
+    """A service's arguments for mkpasswd_login() and mkpasswd_new(). The method isn't 0."""
 
     method: int
     rounds: int

@@ -1,4 +1,4 @@
-"""Runs commands. A failure shows the command, what was expected and what came."""
+"""Runs commands. A failure shows the command, what was expected and what it printed."""
 from __future__ import annotations
 
 import contextlib
@@ -103,7 +103,7 @@ def run(
     cwd: Path | None = None,
     timeout: float = 300,
 ) -> Result:
-    """Runs a command. Its stdin is these bytes or a file, and its stdout may be a file.
+    """Runs a command. Its stdin is the given bytes or a file, and its stdout may go to a file.
 
     After the time limit, the command's whole process group is killed: subprocess.run would kill
     only the first process, and wait for others that still hold the pipes.
@@ -136,14 +136,14 @@ def run(
 
 
 def opened(files: contextlib.ExitStack, path: Path, flags: int) -> int:
-    """Opens a file or a folder, to be closed with the others, and returns its descriptor."""
+    """Opens a file or a folder, to be closed with `files`, and returns its descriptor."""
     descriptor = os.open(path, flags)
     files.callback(os.close, descriptor)
     return descriptor
 
 
 def status_of(process: subprocess.Popen[bytes]) -> int:
-    """Returns the exit status of a process that has ended, as a shell would."""
+    """Returns the exit status of a process that has ended, as a shell reports it."""
     status = process.returncode
     return status if status >= 0 else 128 - status
 

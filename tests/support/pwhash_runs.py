@@ -85,7 +85,7 @@ def shell(script: str, *words: str, stdin: bytes = b"") -> Ended:
 
 
 def in_namespace(script: str, *words: str, stdin: bytes = b"") -> Ended:
-    """Runs such a script in a mount namespace, which only root can make."""
+    """Runs such a script, with `set -e`, in a mount namespace, which only root can make."""
     need("unshare", "namespaces")
     command = ["unshare", "--mount", "/bin/sh", "-c", f"set -e\n{script}", "sh", PWHASH, *words]
     return ended(started_program(*command), stdin)
@@ -138,7 +138,7 @@ def users(count: int) -> bytes:
 
 @contextlib.contextmanager
 def slow_run(*words: str) -> Iterator[subprocess.Popen[bytes]]:
-    """Starts a run of some seconds, and runs the block once its part file has lines."""
+    """Starts a run of a few seconds, and runs the block once the run's part file has lines."""
     save("passwords", users(1500))
     os.utime("passwords", (1e9, 1e9))
     with started("file", *SLOW, "passwords", "-o", "hashes", *words) as process:
@@ -150,7 +150,7 @@ def slow_run(*words: str) -> Iterator[subprocess.Popen[bytes]]:
 
 
 def command_to_go_on(done: Ended) -> str:
-    """Returns the command that an interrupted run prints for going on."""
+    """Returns the command that an interrupted run prints for resuming it."""
     return done.err.decode().split("To go on:\n")[1].strip()
 
 
@@ -171,7 +171,10 @@ def shows_keys(terminal: int) -> bool:
 def at_terminal(
     words: Sequence[str], keys: Sequence[bytes], kill: int | None = None, utf8: bool = False
 ) -> Terminal:
-    """Runs pwhash at a terminal, types keys, each at a prompt, and may then send a signal."""
+    """Runs pwhash at a terminal, and types each of `keys` at a prompt.
+
+    If `kill` is given, sends this signal at the next prompt.
+    """
     need("python3-pexpect")
     import pexpect
 
@@ -199,7 +202,7 @@ def at_terminal(
 
 
 def type_secret(child: Any) -> bytes:
-    """Types "secret" at both prompts, once the first one is there. Returns what appears then."""
+    """Types "secret" at the prompt that is shown and at the next. Returns what appears then."""
     import pexpect
 
     child.send(b"secret\r")
@@ -214,7 +217,10 @@ def type_secret(child: Any) -> bytes:
 
 @dataclasses.dataclass(frozen=True)
 class Load:
-    """What a run uses: working threads (without the first one, as a median) and bytes of memory."""
+    """The load of a run: its working threads (the median, without the first thread), and memory.
+
+    The memory is the greatest number of bytes that were resident.
+    """
 
     working: float
     memory: int
@@ -235,7 +241,7 @@ def tree(first: int) -> list[int]:
 
 
 def working_threads(process: int, first: int) -> int:
-    """Counts the threads that are running or ready, except the first, which deals out the work."""
+    """Counts the threads that are running or ready, except `first`, which deals out the work."""
     count = 0
     with contextlib.suppress(OSError):  # it has ended
         for path in pathlib.Path(f"/proc/{process}/task").iterdir():
@@ -246,7 +252,7 @@ def working_threads(process: int, first: int) -> int:
 
 
 def state_of(process: int) -> str:
-    """Returns proc(5)'s letter for a process's state, T if it is stopped, or "" if it is gone."""
+    """Returns proc(5)'s letter for a process's state, such as T if stopped, or "" if it is gone."""
     with contextlib.suppress(OSError):
         text = pathlib.Path(f"/proc/{process}/stat").read_text(encoding="latin-1")
         return text.rpartition(")")[2].split()[0]
@@ -277,7 +283,7 @@ def load_of(process: subprocess.Popen[bytes]) -> Load:
 
 
 def watched(script: str, *words: str) -> tuple[Ended, Load]:
-    """Runs pwhash after a script that changes how the machine looks to it."""
+    """Runs pwhash after a script that changes what it sees of the machine. Measures its load."""
     need("unshare", "namespaces")
     script = f'set -e\n{script}\nexec "$@"'
     command = ["unshare", "--mount", "/bin/sh", "-c", script, "sh", PWHASH, *words]

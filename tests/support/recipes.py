@@ -80,7 +80,7 @@ class Site:
         assert result.status == 0, f"{block.place}\nexpected status: 0\n{result}"
 
     def answer(self, commands: str) -> Result:
-        """Runs commands. On their stdin are Ann's password and another line."""
+        """Runs commands. Their standard input is Ann's password and one more line."""
         return self.run("sh", "-euc", commands, stdin=f"{ANN.password}\nmore\n")
 
     def hash_passwords(self) -> None:
@@ -99,7 +99,7 @@ class Site:
                     file.write(self.line_of(user))
 
     def line_of(self, user: User) -> bytes:
-        """Returns a user's line, with a hash by the program."""
+        """Returns a user's line, with a hash that the program makes."""
         options = ("--batch", "-m", user.method, "-R", user.cost or 0)
         line = f"{user.name}:{user.password}\n".encode()
         return run(self.program, *options, stdin=line).required().stdout

@@ -1,6 +1,6 @@
 """Replaces a field of a password file by the protocol in pam_mkpasswd(8), REPLACING A FIELD.
 
-It is written from the manual alone. It is a command too, so that a test can kill it:
+This module is written from the manual alone. It is also a command, so that a test can kill it:
 
     python3 replacing.py PATH NAME OLD-FIELD NEW-FIELD
 """
@@ -44,7 +44,7 @@ def is_same_file(one: os.stat_result, other: os.stat_result) -> bool:
 
 
 def open_lock(path: Path) -> int:
-    """Opens the lock file of a password file, which it creates if necessary."""
+    """Opens a password file's lock file, and creates it if necessary."""
     lock, flags = beside(path, "lock"), os.O_NOFOLLOW | os.O_CLOEXEC
     try:
         created = os.open(lock, os.O_RDWR | os.O_CREAT | os.O_EXCL | flags, 0o600)
@@ -118,7 +118,7 @@ def with_new_field(content: bytes, name: bytes, old: bytes, new: bytes) -> bytes
 
 
 def write_new(file: int, content: bytes, old: int) -> None:
-    """Writes a new file with the old one's attributes, owner and mode."""
+    """Writes a new file with the old one's extended attributes, owner and mode."""
     status = os.fstat(old)
     with os.fdopen(file, "wb", closefd=False) as writer:
         writer.write(content)
@@ -138,7 +138,10 @@ def version(status: os.stat_result) -> tuple[int, ...]:
 
 
 def put_in_place(path: Path, old: os.stat_result, new: os.stat_result) -> bool:
-    """Exchanges the files, undoes that if somebody changed one, and says if the new one stays."""
+    """Exchanges the files, and undoes that if somebody has changed one of them.
+
+    Returns whether the new file stays.
+    """
     expected, inside = old, new
     while True:
         exchange(beside(path, "new"), path)
@@ -149,7 +152,7 @@ def put_in_place(path: Path, old: os.stat_result, new: os.stat_result) -> bool:
 
 
 def replace_under_lock(path: Path, name: bytes, old: bytes, new: bytes) -> None:
-    """Replaces a field, unless it has changed."""
+    """Replaces a field. Raises NotReplaced if the field or the file has changed."""
     with contextlib.ExitStack() as files:
         reader = os.open(path, os.O_RDONLY | os.O_CLOEXEC)
         files.callback(os.close, reader)

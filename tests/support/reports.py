@@ -34,7 +34,7 @@ def read_report(origin: str, text: str) -> Report:
 
 
 def report_of_node(*command: Word, folder: Path | None = None, stdin: bytes = b"") -> Report:
-    """Runs node, which must end by itself, and returns the script's report."""
+    """Runs node, which must succeed, and returns the script's report."""
     environment = {"NODE_OPTIONS": None, "NODE_PATH": None}
     result = run(
         *command, stdin=stdin, cwd=folder, env=environment, timeout=LONGEST_SECONDS

@@ -1,4 +1,4 @@
-"""Runs a service on a test's own machine until the end of the test."""
+"""Runs a service on a machine of the test's own while a block of the test runs."""
 from __future__ import annotations
 
 import contextlib
@@ -73,7 +73,7 @@ class Service:
 def serving(
     machine: Namespaces, port: int, *command: Word, log: Path, env: Changes | None = None
 ) -> Iterator[Service]:
-    """Runs a service while the block runs, which begins once the service's port answers."""
+    """Runs a service while the block runs. The block begins once the service's port answers."""
     with machine.started(*command, log=log, env=env) as process:
         service = Service(machine, command, port, log, process)
         try:

@@ -76,7 +76,7 @@ class Shell(Protocol):
     """A shell that can be asked for its completions."""
 
     def offered(self, line: str) -> list[str]:
-        """Returns the words that the shell offers in place of the line's last one."""
+        """Returns the words that the shell offers in place of the line's last word."""
 
 
 class InTerminal:
@@ -87,7 +87,7 @@ class InTerminal:
         self.keys = keys  # complete the line and print it
 
     def offered(self, line: str) -> list[str]:
-        """Returns the words that the shell offers in place of the line's last one."""
+        """Returns the words that the shell offers in place of the line's last word."""
         self.terminal.send(line + self.keys)
         self.terminal.expect(ANSWER)
         completed: str = self.terminal.match[1]
@@ -155,7 +155,7 @@ class Fish:
     process: subprocess.Popen[bytes]
 
     def offered(self, line: str) -> list[str]:
-        """Returns the words that the shell offers in place of the line's last one."""
+        """Returns the words that the shell offers in place of the line's last word."""
         assert self.process.stdin is not None and self.process.stdout is not None
         self.process.stdin.write(f"{line}\n".encode())
         self.process.stdin.flush()

@@ -1,7 +1,8 @@
 """Published hashes, and fields of password files that no password matches.
 
 The hashes are from openssl-passwd(1), Drepper's specification of SHA-crypt, libxcrypt's tests and
-RFC 7914. Those of 1,024 bytes are from passlib, and from hashlib by Drepper's specification.
+RFC 7914. Those of 1,024-byte passwords are from passlib, and from hashlib by Drepper's
+specification.
 """
 from __future__ import annotations
 
@@ -27,7 +28,7 @@ class KnownHash:
 
 @dataclass(frozen=True)
 class Field:
-    """A stored field, and the error with which it refuses "password"."""
+    """A stored field, and the error of checking "password" against it."""
 
     title: str
     text: bytes
@@ -100,7 +101,7 @@ KNOWN_HASHES = (
 )
 SCRYPT_WITH_LONGEST_SALT = b"$7$2/..../...." + b"a" * 86
 
-# Fields without a setting, so that a hash after it doesn't matter.
+# Fields without a valid setting. A hash in such a field doesn't matter.
 EMPTY = Field("an empty field", b"", Reason.NO_HASH)
 LOCKED_FIELDS = (
     Field("an exclamation mark", b"!", Reason.LOCKED),

@@ -1,4 +1,4 @@
-"""Stored hashes and fields for the Python package, as str, even some that no file can have."""
+"""Stored hashes and fields for the Python package, as str, including some that no file can have."""
 from __future__ import annotations
 
 from dataclasses import dataclass
@@ -13,7 +13,7 @@ SHA512 = (
     "S35inz1"
 )
 SCRYPT = "$7$CU..../....s"
-# It takes only a second or two, so that a test ends even if the budget is ignored.
+# Checking it takes only a second or two, so that a test ends even if the budget is ignored.
 COSTLY = "$6$rounds=2500000$saltstring$" + "x" * 86
 
 

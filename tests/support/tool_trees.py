@@ -45,11 +45,11 @@ class ToolTree:
         self.rt_is(f'cat "$0.lines"\nexit {status}')
 
     def environment(self, changes: Changes | None = None) -> Changes:
-        """Returns the tools' environment: the fake rt, without settings of the tests' own run."""
+        """Returns changes to the environment: the fake rt, and no settings from the tests' run."""
         return {"RT": str(self.program), "RT_JOBS": None, **(changes or {})}
 
     def full_environment(self) -> dict[str, str]:
-        """Returns the same, with all that the tests' own environment has."""
+        """Returns the tests' own environment with these changes."""
         return changed_environment(self.environment())
 
     def run(self, tool: str, *words: Word, env: Changes | None = None) -> Result:
