@@ -15,7 +15,7 @@ from support.process import Changes
 
 NO_TESTS_SELECTED = 5  # pytest's exit status if -k selects no test
 EXIT_STATUS = pytest.StashKey[int]()
-PR_SET_PDEATHSIG = 1  # of prctl(2)
+PR_SET_PDEATHSIG = 1  # from prctl(2)
 SBIN = "/usr/sbin:/sbin"  # the folders of services, which even root's PATH may lack
 
 
@@ -60,7 +60,7 @@ def fixture_heeded_signals() -> Iterator[None]:
 
 
 def is_worker(config: pytest.Config) -> bool:
-    """Returns whether this process is a worker of pytest-xdist."""
+    """Returns whether this process is a pytest-xdist worker."""
     return hasattr(config, "workerinput")
 
 

@@ -17,7 +17,7 @@ from support.pwhash_runs import MD5, pwhash, save, shell
 )
 @pytest.mark.parametrize("source", ["pipe", "file", "nothing"])
 def test_an_audit_needs_a_file(words: tuple[str, ...], source: str) -> None:
-    """Cron, ssh and Ansible make standard input a pipe, so a pipe needn't have any input."""
+    """Cron, ssh and Ansible make standard input a pipe even when there is no input."""
     save("fields", b"eve:secret\n")
     redirected = {"pipe": 'cat fields | "$@"', "file": '"$@" < fields', "nothing": '"$@" <&-'}
     done = shell(redirected[source], "audit", *words)
@@ -42,7 +42,7 @@ class Account:
 
     @property
     def name(self) -> str:
-        """The name in the row, or what replaces it there."""
+        """The name in the row, or "line" for a line without a name."""
         return self.row.split()[0]
 
 
@@ -100,7 +100,7 @@ JSON = ("--json", "--only-problems", "--locked")
 
 
 def test_problems_are_printed_as_json_objects() -> None:
-    """With --locked these include the accounts that have a hash after the lock."""
+    """With --locked, the hashes of locked accounts are audited too."""
     names = [json.loads(row)["name"] for row in audited(*JSON)]
     assert names == ["bob", "old", "eve", "open", "shut2", "mal", "bare", "line 12", "des", "odd"]
 

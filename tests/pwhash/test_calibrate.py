@@ -43,7 +43,7 @@ EVER = "999999s"
 
 @pytest.fixture(name="calibrate")
 def fixture_calibrate(copy: Copy) -> Copy:
-    """A copy of pwhash that measures the speed of the machine in SPEED."""
+    """A copy of pwhash that takes the machine's speed from SPEED."""
     (copy.modules / "pwhash/speed.py").write_text(SPEED, encoding="ascii")
     return copy
 

@@ -89,7 +89,7 @@ def test_a_heading_in_another_language_is_not_a_user(heading: bytes, is_table: b
 
 @pytest.mark.parametrize("words", [(), ("--csv", "--columns", "1,2")], ids=["list", "table"])
 def test_the_first_line_repeated_is_not_a_user(words: tuple[str, ...]) -> None:
-    """It is a heading even if pwhash doesn't know its words."""
+    """A repeated first line is a heading even if pwhash doesn't know its words."""
     lines = b"konto:geheim\nann:pw1\nkonto:geheim\nbob:pw2\n"
     save("list", lines.replace(b":", b",") if words else lines)
     done = pwhash("file", *MD5CRYPT, *words, "list")

@@ -65,7 +65,7 @@ def test_a_signal_ends_a_run_whose_messages_nobody_reads(number: signal.Signals)
 @pytest.mark.needs("strace")
 @EACH_SIGNAL
 def test_a_signal_after_out_has_its_name_does_not_change_the_status(number: signal.Signals) -> None:
-    """strace delays the calls that remove the file's other names, by three seconds."""
+    """strace delays the removal of the file's other names by three seconds."""
     save("list", users(3) + b"no colon\n")
     inject = "inject=unlink,unlinkat:delay_enter=3000000"
     command = ["strace", "-f", "-qq", "-o", "/dev/null", "-e", inject, PWHASH, "file", *MD5CRYPT]
@@ -118,7 +118,7 @@ def test_a_small_stack_is_named(limit: str, status: int) -> None:
         assert b"stack" in done.err and b"ulimit" in done.err, done
 
 
-# ---- What is missing
+# ---- Missing and damaged files
 
 
 def test_a_library_that_is_missing_is_named(copy: Copy) -> None:
@@ -255,7 +255,7 @@ def test_a_module_that_the_user_cant_read_is_named(copy: Copy) -> None:
     ],
 )
 def test_a_truncated_first_module_never_ends_with_status_0(copy: Copy, left: bytes) -> None:
-    """Python itself would end with status 0, which means that the password is right."""
+    """Python alone would end with status 0, as if the password were right."""
     (copy.modules / "pwhash/start.py").write_bytes(left)
     done = copy.run("check", stdin=b"ann:!:wrong\n")
     assert done.status == 3 and b"start.py is damaged" in done.stderr, done

@@ -18,7 +18,7 @@ WORDS = ("file", "--generate", *FAST, "-o", "hashes")
 BY_CLASS = (*WORDS, "--csv", "--passwords", "lists", "--by", "class")
 LETTERS = re.compile(
     rb"[A-HJ-NP-Za-km-z][A-HJ-NP-Za-km-z2-9]*[A-HJ-NP-Za-km-z]"
-)  # no 0, O, 1, l, I
+)  # no 0, O, 1, l or I
 
 
 def rows_of(path: str, separator: str = ",") -> dict[bytes, bytes]:

@@ -117,7 +117,7 @@ def test_a_kill_at_any_moment_leaves_no_hash_without_its_password(number: signal
         assert_passwords_of(made, 3)
         if not os.path.exists("hashes"):
             done = pwhash(*WORDS, "--resume")
-        if done.status == 2 and number is signal.SIGKILL:  # it was writing the lists
+        if done.status == 2 and number is signal.SIGKILL:  # the run was writing the lists
             assert b"lists already exists" in done.err and not made, done
         elif done.status != -number:  # the run may have ended before the signal
             assert_whole(done)

@@ -35,7 +35,7 @@ FIELDS = [
 
 
 def lines_of_passwords(seed: int) -> list[bytes]:
-    """Returns lines for --batch: passwords, and lines that are refused, long or like answers."""
+    """Returns lines for --batch: good, refused and long ones, and some that look like answers."""
     source = random.Random(seed)
     return [
         source.choice(ODD_LINES) if source.random() < 0.3 else b"user%d:password%d" % (n, n)

@@ -83,7 +83,7 @@ def test_the_printed_command_resumes_an_interrupted_run(program: Path) -> None:
 
 
 def test_ctrl_c_while_modules_load_ends_pwhash_without_a_message(copy: Copy) -> None:
-    """Until pwhash has set its handler, Python would print a traceback."""
+    """Before pwhash sets its handler, Python would print a traceback."""
     script = "\nimport os, signal\nos.kill(os.getpid(), signal.SIGINT)\n"
     with open(copy.modules / "pwhash/lines.py", "a", encoding="utf-8") as module:
         module.write(script)

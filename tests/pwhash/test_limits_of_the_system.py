@@ -84,7 +84,7 @@ def test_a_run_is_complete_or_fails(limit: str, limits: range) -> None:
 
 
 def run_as_somebody(copy: Copy, most: int) -> Result:
-    """Runs pwhash as a user without other processes, who may have at most `most`."""
+    """Runs pwhash as a user who has no other processes and may have at most `most`."""
     user = 60000 + os.getpid() % 5000
     limit = ("prlimit", f"--nproc={most}", "setpriv", f"--reuid={user}", "--regid=65534")
     before = (*limit, "--clear-groups", "--")

@@ -1,4 +1,4 @@
-"""Rows of a table that are too long: they end the run, and no part of one is hashed."""
+"""Table rows that are too long: they end the run, and no part of them is hashed."""
 from __future__ import annotations
 
 import contextlib

@@ -22,7 +22,7 @@ LINES = [
 
 
 def looked_at() -> Ended:
-    """Saves LINES, and runs pwhash file over them without an option for problems."""
+    """Saves LINES, and runs pwhash on them with no option that decides about problems."""
     save("lines", b"\n".join(LINES) + b"\n")
     return pwhash(*TO_OUT)
 

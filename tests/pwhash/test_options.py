@@ -85,7 +85,7 @@ def test_no_message_repeats_an_argument_that_may_be_a_password(words: tuple[str,
 
 
 def test_an_argument_after_h_is_not_repeated() -> None:
-    """Since Python 3.13, argparse prints the help first."""
+    """Since Python 3.13, argparse prints the help instead of an error."""
     done = pwhash("-hhunter2", stdin=b"x\n")
     assert b"hunter2" not in done.out + done.err, done
 

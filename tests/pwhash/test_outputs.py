@@ -50,7 +50,7 @@ def test_no_out_is_lost_because_of_standard_error(redirected: str) -> None:
     assert not os.path.exists("hashes.part"), done
 
 
-# ---- Full and closed
+# ---- Unusable inputs and outputs
 
 COMMANDS = pytest.mark.parametrize(
     "words",

@@ -1,4 +1,4 @@
-"""pwhash never prints into the file that it reads, and no control sequences to a terminal."""
+"""pwhash never prints into the file that it reads, or control sequences to a terminal."""
 
 from __future__ import annotations
 

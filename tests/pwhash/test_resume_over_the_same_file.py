@@ -98,7 +98,7 @@ def other_passwords() -> bytes:
 
 
 def copy_over() -> None:
-    """Overwrites the list as `cp -p` of an older list does."""
+    """Overwrites the list as `cp -p` from an older list would."""
     save("backup", other_passwords())
     os.utime("backup", OLDER)
     with open("backup", "rb") as backup, open("passwords", "r+b") as passwords:

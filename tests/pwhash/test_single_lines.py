@@ -21,7 +21,7 @@ def test_one_line_alone_is_hashed_without_a_message(end: bytes) -> None:
 
 
 def test_pwhash_does_not_wait_for_further_lines() -> None:
-    """The writer of the password ends only after pwhash does."""
+    """The process that writes the password ends only after pwhash does."""
     script = '{ echo secret; read -r end < pipe; } | { "$@"; echo end > pipe; }'
     done = shell(f"mkfifo pipe; {script}", *MD5CRYPT)
     assert (done.status, done.out, done.err) == (0, hashed(b"secret") + b"\n", b""), done

@@ -1,4 +1,4 @@
-"""Pipes: answers come at once, and pwhash reads no further while nobody takes them."""
+"""Pipes: pwhash answers each line at once, and stops reading while nobody reads its answers."""
 from __future__ import annotations
 
 import os

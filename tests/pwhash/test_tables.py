@@ -107,7 +107,7 @@ def test_a_row_without_a_name_or_password_is_tried_for_nobody(row: bytes) -> Non
 
 
 def test_rows_joined_by_a_stray_quote_are_refused() -> None:
-    """The quote joins the lines up to the next one. No file may be made without their users."""
+    """A stray quote joins all lines up to the next quote. Their users must not be lost silently."""
     table = b'name,password,note\nann,password,"\nbob,password,"\ncid,password,\n'
     done = pwhash("file", "--csv", *MD5CRYPT, stdin=table)
     assert done.status == 1 and lines_named_in(done.err) == [3], done

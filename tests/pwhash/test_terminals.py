@@ -196,7 +196,7 @@ def test_a_wrong_option_is_named_before_anything_is_typed() -> None:
 
 
 def test_a_password_typed_after_ctrl_z_is_hidden() -> None:
-    """The shell, which doesn't wait for the end of the prompt, would show it."""
+    """Otherwise the shell, which doesn't wait for the prompt to end, would show the password."""
     save("script", f"{PWHASH} {shlex.join(MD5CRYPT)}\nexit $?\n".encode())
     child = pexpect.spawn("/bin/sh", ["-m", "script"], timeout=60)
     child.expect(rb"Password: ")

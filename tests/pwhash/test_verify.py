@@ -142,7 +142,7 @@ def test_a_pasted_hash_may_have_blanks_and_its_line_around_it(pasted: bytes, set
 
 
 def test_pwhash_does_not_wait_for_more_after_a_complete_hash() -> None:
-    """The writer of the hash ends only after pwhash does."""
+    """The process that writes the hash ends only after pwhash does."""
     save("input", b"password\n" + MD5.encode() + b"\n")
     script = '{ cat input; read -r end < pipe; } | { "$@" verify; echo end > pipe; }'
     done = shell(f"mkfifo pipe; {script}")
