@@ -51,7 +51,7 @@ APT = "apt-get -q -y --no-install-recommends -o Dir::Cache::pkgcache="
 LONGEST_BUILD = 900  # seconds
 LONGEST_SCRIPT = 1200  # seconds that a script in a root may take
 LONGEST_BOOTSTRAP = 1800  # seconds
-LAST_LINES = 60  # of the script's output, which a failure shows
+LAST_LINES = 60  # lines of a script's output that a failure shows
 LAYER = """
 mount -t overlay overlay -o "lowerdir=$0,upperdir=$1/changes,workdir=$1/work" "$1/root"
 """
@@ -188,7 +188,7 @@ class Root:
         return result.stdout.decode(errors="replace")
 
     def files(self) -> set[str]:
-        """Returns the paths of all files except those that apt and dpkg write for any package."""
+        """Returns the paths of all files outside the folders in UNWATCHED."""
         pruned = " -o ".join(f"-path {path}" for path in UNWATCHED)
         return set(self.output_of(f"find / \\( {pruned} \\) -prune -o -print").splitlines())
 

@@ -32,7 +32,7 @@ class Played:
     example: Example
     words: tuple[str, ...]  # possible passwords in the examples up to this one
     output: str
-    repeated_output: str | None  # of a second run, if the first one wasn't as shown
+    repeated_output: str | None  # of a second run, if there was one
 
     @property
     def makes_salts(self) -> bool:

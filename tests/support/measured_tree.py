@@ -1,7 +1,7 @@
 """A tiny repository for tests of tools/evidence, with fake commands for rt, make and others.
 
-Each fake command prints and writes what a test has put beside it, in the form of the real
-command. Calls of make and rt are recorded.
+Each fake command prints and writes what a test has put beside it, in the real command's format.
+Calls of make and rt are recorded.
 """
 from __future__ import annotations
 

@@ -1,4 +1,4 @@
-"""Skips tests if a command, a file, a Python module, root's rights or namespaces are missing.
+"""Skips tests that need a command, file, Python module or privilege that is missing here.
 
 With STRICT=1 such a test fails instead. A test that makes no sense on this machine, for example
 because of its processor, is skipped even then.

@@ -52,7 +52,10 @@ def package_under_test() -> Iterator[None]:
 
 
 def environment_of(library: Path = LIBRARY, package: Path = PACKAGE) -> dict[str, str | None]:
-    """Returns changes to the environment for an interpreter that imports the package."""
+    """Returns the environment changes with which an interpreter imports this package.
+
+    The package then loads this library.
+    """
     return {
         "PYTHONPATH": str(package),
         "LD_LIBRARY_PATH": str(library.parent),
@@ -115,7 +118,7 @@ def whole_login() -> str:
 
 
 def whole_login_of_a_moving_service() -> str:
-    """Returns that code with the changes and the checks for a service that has old hashes."""
+    """Returns "A whole login" with the changes and the checks for a service that has old hashes."""
     code = whole_login()
     for old, new in line_changes(recipe("change the login", "diff")).items():
         code = replace_lines(code, {old: new})

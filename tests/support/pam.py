@@ -100,7 +100,7 @@ class SystemLog:
         return tuple(entries)
 
     def entries(self) -> tuple[str, ...]:
-        """Returns the same entries, but without the prefix that PAM adds to pam_mkpasswd's."""
+        """Returns the new log entries, without the prefix that PAM adds to pam_mkpasswd's."""
         texts = []
         for entry in self.raw_entries():
             beginning = re.match(r".*?pam_mkpasswd\([\w-]+:\w+\): ", entry, re.DOTALL)

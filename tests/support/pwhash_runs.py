@@ -27,7 +27,7 @@ from .needs import need, not_applicable
 PWHASH = os.environ.get("PWHASH", str(ROOT / "bin/pwhash"))
 MD5 = "$1$xxxxxxxx$UYCIxa628.9qXjpQCjM4a."  # libxcrypt's hash of "password" with MD5CRYPT's salt
 MD5CRYPT = ("-m", "md5crypt", "-S", "xxxxxxxx")
-BOM = b"\xef\xbb\xbf"  # Windows puts it before UTF-8
+BOM = b"\xef\xbb\xbf"  # Windows programs put it before UTF-8 text
 ESCAPE = "\x1b[2J"  # clears the screen of a terminal
 BY_NUMBER = ("--columns", "1,2")
 SECONDS_OF_A_RUN = 900  # a run that takes longer hangs
@@ -85,7 +85,7 @@ def shell(script: str, *words: str, stdin: bytes = b"") -> Ended:
 
 
 def in_namespace(script: str, *words: str, stdin: bytes = b"") -> Ended:
-    """Runs such a script, with `set -e`, in a mount namespace, which only root can make."""
+    """Runs a script like shell(), but with `set -e` in a mount namespace. Only root can do this."""
     need("unshare", "namespaces")
     command = ["unshare", "--mount", "/bin/sh", "-c", f"set -e\n{script}", "sh", PWHASH, *words]
     return ended(started_program(*command), stdin)

@@ -42,7 +42,7 @@ CLOSED = ("cut", "hostile", "locked", "star", "yescrypt")
 
 @functools.cache
 def closed_fields() -> dict[str, bytes]:
-    """Returns the fields of these names, all for one password."""
+    """Returns the fields of the names in CLOSED. Any real hashes in them are of SECRET."""
     sha512 = crypt(SECRET.encode(), b"$6$abcdefghijklmnop")
     return {
         "cut": sha512[:-1],
@@ -54,7 +54,7 @@ def closed_fields() -> dict[str, bytes]:
 
 
 def closed_lines() -> bytes:
-    """Returns the lines of these names."""
+    """Returns the lines of the names in CLOSED."""
     return b"".join(b"%b:%b\n" % (name.encode(), field) for name, field in closed_fields().items())
 
 

@@ -42,12 +42,12 @@ class Archive:
 
     @property
     def documents(self) -> Path:
-        """The folder of its documents."""
+        """The folder of the archive's documents."""
         return self.tree / "share/doc/mkpasswd"
 
     @property
     def readme(self) -> str:
-        """Its README."""
+        """The text of the archive's README."""
         return (self.documents / "README").read_text(encoding="utf-8")
 
 

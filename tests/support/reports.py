@@ -8,7 +8,7 @@ from typing import Any
 
 from .process import Word, run
 
-LONGEST_SECONDS = 1500  # that a script may take in node, on a busy machine
+LONGEST_SECONDS = 1500  # for a script in node on a busy machine
 
 
 @dataclass(frozen=True)

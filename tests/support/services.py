@@ -13,7 +13,7 @@ from pathlib import Path
 from .namespaces import Namespaces, children_of
 from .process import Changes, Word, printable_command
 
-SECONDS = 120  # that a service may take for anything
+SECONDS = 120  # the longest that a service may take for anything
 PAUSE = 0.005  # seconds between two checks of a condition
 LONGEST_SHOWN = 4000  # bytes of a log that a failure shows
 

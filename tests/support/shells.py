@@ -17,7 +17,7 @@ from .process import Changes, changed_environment, started
 if TYPE_CHECKING:
     import pexpect
 
-SECONDS = 60  # that an answer may take
+SECONDS = 60  # the longest that an answer may take
 WIDE = (24, 1000)  # rows and columns: so wide that no line wraps
 KEY = "\x14"  # Control-T, which makes the shell print the completed line
 READY = "ready> "
@@ -84,7 +84,7 @@ class InTerminal:
 
     def __init__(self, terminal: pexpect.spawn, keys: str) -> None:
         self.terminal = terminal
-        self.keys = keys  # complete the line and print it
+        self.keys = keys  # the keys that complete the line and print it
 
     def offered(self, line: str) -> list[str]:
         """Returns the words that the shell offers in place of the line's last word."""

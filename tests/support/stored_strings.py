@@ -24,7 +24,7 @@ class StoredField:
     text: str
     reason: Reason
     is_of_another_scheme: bool = False
-    scheme: str | None = None  # its name in crypt(5)
+    scheme: str | None = None  # the scheme's name in crypt(5)
 
     def __str__(self) -> str:
         return f"{self.reason.message}: {ascii(self.text[:40])[1:-1]}"

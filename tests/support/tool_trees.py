@@ -49,7 +49,7 @@ class ToolTree:
         return {"RT": str(self.program), "RT_JOBS": None, **(changes or {})}
 
     def full_environment(self) -> dict[str, str]:
-        """Returns the tests' own environment with these changes."""
+        """Returns the tests' own environment with the changes of environment()."""
         return changed_environment(self.environment())
 
     def run(self, tool: str, *words: Word, env: Changes | None = None) -> Result:
@@ -59,7 +59,7 @@ class ToolTree:
 
 
 def tool_tree(folder: Path) -> ToolTree:
-    """Makes such a tree in a folder."""
+    """Makes a tree with copies of the tools and with empty crates in a folder."""
     tree = ToolTree(folder)
     for name in COPIED:
         tree.path(name).parent.mkdir(parents=True, exist_ok=True)
@@ -70,7 +70,7 @@ def tool_tree(folder: Path) -> ToolTree:
 
 
 def wait_for(condition: Callable[[], bool]) -> None:
-    """Waits for a condition."""
+    """Waits for a condition, for at most SECONDS_TO_WAIT."""
     end = time.monotonic() + SECONDS_TO_WAIT
     while not condition():
         assert time.monotonic() < end, f"the condition didn't hold within {SECONDS_TO_WAIT} seconds"

@@ -119,7 +119,7 @@ class Parsed:
     cost: int = 0
     finding: Finding | None = None  # of an audit
     verdict: str | None = None  # of a check that needs no hash
-    stored: StoredHash | None = None  # of a check that needs one
+    stored: StoredHash | None = None  # of a check that needs a hash
 
 
 def parsed(job: Job, line: bytes) -> Parsed:

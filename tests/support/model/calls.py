@@ -92,7 +92,7 @@ class Reason(enum.IntEnum):
 
 
 class Form(enum.Enum):
-    """How a call is made: of the exported function, or of the header's inline one in two ways."""
+    """How a call is made: through the exported function, or in two ways through the inline one."""
 
     EXPORTED = "pointers and lengths"
     LENGTHS = "a password and a field made of bytes"
@@ -132,7 +132,7 @@ RECOMMENDED_METHOD = 6
 
 
 class CallRefused(Exception):
-    """A call that returns 0, and the reason."""
+    """Raised with the reason if a call returns 0."""
 
     def __init__(self, reason: Reason) -> None:
         super().__init__(reason.message)

@@ -167,5 +167,8 @@ def setting_of_options(method: Method, cost: int | None, salt: bytes | None) -> 
 
 
 def recommended_setting(method: Method, cost: int | None, salt: bytes | None = None) -> Setting:
-    """Returns the same setting, but as in calls, a cost of 0 or None is the recommended one."""
+    """Returns the setting of new hashes for calls and audits.
+
+    A cost of 0 or None means the recommended cost.
+    """
     return setting_of_options(method, cost or method.recommended, salt)

@@ -175,7 +175,7 @@ def field(source: Source) -> bytes:
 
 
 def field_of_other_scheme(source: Source) -> bytes:
-    """Returns a field that begins with the prefix of another scheme, or of none."""
+    """Returns a field that begins with another scheme's prefix, or with no scheme's."""
     return source.by_weight(
         (35, lambda: salt(source, source.one_of(12, 13, 13, 13, 14, source.between(1, 30)))),
         (20, lambda: source.characters(source.between(1, 20), ALPHABET + b" \t\xe9_$;\0")),

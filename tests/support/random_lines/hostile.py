@@ -90,7 +90,7 @@ def any_field(source: Source, text: bytes) -> bytes:
 
 
 def line_at_a_limit(source: Source, job: Job) -> bytes:
-    """Returns a line at a limit that the job's lines have. Some limits concern stored fields."""
+    """Returns a line at one of the limits on lines that the job reads."""
     if job.mode is Mode.BATCH:
         return any_line_at_a_limit(source, b"")
     if source.chance(0.5):
