@@ -156,7 +156,7 @@ def test_a_null_password_is_refused(driver: Driver, field: bytes | None) -> None
 
 
 def test_a_policy_of_zeros_is_sha512crypt_with_656000_rounds(driver: Driver) -> None:
-    """So hashes of other methods, or with fewer rounds, are outdated by it."""
+    """The login reports a stored hash with one round fewer as outdated."""
     current = recommended_setting(SHA512CRYPT, 656_000, b"salt").text
     fewer = recommended_setting(SHA512CRYPT, 655_999, b"salt").text
     for setting, outdated in ((current, 0), (fewer, 1)):

@@ -64,8 +64,7 @@ function median(numbers) {
     return numbers.toSorted((one, other) => one - other)[numbers.length >> 1];
 }
 
-// Returns how long after a multiple of the failure time the failures in a long queue come, as the
-// median.
+// Returns how far past a multiple of the failure time the median failure in a long queue comes.
 async function lateness() {
     const failureTime = 100;
     const queue = new LoginQueue({ policy, failureTime });

@@ -42,7 +42,7 @@ class StoredFields:
     """The fields of a long run of lines, with the password "password"."""
 
     md5crypt = crypt(b"password", b"$1$xxxxxxxx")
-    # scrypt still allocates memory after millions of digests.
+    # Shows that scrypt can still allocate memory after millions of digests.
     scrypt = crypt(b"password", b"$7$2/..../....ab")
     locked = b"!" + b"x" * 900
 

@@ -137,7 +137,7 @@ def keep_inputs(place: Workplace, clone: Path, target: str) -> None:
 
 
 def measure_plants(place: Workplace, crate: str) -> Plants:
-    """Puts all of rt's wrong bodies into the public functions of a crate."""
+    """Runs `rt plant`, which tries to prove wrong bodies of a crate's public functions."""
     minutes = str(place.options.sizes.plant_minutes)
     limits = ("--max", str(MOST_PLANTS), "--minutes", minutes, "--jobs", str(place.options.jobs))
     command = (toolchains_command(), "plant", *limits, "--all")

@@ -99,7 +99,7 @@ def remove(folder: Path) -> None:
 
 @dataclass(frozen=True)
 class Workplace:
-    """The place where one part of a commit is measured."""
+    """The place where one part of the evidence is measured for a commit."""
 
     repository: Repository
     commit: str

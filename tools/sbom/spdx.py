@@ -58,7 +58,7 @@ def verification_code(files: Sequence[File]) -> str:
 
 
 def file_element(number: int, file: File) -> Element:
-    """Returns a file in the artifact."""
+    """Returns the SPDX element for a file in the artifact."""
     return {
         "fileName": f"./{file.name}",
         "SPDXID": identifier("File", number),

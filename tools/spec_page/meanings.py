@@ -112,7 +112,7 @@ def names_of_code(entry: Entry) -> Iterator[tuple[str, Meaning]]:
 
 
 def types_named(word: str, entry: Entry) -> list[Entry]:
-    """Returns the type of this name that code uses, or nothing if there is none."""
+    """Returns the one type that has this name, as a list, which is empty if there is none."""
     types = all_types().get(word, ())
     if not types and word in unshown_types():
         place = unshown_types()[word]

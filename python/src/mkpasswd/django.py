@@ -33,8 +33,8 @@ _LONGEST_SETTING = 128 - 86
 _METHODS = {"1": "md5crypt", "5": "sha256crypt", "6": "sha512crypt", "7": "scrypt"}
 _LEAST_ROUNDS = 1000  # of SHA-crypt
 
-# The number, rounds, salt and digest of a whole hash. In scrypt's, eleven characters of cost come
-# before the salt.
+# The method's number, the rounds, the salt and the digest of a whole hash. In a hash of scrypt,
+# eleven characters of cost come before the salt.
 _FORMS = (
     re.compile(r"\$([156])\$(?:rounds=([0-9]+)\$)?([^$]*)\$([^$]+)\Z"),
     re.compile(r"\$(7)\$.{11}()(.*)\$([^$]+)\Z"),
@@ -181,7 +181,7 @@ class PasswordValidator:
     """
 
     def validate(self, password: str, user: Any = None) -> None:
-        """Raise ValidationError for such a password. The user makes no difference."""
+        """Raise ValidationError if the password is too long for the policy. `user` is ignored."""
         del user
         try:
             length = len(_calls.encode_password(password))

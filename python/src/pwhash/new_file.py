@@ -58,7 +58,7 @@ class NewFile:
 
     def link(self, name: str) -> None:
         """Gives the file a name that no other file has."""
-        # Given a folder, Python calls linkat, which follows the link.
+        # With dst_dir_fd, Python calls linkat, which can follow the symbolic link in /proc.
         source = f"/proc/self/fd/{self.fd}"
         os.link(source, name, dst_dir_fd=self._place.folder, follow_symlinks=True)
 

@@ -110,7 +110,7 @@ def find_odd_bytes(password: bytes) -> Optional[str]:
 
 
 def find_excess_length(password: bytes) -> Optional[str]:
-    """Finds a password that is too long for most logins."""
+    """Returns a message if the password is too long for most logins, or None."""
     if len(password) <= LONGEST_OF_CRYPT:
         return None
     return f"the password has {TOO_LONG_FOR_CRYPT}. Give a shorter one."
