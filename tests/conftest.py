@@ -46,15 +46,22 @@ def fixture_environment(commands: Path) -> Changes:
 
 @pytest.fixture(autouse=True, name="heeded_signals")
 def fixture_heeded_signals() -> Iterator[None]:
-    """Lets ^C and ^\\ reach a test's processes, even if a shell runs the tests in the background.
+    """Lets ^C, ^\\ and a hang-up reach a test's processes, even if the tests run in the background.
 
-    A shell without job control starts background commands with these signals ignored.
+    A shell without job control starts background commands with the first two ignored, and nohup
+    with the last one. A handler that does nothing keeps nohup's promise for this process, while
+    programs that it starts have the default.
     """
     at_interrupt = signal.signal(signal.SIGINT, signal.default_int_handler)
     at_quit = signal.signal(signal.SIGQUIT, signal.SIG_DFL)
+    at_hangup = signal.getsignal(signal.SIGHUP)
+    if at_hangup is signal.SIG_IGN:
+        signal.signal(signal.SIGHUP, lambda *_: None)
     mask = signal.pthread_sigmask(signal.SIG_SETMASK, [])
     yield
     signal.pthread_sigmask(signal.SIG_SETMASK, mask)
+    if at_hangup is signal.SIG_IGN:
+        signal.signal(signal.SIGHUP, at_hangup)
     signal.signal(signal.SIGQUIT, signal.SIG_DFL if at_quit is None else at_quit)
     signal.signal(signal.SIGINT, signal.SIG_DFL if at_interrupt is None else at_interrupt)
 
