@@ -15,8 +15,9 @@ TARGET =
 
 # The flags by which Debian hardens C, which runs as root here.
 CPPFLAGS ?= -Wdate-time -D_FORTIFY_SOURCE=2
+BRANCHES = $(if $(CROSS),-mbranch-protection=standard,-fcf-protection)
 CFLAGS ?= -g -O2 '-ffile-prefix-map=$(CURDIR)=.' -fstack-protector-strong \
-	-fstack-clash-protection -Wformat -Werror=format-security
+	-fstack-clash-protection -Wformat -Werror=format-security $(BRANCHES)
 LDFLAGS ?= -Wl,-z,relro -Wl,-z,now
 
 # The scripts take these from the environment, whatever characters they have.

@@ -5,6 +5,8 @@ If a change needs more instructions on purpose, measure the counts in that file 
 """
 from __future__ import annotations
 
+import json
+import platform
 from pathlib import Path
 
 import pytest
@@ -15,7 +17,8 @@ from support import ROOT
 
 RESULTS = ROOT / "docs/speed.json"
 NAME = "mkpasswd"
-TOLERANCE = 0.01  # glibc's memcpy takes a few more or fewer instructions in other versions
+TOLERANCE = 0.01
+TOLERANCE_OF_OTHER_GLIBC = 0.02  # whose memcpy takes a few more or fewer instructions
 
 UNITS = [pytest.param(difference, id=difference.unit) for difference in DIFFERENCES]
 
@@ -29,4 +32,12 @@ def test_the_program_takes_no_more_instructions_than_before(
     before = {row.unit: row.instructions for row in rows if row.program == NAME}
     assert difference.unit in before, "run tools/bench --only instructions"
     instructions = difference.instructions(Checker(NAME, (str(program), "--check")))
-    assert instructions <= (1 + TOLERANCE) * before[difference.unit]
+    assert instructions <= (1 + tolerance()) * before[difference.unit]
+
+
+def tolerance() -> float:
+    """Returns by how much a count may exceed the one in docs/speed.json, as a share of it."""
+    conditions = json.loads(RESULTS.read_text("utf-8"))["instructions"]["conditions"]
+    counted_with = conditions["versions"]["libc6"].partition("-")[0]
+    is_same_glibc = counted_with == platform.libc_ver()[1]
+    return TOLERANCE if is_same_glibc else TOLERANCE_OF_OTHER_GLIBC

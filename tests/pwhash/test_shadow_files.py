@@ -32,7 +32,7 @@ def bash(script: str) -> Ended:
         pytest.param('"$@" check --shadow /dev/zero', b"/dev/zero is no file", id="a device"),
         pytest.param('"$@" check --shadow .', b". is a folder", id="a folder"),
         pytest.param(
-            'mkfifo pipe; "$@" check --shadow pipe', b"pipe is a pipe that nobody", id="a pipe"
+            'mkfifo pipe; "$@" check --shadow pipe', b"pipe is a pipe without", id="a pipe"
         ),
         pytest.param(
             '"$@" check --shadow <(cat /dev/zero)', b"line 1: longer than", id="a line without end"
