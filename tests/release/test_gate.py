@@ -66,9 +66,11 @@ def test_each_crate_has_a_line_that_changes_at_a_terminal(tree: ToolTree) -> Non
     import pexpect
 
     tree.rt_prints(PROVED + TRIED)
-    # Spawned with dimensions, the gate could begin before the terminal has them.
-    command = ["-c", 'stty columns 50; exec "$0"', str(tree.path("tools/gate"))]
-    child = pexpect.spawn("/bin/sh", command, env=tree.full_environment(), timeout=60)
+    environment = tree.full_environment()
+    environment.pop("COLUMNS", None)  # newer versions of pytest-xdist set it
+    child = pexpect.spawn(
+        str(tree.path("tools/gate")), env=environment, dimensions=(24, 50), timeout=60
+    )
     child.expect(pexpect.EOF)
     screen = child.before.decode()
     texts = [text for line in screen.split("\r\n") for text in line.split("\r\033[K")]
