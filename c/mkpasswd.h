@@ -97,7 +97,7 @@ extern "C" {
 #endif
 
 /* The version: 10000 * major + 100 * minor + patch. */
-#define MKPASSWD_VERSION 20001
+#define MKPASSWD_VERSION 30000
 
 /* The size of a buffer for any hash, setting, message or name of a scheme, with its zero byte. */
 #define MKPASSWD_TEXT_SIZE 145

@@ -273,5 +273,5 @@ export function setting(method?: Method, rounds?: number): string;
  */
 export function crypt(password: Text, setting: Text, budget?: number): string;
 
-/** The version, such as "2.0.1". */
+/** The version, such as "3.0.0". */
 export const version: string;

@@ -2,7 +2,7 @@
 //! packages repeat it.
 
 /// The version, as text.
-pub const VERSION: &str = "2.0.1";
+pub const VERSION: &str = "3.0.0";
 
 /// The version as a number: 10000 times its first part, 100 times its second, and its third.
-pub const VERSION_NUMBER: u32 = 20001;
+pub const VERSION_NUMBER: u32 = 30000;
