@@ -1,5 +1,5 @@
--- The clauses of `mkpasswd_audit_bytes`: its report is that of `report_audit`, and its result is 1 exactly if an audit
--- passes the field.
+-- The clauses of `mkpasswd_audit_bytes` follow from those of `report_audit`, which returns the report, and those of
+-- `tell_current`, whose result is 1 exactly if the report says that the stored hash is current.
 use Rattle.std.proofs.Common.{rules}
 use Rattle.crypt_c.proofs.mkpasswd_audit_bytes.Goals as goal
 

@@ -1,5 +1,5 @@
--- The clause `limits` of `mkpasswd_limit_bytes`: its report is that of `report_limit`, by the limit that the budget
--- means.
+-- The clause `limits` of `mkpasswd_limit_bytes` holds because the call's report is the one that `report_limit` returns
+-- for the limit that the budget stands for.
 use Rattle.crypt_c.proofs.mkpasswd_limit_bytes.Goals as goal
 
 pub returns-clause-limits : goal.returns-clause-limits

@@ -1,4 +1,5 @@
--- The clause `rehashes` of `mkpasswd_needs_rehash_bytes`: its report is that of `report_rehash`.
+-- The clause `rehashes` of `mkpasswd_needs_rehash_bytes` holds because the call's report is the one that
+-- `report_rehash` returns.
 use Rattle.crypt_c.proofs.mkpasswd_needs_rehash_bytes.Goals as goal
 
 pub returns-clause-rehashes : goal.returns-clause-rehashes

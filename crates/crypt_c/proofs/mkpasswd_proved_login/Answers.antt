@@ -1,6 +1,6 @@
--- The clauses of `mkpasswd_proved_login`: its report is that of `log_in`, by the limit that the budget means, and its
--- result says whether the report's error is 0. LoginPromises makes `judges` and `treats_alike` of what `log_in`
--- ensures.
+-- The clauses of `mkpasswd_proved_login` follow from those of `log_in`, which gets the limit that the budget stands for
+-- and makes the report, and those of `tell`, whose result is 1 exactly if the report's error is 0. The module
+-- LoginPromises derives `judges` and `treats_alike` from what `log_in` ensures.
 use Rattle.std.proofs.Common.{inl, inr, rules, length}
 use Rattle.call_core.specs.Limits.{limit_of}
 use Rattle.call_core.proofs.LoginPromises.{JudgesStoredHash_from_LogsIn, TreatsFieldsAlike_from_LogsIn}

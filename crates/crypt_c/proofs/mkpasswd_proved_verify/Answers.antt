@@ -1,5 +1,5 @@
--- The clauses of `mkpasswd_proved_verify`: its report is that of `verify`, and its result is 1 exactly if the report's
--- error is 0.
+-- The clauses of `mkpasswd_proved_verify` follow from those of `verify`, which returns the report, and those of `tell`,
+-- whose result is 1 exactly if the report's error is 0.
 use Rattle.std.proofs.Common.{inl, inr, rules}
 use Rattle.crypt_c.proofs.mkpasswd_proved_verify.Goals as goal
 
