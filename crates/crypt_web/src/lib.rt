@@ -3,24 +3,27 @@
 //!
 //! A web page or node calls the WebAssembly module built from this crate. A list is a pointer and the number of its
 //! items. The caller makes sure that pointers are valid, that the report, `words` and `need` are aligned, and that what
-//! a call writes (`words`, `bytes`, `out`, the report, `need`) overlaps no other argument. The calls wipe nothing.
+//! a call writes (`words`, `bytes`, `out`, the report, `need`) overlaps no other argument. The calls wipe no memory;
+//! the caller does.
 //!
 //! All calls have a report except [`web_need`], [`web_login_need`], [`web_message`] and [`web_scheme_name`]. A call
 //! with a report returns 1 for yes: it did what its name says, the password matches, the stored hash is outdated, or
-//! for an audit the stored hash is current. Otherwise it returns 0. It always writes the whole report, whose error is 0
-//! or the number of the reason why not. After an error `out` holds a token, which matches no password, cut to the
-//! capacity of `out`.
+//! for an audit the stored hash is current. Otherwise it returns 0. It always writes the whole report. The report's
+//! `error` is 0, or the number of the reason why the call failed. After an error, `out` holds the token `*0` or `*1`,
+//! which no password matches, cut to the capacity of `out`.
 //!
 //! If several errors apply, the call reports the first in this order: password, setting, method, rounds, budget,
-//! capacity, memory. A login and an audit check the method and the rounds before the field; but a login that lacks
-//! memory for its decoy reports that and not the field's error. [`web_verify`], [`web_login`] and [`web_audit`] read a
-//! stored field: a locked one is `Locked` and an empty one `NoHash`, where the other calls report what is wrong with it
-//! as a setting. A method of 0 is the recommended one, sha512crypt, and rounds of 0 are the recommended ones. The
-//! numbers, the report and what is left in `out` are those of the calls for C.
+//! capacity of `out`, memory. A login and an audit check the method and the rounds before the field. A login that can't
+//! check the stored hash computes another hash instead; if it lacks memory for that, it reports `OutOfMemory` and not
+//! the field's error. [`web_verify`], [`web_login`] and [`web_audit`] take a stored field, and report `Locked` for a
+//! locked one and `NoHash` for an empty one. The other calls take a setting, and report the first rule of a setting
+//! that such a field breaks. The method 0 is the recommended one, sha512crypt, and rounds of 0 are the recommended
+//! ones. The numbers of methods and errors, the report, and what `out` holds after an error are the same as in the
+//! calls for C.
 //!
-//! Only scrypt needs memory: `words` of 4 bytes, and `bytes`. [`web_need`] and [`web_login_need`] report how much a
-//! call needs with its arguments. If at least that much is lent, the call never reports `OutOfMemory`. The memory may
-//! hold anything before the call, and holds unspecified values after it.
+//! Only scrypt needs memory: `words` of 4 bytes, and `bytes`. [`web_need`] and [`web_login_need`] report how much of
+//! both a call needs with the same arguments. If at least that much is lent, the call never reports `OutOfMemory`. The
+//! memory may hold anything before the call, and holds unspecified values after it.
 #![tactic(auto)]
 
 ghost use Rattle.std.specs.Prelude.{◌≡◌, ◌≢◌, ◌≤◌, ◌⊎◌, ◌↔◌, pos, [], ◌∷◌, length, take};
@@ -63,8 +66,8 @@ use prims_core::meter::Meter;
 /// Checks a password against a stored hash. Returns 1 exactly if the password matches and its hash costs at most the
 /// budget, unless too little memory is lent for scrypt.
 ///
-/// The call hashes nothing above the budget, so a budget of 0 lets nobody in. The report has the cost once the password
-/// and the stored hash are known to be valid, and the work of the hash.
+/// The call computes no hash that can cost more than the budget, so a budget of 0 lets nobody in. If the password and
+/// the stored hash are valid, the report has the cost of the hash. It also has the work that the call did.
 ///
 /// For example, `password` and `$1$xxxxxxxx$UYCIxa628.9qXjpQCjM4a.` with a budget of 1000000 give 1.
 ///
@@ -72,7 +75,7 @@ use prims_core::meter::Meter;
 ///
 /// - `PasswordTooLong`, `PasswordZeroByte`: the password is invalid.
 /// - `Locked`, `NoHash`: the stored hash begins with `!` or `*`, or is empty.
-/// - `SettingTooLong` to `BadSalt`: any other stored hash is invalid.
+/// - `SettingTooLong` to `BadSalt`: the stored hash is invalid in another way.
 /// - `OverBudget`: the hash can cost more than the budget.
 /// - `WrongPassword`: the password does not match.
 /// - `OutOfMemory`: less memory is lent than [`web_need`] reports.
@@ -102,28 +105,29 @@ pub extern "C" fn web_verify(
 
 /// Checks the password of a login, as `mkpasswd_login` does for C. Returns 1 exactly if a new hash can have the method
 /// and the rounds and [`web_verify`] returns 1 within the same limit, unless too little memory is lent for scrypt.
-/// After a 1 the report's `outdated` says whether [`web_needs_rehash`] would return 1; after a 0 it is 0.
+/// After a 1 the report's `outdated` says whether [`web_needs_rehash`] would return 1; after a 0 `outdated` is 0.
 ///
 /// If the field has no valid setting, or one whose hash can cost more than the limit, the call hashes the password with
-/// the method, the rounds and a fixed salt, drops the hash, and returns 0. So such a name costs the work of a new hash.
-/// For an unknown name, pass an empty field. Whatever the field is, the call makes at most one hash, and digests and
-/// mixes no more bytes than the limit.
+/// the method, the rounds and a fixed salt, drops the hash, and returns 0. So a login with such a field takes the work
+/// of a new hash. For an unknown name, pass an empty field. Whatever the field is, the call makes at most one hash, and
+/// digests and mixes no more bytes than the limit.
 ///
-/// The limit is the budget. Rounds of 0 are the recommended ones, and a budget of 0 is the limit of the policy: twice
-/// what a new hash with the method and the rounds costs for a password of 64 bytes, and at least 150000000. It admits a
-/// new hash of every password of up to 64 bytes. A password whose new hash would be above it is refused without work,
-/// whatever the field is.
+/// The limit is the budget, except that a budget of 0 stands for the limit of the policy: twice the cost of a new hash
+/// with the method and the rounds for a password of 64 bytes, and at least 150000000. The policy's limit admits a new
+/// hash of every password of up to 64 bytes. With it, the call refuses a password whose new hash would cost more,
+/// without work and whatever the field is. Rounds of 0 are the recommended ones.
 ///
 /// # Errors
 ///
 /// - `PasswordTooLong`, `PasswordZeroByte`: the password is invalid, whatever the field is.
 /// - `UnknownMethod`, `Rounds`: no method has the number, or a new hash cannot have the rounds, whatever the field is.
 /// - `Locked`, `NoHash`: the field begins with `!` or `*`, or is empty.
-/// - `SettingTooLong` to `BadSalt`, `OverBudget`: any other field has no valid hash, or one that can cost more than the
-///   limit. After these errors, and after `Locked` and `NoHash`, the work is that of the new hash, or none if that can
-///   cost more than the limit.
+/// - `SettingTooLong` to `BadSalt`, `OverBudget`: the field is invalid in another way, or its hash can cost more than
+///   the limit. After these errors, and after `Locked` and `NoHash`, the work is that of the new hash, or none if the
+///   new hash can cost more than the limit.
 /// - `WrongPassword`: the password does not match.
-/// - `Dead`: no password matches the stored hash, because it is not whole. The work is that of `WrongPassword`.
+/// - `Dead`: no password matches the stored hash, because it was cut or changed. The call still computes one hash, as
+///   for `WrongPassword`.
 /// - `OutOfMemory`: less memory is lent than [`web_login_need`] reports, for the stored hash or, if that cannot be
 ///   checked, for a new one.
 #[unsafe(no_mangle)]
@@ -165,8 +169,8 @@ pub extern "C" fn web_login(
 }
 
 /// Reports the memory that [`web_login`] needs with these arguments: that of the stored hash if it can be checked
-/// within the limit, and otherwise that of a new hash if the limit admits it. A call that makes no hash needs nothing.
-/// So no caller has to lend memory for a stored hash above the limit.
+/// within the limit, and otherwise that of a new hash if the limit admits it. A login that makes no hash needs no
+/// memory. So no caller has to lend memory for a stored hash that costs more than the limit.
 #[unsafe(no_mangle)]
 pub extern "C" fn web_login_need(
     password: &[u8],
@@ -184,8 +188,8 @@ pub extern "C" fn web_login_need(
 /// Returns 1 if a new hash with the method and the rounds would replace the stored one, as `mkpasswd_needs_rehash` does
 /// for C.
 ///
-/// It would if the stored hash has another method, fewer rounds, or for scrypt a smaller `N * r * p`. The report's
-/// `outdated` says the same, and its error is 0 for both answers. The call hashes nothing.
+/// A new hash would replace a stored one that has another method, fewer rounds, or for scrypt a smaller `N * r * p`.
+/// The report's `outdated` is the same 0 or 1, and the report's `error` is 0 in both cases. The call hashes nothing.
 ///
 /// # Errors
 ///
@@ -205,8 +209,8 @@ pub extern "C" fn web_needs_rehash(
     tell_outdated(report, report_rehash(stored, method, rounds))
 }
 
-/// Hashes a password with a setting, and writes the hash and a zero byte to `out`. [`web_verify`] accepts it for the
-/// password within the budget, unless too little memory is lent for scrypt.
+/// Hashes a password with a setting, and writes the hash and a zero byte to `out`. With the same budget, [`web_verify`]
+/// accepts the hash for the password, unless too little memory is lent for scrypt.
 ///
 /// After a refusal `out` holds the token `*0`, or `*1` if the setting begins with `*0`, cut to the capacity of `out`.
 ///
@@ -241,8 +245,8 @@ pub extern "C" fn web_hash(
     tell(report, told)
 }
 
-/// Reports the memory that [`web_verify`] needs for a password and a stored hash, or [`web_hash`] for a password and a
-/// setting.
+/// Reports the memory that [`web_verify`] or [`web_hash`] needs with this password and budget. `text` is the stored
+/// hash for [`web_verify`], and the setting for [`web_hash`].
 #[unsafe(no_mangle)]
 pub extern "C" fn web_need(password: &[u8], text: &[u8], budget: u64, need: &mut Need)
     ensures { IsNeed (HashesWith password.now text.now budget) need.new }
@@ -253,8 +257,8 @@ pub extern "C" fn web_need(password: &[u8], text: &[u8], budget: u64, need: &mut
 /// Makes a setting with a method, the rounds and three random numbers, and writes it and a zero byte to `out`.
 ///
 /// The method is 1 for md5crypt, 5 for sha256crypt, 6 for sha512crypt or 7 for scrypt, as in their hashes. The rounds
-/// are those of `mkpasswd -R`, except that 0 is the recommended ones. After a refusal `out` holds the token `*0`, cut
-/// to the capacity of `out`.
+/// are those of `mkpasswd -R`, except that 0 stands for the recommended ones. After a refusal `out` holds the token
+/// `*0`, cut to the capacity of `out`.
 ///
 /// # Errors
 ///
@@ -284,25 +288,28 @@ pub extern "C" fn web_setting(
 /// Audits the stored hash in a field, as `mkpasswd_audit` does for C. Returns 1 if it is current: it is whole, no hash
 /// with its setting costs more than the budget, and a new hash with the method and the rounds would not replace it.
 ///
-/// Rounds of 0 are the recommended ones: 656000, and 7 for scrypt. A budget of 0 is the greatest cost of a hash with
-/// the method and the rounds, and at least that of sha512crypt with 656000 rounds; a hash is then also over budget if a
-/// login with the method, the rounds and the limit of the policy would refuse even the empty password.
+/// Rounds of 0 are the recommended ones: 656000 for SHA-crypt, and 7 for scrypt. A budget of 0 is the greatest cost of
+/// a hash with the method and the rounds, and at least that of sha512crypt with 656000 rounds. With a budget of 0, a
+/// hash is also over budget if a login with the method, the rounds and the limit of the policy would refuse even the
+/// empty password.
 ///
 /// For a valid hash the report has the scheme, its rounds, or scrypt's N, r and p, and the greatest cost of a hash with
-/// its setting, for a password of 1,024 bytes. For another scheme (`UnknownScheme`) it has the number of the scheme
-/// that the field looks like, or 0 if it looks like none that is known. The call hashes nothing.
+/// its setting, for a password of 1,024 bytes. After `UnknownScheme` the report has the number of the scheme of
+/// crypt(5) that the field looks like, or 0 if it looks like none that is known. The call hashes nothing.
 ///
 /// # Errors
 ///
 /// - `UnknownMethod`, `Rounds`: no method has the number, or a new hash cannot have the rounds.
 /// - `Locked`, `NoHash`: the field begins with `!` or `*`, or is empty.
-/// - `SettingTooLong` to `BadSalt`: any other field begins with `$` and has no valid hash, or for `UnknownScheme` looks
-///   like another scheme of crypt(5).
-/// - `NoScheme`: any other field has the form of no scheme: it is a password, say, or a damaged hash.
+/// - `SettingTooLong` to `BadSalt`: the field begins with `$`, but not with a valid setting. `UnknownScheme` is also
+///   the error for a field without `$` that looks like another scheme of crypt(5).
+/// - `NoScheme`: the field does not look like a hash of any scheme: it is a password, say, or a damaged hash.
 /// - `OverBudget`: a hash with its setting can cost more than the budget.
-/// - `Dead`: no password matches the hash, because it is not whole: no digest gives it, since it was cut or changed.
+/// - `Dead`: no password matches the hash, because it was cut or changed: it is not a setting in canonical form, a `$`
+///   and an encoded digest.
 ///
-/// If a new hash would replace it and nothing else is wrong, the error is 0 and the report's `outdated` is 1.
+/// If a new hash would replace the stored one and none of these errors applies, the report's `error` is 0 and its
+/// `outdated` is 1.
 #[unsafe(no_mangle)]
 pub extern "C" fn web_audit(
     field: &[u8],
@@ -323,9 +330,9 @@ pub extern "C" fn web_audit(
 /// Reports the limit on the cost of a login and of a new hash for a method, rounds and a budget, and the length of the
 /// longest password whose new hash is within it, as `mkpasswd_limit` does for C.
 ///
-/// The cost in the report is the limit: the budget, or for 0 the limit of the policy. New hashes of passwords of up to
-/// the reported length are within it, and those of longer ones are not. The rounds in the report are those of new
-/// hashes; for 0 they are the recommended ones.
+/// The cost in the report is the limit: the budget, or for a budget of 0 the limit of the policy. New hashes of
+/// passwords of up to the reported length are within the limit, and those of longer ones are not. The rounds in the
+/// report are those of new hashes; if `rounds` is 0, they are the recommended ones.
 ///
 /// # Errors
 ///
@@ -342,16 +349,17 @@ pub extern "C" fn web_limit(method: u32, rounds: u32, budget: u64, report: &mut 
 /// Reports rounds with which a new hash of any password of this length is within the limit for a method, rounds and a
 /// budget, and the cost of that hash, as `mkpasswd_rounds` does for C.
 ///
-/// They are the policy's own rounds if a hash with them is within the limit, and otherwise fewer rounds of SHA-crypt,
-/// as many as surely fit but at least 1000. Pass them to [`web_setting`], and pass the limit that [`web_limit`] reports
-/// as the budget to [`web_hash`] and to [`web_login`], since fewer rounds have a lower limit of their own.
+/// If a new hash with the method and the given rounds is within the limit, the reported rounds are those of that hash.
+/// Otherwise they are fewer rounds of SHA-crypt: as many as are sure to be within the limit, but at least 1000. Pass
+/// the reported rounds to [`web_setting`], and pass the limit that [`web_limit`] reports as the budget to [`web_hash`]
+/// and to [`web_login`]: with a budget of 0, fewer rounds would have a lower limit in a login.
 ///
 /// # Errors
 ///
 /// - `PasswordTooLong`: the length exceeds that of any password.
 /// - `UnknownMethod`, `Rounds`: no method has the number, or a new hash cannot have the rounds.
-/// - `OverBudget`: no hash of such a password is within the limit, with any rounds of SHA-crypt. With a budget of 0
-///   there always is one.
+/// - `OverBudget`: no new hash of a password of this length is within the limit: with any rounds for SHA-crypt, and
+///   with the given ones for the other methods. This never happens with a budget of 0.
 #[unsafe(no_mangle)]
 pub extern "C" fn web_rounds(
     password_len: usize,

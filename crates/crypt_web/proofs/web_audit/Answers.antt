@@ -1,5 +1,5 @@
--- The clauses of `web_audit`: its report is that of `report_audit`, and its result is 1 exactly if an audit passes the
--- field.
+-- The clauses of `web_audit` follow from those of `report_audit`, which returns the report, and those of
+-- `tell_current`, whose result is 1 exactly if the report says that the stored hash is current.
 use Rattle.std.proofs.Common.{rules}
 use Rattle.crypt_web.proofs.web_audit.Goals as goal
 

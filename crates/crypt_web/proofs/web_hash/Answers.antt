@@ -1,5 +1,5 @@
--- The clause `hashes` of `web_hash`: its report is that of `put_hash`. The memory that was lent is enough for the hash
--- (`enough`), because each of its two parts has at least the length that the need gives.
+-- The clause `hashes` of `web_hash` holds because the call's report and `out` are those of `put_hash`. In `enough`, the
+-- lent memory is enough for the hash, because `words` and `bytes` are at least as long as `need` says.
 use Rattle.std.proofs.Common.{arith}
 use Rattle.crypt_web.proofs.web_hash.Goals as goal
 

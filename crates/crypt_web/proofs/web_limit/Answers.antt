@@ -1,4 +1,5 @@
--- The clause `limits` of `web_limit`: its report is that of `report_limit`, by the limit that the budget means.
+-- The clause `limits` of `web_limit` holds because the call's report is the one that `report_limit` returns for the
+-- limit that the budget stands for.
 use Rattle.crypt_web.proofs.web_limit.Goals as goal
 
 pub returns-clause-limits : goal.returns-clause-limits

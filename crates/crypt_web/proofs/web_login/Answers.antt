@@ -1,7 +1,7 @@
--- The clauses of `web_login`: its report is that of `log_in`, by the limit that the budget means, and its result says
--- whether the report's error is 0. LoginPromises makes `judges` and `treats_alike` of what `log_in` ensures. The memory
--- that was lent is enough for the hash (`enough`), because each of its two parts has at least the length that the need
--- gives.
+-- The clauses of `web_login` follow from those of `log_in`, which gets the limit that the budget stands for and returns
+-- the report, and those of `tell`, whose result is 1 exactly if the report's error is 0. The module LoginPromises
+-- derives `judges` and `treats_alike` from what `log_in` ensures. In `enough`, the lent memory is enough for the hash,
+-- because `words` and `bytes` are at least as long as `need` says.
 use Rattle.std.proofs.Common.{arith, inl, inr, rules, length}
 use Rattle.call_core.specs.Limits.{limit_of}
 use Rattle.call_core.proofs.LoginPromises.{JudgesStoredHash_from_LogsIn, TreatsFieldsAlike_from_LogsIn}

@@ -1,4 +1,5 @@
--- The clause of `web_login_need`: the need is that of `login_need`, by the limit that the budget means.
+-- The clause of `web_login_need` holds because the need is the one that `login_need` returns for the limit that the
+-- budget stands for.
 use Rattle.crypt_web.proofs.web_login_need.Goals as goal
 
 pub returns : goal.returns

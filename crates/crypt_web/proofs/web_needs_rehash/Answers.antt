@@ -1,4 +1,4 @@
--- The clause `rehashes` of `web_needs_rehash`: its report is that of `report_rehash`.
+-- The clause `rehashes` of `web_needs_rehash` holds because the call's report is the one that `report_rehash` returns.
 use Rattle.crypt_web.proofs.web_needs_rehash.Goals as goal
 
 pub returns-clause-rehashes : goal.returns-clause-rehashes

@@ -1,5 +1,5 @@
--- The clauses of `web_rounds`: its report is that of `report_rounds`, by the limit that the budget means, and its
--- result is 1 exactly if the report's error is 0.
+-- The clauses of `web_rounds` follow from those of `report_rounds`, which gets the limit that the budget stands for and
+-- returns the report, and those of `tell`, whose result is 1 exactly if the report's error is 0.
 use Rattle.std.proofs.Common.{◌≡◌, pos, rules}
 use Rattle.crypt_web.proofs.web_rounds.Goals as goal
 

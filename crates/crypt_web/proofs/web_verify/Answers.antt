@@ -1,6 +1,6 @@
--- The clauses of `web_verify`: its report is that of `verify`, and its result is 1 exactly if the report's error is 0.
--- The memory that was lent is enough for the hash (`enough`), because each of its two parts has at least the length
--- that the need gives.
+-- The clauses of `web_verify` follow from those of `verify`, which returns the report, and those of `tell`, whose
+-- result is 1 exactly if the report's error is 0. In `enough`, the lent memory is enough for the hash, because `words`
+-- and `bytes` are at least as long as `need` says.
 use Rattle.std.proofs.Common.{arith, inl, inr, rules}
 use Rattle.crypt_web.proofs.web_verify.Goals as goal
 
