@@ -11,12 +11,12 @@ use Rattle.crypt_core.specs.declared.setting.fault.MakeFault.TheVariants.{SaltLe
 use Rattle.crypt_core.specs.declared.setting.fault.SettingFault.{SettingFault}
 use Rattle.crypt_core.specs.declared.setting.fault.SettingFault.TheVariants.{TooLong, BadCharacter, UnknownScheme, BadRounds, BadCost, ScryptRange, AboveCeiling, BadSalt}
 
--- Why bytes are not a password.
+-- password_fault_text fault: the message that says why bytes are not a password.
 abbrev pub password_fault_text : PasswordFault → List ℕ
 password_fault_text password.TooLong = codes "password too long"
 password_fault_text password.HasNul = codes "password has a zero byte"
 
--- Why a string is not a setting.
+-- setting_fault_text fault: the message that says why a string is not a setting.
 abbrev pub setting_fault_text : SettingFault → List ℕ
 setting_fault_text TooLong = codes "setting too long"
 setting_fault_text BadCharacter = codes "bad character"
@@ -27,17 +27,17 @@ setting_fault_text ScryptRange = codes "scrypt range"
 setting_fault_text AboveCeiling = codes "above ceiling"
 setting_fault_text BadSalt = codes "bad salt"
 
--- Why a setting can't be made.
+-- make_fault_text fault: the message that says why a setting can't be made.
 abbrev pub make_fault_text : MakeFault → List ℕ
 make_fault_text SaltLength = codes "salt length"
 make_fault_text SaltCharacter = codes "salt character"
 make_fault_text Cost = codes "cost"
 
--- Why a password could not be hashed.
+-- hash_fault_text fault: the message that says why a password could not be hashed.
 abbrev pub hash_fault_text : HashFault → List ℕ
 hash_fault_text OutOfMemory = codes "out of memory"
 
--- Why a password can't be compared with a stored hash.
+-- fit_fault_text fault: the message that says why a password can't be compared with a stored hash.
 abbrev pub fit_fault_text : FitFault → List ℕ
 fit_fault_text (fit.Setting fault) = setting_fault_text fault
 fit_fault_text fit.OutOfMemory = hash_fault_text OutOfMemory

@@ -14,7 +14,8 @@ use Rattle.crypt_core.specs.declared.setting.fault.SettingFault.TheVariants.{Unk
 use Rattle.crypt_core.specs.declared.standing.Standing.{Standing}
 use Rattle.crypt_core.specs.declared.standing.Standing.TheVariants.{Current}
 
--- IsOfNone field: the field has the form of none of the other schemes.
+-- IsOfNone field: the field has the form of no scheme in `OtherScheme`, the schemes of crypt(5) that mkpasswd doesn't
+-- hash.
 abbrev pub IsOfNone : List ℕ → Type 0
 IsOfNone field = (other : OtherScheme) → ¬ IsOf other field
 
@@ -24,13 +25,14 @@ abbrev pub IsUnhashed : List ℕ → Type 0
 IsUnhashed field = IsStored field × (fault : SettingFault) × IsRefused field fault × (HasFront field (codes "$") → fault ≡ UnknownScheme)
 
 -- Finds new budget field finding: an audit of the field has this finding when new hashes have the scheme `new`. A
--- budget of 0 stands for the audit's own budget.
+-- budget of 0 stands for `audit_budget new`.
 --   Hash       the field spells a setting, with this scheme, this greatest cost and this standing
 --   NoHash     the field is empty
---   Locked     it begins with `!` or `*`
---   Malformed  it begins with `$`, and the first rule of a setting that it breaks is this one, and not `UnknownScheme`
---   Other      none of the above, but it has the form of this other scheme
---   Unknown    none of the above, but it begins with `$`
+--   Locked     the field begins with `!` or `*`
+--   Malformed  the field begins with `$`, and `fault`, the first rule of a setting that it breaks, is not
+--              `UnknownScheme`
+--   Other      none of the above, but the field has the form of this other scheme
+--   Unknown    none of the above, but the field begins with `$`
 --   NoScheme   none of the above
 abbrev pub Finds : Scheme → ℕ → List ℕ → Finding → Type 0
 Finds new budget field (Hash scheme most standing) =
@@ -42,7 +44,8 @@ Finds new budget field (Other other) = IsUnhashed field × IsOf other field
 Finds new budget field Unknown = IsUnhashed field × HasFront field (codes "$") × IsOfNone field
 Finds new budget field NoScheme = IsUnhashed field × (¬ HasFront field (codes "$")) × IsOfNone field
 
--- JudgesHash new budget field kept finding: this is the finding for a field that spells the setting `kept`.
+-- JudgesHash new budget field kept finding: `finding` is what an audit finds in a field that spells the setting `kept`:
+-- a hash with the setting's scheme, its greatest cost, and its standing.
 abbrev pub JudgesHash : Scheme → ℕ → List ℕ → SettingValue → Finding → Type 0
 JudgesHash new budget field kept finding =
     (standing : Standing) × HasStanding new budget field kept standing × (finding ≡ Hash kept.scheme (greatest_cost kept) standing)

@@ -13,9 +13,10 @@ use Rattle.crypt_core.specs.declared.fits.FitFault.TheVariants.{Setting, OutOfMe
 abbrev pub Fits : List ℕ → List ℕ → Type 0
 Fits password stored = (kept : SettingValue) × Spells stored kept × (crypt password kept ≡ stored)
 
--- Compares password stored before after result: this is the result of a comparison, with the counts before and after
--- it.
---   a verdict     whether the hash with the stored hash's setting equals the stored hash; counts the work of that hash
+-- Compares password stored before after result: comparing the password with the stored hash has this result, and
+-- changes the meter's counts from `before` to `after`.
+--   a verdict     whether the password's hash, with the setting in `stored`, equals `stored`; counts the work of that
+--                 hash
 --   Setting       the first rule of a setting that the stored hash breaks; counts nothing
 --   OutOfMemory   scrypt, with the stored hash's setting, failed to allocate; counts the allocations before the failure
 abbrev pub Compares : List ℕ → List ℕ → Work → Work → Result Bool FitFault → Type 0

@@ -4,8 +4,8 @@ use Rattle.std.specs.List.{range_with_len}
 use Rattle.rand_core.specs.Stream.{Stream, next_u64}
 use Rattle.prims_core.specs.Alphabet.{character_of}
 
--- made_salt numbers len: the salt of len characters. Each number gives up to ten characters of six bits, lowest bits
--- first.
+-- made_salt numbers len: the salt of `len` characters that the numbers give. Each number gives up to ten characters of
+-- six bits, lowest bits first.
 unfoldable pub made_salt : List ℕ → ℕ → List ℕ
 made_salt numbers len = map (λ i. character_of (slice_index numbers (i / 10) / 2 ^ (6 * (i % 10)) % 64)) (range_with_len 0 len)
 

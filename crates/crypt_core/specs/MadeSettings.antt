@@ -17,12 +17,12 @@ use Rattle.crypt_core.specs.MadeSalts.{made_salt}
 use Rattle.crypt_core.specs.Methods.{method_row}
 use Rattle.crypt_core.specs.Settings.{SettingValue}
 
--- made_rounds rounds: for 0 the default rounds without a `rounds=` field, and otherwise a field with the rounds,
--- clamped.
+-- made_rounds rounds: the rounds of a SHA-crypt setting that is made with this number: for 0 the default rounds,
+-- without a `rounds=` field, and otherwise the number, clamped, in a `rounds=` field.
 abbrev pub made_rounds : ℕ → Rounds
 made_rounds rounds = if rounds == 0 then record { count = default_rounds; is_written = false } else record { count = clamped rounds; is_written = true }
 
--- made_params rounds: N = 2 ^ (rounds + 7), r = 32 and p = 1. 0 stands for 7.
+-- made_params rounds: scrypt's parameters N = 2 ^ (rounds + 7), r = 32 and p = 1. Rounds of 0 stand for 7.
 abbrev pub made_params : ℕ → ScryptParams
 made_params rounds = record { log_n = (if rounds == 0 then 7 else rounds) + 7; r = 32; p = 1 }
 
@@ -51,7 +51,7 @@ abbrev pub TakesRounds : Method → ℕ → Type 0
 TakesRounds methods.Scrypt rounds = (rounds ≡ 0) ⊎ ((6 ≤ rounds) × (rounds ≤ 11))
 TakesRounds method rounds = Unit {0}
 
--- The errors in the order of their rules.
+-- The errors of making a setting, in the order in which their rules are checked.
 abbrev pub make_faults : List MakeFault
 make_faults = SaltLength ∷ SaltCharacter ∷ Cost ∷ []
 
@@ -66,6 +66,7 @@ BreaksMake method rounds None fault = ⊥
 BreaksMake method rounds (Some salt) SaltLength = (length salt ≡ 0) ⊎ ((method_row method).salt_limit < length salt)
 BreaksMake method rounds (Some salt) SaltCharacter = ¬ All (Contains alphabet) salt
 
--- IsMakeRefused method rounds given fault: this is the error of the first rule that they break.
+-- IsMakeRefused method rounds given fault: `fault` is the error of the first rule that the method, the rounds and the
+-- given salt break.
 unfoldable pub IsMakeRefused : Method → ℕ → Option (List ℕ) → MakeFault → Type 0
 IsMakeRefused method rounds given = IsFirstBroken make_faults (BreaksMake method rounds given)

@@ -16,7 +16,7 @@ md5crypt_message password salt (suc zero) = opening_message password salt
 md5crypt_message password salt (suc (suc i)) =
     round_message i (digest_after md5 (md5crypt_opening password salt) password salt i) password salt
 
--- The number of rounds. Their messages come after the first two.
+-- The number of md5crypt's rounds. Each has one message, and these follow the first two messages.
 abbrev pub md5crypt_rounds : ℕ
 md5crypt_rounds = 1000
 
@@ -24,8 +24,8 @@ md5crypt_rounds = 1000
 unfoldable pub md5crypt_messages : List ℕ → List ℕ → List (List ℕ)
 md5crypt_messages password salt = map (md5crypt_message password salt) (range_with_len 0 (md5crypt_rounds + 2))
 
--- AreMd5cryptMessages password salt: these messages are the ones in the definition of the digest. The opening is the
--- digest of the second message, and the result is the digest of the last.
+-- AreMd5cryptMessages password salt: the definition of md5crypt's digest uses these messages: the opening is the MD5 of
+-- the second one, and the digest is the MD5 of the last.
 abbrev pub AreMd5cryptMessages : List ℕ → List ℕ → Type 0
 AreMd5cryptMessages password salt =
     (md5crypt_opening password salt ≡ md5 (md5crypt_message password salt 1))
@@ -55,9 +55,9 @@ shacrypt_message h password salt (suc (suc (suc (suc i)))) =
 unfoldable pub shacrypt_messages : (List ℕ → List ℕ) → List ℕ → List ℕ → ℕ → List (List ℕ)
 shacrypt_messages h password salt rounds = map (shacrypt_message h password salt) (range_with_len 0 (rounds + 4))
 
--- AreShacryptMessages h password salt rounds: these messages are the ones in the definition of the digest. The opening
--- is the digest of the second message, the strings P and S repeat the digests of the third and the fourth, and the
--- result is the digest of the last.
+-- AreShacryptMessages h password salt rounds: the definition of SHA-crypt's digest uses these messages: the digest A is
+-- h of the second one, the strings P and S repeat h of the third and of the fourth, and the final digest is h of the
+-- last.
 abbrev pub AreShacryptMessages : (List ℕ → List ℕ) → List ℕ → List ℕ → ℕ → Type 0
 AreShacryptMessages h password salt rounds =
     (sha_opening h password salt ≡ h (shacrypt_message h password salt 1))

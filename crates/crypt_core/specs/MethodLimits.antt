@@ -16,7 +16,7 @@ shacrypt_salt_limit = (method_row Sha512crypt).salt_limit
 abbrev pub scrypt_salt_limit : ℕ
 scrypt_salt_limit = (method_row Scrypt).salt_limit
 
--- The most characters of a generated salt: scrypt's.
+-- The most characters of a generated salt. scrypt's generated salts have this many.
 abbrev pub made_salt_limit : ℕ
 made_salt_limit = (method_row Scrypt).made_salt_length
 
@@ -28,7 +28,7 @@ prefix method = (method_row method).prefix
 abbrev pub salt_limit : Method → ℕ
 salt_limit method = (method_row method).salt_limit
 
--- made_salt_length method: the number of characters of a generated salt.
+-- made_salt_length method: the number of characters of a salt that is generated for the method.
 abbrev pub made_salt_length : Method → ℕ
 made_salt_length method = (method_row method).made_salt_length
 
@@ -36,7 +36,7 @@ made_salt_length method = (method_row method).made_salt_length
 abbrev pub digest_len : Method → ℕ
 digest_len method = (method_row method).digest_len
 
--- packed_len method: the number of characters of the packed digest.
+-- packed_len method: the number of characters of the method's packed digest.
 abbrev pub packed_len : Method → ℕ
 packed_len Md5crypt = 22
 packed_len Sha256crypt = 43

@@ -27,7 +27,7 @@ method_row Sha256crypt = record { name = codes "sha256crypt"; alias = codes "sha
 method_row Sha512crypt = record { name = codes "sha512crypt"; alias = codes "sha-512"; number = 6; prefix = codes "$6$"; salt_limit = 16; made_salt_length = 16; digest_len = 64 }
 method_row Scrypt = record { name = codes "scrypt"; alias = codes "scrypt"; number = 7; prefix = codes "$7$"; salt_limit = 86; made_salt_length = 22; digest_len = 32 }
 
--- The methods, in the order in which they are listed.
+-- All methods, in the order in which `mkpasswd -m help` lists them.
 abbrev pub methods : List Method
 methods = Md5crypt ∷ Sha256crypt ∷ Sha512crypt ∷ Scrypt ∷ []
 

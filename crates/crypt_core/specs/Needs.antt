@@ -10,13 +10,13 @@ abbrev pub words_by : Scheme → ℕ
 words_by (Scrypt params) = needed_words params
 words_by scheme = 0
 
--- bytes_by scheme: how many bytes it needs besides.
+-- bytes_by scheme: how many bytes a hash with the scheme needs in addition to these words.
 abbrev pub bytes_by : Scheme → ℕ
 bytes_by (Scrypt params) = needed_bytes params
 bytes_by scheme = 0
 
--- AreEnough enough scheme: for scrypt, `enough` holds of the parameters. The other schemes need no memory, so nothing
--- is required.
+-- AreEnough enough scheme: memory is enough for a hash with the scheme, where `enough` says for which of scrypt's
+-- parameters it is. The other schemes need no memory.
 abbrev pub AreEnough : (ScryptParams → Type 0) → Scheme → Type 0
 AreEnough enough (Scrypt params) = enough params
 AreEnough enough scheme = ⊤

@@ -6,8 +6,8 @@ use Rattle.prims_core.specs.Alphabet.{alphabet}
 use Rattle.crypt_core.specs.declared.other_scheme.OtherScheme.{OtherScheme}
 use Rattle.crypt_core.specs.declared.other_scheme.OtherScheme.TheVariants.{Yescrypt, GostYescrypt, Bcrypt, Nt, Sha1crypt, SunMd5, Bsdicrypt, Descrypt}
 
--- HasFront field front: the field begins with these bytes. This is a boolean test; `BeginsWith` states the same as a
--- relation.
+-- HasFront field front: the field begins with these bytes. This is a test that can be computed; `BeginsWith` states the
+-- same as a proposition.
 abbrev pub HasFront : List ℕ → List ℕ → Type 0
 HasFront field front = IsTrue (starts_with nat_eq field front)
 
@@ -35,7 +35,7 @@ other_scheme_row SunMd5 = (106, codes "SunMD5")
 other_scheme_row Bsdicrypt = (107, codes "bsdicrypt")
 other_scheme_row Descrypt = (108, codes "descrypt")
 
--- The other schemes.
+-- All schemes of crypt(5) that mkpasswd doesn't hash, in the order of their numbers.
 abbrev pub other_schemes : List OtherScheme
 other_schemes = Yescrypt ∷ GostYescrypt ∷ Bcrypt ∷ Nt ∷ Sha1crypt ∷ SunMd5 ∷ Bsdicrypt ∷ Descrypt ∷ []
 

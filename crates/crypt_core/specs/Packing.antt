@@ -7,18 +7,19 @@ use Rattle.crypt_core.specs.declared.method.Method.{Method}
 use Rattle.crypt_core.specs.declared.method.Method.TheVariants.{Md5crypt, Sha256crypt, Sha512crypt, Scrypt}
 use Rattle.crypt_core.specs.Methods.{method_row}
 
--- group_number digest places: the bytes at these indices of the digest, read as one number, the first index highest.
+-- group_number digest places: the bytes at these indices of the digest, read as one number, whose highest byte is at
+-- the first index.
 abbrev pub group_number : List ℕ → List ℕ → ℕ
 group_number digest places = fold (λ number place. number * 256 + slice_index digest place) 0 places
 
--- packed_group digest places: this number in base 64, in one character more than there are indices.
+-- packed_group digest places: the group's number in base 64, which has one character more than the group has bytes.
 abbrev pub packed_group : List ℕ → List ℕ → List ℕ
 packed_group digest places = numerals (length places + 1) (group_number digest places)
 
 -- groups_of method: the groups of the method's digest, as lists of indices.
 --   md5crypt    those of FreeBSD's md5crypt
 --   SHA-crypt   those of Drepper, "Unix crypt using SHA-256 and SHA-512", step 22
---   scrypt      the bytes in order, three to a group, the first one lowest
+--   scrypt      the bytes in order, three to a group, with the first one as the number's lowest byte
 abbrev pub groups_of : Method → List (List ℕ)
 groups_of Md5crypt = (0 ∷ 6 ∷ 12 ∷ []) ∷ (1 ∷ 7 ∷ 13 ∷ []) ∷ (2 ∷ 8 ∷ 14 ∷ []) ∷ (3 ∷ 9 ∷ 15 ∷ []) ∷ (4 ∷ 10 ∷ 5 ∷ []) ∷ (11 ∷ []) ∷ []
 groups_of Sha256crypt =
@@ -35,7 +36,7 @@ groups_of Scrypt = map (λ i. (3 * i + 2) ∷ (3 * i + 1) ∷ (3 * i) ∷ []) (r
 unfoldable pub packed : Method → List ℕ → List ℕ
 packed method digest = flat_map (packed_group digest) (groups_of method)
 
--- IsDigest method digest: there are as many bytes as a digest of the method has.
+-- IsDigest method digest: these are bytes, as many as a digest of the method has.
 abbrev pub IsDigest : Method → List ℕ → Type 0
 IsDigest method digest = (length digest ≡ (method_row method).digest_len) × All (λ b. b < 256) digest
 

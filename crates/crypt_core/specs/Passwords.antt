@@ -11,7 +11,7 @@ password_limit = 1024
 abbrev pub IsPassword : List ℕ → Type 0
 IsPassword bytes = (length bytes ≤ password_limit) × ¬ Contains bytes 0
 
--- The errors in the order of their rules.
+-- The errors for bytes that are not a password, in the order in which their rules are checked.
 abbrev pub password_faults : List PasswordFault
 password_faults = TooLong ∷ HasNul ∷ []
 

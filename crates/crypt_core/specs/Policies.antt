@@ -28,18 +28,18 @@ chosen_rounds method rounds = if rounds == 0 then recommended_rounds method else
 abbrev pub new_cost : Scheme → ℕ → ℕ
 new_cost scheme len = cost_by scheme len (method_row (method_of scheme)).made_salt_length
 
--- The least limit of a policy.
+-- The least limit that a policy has, in bytes digested and mixed.
 abbrev pub limit_floor : ℕ
 limit_floor = 150000000
 
 -- policy_limit scheme: what a login or a new hash may cost under the policy that new hashes have this scheme: twice the
--- cost of a new hash of a password of 64 bytes. It doesn't depend on the password of a login, so nobody who logs in can
--- raise it.
+-- cost of a new hash of a password of 64 bytes, but at least `limit_floor`. The limit doesn't depend on the password of
+-- a login, so nobody who logs in can raise it.
 abbrev pub policy_limit : Scheme → ℕ
 policy_limit scheme = max limit_floor (2 * new_cost scheme 64)
 
 -- IsLongestWithin scheme limit longest: a new hash with this scheme costs at most the limit exactly for passwords of up
--- to `longest` bytes. Without a longest one, even the empty password costs more.
+-- to `longest` bytes. If `longest` is None, a new hash of even the empty password costs more than the limit.
 abbrev pub IsLongestWithin : Scheme → ℕ → Option ℕ → Type 0
 IsLongestWithin scheme limit (Some longest) =
     (longest ≤ password_limit) × ((len : ℕ) → len ≤ password_limit → (new_cost scheme len ≤ limit ↔ len ≤ longest))
@@ -47,24 +47,24 @@ IsLongestWithin scheme limit None = (len : ℕ) → len ≤ password_limit → l
 
 -- ---- rounds for a longer password
 
--- opening_bytes sha len: a bound on the bytes of the messages before the rounds, in a new hash of a password of this
--- length.
+-- opening_bytes sha len: a bound on the bytes that SHA-crypt digests before the rounds, in a new hash of a password of
+-- this length.
 abbrev pub opening_bytes : Sha → ℕ → ℕ
 opening_bytes sha len =
     shacrypt_bytes (method_row (sha_method sha)).digest_len greatest_byte 0 len (method_row (sha_method sha)).made_salt_length
 
--- longest_round sha len: a bound on the bytes of one round's message: a digest, the password twice, and a generated
--- salt.
+-- longest_round sha len: the bytes of the longest message of a round of SHA-crypt, for a password of this length: a
+-- digest, the password twice, and a generated salt.
 abbrev pub longest_round : Sha → ℕ → ℕ
 longest_round sha len = (method_row (sha_method sha)).digest_len + 2 * len + (method_row (sha_method sha)).made_salt_length
 
--- fitting_rounds sha limit len: how many of the longest rounds fit the limit after the opening, clamped to the range of
--- rounds.
+-- fitting_rounds sha limit len: how many rounds are sure to be within the limit, after `opening_bytes` and with
+-- `longest_round` bytes for each round; clamped to SHA-crypt's range of rounds.
 abbrev pub fitting_rounds : Sha → ℕ → ℕ → ℕ
 fitting_rounds sha limit len = clamped ((limit - opening_bytes sha len) / longest_round sha len)
 
--- fewer_rounds scheme limit len: SHA-crypt with that many rounds, if a new hash with them is within the limit. The cost
--- of the other methods hardly depends on the password, so they have no fewer rounds to offer.
+-- fewer_rounds scheme limit len: SHA-crypt with `fitting_rounds`, if a new hash with them is within the limit. The
+-- other methods get no fewer rounds, since their cost hardly depends on the password.
 abbrev pub fewer_rounds : Scheme → ℕ → ℕ → Option Scheme
 fewer_rounds (Shacrypt sha rounds) limit len =
     let fewer = Shacrypt sha (record { count = fitting_rounds sha limit len; is_written = true }) in
@@ -72,7 +72,8 @@ fewer_rounds (Shacrypt sha rounds) limit len =
 fewer_rounds scheme limit len = None
 
 -- fitted scheme limit len: the scheme for a new hash of a password of this length that is within the limit, under a
--- policy with this scheme. It is the policy's own scheme if that is within the limit.
+-- policy with this scheme. It is the policy's own scheme if a new hash with that is within the limit, and otherwise the
+-- one of `fewer_rounds`.
 abbrev pub fitted : Scheme → ℕ → ℕ → Option Scheme
 fitted scheme limit len = if nat_le (new_cost scheme len) limit then Some scheme else fewer_rounds scheme limit len
 
@@ -93,6 +94,6 @@ greatest_cost_by scheme = cost_by scheme password_limit (method_row (method_of s
 abbrev pub audit_budget : Scheme → ℕ
 audit_budget scheme = max (greatest_cost_by scheme) (greatest_cost_by (made_scheme Sha512crypt (recommended_rounds Sha512crypt)))
 
--- chosen_budget scheme budget: the budget, or the audit's own for 0.
+-- chosen_budget scheme budget: the budget, or `audit_budget scheme` if the budget is 0.
 abbrev pub chosen_budget : Scheme → ℕ → ℕ
 chosen_budget scheme budget = if budget == 0 then audit_budget scheme else budget

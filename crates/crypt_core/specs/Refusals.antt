@@ -13,12 +13,12 @@ use Rattle.crypt_core.specs.declared.scheme.Sha.{Sha}
 use Rattle.crypt_core.specs.declared.setting.fault.SettingFault.{SettingFault}
 use Rattle.crypt_core.specs.declared.setting.fault.SettingFault.TheVariants.{TooLong, BadCharacter, UnknownScheme, BadRounds, BadCost, ScryptRange, AboveCeiling, BadSalt}
 
--- The errors in the order of the stages.
+-- The errors of reading a setting, in the order of the stages of reading that find them.
 abbrev pub setting_faults : List SettingFault
 setting_faults = TooLong ∷ BadCharacter ∷ UnknownScheme ∷ BadRounds ∷ BadCost ∷ ScryptRange ∷ AboveCeiling ∷ BadSalt ∷ []
 
 -- LacksCost method text: the text has the prefix of this method, but no cost part follows. SHA-crypt also takes an
--- empty cost part, so it lacks one only if `rounds=` comes without a valid number and a `$`.
+-- empty cost part, so it lacks one only if `rounds=` follows the prefix without a valid number and a `$`.
 abbrev pub LacksCost : Method → List ℕ → Type 0
 LacksCost method text = BeginsWith text (method_row method).prefix
     × ((scheme : Scheme) → (after : List ℕ) → method_of scheme ≡ method → ¬ SpellsScheme text scheme after)
@@ -35,6 +35,6 @@ FailsStage text AboveCeiling = (params : ScryptParams) × (after : List ℕ) × 
 FailsStage text BadSalt =
     (params : ScryptParams) × (field rest : List ℕ) × SpellsScheme text (Scrypt params) (field ++ rest) × IsField field rest × (¬ IsScryptSalt field)
 
--- IsRefused text fault: this is the error of the first stage that fails.
+-- IsRefused text fault: the text is not a setting, and this is the error of the first stage at which reading it fails.
 unfoldable pub IsRefused : List ℕ → SettingFault → Type 0
 IsRefused text = IsFirstBroken setting_faults (FailsStage text)

@@ -20,7 +20,7 @@ method_of Md5crypt = methods.Md5crypt
 method_of (Shacrypt sha rounds) = sha_method sha
 method_of (Scrypt params) = methods.Scrypt
 
--- IsScheme scheme: some setting has this cost: SHA-crypt's rounds are in range, and scrypt's numbers are accepted.
+-- IsScheme scheme: some setting has this scheme: SHA-crypt's rounds are in range, and scrypt's parameters are accepted.
 abbrev pub IsScheme : Scheme → Type 0
 IsScheme Md5crypt = Unit {0}
 IsScheme (Shacrypt sha rounds) = IsRounds rounds

@@ -51,7 +51,7 @@ abbrev pub rounds_field : List ℕ → List ℕ
 rounds_field digits = rounds_word ++ (digits ++ dollar ∷ [])
 
 -- SpellsRounds rounds part after: this part, followed by `after`, spells these rounds.
---   with a field      the part is the field, and the rounds are its number, clamped
+--   with a field      the part is a `rounds=` field, and the rounds are its number, clamped
 --   without a field   the part is empty, the rounds are the default, and no `rounds=` follows
 abbrev pub SpellsRounds : Rounds → List ℕ → List ℕ → Type 0
 SpellsRounds rounds part after = MatchBool rounds.is_written
@@ -62,8 +62,8 @@ SpellsRounds rounds part after = MatchBool rounds.is_written
 abbrev pub scrypt_part : ScryptParams → List ℕ
 scrypt_part cost = numerals 1 cost.log_n ++ (numerals 5 cost.r ++ numerals 5 cost.p)
 
--- SpellsCost scheme part after: this part, followed by `after`, spells the cost of the scheme. scrypt's numbers fit the
--- characters of its cost part.
+-- SpellsCost scheme part after: this part, followed by `after`, spells the cost of the scheme. For scrypt, log2 N fits
+-- one character, and r and p fit five each.
 abbrev pub SpellsCost : Scheme → List ℕ → List ℕ → Type 0
 SpellsCost Md5crypt part after = part ≡ []
 SpellsCost (Shacrypt sha rounds) part after = SpellsRounds rounds part after
@@ -82,7 +82,7 @@ abbrev pub IsScryptSalt : List ℕ → Type 0
 IsScryptSalt salt = (length salt ≤ (method_row methods.Scrypt).salt_limit) × All (Contains alphabet) salt
 
 -- KeepsSalt scheme field salt: this is the salt that the scheme keeps of the field.
---   scrypt      its numbers are accepted, the field is a salt of scrypt, and all of it is kept
+--   scrypt      its parameters are accepted, the field is a salt of scrypt, and all of it is kept
 --   otherwise   as many bytes as the method keeps, or the whole field if it has fewer
 abbrev pub KeepsSalt : Scheme → List ℕ → List ℕ → Type 0
 KeepsSalt (Scrypt params) field salt = IsAccepted params × (salt ≡ field) × IsScryptSalt field

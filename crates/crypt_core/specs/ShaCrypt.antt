@@ -8,13 +8,13 @@ use Rattle.crypt_core.specs.RoundMessage.{alternate_message, digest_after}
 use Rattle.crypt_core.specs.declared.scheme.Sha.{Sha}
 use Rattle.crypt_core.specs.declared.scheme.Sha.TheVariants.{Sha256, Sha512}
 
--- digest_function sha: the digest function h.
+-- digest_function sha: the digest function h that `sha` names.
 abbrev pub digest_function : Sha → List ℕ → List ℕ
 digest_function Sha256 = sha256
 digest_function Sha512 = sha512
 
--- sha_opening_message h password salt: the message of the digest A (steps 1 to 11). For each binary digit of the
--- password's length it has a piece: the digest B for a 1, and the password for a 0.
+-- sha_opening_message h password salt: the message of the digest A (steps 1 to 11). It ends with a string for each
+-- binary digit of the password's length, lowest first: the digest B for a 1, and the password for a 0.
 abbrev pub sha_opening_message : (List ℕ → List ℕ) → List ℕ → List ℕ → List ℕ
 sha_opening_message h password salt =
     let b = h (alternate_message password salt) in

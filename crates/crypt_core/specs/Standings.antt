@@ -20,18 +20,18 @@ abbrev pub greatest_cost : SettingValue → ℕ
 greatest_cost kept = cost kept password_limit
 
 -- IsOverBudget new budget kept: hashing a password with this setting can cost more than the budget. A budget of 0
--- stands for the audit's own when new hashes have the scheme `new`. With that one, a hash is also over budget if even
--- the empty password costs more than the policy's limit, since no login under the policy ever checks a password against
--- such a hash.
+-- stands for the budget of an audit when new hashes have the scheme `new` (`audit_budget`). With a budget of 0, a hash
+-- is also over budget if even the empty password costs more than the policy's limit, since no login under the policy
+-- ever checks a password against such a hash.
 abbrev pub IsOverBudget : Scheme → ℕ → SettingValue → Type 0
 IsOverBudget new budget kept = (chosen_budget new budget < greatest_cost kept) ⊎ ((budget ≡ 0) × (policy_limit new < cost kept 0))
 
 -- HasStanding new budget text kept standing: a stored hash with this text, which spells this setting, has this
 -- standing.
---   OverBudget  it is over the budget
---   Dead        it is within the budget, but the text is not whole
---   Outdated    it is within the budget and whole, but the scheme `new` of new hashes replaces its scheme
---   Current     it is within the budget and whole, and `new` doesn't replace its scheme
+--   OverBudget  the hash is over the budget
+--   Dead        the hash is within the budget, but the text is not whole
+--   Outdated    the hash is within the budget and whole, but the scheme `new` of new hashes replaces its scheme
+--   Current     the hash is within the budget and whole, and `new` doesn't replace its scheme
 abbrev pub HasStanding : Scheme → ℕ → List ℕ → SettingValue → Standing → Type 0
 HasStanding new budget text kept OverBudget = IsOverBudget new budget kept
 HasStanding new budget text kept Dead = (¬ IsOverBudget new budget kept) × (¬ IsWhole text kept)

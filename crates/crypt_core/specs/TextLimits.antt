@@ -11,6 +11,6 @@ scrypt_part_len = 1 + 5 + 5
 abbrev pub canonical_limit : ℕ
 canonical_limit = length (prefix methods.Scrypt) + scrypt_part_len + scrypt_salt_limit
 
--- The most bytes of a hash: such a setting, a `$` and the packed digest.
+-- The most bytes of a hash: scrypt's longest setting in canonical form, a `$` and the packed digest.
 abbrev pub hash_limit : ℕ
 hash_limit = canonical_limit + 1 + packed_len methods.Scrypt

@@ -2,7 +2,8 @@
 -- is a closed form of the lengths of the password and the salt, and for SHA-crypt also of one byte of a digest.
 use Rattle.std.specs.Prelude.{ℕ, ◌+◌, ◌-◌, ◌*◌, ◌^◌, List, length}
 use Rattle.std.specs.Int.{div_ceil}
--- The counts after some more work, and work that is within other work or below a number.
+-- `raised_by` adds work to counts, `IsWithin` says that no count is above the same count of other work, and `IsBelow`
+-- that each count is below a number.
 pub use Rattle.prims_core.specs.Work.{raised_by, IsBelow, IsWithin}
 use Rattle.prims_core.specs.declared.meter.Work.{Work}
 use Rattle.kdf_core.specs.Scrypt.{part_bytes}
@@ -30,8 +31,8 @@ digests_alone digests bytes = record { digests = digests; bytes = bytes; mixes =
 
 -- md5crypt_work password_length salt_length: the work of md5crypt, which has 1,002 messages.
 --   first    the password twice and the salt
---   second   as many bytes again, the prefix, and a byte for each binary digit of the password's length
---   rounds   1,000
+--   second   as many bytes as the first, the prefix, and a byte for each binary digit of the password's length
+--   rounds   1,000 messages, as `rounds_bytes` says
 abbrev pub md5crypt_work : ℕ → ℕ → Work
 md5crypt_work password_length salt_length = digests_alone (1000 + 2)
     (2 * (2 * password_length + salt_length) + 3 + digit_bytes 1 1 password_length
@@ -40,7 +41,8 @@ md5crypt_work password_length salt_length = digests_alone (1000 + 2)
 -- shacrypt_work digest_length a rounds password_length salt_length: the work of SHA-crypt, which has four messages and
 -- one for each round. a is the first byte of the digest that Drepper calls A.
 --   first    the password twice and the salt
---   second   as many bytes again, and for each binary digit of the password's length a digest (1) or the password (0)
+--   second   as many bytes as the first, and for each binary digit of the password's length a digest (for 1) or the
+--            password (for 0)
 --   third    the password once for each of its bytes
 --   fourth   the salt 16 + a times
 abbrev pub shacrypt_work : ℕ → ℕ → ℕ → ℕ → ℕ → Work
@@ -48,7 +50,8 @@ shacrypt_work digest_length a rounds password_length salt_length = digests_alone
     (2 * (2 * password_length + salt_length) + digit_bytes digest_length password_length password_length
     + password_length * password_length + (16 + a) * salt_length + rounds_bytes rounds digest_length password_length salt_length)
 
--- work_by scheme a password_length salt_length: the work of a hash with a scheme. Only SHA-crypt's depends on a.
+-- work_by scheme a password_length salt_length: the work of a hash with a scheme. Only SHA-crypt's depends on a, the
+-- first byte of the digest A.
 abbrev pub work_by : Scheme → ℕ → ℕ → ℕ → Work
 work_by Md5crypt a password_length salt_length = md5crypt_work password_length salt_length
 work_by (Shacrypt sha rounds) a password_length salt_length =
@@ -68,12 +71,12 @@ abbrev pub work : List ℕ → SettingValue → Work
 work password kept = work_by kept.scheme (first_byte_by kept.scheme password kept.salt) (length password) (length kept.salt)
 
 -- work_bound kept password_length: the bound on the work that is known before hashing, with the greatest byte, 255, in
--- place of a.
+-- place of the first byte of the digest A.
 abbrev pub work_bound : SettingValue → ℕ → Work
 work_bound kept password_length = work_by kept.scheme 255 password_length (length kept.salt)
 
 -- cost_by scheme password_length salt_length: the bound as one number, which a budget limits. It is the greatest number
--- of digested bytes, and for scrypt also the number of mixed bytes, one part for each mixing.
+-- of digested bytes, and for scrypt also the number of mixed bytes, which is `part_bytes` for each mixing.
 abbrev pub cost_by : Scheme → ℕ → ℕ → ℕ
 cost_by (Scrypt params) password_length salt_length =
     let most = work_by (Scrypt params) 255 password_length salt_length in most.bytes + most.mixes * part_bytes params

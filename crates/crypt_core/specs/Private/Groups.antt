@@ -1,4 +1,4 @@
--- Conditions on a table of groups, and on the last character of a packed digest.
+-- Conditions on the groups of a digest's bytes that are packed together, and on the last character of a packed digest.
 use Rattle.std.specs.Prelude.{ℕ, ◌&&◌, Bool, IsTrue, nat_lt, List, length, map}
 use Rattle.std.specs.List.{list_all}
 use Rattle.std.specs.Borrow.{Bor}
@@ -10,11 +10,11 @@ abbrev pub is_group : ℕ → List ℕ → Bool
 is_group len places =
     nat_lt 0 (length places) && (nat_lt (length places) 4 && list_all (λ place. nat_lt place len) places)
 
--- IsGroup len places: the same as a proposition.
+-- IsGroup len places: `is_group` as a proposition.
 abbrev pub IsGroup : ℕ → List ℕ → Type 0
 IsGroup len places = IsTrue (is_group len places)
 
--- AreGroups len groups: each of them is such a group.
+-- AreGroups len groups: each of these lists is a group of indices, as `is_group` says.
 abbrev pub AreGroups : ℕ → List (List ℕ) → Type 0
 AreGroups len groups = IsTrue (list_all (is_group len) groups)
 
@@ -22,8 +22,8 @@ AreGroups len groups = IsTrue (list_all (is_group len) groups)
 abbrev pub groups_in : List (Bor (List ℕ)) → List (List ℕ)
 groups_in table = map (λ group. group.now) table
 
--- last_value_limit method: the last character of a packed digest has a value below this. The last group has one or two
--- bytes, so the four or two highest bits of that character are 0.
+-- last_value_limit method: the last character of the method's packed digest has a value below this. If the last group
+-- has one byte, the four highest of that character's six bits are 0; if it has two bytes, the two highest.
 abbrev pub last_value_limit : Method → ℕ
 last_value_limit Md5crypt = 4
 last_value_limit Sha256crypt = 16

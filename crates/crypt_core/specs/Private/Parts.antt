@@ -17,12 +17,13 @@ pub record IsSettingText (text : List ℕ) : Type 0 where
   pub short : length text ≤ setting_limit
   pub bytes : All IsSettingByte text
 
--- AllRefused HasForm fault: every such text that has this form is refused with this error.
+-- AllRefused HasForm fault: every text that has the length and the bytes of a setting (`IsSettingText`) and this form
+-- is refused with this error.
 abbrev pub AllRefused : (List ℕ → Type 0) → SettingFault → Type 0
 AllRefused HasForm fault = (text : List ℕ) → IsSettingText text → HasForm text → IsRefused text fault
 
 -- HasNumber field number rest: the field begins with the digits of a number and a `$`, and `rest` follows. `number` is
--- what the digits spell, or the most rounds if that is greater.
+-- what the digits spell, but at most `max_rounds`.
 abbrev pub HasNumber : List ℕ → ℕ → List ℕ → Type 0
 HasNumber field number rest = (digits : List ℕ) × IsRoundsNumber digits × (field ≡ digits ++ (dollar ∷ rest))
     × (number ≡ min (digits_value 10 digits) max_rounds)
@@ -52,7 +53,7 @@ abbrev pub HasField : List ℕ → List ℕ → Type 0
 HasField after field = (rest : List ℕ) × (after ≡ field ++ rest) × IsField field rest
 
 -- KeepsField method field salt: this is the salt that the method keeps of the field. It is `KeepsSalt` without the rule
--- on scrypt's numbers.
+-- that scrypt's parameters are accepted.
 abbrev pub KeepsField : Method → List ℕ → List ℕ → Type 0
 KeepsField methods.Scrypt field salt = (salt ≡ field) × IsScryptSalt field
 KeepsField method field salt = salt ≡ take (salt_limit method) field
