@@ -26,14 +26,14 @@ pub enum Finding {
     NoHash,
     /// The field begins with `!` or `*`.
     Locked,
-    /// The field begins with `$` and is not a valid setting. This is the first rule that it breaks, never
-    /// `UnknownScheme`.
+    /// The field begins with `$` and is not a valid setting. The value is the first rule of a setting that the field
+    /// breaks, and never `UnknownScheme`.
     Malformed(SettingFault),
-    /// None of the above, but the form of a scheme of crypt(5) that mkpasswd doesn't hash.
+    /// None of the above, but the field has the form of a scheme of crypt(5) that mkpasswd doesn't hash.
     Other(OtherScheme),
     /// None of the above, but the field begins with `$`.
     Unknown,
-    /// None of the above: a plain password, say, or a damaged hash.
+    /// None of the above: the field is a plain password, say, or a damaged hash.
     NoScheme,
 }
 
@@ -80,8 +80,8 @@ impl Finding {
         }
     }
 
-    /// Returns whether somebody should look at the account. That's so unless its hash is current, its field is locked,
-    /// or its scheme is one that mkpasswd doesn't hash or doesn't know.
+    /// Returns whether somebody should look at the account. It returns false if the hash is current, the field is
+    /// locked, or the scheme is one that mkpasswd doesn't hash or doesn't know, and otherwise true.
     pub fn needs_care(&self) -> bool
         ensures { result ≡ needs_care self.now }
     {

@@ -1,4 +1,4 @@
-//! Checks a password against a stored hash the way crypt(3) is used for it: the password matches if hashing it with the
+//! Checks a password against a stored hash, as programs do with crypt(3): the password matches if hashing it with the
 //! setting in the stored hash reproduces the stored hash.
 ghost use Rattle.std.specs.Prelude.{◌≡◌, ◌↔◌, Err, IsTrue, IfOk};
 ghost use Rattle.prims_core.specs.Meter.{HasRoom};
@@ -20,7 +20,7 @@ use thiserror::Error;
 #[derive(Clone, Copy, Debug, PartialEq, Eq, Drop, Error)]
 #[error("{}", self.text())]
 pub enum FitFault {
-    /// The stored hash has no valid setting; this is the first rule that it breaks.
+    /// The stored hash has no valid setting. The value is the first rule of a setting that the stored hash breaks.
     Setting(SettingFault),
     /// scrypt could not allocate. No other method allocates.
     OutOfMemory,

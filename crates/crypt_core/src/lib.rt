@@ -1,5 +1,5 @@
-//! The schemes of crypt(5): passwords, methods, settings with given or generated salts, the hash of each method, its
-//! work as computed before hashing, and the version.
+//! Hashing with the schemes of crypt(5): passwords, methods, settings with given or generated salts, the hash of each
+//! method, and its work, which is computed before hashing. The version of mkpasswd is here too.
 #![tactic(auto)]
 
 pub mod finding;

@@ -20,11 +20,11 @@ use arrayvec::ArrayVec;
 use prims_core::counted::{Counted, CountedMd5};
 use prims_core::meter::Meter;
 
-/// The number of rounds.
+/// The number of rounds of md5crypt.
 pub const ROUNDS: u32 = 1000;
 
-// The rounds run in a nested loop, in parts of this many, which divides their number: LLVM inlines the calls of MD5's
-// padding in a loop within a loop, but not in a single one.
+// The number of rounds in one run of the inner loop, which divides `ROUNDS`. The rounds run in a nested loop because
+// LLVM inlines the calls of MD5's padding in a loop within a loop, but not in a single loop.
 const PART: u32 = 50;
 
 /// Returns the digest of a password and a salt. The meter counts each of the 1,002 messages, and each of its counts

@@ -20,7 +20,7 @@ use std::alloc::{AllocError, Global};
 
 /// Memory that scrypt works in.
 pub trait Memory {
-    // The memory is known to be enough for scrypt with these parameters.
+    // Whether the memory is known to be enough for scrypt with these parameters.
     ghost IsEnough: { Self → ScryptParams → Type 0 };
 
     /// Returns scrypt's digest, which has 32 bytes (RFC 7914).
@@ -74,7 +74,7 @@ pub struct Lent<'a> {
 }
 
 impl<'a> Lent<'a> {
-    /// Returns the words and bytes as memory for scrypt. They are enough for a scheme if there are as many as
+    /// Returns the words and bytes as memory for scrypt. They are enough for a scheme if there are at least as many as
     /// [`Scheme::need`](crate::scheme::Scheme::need) returns.
     pub fn new(words: &'a mut [u32], bytes: &'a mut [u8]) -> Lent<'a>
         ensures enough { (scheme : Scheme) → words_by scheme ≤ length words.old → bytes_by scheme ≤ length bytes.old

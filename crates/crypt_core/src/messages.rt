@@ -1,7 +1,9 @@
-//! What the messages of md5crypt and SHA-crypt have in common. Both feed them to a running digest piece by piece.
+//! What the messages of md5crypt and SHA-crypt have in common. Both methods feed each message to a running digest piece
+//! by piece.
 //!
 //! - The first message is the same in both.
-//! - The second has a digest repeated to the password's length, and one piece for each binary digit of that length.
+//! - The second message has a digest repeated to the password's length, and one string for each binary digit of that
+//!   length.
 //! - The rounds' messages differ between the two only in the strings that stand for the password and the salt. A round
 //!   feeds two pieces: the digest of the round before, and a slice of one string that is joined once for all rounds.
 ghost use Rattle.std.specs.Prelude.{◌≡◌, ℕ, ◌+◌, ◌*◌, ◌^◌, ◌<◌, ◌≤◌, List, ◌++◌, length};
@@ -20,7 +22,8 @@ use prims_core::counted::Counted;
 use prims_core::meter::Meter;
 use std::marker::Model;
 
-/// The capacity for three passwords and a salt. SHA-crypt's salts are the longer ones.
+/// The capacity in bytes for three passwords and a salt of the greatest lengths. SHA-crypt keeps longer salts than
+/// md5crypt.
 const JOINED_LIMIT: usize = 3 * PASSWORD_LIMIT + SHACRYPT_SALT_LIMIT;
 
 /// Returns the digest of the first message: the password, the salt and the password again.
@@ -59,7 +62,7 @@ pub(crate) fn feed_repeated<C: Counted>(
     }
 }
 
-/// Feeds the digest, repeated to a length of `len` bytes.
+/// Feeds `len` bytes to the running digest: copies of `digest`, the last of them cut to the length.
 ///
 /// Precondition: the digest is not empty.
 pub(crate) fn feed_cycle<C: Counted>(running: &mut C, meter: &mut Meter, digest: &[u8], len: usize)
@@ -87,7 +90,7 @@ pub(crate) fn cycle_of(digest: &[u8], len: usize) -> ArrayVec<u8, PASSWORD_LIMIT
     bytes
 }
 
-/// Feeds one piece for each binary digit of `number`, lowest first: `one` for a 1, `other` for a 0.
+/// Feeds one string for each binary digit of `number`, lowest first: `one` for a 1, `other` for a 0.
 pub(crate) fn feed_digits<C: Counted>(
     running: &mut C,
     meter: &mut Meter,
@@ -109,12 +112,13 @@ pub(crate) fn feed_digits<C: Counted>(
     }
 }
 
-/// The two strings that stand for the password and the salt in the rounds. Contracts see only these two.
+/// The two strings that stand for the password and the salt in the rounds. Contracts see only these two, and not the
+/// joined copy of them.
 #[derive(Drop)]
 pub(crate) struct RoundStrings<'a> {
     password: &'a [u8],
     salt: &'a [u8],
-    // Password, salt, password, password.
+    // The password, the salt, and the password two more times.
     joined: ArrayVec<u8, JOINED_LIMIT>,
 }
 
@@ -129,7 +133,7 @@ impl<'a> Model for RoundStrings<'a> {
 impl<'a> RoundStrings<'a> {
     /// Returns the strings of the rounds, joined once.
     ///
-    /// Precondition: they are no longer than the longest password and the longest salt.
+    /// Precondition: three copies of the password and one of the salt have at most [`JOINED_LIMIT`] bytes together.
     pub(crate) fn new(password: &'a [u8], salt: &'a [u8]) -> Self
         requires { 3 * length password.now + length salt.now ≤ JOINED_LIMIT }
         ensures { result ≡ record { password = password.now; salt = salt.now } }
@@ -171,7 +175,7 @@ impl<'a> RoundStrings<'a> {
     }
 }
 
-/// Replaces the digest of the round before with that of round `i`.
+/// Replaces `digest`, which holds the digest of the round before, with the digest of round `i`.
 pub(crate) fn round<C: Counted>(
     i: u32,
     digest: &mut [u8],

@@ -17,7 +17,7 @@ pub const SHACRYPT_SALT_LIMIT: usize = 16;
 /// The most bytes of salt that scrypt keeps. No method keeps more.
 pub const SCRYPT_SALT_LIMIT: usize = 86;
 
-/// The most characters of a generated salt: scrypt's.
+/// The most characters of a generated salt. scrypt's generated salts have this many.
 pub const MADE_SALT_LIMIT: usize = 22;
 
 // The number of characters of md5crypt's packed digest.
@@ -45,7 +45,7 @@ pub enum Method {
     Scrypt,
 }
 
-/// All methods, in the order of the table.
+/// All methods, in the order of their numbers.
 const METHODS: [Method; 4] = [
     Method::Md5crypt,
     Method::Sha256crypt,

@@ -10,13 +10,13 @@ use std::mem::size_of;
 #[repr(C)]
 #[derive(Clone, Copy, Debug, PartialEq, Eq)]
 pub struct Need {
-    /// Words of 4 bytes.
+    /// The number of words of 4 bytes.
     pub words: usize,
-    /// Bytes.
+    /// The number of bytes in addition to the words.
     pub bytes: usize,
 }
 
-// JavaScript reads the fields at fixed offsets.
+// JavaScript reads the fields of `Need` at fixed offsets.
 const _: () = prove!(size_of::<Need>() == 16);
 
 impl Scheme {

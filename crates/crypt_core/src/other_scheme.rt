@@ -1,4 +1,4 @@
-//! The schemes of crypt(5) that mkpasswd doesn't hash. An audit recognizes them by their form alone and says nothing of
+//! The schemes of crypt(5) that mkpasswd doesn't hash. An audit recognizes them by their form alone, and doesn't judge
 //! their strength.
 ghost use Rattle.std.specs.Prelude.{◌≡◌, ◌↔◌, IsTrue, IfNone, IfSome};
 ghost use Rattle.crypt_core.specs.OtherSchemes.{IsOf, other_scheme_numbered, other_scheme_row};
@@ -9,25 +9,25 @@ use crate::setting::in_alphabet;
 /// A scheme of crypt(5) that mkpasswd doesn't hash.
 #[derive(Clone, Copy, Debug, PartialEq, Eq)]
 pub enum OtherScheme {
-    /// `$y$`.
+    /// yescrypt: the field begins with `$y$`.
     Yescrypt,
-    /// `$gy$`.
+    /// gost-yescrypt: the field begins with `$gy$`.
     GostYescrypt,
-    /// `$2a$`, `$2b$` and `$2y$`.
+    /// bcrypt: the field begins with `$2a$`, `$2b$` or `$2y$`.
     Bcrypt,
-    /// `$3$`.
+    /// NT: the field begins with `$3$`.
     Nt,
-    /// `$sha1$`.
+    /// sha1crypt: the field begins with `$sha1$`.
     Sha1crypt,
-    /// `$md5`.
+    /// SunMD5: the field begins with `$md5`.
     SunMd5,
-    /// `_`.
+    /// bsdicrypt: the field begins with `_`.
     Bsdicrypt,
-    /// The thirteen characters of the traditional DES hash.
+    /// descrypt, the traditional DES hash: the field has thirteen characters, all of crypt's alphabet.
     Descrypt,
 }
 
-// All of them.
+// All schemes of `OtherScheme`, in the order of their numbers.
 const OTHER_SCHEMES: [OtherScheme; 8] = [
     OtherScheme::Yescrypt,
     OtherScheme::GostYescrypt,
@@ -40,7 +40,7 @@ const OTHER_SCHEMES: [OtherScheme; 8] = [
 ];
 
 impl OtherScheme {
-    /// Returns the scheme whose form the field has, or `None` if it has the form of none of these.
+    /// Returns the scheme whose form the field has, or `None` if it has the form of no scheme in [`OtherScheme`].
     pub fn of(field: &[u8]) -> Option<OtherScheme>
         ensures found { IfSome result (λ other. IsOf other field.now) }
         ensures none { IfNone result ((other : Other) → ¬ IsOf other field.now) }
@@ -71,7 +71,7 @@ impl OtherScheme {
         }
     }
 
-    /// Returns the scheme with this number, or `None` if none has it.
+    /// Returns the scheme with this number, or `None` if no scheme has it.
     pub fn numbered(number: u32) -> Option<OtherScheme>
         ensures { result ≡ other_scheme_numbered number }
     {

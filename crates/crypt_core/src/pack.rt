@@ -61,7 +61,8 @@ pub(crate) const SHA512CRYPT_GROUPS: [&[usize]; 22] = [
     &[63],
 ];
 
-/// The groups of scrypt's digest: the bytes in order, three to a group, the first one lowest.
+/// The groups of scrypt's digest, as indices into it: the bytes in order, three to a group, and the highest index of
+/// each group first.
 pub(crate) const SCRYPT_GROUPS: [&[usize]; 11] = [
     &[2, 1, 0],
     &[5, 4, 3],
@@ -102,7 +103,7 @@ pub(crate) fn append_packed(text: &mut ArrayVec<u8, TEXT_CAPACITY>, method: Meth
     }
 }
 
-// Returns the number that the bytes at these indices spell, the first one highest.
+// Returns the number whose bytes are at these indices of the digest, from the highest byte to the lowest.
 fn number_of(digest: &[u8], places: &[usize]) -> u32
     requires { IsGroup (length digest.now) places.now }
     ensures value { result ≡ group_number digest.now places.now }

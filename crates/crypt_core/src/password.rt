@@ -13,9 +13,9 @@ pub const PASSWORD_LIMIT: usize = 1024;
 #[derive(Clone, Copy, Debug, PartialEq, Eq, Drop, Error)]
 #[error("{}", self.text())]
 pub enum PasswordFault {
-    /// More than [`PASSWORD_LIMIT`] bytes.
+    /// The password has more than [`PASSWORD_LIMIT`] bytes.
     TooLong,
-    /// A zero byte, which would end the password in C.
+    /// The password has a zero byte, which would end it in C.
     HasNul,
 }
 

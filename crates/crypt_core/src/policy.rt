@@ -29,7 +29,8 @@ const RECOMMENDED_SCRYPT_ROUNDS: u32 = 7;
 /// The least limit of a policy, in bytes digested and mixed.
 const LIMIT_FLOOR: u64 = 150_000_000;
 
-/// The length in bytes of a password whose new hash costs half the limit.
+/// The policy's limit is twice the cost of a new hash of a password of this length in bytes, if that is above the
+/// floor.
 const HALF_LIMIT_LEN: usize = 64;
 
 impl Method {
@@ -46,7 +47,7 @@ impl Method {
         }
     }
 
-    /// Returns `rounds`, or the recommended rounds for 0.
+    /// Returns `rounds`, or the recommended rounds if `rounds` is 0.
     pub fn chosen_rounds(self, rounds: u32) -> u32
         ensures { result ≡ chosen_rounds self rounds }
     {
@@ -105,9 +106,10 @@ impl Scheme {
     /// Returns the scheme for a new hash of a password of `password_len` bytes that costs at most `limit`, under a
     /// policy with this scheme, or `None` if there is none.
     ///
-    /// It is the policy's own scheme if that is within the limit. Otherwise it is SHA-crypt with as many rounds as fit:
-    /// the limit less the bytes digested before the rounds, divided by the bytes of the longest round, but at least
-    /// 1000. So it never has more rounds than the policy, and the policy's own limit always leaves a scheme.
+    /// The result is the policy's own scheme if a new hash with that is within the limit. Otherwise it is SHA-crypt
+    /// with as many rounds as are sure to be within the limit: the limit less the bytes digested before the rounds,
+    /// divided by the bytes of the longest round, but at least 1000. So the result never has more rounds than the
+    /// policy, and it is never `None` if `limit` is at least the policy's own limit.
     ///
     /// Precondition: `password_len` is at most [`PASSWORD_LIMIT`].
     pub fn fitted(&self, limit: u64, password_len: usize) -> Option<Scheme>
@@ -148,7 +150,7 @@ impl Scheme {
         self.greatest_cost().max(recommended.greatest_cost())
     }
 
-    /// Returns `budget`, or [`audit_budget`](Scheme::audit_budget) for 0.
+    /// Returns `budget`, or [`audit_budget`](Scheme::audit_budget) if `budget` is 0.
     pub fn chosen_budget(&self, budget: u64) -> u64
         ensures { result ≡ chosen_budget self.now budget }
     {
@@ -160,8 +162,8 @@ impl Scheme {
     }
 }
 
-// Returns SHA-crypt with as many rounds as fit the limit, or `None` if the scheme isn't SHA-crypt or even those rounds
-// cost more.
+// Returns SHA-crypt with the rounds that `fitting_rounds` gives for the limit, or `None` if the scheme isn't SHA-crypt
+// or a new hash with those rounds costs more than the limit.
 fn fewer_rounds(scheme: &Scheme, limit: u64, password_len: usize) -> Option<Scheme>
     requires { password_len ≤ password_limit }
     ensures { result ≡ fewer_rounds scheme.now limit password_len }
@@ -176,7 +178,8 @@ fn fewer_rounds(scheme: &Scheme, limit: u64, password_len: usize) -> Option<Sche
     Some(fewer)
 }
 
-// Returns the rounds that fit the limit after the opening if each is as long as the longest, but at least 1000.
+// Returns how many rounds are sure to be within the limit: the limit less the bytes digested before the rounds, divided
+// by the bytes of the longest round, but at least 1000.
 fn fitting_rounds(sha: Sha, limit: u64, password_len: usize) -> Rounds
     requires { password_len ≤ password_limit }
     ensures { result ≡ record { count = fitting_rounds sha limit password_len; is_written = true } }
@@ -186,7 +189,7 @@ fn fitting_rounds(sha: Sha, limit: u64, password_len: usize) -> Rounds
     Rounds::written(left / longest_round(sha, password))
 }
 
-// Returns a bound on the bytes of the messages before the rounds, in a new hash of a password of this length.
+// Returns a bound on the bytes that SHA-crypt digests before the rounds, in a new hash of a password of this length.
 fn opening_bytes(sha: Sha, password: u64) -> u64
     requires { password ≤ password_limit }
     ensures { result ≡ opening_bytes sha password }
@@ -199,7 +202,7 @@ fn opening_bytes(sha: Sha, password: u64) -> u64
     work.bytes
 }
 
-// Returns a bound on the bytes of one round's message, in a new hash of a password of this length.
+// Returns the bytes of the longest message of a SHA-crypt round, in a new hash of a password of this length.
 fn longest_round(sha: Sha, password: u64) -> u64
     requires { password ≤ password_limit }
     ensures { result ≡ longest_round sha password }

@@ -1,5 +1,5 @@
 //! Compares a hash with a stored one. If the lengths are equal, the comparison looks at every byte, and its time
-//! doesn't depend on where they differ. No clause says so; tests/library checks what the compiler makes of it.
+//! doesn't depend on where the bytes differ. No clause of a contract says so; tests/library checks the compiled code.
 ghost use Rattle.std.specs.Prelude.{◌≡◌, bytes_eq};
 
 /// Returns whether `a` and `b` have the same bytes, as `==` does.

@@ -28,10 +28,10 @@ const MIN_SCRYPT_ROUNDS: u32 = 6;
 /// The most rounds from which [`Scheme::made`] makes a scheme of scrypt.
 const MAX_SCRYPT_ROUNDS: u32 = 11;
 
-/// The rounds that 0 stands for with scrypt.
+/// The rounds of scrypt that 0 stands for in [`Scheme::made`].
 const DEFAULT_SCRYPT_ROUNDS: u32 = 7;
 
-/// The difference between log2 N and the rounds.
+/// How much greater scrypt's log2 N is than its rounds, as [`Scheme::made`] takes them.
 const LOG_ABOVE_ROUNDS: u32 = 7;
 
 /// The block size r of every scheme of scrypt that [`Scheme::made`] makes.
@@ -187,8 +187,8 @@ impl Scheme {
 
     /// Returns whether a hash of this scheme is out of date once new hashes have the scheme `new`.
     ///
-    /// It is if `new` has another method, or the same method with more rounds or, for scrypt, a greater `N * r * p`.
-    /// Whether a setting writes the rounds in a `rounds=` field makes no difference.
+    /// The hash is out of date if `new` has another method, or the same method with more rounds or, for scrypt, a
+    /// greater `N * r * p`. Whether a setting writes the rounds in a `rounds=` field makes no difference.
     pub fn is_outdated_by(&self, new: &Scheme) -> bool
         ensures { result ≡ is_outdated_by self.now new.now }
     {

@@ -1,6 +1,7 @@
-//! SHA-crypt (Drepper, "Unix crypt using SHA-256 and SHA-512"), once for both digest functions. The specification
-//! defines it by whole messages; the code feeds each message to a running digest piece by piece. It computes the
-//! strings P and S, which stand for the password and the salt in the rounds, once, in buffers of fixed capacity.
+//! SHA-crypt (Drepper, "Unix crypt using SHA-256 and SHA-512"), with the same code for both digest functions. The
+//! specification defines it by whole messages; the code feeds each message to a running digest piece by piece. It
+//! computes the strings P and S, which stand for the password and the salt in the rounds, once, in buffers of fixed
+//! capacity.
 ghost use Rattle.std.specs.Prelude.{◌≡◌, ℕ, ◌+◌, ◌*◌, ◌^◌, ◌<◌, ◌≤◌, length};
 ghost use Rattle.std.specs.List.{repeat};
 ghost use Rattle.prims_core.specs.Meter.{with_work, HaveCountAndSum, HasDigestRoom};
@@ -85,8 +86,8 @@ fn opening<H: Counted>(password: &[u8], salt: &[u8], meter: &mut Meter) -> Array
     running.finish(meter)
 }
 
-// Returns the string P of the password (steps 13 to 16) or S of the salt (steps 17 to 20): the digest of the piece
-// repeated `times` times, itself repeated to the length of the piece.
+// Returns the string P of the password (steps 13 to 16) or S of the salt (steps 17 to 20): the digest of `times` copies
+// of `piece`, repeated to the length of `piece`.
 fn string_of<H: Counted>(
     piece: &[u8],
     times: usize,

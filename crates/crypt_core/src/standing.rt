@@ -14,21 +14,21 @@ use crate::work::cost;
 /// The standing of a stored hash: the first of these that applies.
 #[derive(Clone, Copy, Debug, PartialEq, Eq)]
 pub enum Standing {
-    /// Hashing a password with its setting can cost more than the budget. With a budget of 0, which means the audit
-    /// budget ([`Scheme::audit_budget`]), this also holds if even the empty password costs more than the policy's
-    /// limit.
+    /// Hashing a password with the hash's setting can cost more than the budget. With a budget of 0, which means the
+    /// audit budget ([`Scheme::audit_budget`]), a hash is also over budget if even the empty password costs more than
+    /// the policy's limit ([`Scheme::policy_limit`]).
     OverBudget,
-    /// No password matches it, because it is not [whole](StoredHash::is_whole).
+    /// No password matches the hash, because it is not [whole](StoredHash::is_whole).
     Dead,
-    /// The scheme of new hashes replaces the scheme of its setting.
+    /// The scheme of new hashes replaces the scheme of the hash's setting.
     Outdated,
     /// None of the above applies.
     Current,
 }
 
 impl StoredHash<'_> {
-    /// Returns the greatest cost of hashing a password with its setting, in bytes digested and mixed ([`cost`]): that
-    /// of the longest password. [`Scheme::greatest_cost`] takes the longest salt too.
+    /// Returns the greatest cost of hashing a password with the hash's setting, in bytes digested and mixed ([`cost`]):
+    /// that of the longest password. [`Scheme::greatest_cost`] also takes the longest salt instead of the hash's own.
     pub fn greatest_cost(&self) -> u64
         ensures { result ≡ greatest_cost self.now.setting }
     {
@@ -36,8 +36,8 @@ impl StoredHash<'_> {
     }
 
     /// Returns the standing when new hashes have the scheme `new`. A budget of 0 means the audit budget of that scheme.
-    /// A hash within it can be checked within the policy's [limit](Scheme::policy_limit), at least with the empty
-    /// password.
+    /// With that budget, a hash that is not over budget can be checked within the policy's
+    /// [limit](Scheme::policy_limit), at least for the empty password.
     pub fn standing(&self, new: &Scheme, budget: u64) -> Standing
         ensures standing { HasStanding new.now budget self.now.text self.now.setting result }
         ensures checked { result ≢ Standing.OverBudget → budget ≡ 0 → cost self.now.setting 0 ≤ policy_limit new.now }
@@ -54,7 +54,7 @@ impl StoredHash<'_> {
         }
     }
 
-    // Returns whether the hash is over the budget.
+    // Returns whether the hash is over the budget, as `Standing::OverBudget` says.
     fn is_over_budget(&self, new: &Scheme, budget: u64) -> bool
         ensures { IsTrue result ↔ IsOverBudget new.now budget self.now.setting }
     {
@@ -65,7 +65,7 @@ impl StoredHash<'_> {
     }
 }
 
-/// Returns whether the cost exceeds the budget. Without a budget none does.
+/// Returns whether the cost exceeds the budget. Without a budget, no cost does.
 pub fn is_above(budget: Option<u64>, cost: u64) -> bool
     ensures { IsTrue result ↔ IsAbove budget cost }
 {

@@ -23,7 +23,7 @@ use crate::setting::{Setting, SettingFault};
 use prims_core::meter::Meter;
 use std::marker::Model;
 
-/// A stored hash and the setting that it spells. Contracts see both.
+/// A stored hash and the setting that it spells. Contracts see both the bytes and the setting.
 #[derive(Drop)]
 pub struct StoredHash<'a> {
     text: &'a [u8],
@@ -123,7 +123,7 @@ impl<'a> StoredHash<'a> {
 /// A field of a password file, by its kind.
 #[derive(Drop)]
 pub enum StoredField<'a> {
-    /// An empty field: there is no password.
+    /// An empty field, which holds no hash.
     Empty,
     /// A locked field, which begins with `!` or `*`: no password matches it.
     Locked,

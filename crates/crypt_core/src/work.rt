@@ -1,5 +1,5 @@
-//! The work of a hash, computed before hashing so that a service can refuse a setting that would cost it too much. It
-//! is a closed form of what the meter counts.
+//! The work of a hash, computed before hashing so that a service can refuse a setting that would cost it too much. The
+//! work is a closed form of what the meter counts during a hash.
 ghost use Rattle.std.specs.Prelude.{◌≡◌, ℕ, ◌+◌, ◌*◌, ◌^◌, ◌<◌, ◌≤◌, List, length};
 ghost use Rattle.crypt_core.specs.Cycle.{by_digit, digit_bytes};
 ghost use Rattle.crypt_core.specs.MethodLimits.{md5crypt_salt_limit, salt_limit, scrypt_salt_limit, shacrypt_salt_limit};
@@ -24,8 +24,8 @@ impl Scheme {
     /// Returns a bound on the work of one hash with this scheme, for any password and any salt of these lengths in
     /// bytes.
     ///
-    /// With md5crypt and scrypt, the work is exactly this. With SHA-crypt, it digests up to `255 * salt_len` bytes
-    /// less. Each count is below 2^41. The call neither hashes nor allocates.
+    /// With md5crypt and scrypt, the work is exactly the bound. With SHA-crypt, a hash digests up to `255 * salt_len`
+    /// bytes less. Each count is below 2^41. The call neither hashes nor allocates.
     ///
     /// Preconditions: `password_len` is at most [`PASSWORD_LIMIT`](crate::password::PASSWORD_LIMIT), and `salt_len` at
     /// most what the method keeps (8, 16, 16 or 86).
@@ -54,8 +54,8 @@ impl Scheme {
     /// Returns the greatest cost of one hash with this scheme, in bytes, for any password and any salt of these
     /// lengths.
     ///
-    /// The cost is the one number that a budget limits: the bytes of the [`bound`](Scheme::bound), and for scrypt the
-    /// 128r bytes of each of its mixings. It is below 2^42.
+    /// The cost is the one number that a budget limits: the bytes of the [`bound`](Scheme::bound), and for scrypt also
+    /// 128r bytes for each of its mixings. It is below 2^42.
     ///
     /// Preconditions: those of [`bound`](Scheme::bound).
     pub fn cost(&self, password_len: usize, salt_len: usize) -> u64
@@ -74,8 +74,8 @@ impl Scheme {
 
 /// Returns a bound on the work of one hash with this setting, for any password of `password_len` bytes.
 ///
-/// With md5crypt and scrypt, the work is exactly this. With SHA-crypt, it digests up to 255 bytes less for each byte of
-/// the salt. Each count is below 2^41. The call neither hashes nor allocates.
+/// With md5crypt and scrypt, the work is exactly the bound. With SHA-crypt, a hash digests up to 255 bytes less for
+/// each byte of the salt. Each count is below 2^41. The call neither hashes nor allocates.
 ///
 /// Precondition: `password_len` is at most [`PASSWORD_LIMIT`](crate::password::PASSWORD_LIMIT).
 pub fn bound(setting: &Setting, password_len: usize) -> Work
@@ -90,7 +90,7 @@ pub fn bound(setting: &Setting, password_len: usize) -> Work
 
 /// Returns the greatest cost of one hash with this setting, in bytes, for any password of `password_len` bytes.
 ///
-/// The cost is the one number that a budget limits: the bytes of the [`bound`], and for scrypt the 128r bytes of each
+/// The cost is the one number that a budget limits: the bytes of the [`bound`], and for scrypt also 128r bytes for each
 /// of its mixings. It is below 2^42 for every setting. The call neither hashes nor allocates.
 ///
 /// Precondition: `password_len` is at most [`PASSWORD_LIMIT`](crate::password::PASSWORD_LIMIT).
@@ -102,8 +102,8 @@ pub fn cost(setting: &Setting, password_len: usize) -> u64
     setting.scheme().cost(password_len, setting.salt().len())
 }
 
-// Returns the work of md5crypt. The second message has the three bytes `$1$`, and one byte for each binary digit of the
-// password's length.
+// Returns the work of md5crypt for a password and a salt of these lengths in bytes. Its second message has as many
+// bytes as the first, the three bytes `$1$`, and one byte for each binary digit of the password's length.
 fn md5crypt_bound(password: u64, salt: u64) -> Work
     requires password { password ≤ password_limit }
     requires salt { salt ≤ md5crypt_salt_limit }
@@ -120,8 +120,9 @@ fn md5crypt_bound(password: u64, salt: u64) -> Work
     )
 }
 
-/// Returns the bound for SHA-crypt, which repeats the salt 16 + a times, where a is the first byte of the digest A.
-/// Only hashing gives that byte, so the bound takes 255.
+/// Returns the bound for SHA-crypt with a password and a salt of these lengths in bytes. SHA-crypt repeats the salt
+/// more often the greater the first byte of the digest A is. Only hashing gives that byte, so the bound takes the
+/// greatest, 255.
 pub(crate) fn shacrypt_bound<H: Counted>(rounds: u32, password: u64, salt: u64) -> Work
     requires rounds { rounds ≤ max_rounds }
     requires password { password ≤ password_limit }
@@ -142,7 +143,7 @@ pub(crate) fn shacrypt_bound<H: Counted>(rounds: u32, password: u64, salt: u64) 
     )
 }
 
-// Returns the work of scrypt, whose digest has 32 bytes.
+// Returns the work of scrypt for a password and a salt of these lengths in bytes. Its digest has 32 bytes.
 fn scrypt_bound(params: &Params, password: u64, salt: u64) -> Work
     requires password { password ≤ password_limit }
     requires salt { salt ≤ scrypt_salt_limit }
@@ -165,7 +166,8 @@ fn digests_alone(digests: u64, bytes: u64) -> Work
     }
 }
 
-// Returns the bytes of one piece for each binary digit of `number`: `one` for a 1, and `other` for a 0.
+// Returns the number of bytes in the part of a message that has `one` bytes for each binary digit 1 of `number`, and
+// `other` bytes for each digit 0.
 fn digit_bytes(number: u64, one: u64, other: u64) -> u64
     requires number { number ≤ password_limit }
     requires one { one ≤ password_limit }
@@ -182,15 +184,15 @@ fn digit_bytes(number: u64, one: u64, other: u64) -> u64
     bytes
 }
 
-// Returns the bytes of the piece for a binary digit.
+// Returns the number of bytes for one binary digit: `one` for a 1, and `other` for a 0.
 fn piece_bytes(digit: u64, one: u64, other: u64) -> u64
     ensures { result ≡ by_digit one other digit }
 {
     if digit == 1 { one } else { other }
 }
 
-// Returns the bytes of all messages of `rounds` rounds. Rounds 0, 3, 6, .. omit the salt, and rounds 0, 7, 14, .. omit
-// the second password.
+// Returns the number of bytes in the messages of all rounds, for a digest, a password and a salt of these lengths.
+// Rounds 0, 3, 6, .. omit the salt, and rounds 0, 7, 14, .. omit the second password.
 fn rounds_bytes(rounds: u64, digest: u64, password: u64, salt: u64) -> u64
     requires rounds { rounds ≤ max_rounds }
     requires digest { digest ≤ 64 }

@@ -1,4 +1,4 @@
-//! Why a string is not a setting, and why a setting can't be made. The messages are a promise to callers.
+//! Why a string is not a setting, and why a setting can't be made. Callers may rely on the texts of the messages.
 
 ghost use Rattle.std.specs.Prelude.{◌≡◌};
 ghost use Rattle.crypt_core.specs.Faults.{setting_fault_text, make_fault_text};
@@ -10,11 +10,11 @@ use thiserror::Error;
 #[derive(Clone, Copy, Debug, PartialEq, Eq, Drop, Error)]
 #[error("{}", self.text())]
 pub enum SettingFault {
-    /// It has more than [`SETTING_LIMIT`](super::SETTING_LIMIT) bytes.
+    /// The string has more than [`SETTING_LIMIT`](super::SETTING_LIMIT) bytes.
     TooLong,
-    /// It has a byte that is not graphic ASCII (0x21 to 0x7e), or one of `:`, `;`, `*`, `!` and the backslash.
+    /// The string has a byte that is not graphic ASCII (0x21 to 0x7e), or one of `:`, `;`, `*`, `!` and the backslash.
     BadCharacter,
-    /// It begins with none of `$1$`, `$5$`, `$6$` and `$7$`.
+    /// The string begins with none of `$1$`, `$5$`, `$6$` and `$7$`.
     UnknownScheme,
     /// `rounds=` follows SHA-crypt's prefix, but no number and `$` come after it. A number begins with one of 1 to 9.
     BadRounds,

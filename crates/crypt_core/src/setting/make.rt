@@ -59,7 +59,7 @@ impl Setting {
     }
 }
 
-// Returns the whole salt, or the first rule that it breaks.
+// Returns a copy of the salt, or the error of the first rule that the salt breaks.
 fn given_salt(method: Method, salt: &[u8]) -> Result<ArrayVec<u8, SCRYPT_SALT_LIMIT>, MakeFault>
     ensures kept { IfOk result (λ kept. kept.items ≡ salt.now) }
     ensures ok { OnOk result (TakesSalt method salt.now) }

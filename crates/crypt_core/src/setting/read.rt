@@ -1,7 +1,7 @@
 //! Parses a setting, or finds the first rule that it breaks.
 //!
 //! The parser takes the prefix, the cost part and the salt off the front, in this order. It allocates nothing and
-//! digests nothing, and it caps a number of any length while it reads it.
+//! digests nothing. A number of any length can't overflow, because the parser caps it after each digit.
 
 ghost use Rattle.std.specs.Prelude.{◌≡◌, ◌≤◌, ◌↔◌, ℕ, List, length, ◌++◌, min, take, IsTrue, IfOk, IfErr, OnOk, OnSome, IfSome, IfNone};
 ghost use Rattle.std.specs.Str.Parse.{digits_value};
@@ -28,8 +28,8 @@ impl Setting {
     /// Returns the setting (crypt(5)) that a string spells. The string may also be a stored hash, which begins with its
     /// setting.
     ///
-    /// Whatever comes after the salt's `$` must obey the rules on length and bytes, and is otherwise ignored. For
-    /// example, `$5$rounds=10$salt$x` is sha256crypt with 1000 rounds and the salt `salt`.
+    /// Whatever comes after the `$` that ends the salt must obey the rules on length and bytes, and is otherwise
+    /// ignored. For example, `$5$rounds=10$salt$x` is sha256crypt with 1000 rounds and the salt `salt`.
     ///
     /// # Errors
     ///
@@ -55,7 +55,7 @@ impl Setting {
     }
 }
 
-// Checks the rules on length and bytes.
+// Checks that the string is no longer than a setting can be, and has only bytes that a setting can have.
 fn check_bytes(text: &[u8]) -> Result<(), SettingFault>
     ensures ok { OnOk result (IsSettingText text.now) }
     ensures err { IfErr result (IsRefused text.now) }
@@ -121,7 +121,8 @@ fn shacrypt_at(sha: Sha, after: &[u8]) -> Result<(Scheme, &[u8]), SettingFault>
     Ok((Scheme::Shacrypt(sha, Rounds::written(number)), rest))
 }
 
-// Returns the number before the `$`, capped at the most rounds, and what follows the `$`.
+// Returns the number at the front, capped at the most rounds, and what follows the `$` after it; or `None` if the front
+// is not a number and a `$`.
 fn number_at(field: &[u8]) -> Option<(u64, &[u8])>
     ensures none { IfNone result (LacksNumber field.now) }
     ensures some { IfSome result (λ x. HasNumber field.now x.0 x.1.now) }
@@ -146,8 +147,8 @@ fn is_rounds_number(digits: &[u8]) -> bool
     }
 }
 
-// Returns the number that the digits spell, or the most rounds if it is greater. Capping after each digit keeps a
-// number of any length from overflowing.
+// Returns the number that the digits spell, but at most `MAX_ROUNDS`. Capping after each digit keeps a number of any
+// length from overflowing.
 fn capped_number(digits: &[u8]) -> u64
     requires { IsRoundsNumber digits.now }
     ensures { result ≡ min (digits_value 10 digits.now) max_rounds }
@@ -175,7 +176,8 @@ fn params_at(after: &[u8]) -> Result<Params, SettingFault>
     }
 }
 
-// Returns log2 N, r and p, which the first 11 characters encode.
+// Returns log2 N, r and p, which the first 11 characters encode, or `None` if these are not 11 characters of crypt's
+// alphabet.
 fn numbers_at(after: &[u8]) -> Option<(u8, u32, u32)>
     ensures none { IfNone result (LacksCharacters after.now) }
     ensures long { OnSome result (scrypt_part_len ≤ length after.now) }

@@ -15,9 +15,9 @@ use prims_core::alphabet::put_group;
 impl Setting {
     /// Returns the setting in canonical form (crypt(5)), of at most [`CANONICAL_LIMIT`] bytes.
     ///
-    /// [`Setting::read`] parses it as this same setting. It has a `rounds=` field, with the clamped number, exactly if
-    /// the setting had one. With a `$` and the packed digest it has at most [`HASH_LIMIT`](crate::hash::HASH_LIMIT)
-    /// bytes.
+    /// [`Setting::read`] parses the returned text as this same setting. The text has a `rounds=` field, with the
+    /// clamped number, exactly if the setting has one. Together with a `$` and the packed digest, it has at most
+    /// [`HASH_LIMIT`](crate::hash::HASH_LIMIT) bytes.
     pub fn text(&self) -> ArrayVec<u8, TEXT_CAPACITY>
         ensures canonical { result.items ≡ canonical_text self.now }
         ensures spelled { Spells (canonical_text self.now) self.now }
@@ -32,7 +32,8 @@ impl Setting {
     }
 }
 
-// Appends the scheme's cost part.
+// Appends the part of a setting that spells the scheme's cost: a `rounds=` field, or scrypt's 11 characters, or
+// nothing.
 fn append_cost(text: &mut ArrayVec<u8, TEXT_CAPACITY>, scheme: &Scheme)
     requires room { array_vec_len text.old + length (cost_part scheme.now) ≤ TEXT_CAPACITY }
     ensures { text.new.items ≡ text.old.items ++ cost_part scheme.now }
