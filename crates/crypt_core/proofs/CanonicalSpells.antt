@@ -1,9 +1,9 @@
--- Serves `Setting::text`, whose clauses say that the canonical form of a setting spells that setting and how long it
--- can be, and `Setting::salt`, `Setting::make` and `hash_by`, which need the same. A setting is spelled by some text,
--- so its parts are in range; each part of the canonical form is then spelled anew from the prefix, the decimal rounds
--- or scrypt's numerals, and the salt. The one delicate case is SHA-crypt without a `rounds=` field, where the salt must
--- not begin with `rounds=`: it is a front of the original field, which doesn't. `canonical_spells_before` adds any tail
--- that begins with a `$`, as a hash has one.
+-- Shows that the canonical form of a setting spells that setting, and how long it can be, for `Setting::text`,
+-- `Setting::salt`, `Setting::make` and `hash_by`. Some text spells the setting, so its rounds or parameters and its
+-- salt are in range; each part of the canonical form (prefix, cost part, salt) then spells the same again. The one
+-- delicate case is SHA-crypt without a `rounds=` field, where the salt must not begin with `rounds=`: the salt is a
+-- front of the field in the original text, which doesn't. `canonical_spells_before` allows a tail after the canonical
+-- form, as a hash has one.
 use Rattle.crypt_core.specs.TextLimits.{canonical_limit, hash_limit}
 use Rattle.std.proofs.Common.{◌≡◌, ◌≢◌, ℕ, ◌+◌, ◌≤◌, ◌<◌, ◌^◌, Bool, true, false, not, eqb, ◌&&◌, ◌⊎◌, inl, inr, List, [], ◌∷◌, ◌++◌, length, take, drop, get_or, All, length-append, append-nil, refl, sym, ap, subst, ◌∙◌, append_assoc, arith}
 use Rattle.std.specs.Prelude.{Contains, decimal, codes, nat_le}
@@ -74,7 +74,8 @@ length-sha_cost_part-le : (sha : Sha) (count : ℕ) (flag : Bool) → count ≤ 
 length-sha_cost_part-le sha count true high = length-rounds_field-le count high
 length-sha_cost_part-le sha count false high = omega arith
 
--- The canonical form stays within its limit, and with a `$` and the packed digest within the limit of a hash.
+-- If the scheme is in range and the salt no longer than the method keeps, the canonical form has at most
+-- `canonical_limit` bytes, and with a `$` and the packed digest at most `hash_limit`.
 pub canonical_length-le : (scheme : Scheme) (salt : List ℕ) → IsScheme scheme → length salt ≤ salt_limit (method_of scheme)
     → (3 + (length (cost_part scheme) + length salt) ≤ canonical_limit) × (3 + (length (cost_part scheme) + length salt) + packed_len (method_of scheme) < hash_limit)
 canonical_length-le Md5crypt salt c l = (omega arith, omega arith)
@@ -115,7 +116,7 @@ setting_bytes-rounds_number (d ∷ ds) n = All-cons IsSettingByte d ds (IsSettin
 
 -- ---- characters of the alphabet
 
--- A character of the alphabet passes a test that passes for all of them, which a computation shows.
+-- If all characters of the alphabet pass a test, which a computation shows, any one of them passes it.
 character_passes : (p : ℕ → Bool) → list_all p alphabet ≡ true → (c : ℕ) → Contains alphabet c → p c ≡ true
 character_passes p all c h = All-contains (λ x. p x ≡ true) alphabet c (AllPass-from_list_all p alphabet all) h
 
@@ -191,12 +192,12 @@ setting_bytes-append_right xs ys all = subst (All IsSettingByte) (drop-append_se
 
 -- ---- the salt
 
--- The salt is a front of its field.
+-- The salt that a scheme keeps is a front of the field: at most as many bytes as the method keeps.
 kept_salt-take : (scheme : Scheme) (field salt : List ℕ) → KeepsSalt scheme field salt → salt ≡ take (salt_limit (method_of scheme)) field
 kept_salt-take (Scrypt n) field salt k = k.1 ∙ sym (take_all scrypt_salt_limit field k.2.0)
 kept_salt-take scheme field salt k = k
 
--- A kept salt, taken as a field, is kept whole.
+-- If the field is itself a salt that the scheme has kept, the scheme keeps all of it.
 KeepsSalt-itself : (scheme : Scheme) (field salt : List ℕ) → KeepsSalt scheme field salt → KeepsSalt scheme salt salt
 KeepsSalt-itself (Scrypt n) field salt k = (k.0, refl, subst IsScryptSalt (sym k.1) k.2)
 KeepsSalt-itself scheme field salt k = sym (take_all (salt_limit (method_of scheme)) salt (kept_salt-le-salt_limit scheme field salt k))
@@ -209,7 +210,7 @@ IsField-kept_salt scheme field rest salt tail f k end = (
 
 -- ---- the cost part
 
--- The field begins with whatever word the salt begins with.
+-- If a salt, which is the front of a field, begins with a word, the field begins with it too.
 BeginsWith-from_take : (n : ℕ) (field rest salt word : List ℕ) → salt ≡ take n field → BeginsWith (salt ++ []) word → BeginsWith (field ++ rest) word
 BeginsWith-from_take n field rest salt word e (more, begins) = (
   more ++ (drop n field ++ rest),
@@ -217,7 +218,8 @@ BeginsWith-from_take n field rest salt word e (more, begins) = (
       ∙ append_assoc (word ++ more) (drop n field) rest ∙ append_assoc word more (drop n field ++ rest),
 )
 
--- If a salt and its tail begin with a word that has no `$`, the salt alone does.
+-- Let a tail be empty or begin with `$`. If a salt followed by the tail begins with a word that has no `$`, the salt
+-- alone begins with that word.
 BeginsWith-without_tail : (salt tail word : List ℕ) → AllByRecursion (λ b. b ≢ dollar) word → IsEndOfField tail → BeginsWith (salt ++ tail) word → BeginsWith (salt ++ []) word
 BeginsWith-without_tail salt tail [] none end b = (salt ++ [], refl)
 BeginsWith-without_tail [] [] (w ∷ word) none end (more, e) = absurd (cc e)
@@ -231,7 +233,7 @@ BeginsWith-without_tail (y ∷ salt) tail (w ∷ word) none end (more, e) =
 rounds_word_no_dollar : AllByRecursion (λ b. b ≢ dollar) rounds_word
 rounds_word_no_dollar = (λ e. omega arith, (λ e. omega arith, (λ e. omega arith, (λ e. omega arith, (λ e. omega arith, (λ e. omega arith, (λ e. omega arith, tt)))))))
 
--- The canonical cost part spells the rounds, provided that no `rounds=` follows where they have no field.
+-- The canonical cost part of SHA-crypt spells its rounds, provided that no `rounds=` follows if the cost part is empty.
 pub SpellsRounds-cost_part : (sha : Sha) (count : ℕ) (flag : Bool) (after : List ℕ) → IsRounds (record { count = count; is_written = flag }) → (flag ≡ false → ¬ BeginsWith after rounds_word) → SpellsRounds (record { count = count; is_written = flag }) (cost_part (Shacrypt sha (record { count = count; is_written = flag }))) after
 SpellsRounds-cost_part sha count true after r free =
     let range = in_range-from_clamped count r.0 in
@@ -251,7 +253,8 @@ SpellsCost-canonical Md5crypt n part field rest salt tail e end s = refl
 SpellsCost-canonical (Shacrypt sha r) n part field rest salt tail e end s = SpellsRounds-canonical sha r.count r.is_written n part field rest salt tail e end s
 SpellsCost-canonical (Scrypt c) n part field rest salt tail e end s = (refl, s.1, s.2, s.3)
 
--- Puts the parts together: the canonical form of a scheme in range and its salt, with a tail behind it, spells them.
+-- If a setting's scheme is in range, its canonical cost part spells the cost, and its salt is a field that is kept
+-- whole, then its canonical form, followed by a tail of setting bytes, spells the setting.
 pub Spells-from_parts : (kept : SettingValue) (tail : List ℕ) → IsScheme kept.scheme → length kept.salt ≤ salt_limit (method_of kept.scheme)
     → All IsSettingByte kept.salt → IsField kept.salt tail → SpellsCost kept.scheme (cost_part kept.scheme) (kept.salt ++ tail) → KeepsSalt kept.scheme kept.salt kept.salt
     → All IsSettingByte tail → canonical_limit + length tail ≤ setting_limit → Spells (canonical_text kept ++ tail) kept
@@ -270,7 +273,8 @@ Spells-from_parts kept tail c l bytes is_field cost keeps tail_bytes short =
       salt = keeps;
     }
 
--- The canonical form of what a text spells also spells it, with any tail behind it that begins with a `$`.
+-- If some text spells a setting, the setting's canonical form spells it too, also with a tail behind it that begins
+-- with a `$`.
 pub canonical_spells_before : (text : List ℕ) (kept : SettingValue) (tail : List ℕ) → Spells text kept → IsEndOfField tail → All IsSettingByte tail → canonical_limit + length tail ≤ setting_limit
     → Spells (canonical_text kept ++ tail) kept
 canonical_spells_before text kept tail s end tail_bytes short =

@@ -1,7 +1,8 @@
--- Serves `Scheme::longest_within` in src/policy.rt, whose binary search needs that a hash of a longer password costs no
--- less. `cost_by-mono` goes by induction over the difference of the lengths, so what matters is one more byte. For
--- SHA-crypt, a length that ends in binary digits of 1 loses up to ten digests and gains a digit 0 when the carry clears
--- those digits (`digit_bytes-le-next`), but the rounds add at least 1857 bytes (`rounds_bytes-le-next`), which is more.
+-- Shows that a hash of a longer password costs no less, which the binary search of `Scheme::longest_within` in
+-- src/policy.rt needs. `cost_by-mono` goes by induction over the difference of the lengths, so the step is a password
+-- with one more byte. For SHA-crypt, a length that ends in binary digits of 1 loses up to ten digests and gains a digit
+-- 0 when the carry clears those digits (`digit_bytes-le-next`), but the rounds add at least 1857 bytes
+-- (`rounds_bytes-le-next`), which is more.
 use Rattle.std.proofs.Common.{◌≡◌, ℕ, zero, suc, ◌+◌, ◌-◌, ◌*◌, ◌/◌, ◌%◌, ◌^◌, ◌<◌, ◌≤◌, Bool, true, false, cond, nat_eq, inl, inr, refl, arith}
 use Rattle.std.specs.Int.{div_ceil}
 use Rattle.std.proofs.lemmas.Bool.{cases_lt}
@@ -19,7 +20,7 @@ use Rattle.crypt_core.proofs.CycleLemmas.{digit_bytes-zero, digit_bytes-step}
 
 -- ---- the bytes for the binary digits
 
--- An even number and the next one have the same binary digits but the lowest.
+-- If n is even, n + 1 has the same binary digits except the lowest, so at most the `other` bytes for the 0 are lost.
 digit_bytes-le-next_of_even : (one other n half : ℕ) → n % 2 ≡ 0 → n / 2 ≡ half → 0 < n → digit_bytes one other n ≤ digit_bytes one other (n + 1) + other
 digit_bytes-le-next_of_even one other n half low_is half_is some =
     let this : digit_bytes one other n ≡ other + digit_bytes one other half =
@@ -30,7 +31,8 @@ digit_bytes-le-next_of_even one other n half low_is half_is some =
     rw (digit_bytes-step one other (n + 1) (omega arith), low_next, half_next) refl in
     omega (arith, this, next)
 
--- The number after an odd one ends in the digit 0, and its half is the half's successor.
+-- If n is odd, n + 1 ends in the digit 0, and its half is one more than the half of n. So at most `one` bytes are lost
+-- in addition to those that the half loses.
 digit_bytes-le-next_of_odd : (one other n half more : ℕ) → n % 2 ≡ 1 → n / 2 ≡ half → digit_bytes one other half ≤ digit_bytes one other (half + 1) + more
     → digit_bytes one other n ≤ digit_bytes one other (n + 1) + (one + more)
 digit_bytes-le-next_of_odd one other n half more low_is half_is rest =
@@ -113,7 +115,7 @@ cost_by-le-add scheme (suc k) n salt in_range short =
     let more = cost_by-le-next scheme (n + k) salt in_range (omega (arith, short)) in
     rw same (omega (arith, less, more))
 
--- The cost is monotone in the length of the password.
+-- A hash with the same scheme and the same length of salt costs no less for a longer password.
 pub cost_by-mono : (scheme : Scheme) (n most salt : ℕ) → IsScheme scheme → n ≤ most → most ≤ password_limit
     → cost_by scheme n salt ≤ cost_by scheme most salt
 cost_by-mono scheme n most salt in_range less short =

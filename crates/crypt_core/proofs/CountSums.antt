@@ -10,11 +10,11 @@ use Rattle.prims_core.specs.Meter.{with_work, HaveCountAndSum}
 use Rattle.prims_core.specs.declared.meter.Work.{Work}
 use Rattle.crypt_core.specs.Private.Messages.{with_digest}
 
--- The counts after digesting each of these messages.
+-- with_digests counts messages: the counts after digesting these messages, if they were `counts` before.
 abbrev pub with_digests : Work → List (List ℕ) → Work
 with_digests counts messages = with_work counts (length messages) (sum_by length messages)
 
--- Feeding no bytes changes nothing.
+-- Feeding no bytes to a digest changes no count.
 pub bytes-add_zero : (m : Work) → m ≡ record m { bytes = m.bytes + 0 }
 bytes-add_zero m = ap (λ n. record m { bytes = n }) (sym (add-zero m.bytes))
 
@@ -48,13 +48,13 @@ with_digests-nil m =
     ap (λ n. record m { digests = n }) (sym (add-zero m.digests))
     ∙ ap (λ n. record m { digests = m.digests + 0; bytes = n }) (sym (add-zero m.bytes))
 
--- Two digests as one list.
+-- Digesting two messages, one after the other, counts the list of both.
 pub with_digests-two : (a b c : Work) (first second : List ℕ) → b ≡ with_digest a first → c ≡ with_digest b second
     → c ≡ with_digests a (first ∷ second ∷ [])
 with_digests-two a b c first second p q =
     with_digests-push a b c (first ∷ []) second (with_digests-push a a b [] first (with_digests-nil a) p) q
 
--- Four digests as one list.
+-- Digesting four messages, one after another, counts the list of all four.
 pub with_digests-four : (a b c d e : Work) (first second third fourth : List ℕ) → b ≡ with_digest a first → c ≡ with_digest b second
     → d ≡ with_digest c third → e ≡ with_digest d fourth → e ≡ with_digests a (first ∷ second ∷ third ∷ fourth ∷ [])
 with_digests-four a b c d e first second third fourth p q r t =

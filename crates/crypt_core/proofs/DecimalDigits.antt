@@ -1,6 +1,6 @@
--- Serves `append_decimal` in src/setting/text.rt, which writes the digits of a number by recursion on its tenth.
--- `decimal` has one digit for a number below 10, and otherwise the digits of the tenth and then the last one; the
--- lemmas say this of the length and of the text that has been appended.
+-- Lemmas for `append_decimal` in src/setting/text.rt, which first calls itself for a tenth of the number and then
+-- writes the last digit. `decimal` has one digit for a number below 10, and otherwise the digits of the tenth and then
+-- the last one. The lemmas say this of the length of `decimal`, and of the text to which it is appended.
 use Rattle.std.proofs.Common.{◌≡◌, ℕ, ◌+◌, ◌/◌, ◌%◌, ◌≤◌, ◌<◌, ◌^◌, List, [], ◌∷◌, ◌++◌, length, length-append, append_assoc, sym, ap, ◌∙◌}
 use Rattle.std.specs.Prelude.{decimal}
 use Rattle.std.proofs.lemmas.Fmt.{decimal_digit, decimal_step}

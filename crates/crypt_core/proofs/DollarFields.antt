@@ -6,12 +6,12 @@ use Rattle.std.specs.List.{AllByRecursion}
 use Rattle.std.proofs.lemmas.List.Elements.{recursion_from_All}
 use Rattle.crypt_core.specs.Settings.{dollar, BeginsWith, IsField}
 
--- The list is empty or begins with `$`.
+-- IsEndOfField rest: the list is empty or begins with `$`, so a field can end before it.
 abbrev pub IsEndOfField : List ℕ → Type 0
 IsEndOfField [] = Unit {0}
 IsEndOfField (b ∷ rest) = b ≡ dollar
 
--- Such a list can follow a field.
+-- A list for which `IsEndOfField` holds is empty, or begins with `$` in the sense of `BeginsWith`.
 pub end_of_field-cases : (rest : List ℕ) → IsEndOfField rest → (rest ≡ []) ⊎ BeginsWith rest (dollar ∷ [])
 end_of_field-cases [] end = inl refl
 end_of_field-cases (b ∷ rest) end = inr (rest, ap (λ (c : ℕ). c ∷ rest) end)
@@ -21,7 +21,7 @@ IsEndOfField-from_cases [] end = tt
 IsEndOfField-from_cases (b ∷ rest) (inl none) = absurd (cc none)
 IsEndOfField-from_cases (b ∷ rest) (inr begins) = cc (begins.1)
 
--- If two joined lists are equal and their fronts have the same length, the fronts and the rests are equal.
+-- If a ++ x and b ++ y are equal, and a is as long as b, then a equals b and x equals y.
 pub append-injective : (a b x y : List ℕ) → length a ≡ length b → a ++ x ≡ b ++ y → (a ≡ b) × (x ≡ y)
 append-injective [] [] x y same e = (refl, e)
 append-injective [] (d ∷ b) x y same e = absurd (omega arith)

@@ -1,7 +1,7 @@
--- Serves the clause `admits` of `Scheme::policy_limit` in src/policy.rt: the limit covers a check of the empty password
--- against every hash with the policy's scheme, also with a longer salt than new hashes have. The empty password costs
--- no more than one of 64 bytes (`cost_by-le-at_64`), and a longer salt at most doubles that, since only scrypt keeps
--- longer salts than it generates, and it digests the salt only once for each block.
+-- Lemmas for the clause `admits` of `Scheme::policy_limit` in src/policy.rt: the limit covers a check of the empty
+-- password against every hash with the policy's scheme, even if its salt is longer than that of new hashes. The empty
+-- password costs no more than one of 64 bytes (`cost_by-le-at_64`), and a longer salt at most doubles that, since only
+-- scrypt keeps longer salts than it generates, and it digests the salt only once for each block.
 use Rattle.std.proofs.Common.{ℕ, ◌-◌, ◌*◌, ◌≤◌, arith}
 use Rattle.std.specs.Int.{div_ceil}
 use Rattle.std.proofs.Math.Nat.{mul-le-mul_left}
@@ -14,7 +14,8 @@ use Rattle.crypt_core.specs.declared.scheme.Scheme.TheVariants.{Md5crypt, Shacry
 use Rattle.crypt_core.specs.declared.scheme.Sha.TheVariants.{Sha256, Sha512}
 use Rattle.crypt_core.proofs.WorkBounds.{cost_by-le-at_64}
 
--- A longer salt at most doubles the cost; scrypt's counts only in the few bytes of its messages.
+-- A hash of 64 bytes with any salt that the method keeps costs at most twice what a new hash costs. For scrypt, the
+-- salt counts only in the few bytes of its messages.
 cost_by-le-twice_new_cost : (scheme : Scheme) (salt : ℕ) → salt ≤ salt_limit (method_of scheme) → cost_by scheme 64 salt ≤ 2 * new_cost scheme 64
 cost_by-le-twice_new_cost Md5crypt salt short = omega (arith, short)
 cost_by-le-twice_new_cost (Shacrypt Sha256 rounds) salt short = omega (arith, short, mul-le-mul_left (rounds.count - div_ceil rounds.count 3) short)

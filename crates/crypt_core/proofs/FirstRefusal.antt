@@ -1,8 +1,8 @@
 -- Shows which error a text gets from `Setting::read`, for its clauses and those of `check_bytes`, `scheme_at`,
 -- `shacrypt_at` and `params_at` in src/setting/read.rt. A refusal is the error of the first stage that fails, so each
 -- lemma `refused_..` combines one failure with the proof that no earlier stage fails. The lemmas `refused-from_..` do
--- that stage by stage, for what the text has spelled so far: a prefix excludes the other methods, and a cost part that
--- is spelled excludes the errors on it.
+-- that stage by stage, for what the text has spelled so far: a method's prefix excludes the errors of the other
+-- methods, and a cost part that is spelled excludes the errors of cost parts.
 use Rattle.std.proofs.Common.{◌≡◌, ℕ, ◌≤◌, ◌<◌, Bool, true, false, inl, inr, List, ◌++◌, length, drop, All, refl, sym, ap, subst, ◌∙◌, arith}
 use Rattle.std.proofs.Math.Seq.{drop-append_seam}
 use Rattle.std.proofs.lemmas.List.{append_cancel_left}
@@ -30,12 +30,14 @@ use Rattle.crypt_core.proofs.SpelledRounds.{rounds_field-append}
 
 -- ---- fronts that spell a scheme
 
--- A prefix, a cost part and a rest make a text that spells the scheme.
+-- A text that is a method's prefix, a cost part that spells the cost of a scheme of this method, and a rest, spells the
+-- scheme.
 pub SpellsScheme-from_cost_part : (text : List ℕ) (scheme : Scheme) (after part rest : List ℕ) → text ≡ prefix (method_of scheme) ++ after → after ≡ part ++ rest → SpellsCost scheme part rest → SpellsScheme text scheme rest
 SpellsScheme-from_cost_part text scheme after part rest begins parts cost =
     (part, begins ∙ ap (λ (x : List ℕ). prefix (method_of scheme) ++ x) parts, cost)
 
--- The same for scrypt, from its numbers.
+-- A text that is scrypt's prefix, the cost part of numbers that fit it, and a rest, spells the scheme of scrypt with
+-- these numbers.
 pub SpellsScheme-scrypt : (text : List ℕ) (n : ScryptParams) (after rest : List ℕ) → text ≡ prefix methods.Scrypt ++ after → after ≡ scrypt_part n ++ rest → HasNumerals n → SpellsScheme text (Scrypt n) rest
 SpellsScheme-scrypt text n after rest begins parts numbers =
     SpellsScheme-from_cost_part text (Scrypt n) after (scrypt_part n) rest begins parts (refl, numbers.0, numbers.1, numbers.2)
@@ -45,13 +47,14 @@ pub drop-scrypt_part : (after rest : List ℕ) (n : ScryptParams) → after ≡ 
 drop-scrypt_part after rest n parts =
     ap (λ (k : ℕ). drop k after) (sym (length-scrypt_part n)) ∙ ap (λ (t : List ℕ). drop (length (scrypt_part n)) t) parts ∙ drop-append_seam (scrypt_part n) rest
 
--- With a cost in range, the salt that the method keeps is the one that the scheme keeps.
+-- If a scheme is in range, the salt that its method keeps of a field is the one that the scheme keeps.
 KeepsSalt-from_KeepsField : (scheme : Scheme) (field salt : List ℕ) → IsScheme scheme → KeepsField (method_of scheme) field salt → KeepsSalt scheme field salt
 KeepsSalt-from_KeepsField (Scrypt n) field salt c k = (c, k.0, k.1)
 KeepsSalt-from_KeepsField (Shacrypt Sha256 r) field salt c k = k
 KeepsSalt-from_KeepsField scheme field salt c k = k
 
--- Puts the parts together: the text spells the setting.
+-- If a text has the length and the bytes of a setting, spells a scheme in range, and then has a salt that the scheme's
+-- method keeps, it spells the setting with this scheme and this salt.
 pub Spells-from_SpellsScheme : (text : List ℕ) (scheme : Scheme) (after salt : List ℕ) → IsSettingText text → SpellsScheme text scheme after → IsScheme scheme → SpellsSalt (method_of scheme) after salt → Spells text (record { scheme = scheme; salt = salt })
 Spells-from_SpellsScheme text scheme after salt t s c k = record {
   short = t.short;
@@ -65,7 +68,7 @@ Spells-from_SpellsScheme text scheme after salt t s c k = record {
 
 -- ---- fronts without a cost
 
--- If a text spells rounds, it has a well-formed `rounds=` field or doesn't begin with `rounds=`.
+-- If a text spells rounds of SHA-crypt, it has a well-formed `rounds=` field or doesn't begin with `rounds=`.
 SpellsRounds-not-LacksRounds : (r : Rounds) (part after : List ℕ) → SpellsRounds r part after → LacksRounds (part ++ after) → ⊥
 SpellsRounds-not-LacksRounds r part after s lacks = by r.is_written s
   where
@@ -74,7 +77,8 @@ SpellsRounds-not-LacksRounds r part after s lacks = by r.is_written s
         lacks.2 w.0 after w.1 (append_cancel_left rounds_word _ _ (sym lacks.1 ∙ ap (λ (x : List ℕ). x ++ after) w.2 ∙ rounds_field-append w.0 after))
     by false w = w.2 (lacks.0, sym (ap (λ (x : List ℕ). x ++ after) w.0) ∙ lacks.1)
 
--- So a text with `rounds=` but no well-formed field has no cost part of SHA-crypt.
+-- A text that has `rounds=` after SHA-crypt's prefix, but no well-formed `rounds=` field, lacks a cost part of
+-- SHA-crypt.
 LacksCost-from_LacksRounds : (text : List ℕ) (sha : Sha) (after : List ℕ) → text ≡ prefix (sha_method sha) ++ after → LacksRounds after → LacksCost (sha_method sha) text
 LacksCost-from_LacksRounds text sha after e lacks = ((after, e), none)
   where
@@ -84,7 +88,7 @@ LacksCost-from_LacksRounds text sha after e lacks = ((after, e), none)
     none Md5crypt z m s = (sha_method-not_others sha).0 (sym m)
     none (Scrypt n) z m s = (sha_method-not_others sha).1 (sym m)
 
--- And a text with too few characters has no cost part of scrypt.
+-- A text that has too few characters of the alphabet after scrypt's prefix lacks a cost part of scrypt.
 LacksCost-from_LacksCharacters : (text after : List ℕ) → text ≡ prefix methods.Scrypt ++ after → LacksCharacters after → LacksCost methods.Scrypt text
 LacksCost-from_LacksCharacters text after e lacks = ((after, e), none)
   where
@@ -109,7 +113,7 @@ pub refused_bad_character : (text : List ℕ) → length text ≤ setting_limit 
 unfolding IsRefused
 refused_bad_character text short bad = inr (λ b. omega arith, inl (refl, bad))
 
--- A text that begins with none of the four prefixes begins with no method's.
+-- A text that begins with none of the four prefixes begins with no method's prefix.
 pub begins_with_no_prefix : (text : List ℕ) → ¬ BeginsWith text (prefix methods.Md5crypt) → ¬ BeginsWith text (prefix methods.Sha256crypt) → ¬ BeginsWith text (prefix methods.Sha512crypt) → ¬ BeginsWith text (prefix methods.Scrypt) → (m : Method) → ¬ BeginsWith text (prefix m)
 begins_with_no_prefix text not_1 not_5 not_6 not_7 methods.Md5crypt = not_1
 begins_with_no_prefix text not_1 not_5 not_6 not_7 methods.Sha256crypt = not_5
@@ -117,11 +121,12 @@ begins_with_no_prefix text not_1 not_5 not_6 not_7 methods.Sha512crypt = not_6
 begins_with_no_prefix text not_1 not_5 not_6 not_7 methods.Scrypt = not_7
 
 module _ (text : List ℕ) (is_text : IsSettingText text) where
-  -- FirstFrom stage fault: this is the error of the first stage that fails, from this stage on.
+  -- FirstFrom stage fault: this is the error of the first stage that fails, if the stages before number `stage` are
+  -- left out.
   abbrev FirstFrom : ℕ → SettingFault → Type 0
   FirstFrom stage = IsFirstBroken (drop stage setting_faults) (FailsStage text)
 
-  -- A setting text passes the stages `TooLong` and `BadCharacter`.
+  -- A text with the length and the bytes of a setting passes the stages `TooLong` and `BadCharacter`.
   refused-from_prefix_stage : (fault : SettingFault) → FirstFrom 2 fault → IsRefused text fault
   unfolding IsRefused
   refused-from_prefix_stage fault first = inr (λ long. omega (arith, is_text.short, long), inr (λ bad. bad is_text.bytes, first))
@@ -144,7 +149,7 @@ module _ (text : List ℕ) (is_text : IsSettingText text) where
   pub refused_bad_cost : (after : List ℕ) → text ≡ prefix methods.Scrypt ++ after → LacksCharacters after → IsRefused text BadCost
   refused_bad_cost after e lacks = refused-from_scrypt_cost_stage after BadCost e (inl (refl, LacksCost-from_LacksCharacters text after e lacks))
 
-  -- If it spells scrypt's numbers, it passes the stage `BadCost`.
+  -- A text that spells scrypt's numbers passes the stage `BadCost`.
   module _ (n : ScryptParams) (rest : List ℕ) (spelled : SpellsScheme text (Scrypt n) rest) where
     refused-from_range_stage : (fault : SettingFault) → FirstFrom 5 fault → IsRefused text fault
     refused-from_range_stage fault first = refused-from_scrypt_cost_stage (spelled.0 ++ rest) fault spelled.1 (inr (SpellsScheme-not-LacksCost text (Scrypt n) rest methods.Scrypt spelled, first))
@@ -152,7 +157,7 @@ module _ (text : List ℕ) (is_text : IsSettingText text) where
     pub refused_scrypt_range : (IsInRange n → ⊥) → IsRefused text ScryptRange
     refused_scrypt_range outside = refused-from_range_stage ScryptRange (inl (refl, (n, rest, spelled, outside)))
 
-    -- These numbers are the only ones that it spells.
+    -- The text spells no other numbers of scrypt than n.
     scrypt_numbers_unique : (m : ScryptParams) (after : List ℕ) → SpellsScheme text (Scrypt m) after → n ≡ m
     scrypt_numbers_unique m after s = let same : Scrypt n ≡ Scrypt m = (scheme_unique text (Scrypt n) (Scrypt m) rest after spelled s).0 in cc
 

@@ -1,9 +1,10 @@
--- Serves `Scheme::fitted` in src/policy.rt: the rounds that it picks are within the limit, never more than the
--- policy's, and if they aren't within it, no rounds are. The pick divides what the limit leaves after the opening by
--- the longest round. No round has more bytes than that (`rounds_bytes-le-mul`), so that many rounds fit; rounds in
--- range that cost more than the limit must be more than that many. The last part shows that a policy's own limit always
--- leaves a scheme: SHA-crypt with 1000 rounds costs less than the least limit, and the other methods hardly depend on
--- the password.
+-- Lemmas for `Scheme::fitted` in src/policy.rt: it takes no more rounds than the policy has, a hash with them is within
+-- the limit, and if it finds no rounds, a hash with any rounds costs more than the limit. The fitting rounds are what
+-- the limit leaves after the messages before the rounds (the opening), divided by the bytes of the longest round, and
+-- clamped. No round has more bytes than that (`rounds_bytes-le-mul`), so that many rounds are within the limit; rounds
+-- in range that cost more than the limit must be more than that many. The last part shows that there always is a scheme
+-- within a policy's own limit: SHA-crypt with 1000 rounds costs less than the least limit, and the cost of the other
+-- methods hardly depends on the password.
 use Rattle.std.proofs.Common.{◌≡◌, ℕ, ◌+◌, ◌-◌, ◌*◌, ◌/◌, ◌<◌, ◌≤◌, Bool, true, false, nat_le, if◌then◌else◌, Option, Some, None, inl, inr, refl, arith}
 use Rattle.std.specs.Int.{div_ceil}
 use Rattle.std.specs.Prelude.{IfNone, IfSome, IsSome}
@@ -34,7 +35,7 @@ rounds_bytes-mono n most digest len salt few =
 shacrypt_bytes-mono : (n most digest len salt : ℕ) → n ≤ most → shacrypt_bytes digest 255 n len salt ≤ shacrypt_bytes digest 255 most len salt
 shacrypt_bytes-mono n most digest len salt few = omega (arith, rounds_bytes-mono n most digest len salt few)
 
--- No round has more bytes than the longest.
+-- n rounds have at most n times the bytes of the longest round.
 rounds_bytes-le-mul : (n digest len salt : ℕ) → rounds_bytes n digest len salt ≤ n * (digest + 2 * len + salt)
 rounds_bytes-le-mul n digest len salt =
     let salted : (n - div_ceil n 3) * salt ≤ n * salt = mul-le-mul_right salt (omega arith) in
@@ -46,7 +47,8 @@ rounds_bytes-le-mul n digest len salt =
 abbrev fitting : ℕ → ℕ → ℕ → ℕ
 fitting digest limit len = (limit - shacrypt_bytes digest 255 0 len 16) / (digest + 2 * len + 16)
 
--- At most `fitting` rounds cost no more than the limit, if the limit covers the opening.
+-- A number of rounds that is at most `fitting` costs no more than the limit, if the limit covers the messages before
+-- the rounds.
 fitting-within_limit : (digest limit len n : ℕ) → shacrypt_bytes digest 255 0 len 16 ≤ limit → n ≤ fitting digest limit len
     → shacrypt_bytes digest 255 n len 16 ≤ limit
 fitting-within_limit digest limit len n opened few =
@@ -57,7 +59,7 @@ fitting-within_limit digest limit len n opened few =
     let longest = rounds_bytes-le-mul n digest len 16 in
     omega (arith, most, all, longest, opened)
 
--- If a round fits, the limit covers the opening.
+-- If at least one round fits the limit, the limit covers the messages before the rounds.
 opening-within_limit : (digest limit len n : ℕ) → n ≤ fitting digest limit len → 0 < n → shacrypt_bytes digest 255 0 len 16 ≤ limit
 opening-within_limit digest limit len n few some = elim (cases_lt limit (shacrypt_bytes digest 255 0 len 16)) [
   | inl less ↦
@@ -67,7 +69,7 @@ opening-within_limit digest limit len n few some = elim (cases_lt limit (shacryp
   | inr enough ↦ enough
 ]
 
--- So if rounds in range cost more than the limit, the fitting ones are no more than these.
+-- If some rounds, at least 1000, cost more than the limit, the fitting rounds, clamped, are no more than these.
 clamped_fitting-le : (digest limit len count : ℕ) → 1000 ≤ count → limit < shacrypt_bytes digest 255 count len 16
     → clamped (fitting digest limit len) ≤ count
 clamped_fitting-le digest limit len count many above = elim (cases_lt (fitting digest limit len) count) [
@@ -78,7 +80,8 @@ clamped_fitting-le digest limit len count many above = elim (cases_lt (fitting d
       absurd (omega (arith, within, above))
 ]
 
--- If even the fitting rounds cost more, they are the fewest, so all others cost more too.
+-- If even the fitting rounds, clamped, cost more than the limit, they are the fewest, so all other rounds in range cost
+-- more than the limit too.
 above_limit-from_fitting_above : (digest limit len count : ℕ) → 1000 ≤ count → limit < shacrypt_bytes digest 255 (clamped (fitting digest limit len)) len 16
     → limit < shacrypt_bytes digest 255 count len 16
 above_limit-from_fitting_above digest limit len count many above = elim (cases_lt (fitting digest limit len) 1000) [
@@ -95,7 +98,8 @@ above_limit-from_fitting_above digest limit len count many above = elim (cases_l
 
 -- ---- each scheme
 
--- The fitting rounds never replace the policy's: the policy's scheme isn't outdated by theirs.
+-- If the policy's scheme costs more than the limit, the scheme of `fewer_rounds` does not replace it, since its rounds
+-- are no more.
 pub is_outdated_by-fewer_rounds : (scheme : Scheme) (limit len : ℕ) → IsScheme scheme → limit < new_cost scheme len
     → IfSome (fewer_rounds scheme limit len) (λ fewer. is_outdated_by scheme fewer ≡ false)
 is_outdated_by-fewer_rounds Md5crypt limit len in_range above = tt
@@ -117,7 +121,7 @@ is_outdated_by-fewer_rounds (Shacrypt Sha512 rounds) limit len in_range above =
     go false less = tt
 is_outdated_by-fewer_rounds (Scrypt params) limit len in_range above = tt
 
--- The fitting rounds are within the limit, and the method is the same.
+-- A new hash with the scheme of `fewer_rounds` is within the limit, and the scheme has the same method.
 pub fewer_rounds-within_limit : (scheme : Scheme) (limit len : ℕ)
     → IfSome (fewer_rounds scheme limit len) (λ fewer. (new_cost fewer len ≤ limit) × (method_of fewer ≡ method_of scheme))
 fewer_rounds-within_limit Md5crypt limit len = tt
@@ -131,7 +135,7 @@ fewer_rounds-within_limit (Shacrypt sha rounds) limit len =
     go fewer same false test = tt
 fewer_rounds-within_limit (Scrypt params) limit len = tt
 
--- If the fitting rounds cost more than the limit, every other number of rounds does too.
+-- If the policy's scheme costs more than the limit and `fewer_rounds` is None, every number of rounds costs more.
 NeverFits-from_none : (scheme : Scheme) (limit len : ℕ) → IsScheme scheme → limit < new_cost scheme len → fewer_rounds scheme limit len ≡ None
     → NeverFits scheme limit len
 NeverFits-from_none Md5crypt limit len in_range above none = above
@@ -166,7 +170,7 @@ limit_floor-le-policy_limit scheme = grind arith
 abbrev fewest : Rounds
 fewest = record { count = 1000; is_written = true }
 
--- A policy's limit leaves some scheme for every password.
+-- If the limit is at least the policy's own, some scheme is within it for a password of any length.
 policy_limit-not-NeverFits : (scheme : Scheme) (limit len : ℕ) → len ≤ 1024 → policy_limit scheme ≤ limit → NeverFits scheme limit len → ⊥
 policy_limit-not-NeverFits Md5crypt limit len short least never =
     let digits : digit_bytes 1 1 len ≤ 11 * 1 = digit_bytes-le-mul_of_below_pow 11 1 1 1 len (omega arith) (omega arith) (omega (arith, short)) in
@@ -188,7 +192,8 @@ policy_limit-not-NeverFits (Scrypt params) limit len short least never =
     let twice : 2 * new_cost (Scrypt params) 64 ≤ policy_limit (Scrypt params) = grind arith in
     absurd (omega (arith, key, never, least, twice))
 
--- So with that limit the fitting rounds are within it.
+-- If the limit is at least the policy's own and a new hash with the policy's scheme costs more, `fewer_rounds` finds a
+-- scheme.
 pub IsSome-fewer_rounds : (scheme : Scheme) (limit len : ℕ) → IsScheme scheme → limit < new_cost scheme len → len ≤ 1024 → policy_limit scheme ≤ limit
     → IsSome (fewer_rounds scheme limit len)
 IsSome-fewer_rounds scheme limit len in_range above short least = go (fewer_rounds scheme limit len) refl where
@@ -196,7 +201,7 @@ IsSome-fewer_rounds scheme limit len in_range above short least = go (fewer_roun
   go (Some fewer) e = refl
   go None e = absurd (policy_limit-not-NeverFits scheme limit len short least (NeverFits-from_none scheme limit len in_range above e))
 
--- `fewer_rounds` returns none only if no rounds fit.
+-- `fewer_rounds` is None only if a new hash costs more than the limit, for SHA-crypt with any rounds.
 pub IfNone-fewer_rounds : (scheme : Scheme) (limit len : ℕ) → IsScheme scheme → limit < new_cost scheme len
     → IfNone (fewer_rounds scheme limit len) (NeverFits scheme limit len)
 IfNone-fewer_rounds scheme limit len in_range above = go (fewer_rounds scheme limit len) refl where

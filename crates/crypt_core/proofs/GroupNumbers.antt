@@ -1,5 +1,5 @@
--- Serves `is_packed` in src/pack.rt, which decides by the last character whether characters spell a number of k bytes.
--- `number-from_characters` reads characters as a number in base 64, and `bytes_of` writes a number in base 256.
+-- Lemmas for `is_packed` in src/pack.rt, which decides by the last character whether characters spell a number of k
+-- bytes. `number-from_characters` reads characters as a number in base 64, and `bytes_of` writes a number in base 256.
 -- `number_below-iff-last_value_below` joins the two: the last character holds the highest bits of the number, so k + 1
 -- characters spell a number below 256^k exactly if that character's value is below 4^k.
 use Rattle.std.proofs.Common.{◌≡◌, ◌↔◌, ℕ, zero, suc, ◌+◌, ◌*◌, ◌/◌, ◌%◌, ◌^◌, ◌<◌, ◌≤◌, inl, inr, List, [], ◌∷◌, ◌++◌, length, get_or, arith, refl, ap, ◌∙◌}
@@ -32,7 +32,7 @@ number-from_characters (c ∷ text) all =
 mul-factor_out : (power more base v : ℕ) → more ≡ power * base → more * v ≡ base * (power * v)
 mul-factor_out power more base v is = rw is (grind arith)
 
--- The last numeral is the character of the highest bits.
+-- If n has k + 1 numerals, the last one is the character of the highest bits of n, n / 64 ^ k.
 numerals-last : (k n : ℕ) → n < 64 ^ (k + 1)
     → (v : ℕ) × (v < 64) × (64 ^ k * v ≤ n) × (n < 64 ^ k * (v + 1)) × (get_or (numerals (k + 1) n) k 0 ≡ character_of v)
 numerals-last zero n small =
@@ -51,7 +51,8 @@ numerals-last (suc k) n small =
       ap (λ (cs : List ℕ). get_or cs (suc k) 0) (numerals-add_one (suc k + 1) (k + 1) n (omega arith)) ∙ rest.4,
     )
 
--- A number of k + 1 characters has k bytes exactly if the value of its last character is below 4 ^ k.
+-- A number of k + 1 characters is below 256 ^ k, so it fits k bytes, exactly if the value of its last character is
+-- below 4 ^ k.
 pub number_below-iff-last_value_below : (k n : ℕ) → n < 64 ^ (k + 1)
     → (v : ℕ) × (v < 64) × (n < 256 ^ k ↔ v < 4 ^ k) × (get_or (numerals (k + 1) n) k 0 ≡ character_of v)
 number_below-iff-last_value_below k n small =

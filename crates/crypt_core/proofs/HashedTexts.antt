@@ -1,6 +1,6 @@
--- Serves `hash_by` and `hash_len` in src/hash.rt. A hash is the canonical form of its setting with a `$` and a packed
--- digest behind it, all of them setting bytes and short enough, so it spells the setting again (`hashed_spells`), and
--- its length depends on the setting only (`length-crypt`).
+-- Lemmas for `hash_by` and `hash_len` in src/hash.rt. A hash is the canonical form of its setting, a `$` and a packed
+-- digest. It has only setting bytes and is short enough, so it spells the setting again (`hashed_spells`). Its length
+-- depends on the setting only (`length-crypt`).
 use Rattle.std.proofs.Common.{◌≡◌, ◌≢◌, ℕ, ◌+◌, ◌∷◌, ◌++◌, List, arith, length, refl}
 use Rattle.std.specs.Prelude.{All, Contains, codes}
 use Rattle.std.proofs.lemmas.List.Elements.{All-cons, All-contains, All-from_recursion, All-weaker}

@@ -1,5 +1,5 @@
--- Serves the clauses `finds` and `judges` of `Finding::of` in src/finding.rt. The code judges the setting that it has
--- read; a text spells at most one setting, so the finding also holds for any setting that the field spells.
+-- Lemmas for the clauses `finds` and `judges` of `Finding::of` in src/finding.rt. The code judges the setting that it
+-- has read; a text spells at most one setting, so the finding also holds for any setting that the field spells.
 use Rattle.std.proofs.Common.{◌≡◌, ℕ, List, Ok, refl, subst, sym}
 use Rattle.crypt_core.specs.Findings.{Finds, JudgesHash}
 use Rattle.crypt_core.specs.Readings.{IsReadOneWay}

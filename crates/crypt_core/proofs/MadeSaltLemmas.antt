@@ -1,5 +1,5 @@
 -- Lemmas on generated salts, for `salt_of` in src/made_salt.rt and `Setting::salted`: a salt grows by one character at
--- a time, all characters are in the alphabet, and the method keeps it whole.
+-- a time, all its characters are in the alphabet, and the method keeps all of it.
 use Rattle.std.proofs.Common.{◌≡◌, ◌≤◌, ℕ, ◌+◌, ◌*◌, ◌/◌, ◌%◌, ◌^◌, List, [], ◌∷◌, ◌++◌, All, arith, length, refl}
 use Rattle.std.specs.List.{range_with_len}
 use Rattle.std.proofs.lemmas.Bool.{leb-true}
@@ -13,7 +13,7 @@ use Rattle.crypt_core.specs.MethodLimits.{made_salt_length, salt_limit}
 use Rattle.crypt_core.specs.declared.method.Method.{Method}
 use Rattle.crypt_core.proofs.EachMethod.{each_method}
 
--- Character i of a generated salt.
+-- made_character numbers i: character i of the salt that is generated from the numbers.
 abbrev made_character : List ℕ → ℕ → ℕ
 made_character numbers i = character_of (slice_index numbers (i / 10) / 2 ^ (6 * (i % 10)) % 64)
 

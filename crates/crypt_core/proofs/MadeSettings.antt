@@ -1,4 +1,4 @@
--- Serves `Setting::make` and `Setting::salted` in src/setting/make.rt: what they return is a setting, that is, some
+-- Lemmas for `Setting::make` and `Setting::salted` in src/setting/make.rt: what they return is a setting, that is, some
 -- text spells it. The text is the canonical form; a salt of alphabet characters cannot begin with `rounds=`, because
 -- `=` is not in the alphabet, and accepted scrypt parameters fit their characters, because their product is at most
 -- 2^23. The last part is about errors: each of the three rules has its error, and a setting is made exactly if no rule
@@ -67,7 +67,8 @@ IsSetting-from_parts scheme salt c short all =
           (All-nil IsSettingByte) (omega arith),
     )
 
--- The same for a salt that the method accepts, kept whole.
+-- A scheme in range and a salt that its method accepts, copied without a change, make a setting, that is, some text
+-- spells them.
 pub IsSetting-given_salt : (scheme : Scheme) (kept salt : List ℕ) → IsScheme scheme → TakesSalt (method_of scheme) salt → kept ≡ salt → IsSetting (record { scheme = scheme; salt = kept })
 IsSetting-given_salt scheme kept salt c takes kept_is_salt =
     subst (λ (xs : List ℕ). IsSetting (record { scheme = scheme; salt = xs })) (sym kept_is_salt) (IsSetting-from_parts scheme salt c takes.short takes.characters)
@@ -95,12 +96,12 @@ salt_length-breaks_no_rule : (m : Method) (salt : List ℕ) → 0 < length salt 
 salt_length-breaks_no_rule m salt some short (inl none) = omega arith
 salt_length-breaks_no_rule m salt some short (inr long) = omega (arith, short, long)
 
--- A salt of the right length with another character gives `SaltCharacter`.
+-- A salt of a length that the method accepts, but with a character outside the alphabet, gives `SaltCharacter`.
 pub make_refused_character : (m : Method) (rounds : ℕ) (salt : List ℕ) → 0 < length salt → length salt ≤ salt_limit m → (All (Contains alphabet) salt → ⊥) → IsMakeRefused m rounds (Some salt) SaltCharacter
 unfolding IsMakeRefused
 make_refused_character m rounds salt some short bad = inr (salt_length-breaks_no_rule m salt some short, inl (refl, bad))
 
--- If the salt is fine, rounds that the method doesn't accept give `Cost`.
+-- If the method accepts the salt but not the rounds, they give `Cost`.
 pub make_refused_cost : (m : Method) (rounds : ℕ) (salt : List ℕ) → TakesSalt m salt → (TakesRounds m rounds → ⊥) → IsMakeRefused m rounds (Some salt) Cost
 unfolding IsMakeRefused
 make_refused_cost m rounds salt h bad = inr (salt_length-breaks_no_rule m salt h.some h.short, inr (λ b. b h.characters, inl (refl, bad)))
@@ -111,22 +112,24 @@ not-BreaksMake m rounds salt h takes SaltLength = salt_length-breaks_no_rule m s
 not-BreaksMake m rounds salt h takes SaltCharacter = λ b. b h.characters
 not-BreaksMake m rounds salt h takes Cost = λ b. b takes
 
--- An error means that some rule is broken.
+-- If a method, rounds and a salt have an error, they break some rule.
 pub IsMakeRefused-breaks_some : (m : Method) (rounds : ℕ) (given : Option (List ℕ)) (fault : MakeFault) → IsMakeRefused m rounds given fault → ((f : MakeFault) → ¬ BreaksMake m rounds given f) → ⊥
 unfolding IsMakeRefused
 IsMakeRefused-breaks_some m rounds given fault refused none = none fault (first_breaks make_faults (BreaksMake m rounds given) fault refused)
 
--- There is at most one error.
+-- A method, rounds and a salt have at most one error.
 pub make_refusal_unique : (m : Method) (rounds : ℕ) (given : Option (List ℕ)) (f g : MakeFault) → IsMakeRefused m rounds given f → IsMakeRefused m rounds given g → f ≡ g
 unfolding IsMakeRefused
 make_refusal_unique m rounds given f g rf rg = first_unique make_faults (BreaksMake m rounds given) f g rf rg
 
--- So a result that satisfies the two clauses determines the error.
+-- Let a result be Ok only if no rule is broken, and otherwise have the error of the first broken rule. If `fault` is
+-- the error of the first broken rule, the result is `Err fault`.
 pub Err-from_IsMakeRefused : {T : Type 0} (m : Method) (rounds : ℕ) (given : Option (List ℕ)) (r : Result T MakeFault) → OnOk r ((f : MakeFault) → ¬ BreaksMake m rounds given f) → IfErr r (IsMakeRefused m rounds given) → (fault : MakeFault) → IsMakeRefused m rounds given fault → r ≡ Err fault
 Err-from_IsMakeRefused m rounds given (Ok x) ok err fault refused = absurd (IsMakeRefused-breaks_some m rounds given fault refused ok)
 Err-from_IsMakeRefused m rounds given (Err f) ok err fault refused = ap (λ (g : MakeFault). Err g) (make_refusal_unique m rounds given f fault err refused)
 
--- A result is Ok exactly if no rule is broken.
+-- If a result is Ok only if no rule is broken, and otherwise has the error of the first broken rule, it is Ok exactly
+-- if no rule is broken.
 pub IsOk-iff_no_broken_rule : {T : Type 0} (m : Method) (rounds : ℕ) (given : Option (List ℕ)) (r : Result T MakeFault) → OnOk r ((f : MakeFault) → ¬ BreaksMake m rounds given f) → IfErr r (IsMakeRefused m rounds given) → IsOk r ↔ ((f : MakeFault) → ¬ BreaksMake m rounds given f)
 IsOk-iff_no_broken_rule m rounds given (Ok x) ok err = (λ e. ok, λ none. refl)
 IsOk-iff_no_broken_rule m rounds given (Err f) ok err = (λ e. absurd (cc e), λ none. absurd (IsMakeRefused-breaks_some m rounds given f err none))

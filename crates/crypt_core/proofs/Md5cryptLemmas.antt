@@ -1,5 +1,5 @@
--- Serves `md5crypt` and `opening` in src/md5crypt.rt: which messages the definition digests, how long each is, and the
--- clause `specified`, that all of them together have the count and the bytes of the closed form.
+-- Lemmas for `md5crypt` and `opening` in src/md5crypt.rt: which messages the definition digests, how long each is, and
+-- the clause `specified`, that all of them together have the count and the bytes of the closed form.
 -- `HaveCountAndSum-md5crypt_messages` adds the two messages of the opening to the sum over the rounds, which WorkSums
 -- gives.
 use Rattle.crypt_core.specs.Passwords.{password_limit}
@@ -33,18 +33,18 @@ pub md5crypt_message-round : (p s : List ℕ) (i : ℕ)
 unfolding md5crypt_message
 md5crypt_message-round p s i = let two : i + 2 ≡ suc (suc i) = omega arith in rw two refl
 
--- The definition digests these messages.
+-- The definition of md5crypt digests the messages of `md5crypt_message`.
 pub md5crypt-digests_messages : (p s : List ℕ) → AreMd5cryptMessages p s
 unfolding md5crypt_message md5crypt_digest
 md5crypt-digests_messages p s = (refl, digest_after-more md5 (md5crypt_opening p s) p s 999 ∙ ap md5 (sym (md5crypt_message-round p s 999)))
 
--- The digest before a round has 16 bytes.
+-- In md5crypt, the digest before each round has 16 bytes.
 length-digest_after : (p s : List ℕ) (i : ℕ) → length (digest_after md5 (md5crypt_opening p s) p s i) ≡ 16
 unfolding digest_after
 length-digest_after p s zero = length-md5 (opening_message p s)
 length-digest_after p s (suc i) = length-md5 (round_message i (digest_after md5 (md5crypt_opening p s) p s i) p s)
 
--- The message of round i has `round_length` bytes.
+-- The message of round i of md5crypt has as many bytes as `round_length` says.
 pub length-md5crypt_message : (p s : List ℕ) (i : ℕ) → length (md5crypt_message p s (i + 2)) ≡ round_length i 16 (length p) (length s)
 length-md5crypt_message p s i =
     let before = digest_after md5 (md5crypt_opening p s) p s i in
@@ -71,11 +71,11 @@ length-opening_message p s =
       length-digit_pieces_of_password p,
     )
 
--- A bound on the bytes of any message.
+-- A bound on the bytes of any message of md5crypt.
 abbrev pub message_limit : ℕ
 message_limit = 4 * password_limit
 
--- All messages: their count and their bytes.
+-- md5crypt has `md5crypt_rounds + 2` messages, with `md5crypt_bytes` bytes in all.
 pub HaveCountAndSum-md5crypt_messages : (p s : List ℕ) → HaveCountAndSum (md5crypt_messages p s) (md5crypt_rounds + 2) (md5crypt_bytes (length p) (length s))
 HaveCountAndSum-md5crypt_messages p s = rw (← messages_to-all_rounds p s) (record {
   count = length-messages_to (md5crypt_message p s) (md5crypt_rounds + 2);

@@ -11,7 +11,7 @@ use Rattle.std.proofs.lemmas.List.FromFn.{length-map-range_with_len, map-range_w
 use Rattle.crypt_core.proofs.CycleLemmas.{length-cond}
 use Rattle.crypt_core.specs.RoundMessage.{alternate_message, digest_after, round_message}
 
--- The first n messages.
+-- messages_to message n: the first n messages, if `message i` is message number i.
 unfoldable pub messages_to : (ℕ → List ℕ) → ℕ → List (List ℕ)
 messages_to message n = map message (range_with_len 0 n)
 
@@ -26,7 +26,7 @@ length-messages_to message n = length-map-range_with_len message 0 n
 pub length-alternate_message : (p s : List ℕ) → length (alternate_message p s) ≡ 2 * length p + length s
 length-alternate_message p s = omega (arith, length-append (p ++ s) p, length-append p s)
 
--- The digest before the rounds, and after one more round.
+-- Before the first round, the digest is `opening`. One more round digests that round's message (`digest_after-more`).
 pub digest_after-zero : (h : List ℕ → List ℕ) (opening p q : List ℕ) → digest_after h opening p q 0 ≡ opening
 unfolding digest_after
 digest_after-zero h opening p q = refl
@@ -67,7 +67,8 @@ length-round_message i x p q = go (nat_eq (i % 2) 1) (nat_eq (i % 3) 0) (nat_eq 
 abbrev pub round_limit : ℕ
 round_limit = 64 + 2 * password_limit + shacrypt_salt_limit
 
--- A round's message has the digest and the password once, and may have the salt and the password again.
+-- A round's message has the digest and the password once, and may have the salt once and the password again, so it has
+-- at most x + 2 * p + q bytes.
 pub round_length-le : (i x p q : ℕ) → round_length i x p q ≤ x + 2 * p + q
 round_length-le i x p q =
     omega (arith, skipped (nat_eq (i % 3) 0) q, skipped (nat_eq (i % 7) 0) p) where

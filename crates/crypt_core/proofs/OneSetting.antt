@@ -1,6 +1,7 @@
 -- Shows that a text spells at most one setting, for the clause `one_reading` of `Setting::read` and for `fits`,
--- `matches` and `is_whole`. The text is read from the front: the second byte of the prefix decides the method, the cost
--- part is unique given the method, the field of the salt ends at the next `$`, and the method keeps one salt of it.
+-- `matches` and `is_whole`. The text is read from the front: the second byte of the prefix decides the method, the
+-- method's cost part can be read in one way only, the field of the salt ends at the next `$`, and the method keeps one
+-- salt of that field.
 use Rattle.std.proofs.Common.{◌≡◌, ◌≢◌, ℕ, List, ◌++◌, get_or, refl, sym, ap, ap₂, ◌∙◌, arith}
 use Rattle.kdf_core.specs.Params.{ScryptParams}
 use Rattle.crypt_core.specs.declared.method.Method.{Method}

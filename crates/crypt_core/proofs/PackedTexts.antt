@@ -1,7 +1,7 @@
--- Serves `is_packed` in src/pack.rt, which accepts exactly the packed digests of a method: texts of the method's
--- length, with characters of the alphabet, whose last character has a value below the method's limit. One way,
--- Unpacking gives bytes for such a text, and `digest_with` puts them at their indices to build a digest. The other way,
--- the last group has one or two bytes, so the highest bits of its last character are 0.
+-- Shows for `is_packed` in src/pack.rt that the packed digests of a method are exactly the texts of the method's
+-- length, with characters of the alphabet, whose last character has a value below the method's limit. For such a text,
+-- Unpacking gives bytes, and `digest_with` puts them at their indices to build a digest. Conversely, the last group of
+-- a digest has one or two bytes, so the highest bits of its last character are 0.
 use Rattle.std.proofs.Common.{◌≡◌, add-one, ℕ, suc, ◌+◌, ◌-◌, ◌*◌, ◌^◌, ◌<◌, ◌≤◌, Bool, true, List, [], ◌∷◌, ◌++◌, length, get_or, map, eqb, nat_lt, arith, refl, sym, subst, ap, ◌∙◌}
 use Rattle.std.specs.Prelude.{◌&&◌, ◌==◌, All, Contains, fold, if◌then◌else◌, nat_le, slice_index}
 use Rattle.std.specs.List.{list_all, range_with_len}
@@ -25,16 +25,17 @@ use Rattle.crypt_core.proofs.Unpacking.{EndsBelow, order, Unpacks-from_fills, fi
 
 -- ---- digests
 
--- index_in places place: where this index first occurs in the list.
+-- index_in places place: the position in `places` at which the index `place` first occurs.
 index_in : List ℕ → ℕ → ℕ
 index_in [] place = 0
 index_in (p ∷ ps) place = if p == place then 0 else suc (index_in ps place)
 
--- is_place n places i: item i of the list is below n and occurs there for the first time.
+-- is_place n places i: item i of `places` is below n and does not occur before item i.
 is_place : ℕ → List ℕ → ℕ → Bool
 is_place n places i = eqb (index_in places (get_or places i 0)) i && nat_lt (get_or places i 0) n
 
--- digest_with n places bytes: the digest that has these bytes at these indices, if they are all of the n indices.
+-- digest_with n places bytes: the digest of n bytes whose byte at an index is the item of `bytes` at the same position
+-- as the index in `places`. `places` has all n indices.
 digest_with : ℕ → List ℕ → List ℕ → List ℕ
 digest_with n places bytes = map (λ i. slice_index bytes (index_in places i)) (range_with_len 0 n)
 
@@ -59,7 +60,8 @@ digest_with-is_digest n places bytes all = (
   All-map (λ b. b < 256) (λ i. slice_index bytes (index_in places i)) (range_with_len 0 n) (λ k d inside. slice_index-below_256 bytes (index_in places (get_or (range_with_len 0 n) k d)) all),
 )
 
--- A text that passes the checks is the packed form of some digest.
+-- A text of the method's packed length, with characters of the alphabet and a last value below the method's limit, is
+-- the packed form of some digest.
 pub IsPacked-from_checks : (m : Method) (text : List ℕ) → length text ≡ packed_len m → All (Contains alphabet) text
     → (v : ℕ) → v < last_value_limit m → get_or text (length text - 1) 0 ≡ character_of v → IsPacked m text
 unfolding packed fills is_place index_in order text_length EndsBelow
@@ -76,7 +78,7 @@ IsPacked-from_checks m text long all v below last =
       sym (unpacked.packs digest (map-digest_with n places unpacked.bytes index_count each_index_once unpacked.count)),
     )
 
--- ---- the other way
+-- ---- packed digests
 
 -- Appending k bytes to a number below a bound gives a number below the bound times 256^k.
 fold_bytes-below : (digest places : List ℕ) (number bound : ℕ) → All (λ b. b < 256) digest → number < bound
@@ -123,7 +125,7 @@ EndsBelow-packed_by bound (places ∷ next ∷ groups) digest h all =
       ),
     )
 
--- A packed digest passes the three checks.
+-- A packed digest passes the three checks of `is_packed`: its length, its characters, and its last character's value.
 pub length-from_IsPacked : (m : Method) (text : List ℕ) → IsPacked m text → length text ≡ packed_len m
 length-from_IsPacked m text packed = ap length packed.2 ∙ length-packed m packed.0
 

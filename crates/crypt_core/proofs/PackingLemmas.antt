@@ -1,5 +1,5 @@
--- Serves the loops of `append_packed` and `number_of` in src/pack.rt, and gives the length and the characters of a
--- packed digest to other proofs. The loop over a table of groups appends one group at a time, so `packed_by-drop`
+-- Lemmas for the loops of `append_packed` and `number_of` in src/pack.rt, and on the length and the characters of a
+-- packed digest for other proofs. The loop over a table of groups appends one group at a time, so `packed_by-drop`
 -- splits off the next group and `append-packed_by_none_left` finishes. What holds of every method's table is computed
 -- by `each_method`.
 use Rattle.std.proofs.Common.{◌≡◌, ℕ, zero, suc, ◌+◌, ◌^◌, ◌<◌, ◌≤◌, List, [], ◌∷◌, ◌++◌, length, drop, get_or, nat_lt, eqb, arith, refl, sym, ap, ◌∙◌, Bor}
@@ -20,7 +20,7 @@ use Rattle.prims_core.proofs.NumeralFacts.{length-numerals}
 use Rattle.crypt_core.proofs.ScryptPartFacts.{in_alphabet-numerals}
 use Rattle.crypt_core.specs.Private.Groups.{groups_in, is_group, AreGroups, IsGroup}
 
--- packed_by groups digest: the packed form of a digest with these groups.
+-- packed_by groups digest: the packed form of the digest if its groups are these.
 abbrev pub packed_by : List (List ℕ) → List ℕ → List ℕ
 packed_by groups digest = flat_map (packed_group digest) groups
 
@@ -31,7 +31,7 @@ length-from_IsGroup n places h =
     let few = and_parts (nat_lt (length places) 4) _ some.1 in
     (ltb-true 0 (length places) some.0, ltb-true (length places) 4 few.0)
 
--- Each group of a table of groups is a group.
+-- Each entry of a table for which `AreGroups` holds is a group of one to three indices.
 pub IsGroup-get_or : (n : ℕ) (table : List (Bor (List ℕ))) (i : ℕ) (d : Bor (List ℕ)) → i < length table
     → AreGroups n (groups_in table) → IsGroup n (get_or table i d).now
 IsGroup-get_or n [] i d below h = absurd (omega arith)
@@ -47,20 +47,20 @@ packed_by-drop digest table i d below =
     let next : i + 1 ≡ suc i = omega arith in
     rw (next, drop-cons table i d below) refl
 
--- Once no group is left, the text is complete.
+-- Once no group of the table is left, the text so far is the whole packed form.
 pub append-packed_by_none_left : (digest : List ℕ) (table : List (Bor (List ℕ))) (i : ℕ) (text whole : List ℕ) → length table ≤ i
     → text ++ packed_by (groups_in (drop i table)) digest ≡ whole → text ≡ whole
 append-packed_by_none_left digest table i text whole done e =
     sym (append-nil text) ∙ ap (λ (rest : List (Bor (List ℕ))). text ++ packed_by (groups_in rest) digest) (sym (drop_all i table done)) ∙ e
 
--- A number of up to two bytes can take one more without overflow.
+-- A number of up to two bytes is below 65536, so one more byte doesn't overflow 32 bits.
 pub two_bytes-below_65536 : (k number : ℕ) → k < 3 → number < 256 ^ k → number < 65536
 two_bytes-below_65536 zero number h below = omega arith
 two_bytes-below_65536 (suc zero) number h below = omega arith
 two_bytes-below_65536 (suc (suc zero)) number h below = omega arith
 two_bytes-below_65536 (suc (suc (suc k))) number h below = absurd (omega arith)
 
--- The text has one character per byte and one more per group.
+-- A packed form has one character for each byte, and one more for each group.
 length-packed_by : (groups : List (List ℕ)) (digest : List ℕ) → length (packed_by groups digest) ≡ sum_by (λ places. length places + 1) groups
 length-packed_by [] digest = refl
 length-packed_by (places ∷ groups) digest =

@@ -1,6 +1,6 @@
--- Serves the parsing functions in src/setting/read.rt: `field_len`, `number_at`, `capped_number`, `numbers_at` and
--- `scheme_at`. `HasField-first_dollar` shows that the field ends before the first `$`, and since a text has one such
--- field, digits that are no number mean that there is none. Capping the number at each digit equals capping it at the
+-- Lemmas for the parsing functions in src/setting/read.rt: `field_len`, `number_at`, `capped_number`, `numbers_at` and
+-- `scheme_at`. `HasField-first_dollar` shows that the field ends before the first `$`. Since a text has only one such
+-- field, the text lacks a number if this field isn't one. Capping the number at each digit equals capping it at the
 -- end. The characters of scrypt's cost part are cut at fixed places into three numbers.
 use Rattle.std.proofs.Common.{◌≡◌, ◌≢◌, ℕ, zero, suc, ◌+◌, ◌-◌, ◌*◌, ◌≤◌, ◌<◌, ◌^◌, Bool, true, false, cond, not, eqb, nat_lt, List, [], ◌∷◌, ◌++◌, length, take, drop, get_or, All, Contains, Option, Some, None, refl, sym, ap, subst, ◌∙◌, append_assoc, add-one, arith}
 use Rattle.std.specs.Prelude.{IfNone, min}
@@ -33,7 +33,8 @@ IfNone-always (Some x) P h = tt
 abbrev pub is_dollar : ℕ → Bool
 is_dollar b = eqb b dollar
 
--- The first index that passes, or the length if none does.
+-- `position`, with the length in place of None, is the first index whose item passes the test, or the length if no item
+-- does.
 unwrap_or-position : (p : ℕ → Bool) (xs : List ℕ) → unwrap_or (position p xs) (length xs) ≡ position_or_len p xs
 unwrap_or-position p xs = by_test (nat_lt (position_or_len p xs) (length xs)) refl
   where
@@ -41,7 +42,7 @@ unwrap_or-position p xs = by_test (nat_lt (position_or_len p xs) (length xs)) re
     by_test true e = refl
     by_test false e = omega (arith, ltb-false _ _ e, prefix_len-le-length (λ x. not (p x)) xs)
 
--- A rest that begins at the first `$` can follow a field.
+-- A rest of a list that is empty or begins with `$` can follow a field.
 IsEndOfField-drop : (xs : List ℕ) (n : ℕ) → (n < length xs → get_or xs n 0 ≡ dollar) → IsEndOfField (drop n xs)
 IsEndOfField-drop [] n here = subst IsEndOfField (sym (drop-nil n)) tt
 IsEndOfField-drop (x ∷ xs) zero here = here (omega arith)
@@ -62,13 +63,13 @@ HasField-first_dollar xs n found =
 
 -- ---- numbers of rounds
 
--- If the field isn't a number, the text lacks one.
+-- If the bytes up to the first `$` are not a number, the text does not begin with a number and a `$`.
 pub LacksNumber-bad_digits : (xs : List ℕ) (n : ℕ) → HasField xs (take n xs) → (IsRoundsNumber (take n xs) → ⊥) → LacksNumber xs
 LacksNumber-bad_digits xs n h not_number other rest number parts =
     let same = field_unique (take n xs) other h.0 (dollar ∷ rest) h.2 (IsField-rounds_number other rest number) (sym h.1 ∙ parts) in
     not_number (subst IsRoundsNumber (sym same.0) number)
 
--- It also lacks one if nothing follows the field.
+-- If the text has no `$`, it does not begin with a number and a `$`.
 pub LacksNumber-no_dollar : (xs : List ℕ) (n : ℕ) → HasField xs (take n xs) → n ≡ length xs → LacksNumber xs
 LacksNumber-no_dollar xs n h whole other rest number parts =
     let same = field_unique (take n xs) other h.0 (dollar ∷ rest) h.2 (IsField-rounds_number other rest number) (sym h.1 ∙ parts) in
@@ -77,7 +78,7 @@ LacksNumber-no_dollar xs n h whole other rest number parts =
 pub take-drop_rest : (xs : List ℕ) (k : ℕ) → take (length xs - k) (drop k xs) ≡ drop k xs
 take-drop_rest xs k = ap (λ (n : ℕ). take n (drop k xs)) (sym (length-drop k xs)) ∙ take-length (drop k xs)
 
--- The text is the field, its `$`, and what follows that.
+-- If the field does not reach the end of the text, the text is the field, a `$`, and what follows.
 pub append-number_dollar_rest : (xs : List ℕ) (n : ℕ) → HasField xs (take n xs) → n < length xs → xs ≡ take n xs ++ (dollar ∷ take (length xs - (n + 1)) (drop (n + 1) xs))
 append-number_dollar_rest xs n h below =
     let rest_is : h.0 ≡ drop n xs = append_cancel_left (take n xs) h.0 (drop n xs) (sym h.1 ∙ sym (take-append-drop n xs)) in
@@ -92,7 +93,8 @@ digit_range [] i number lt = absurd number
 digit_range (d ∷ ds) zero number lt = (omega (arith, number.0), number.1)
 digit_range (d ∷ ds) (suc i) number lt = number.2 i 0 (omega arith)
 
--- One more digit, capped.
+-- If a number is the value of the first i digits, capped, then adding digit i and capping again gives the value of the
+-- first i + 1 digits, capped.
 pub capped_value-more : (ds : List ℕ) (i number digit : ℕ) → i < length ds → IsRoundsNumber ds → digit ≡ get_or ds i 0 → number ≡ min (digits_value 10 (take i ds)) max_rounds → min (number * 10 + (digit - 48)) max_rounds ≡ min (digits_value 10 (take (i + 1) ds)) max_rounds
 capped_value-more ds i number digit lt is_number digit_is so_far =
     let range = digit_range ds i is_number lt in
@@ -100,13 +102,14 @@ capped_value-more ds i number digit lt is_number digit_is so_far =
 
 -- ---- the characters of scrypt's cost part
 
--- If the first byte is outside the alphabet, the cost part lacks characters.
+-- If the first byte is outside the alphabet, the text lacks the characters of scrypt's cost part.
 pub LacksCharacters-first : (after : List ℕ) → (Contains alphabet (get_or after 0 0) → ⊥) → LacksCharacters after
 LacksCharacters-first after outside part rest len all parts =
     outside (subst (λ (xs : List ℕ). Contains alphabet (get_or xs 0 0)) (sym parts)
     (rw (get_or_append_left part rest 0 0 (omega arith)) (All-get_or (Contains alphabet) part 0 0 (omega arith) all)))
 
--- The same if a group of five characters is incomplete or has such a byte.
+-- If five characters of scrypt's cost part are not all there or not all of the alphabet, the text lacks the characters
+-- of the cost part.
 pub LacksCharacters-group : (after : List ℕ) (i : ℕ) → i + 5 ≤ scrypt_part_len → ((length (take 5 (drop i after)) ≡ 5) × All (Contains alphabet) (take 5 (drop i after)) → ⊥) → LacksCharacters after
 LacksCharacters-group after i within outside part rest len all parts =
     let group : take 5 (drop i after) ≡ take 5 (drop i part) =
@@ -122,7 +125,8 @@ numerals-one : (v : ℕ) → v < 64 → numerals 1 v ≡ character_of v ∷ []
 unfolding numerals
 numerals-one v below = ap (λ (w : ℕ). character_of w ∷ []) (omega arith)
 
--- The characters spell three numbers.
+-- If the first character has the value v, and the two groups of five after it are the numerals of r and p, the text
+-- begins with scrypt's cost part for these numbers.
 pub scrypt_part-from_numerals : (after : List ℕ) (v r p : ℕ) → scrypt_part_len ≤ length after → v < 64 → character_of v ≡ get_or after 0 0 → r < 2 ^ 30 → numerals 5 r ≡ take 5 (drop 1 after) → p < 2 ^ 30 → numerals 5 p ≡ take 5 (drop 6 after) → (rest : List ℕ) × (after ≡ scrypt_part (scrypt_params v r p) ++ rest) × HasNumerals (scrypt_params v r p)
 scrypt_part-from_numerals [] v r p long vs v_is rs r_is ps p_is = absurd (omega arith)
 scrypt_part-from_numerals (x ∷ xs) v r p long vs v_is rs r_is ps p_is =

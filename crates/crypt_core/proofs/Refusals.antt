@@ -1,5 +1,5 @@
--- Serves the clauses `each_setting`, `each_refusal` and `one_reading` of `Setting::read` and `StoredField::read`: a
--- text has at most one reading. It spells at most one setting (OneSetting) and has at most one first error
+-- Shows that a text has at most one reading, for the clauses `each_setting`, `each_refusal` and `one_reading` of
+-- `Setting::read` and `StoredField::read`. It spells at most one setting (OneSetting) and has at most one first error
 -- (FirstBroken). It never has both, since what it spells passes every stage: a failing stage would give a second
 -- scheme, field or parameters, and the text has only one of each.
 use Rattle.std.proofs.Common.{◌≡◌, ℕ, List, ◌++◌, sym, ap, subst, ◌∙◌, arith}
@@ -19,19 +19,19 @@ use Rattle.crypt_core.proofs.DollarFields.{field_unique}
 use Rattle.crypt_core.proofs.OneSetting.{prefix_unique, scheme_unique, setting_unique}
 use Rattle.crypt_core.proofs.FirstBroken.{first_breaks, first_unique}
 
--- A text that spells a scheme doesn't lack a cost part.
+-- A text that spells a scheme lacks no method's cost part.
 pub SpellsScheme-not-LacksCost : (text : List ℕ) (scheme : Scheme) (after : List ℕ) (m : Method) → SpellsScheme text scheme after → LacksCost m text → ⊥
 SpellsScheme-not-LacksCost text scheme after m s lacks =
     let same = prefix_unique (method_of scheme) m (s.0 ++ after) lacks.0.0 (sym s.1 ∙ lacks.0.1) in
     lacks.1 scheme after same.0 s
 
--- If scrypt's salt is kept, its numbers are accepted and its field is a salt of scrypt.
+-- If scrypt keeps a salt of a field, its parameters are accepted and the field is a salt of scrypt.
 KeepsSalt-scrypt : (scheme : Scheme) (n : ScryptParams) (field salt : List ℕ) → scheme ≡ Scrypt n → KeepsSalt scheme field salt → IsAccepted n × IsScryptSalt field
 KeepsSalt-scrypt (Scrypt m) n field salt e k = let same : m ≡ n = cc in (subst IsAccepted same k.0, k.2)
 KeepsSalt-scrypt Md5crypt n field salt e k = absurd cc
 KeepsSalt-scrypt (Shacrypt sha r) n field salt e k = absurd cc
 
--- A text that spells a setting passes every stage.
+-- A text that spells a setting fails at no stage of reading.
 pub Spells-fails_no_stage : (text : List ℕ) (kept : SettingValue) → Spells text kept → (fault : SettingFault) → FailsStage text fault → ⊥
 Spells-fails_no_stage text kept s TooLong b = omega (arith, s.short)
 Spells-fails_no_stage text kept s BadCharacter b = b s.bytes
@@ -49,12 +49,12 @@ Spells-fails_no_stage text kept s BadSalt b =
     let fields = field_unique s.field b.1 s.rest b.2 s.is_field b.4 same.1 in
     b.5 (subst IsScryptSalt fields.0 (KeepsSalt-scrypt kept.scheme b.0 s.field kept.salt same.0 s.salt).1)
 
--- So it has no error.
+-- A text that spells a setting has no error.
 pub Spells-not-IsRefused : (text : List ℕ) (kept : SettingValue) → Spells text kept → (fault : SettingFault) → IsRefused text fault → ⊥
 unfolding IsRefused
 Spells-not-IsRefused text kept s fault refused = Spells-fails_no_stage text kept s fault (first_breaks setting_faults (FailsStage text) fault refused)
 
--- So a text has at most one reading.
+-- A text has at most one reading: it spells one setting, or has one error, or neither.
 pub one_reading : (text : List ℕ) → IsReadOneWay text
 unfolding IsReadOneWay IsRefused
 one_reading text (Ok kept) (Ok other) spelled s = ap (λ (k : SettingValue). Ok k) (setting_unique text kept other spelled s)
@@ -62,12 +62,13 @@ one_reading text (Ok kept) (Err fault) spelled refused = absurd (Spells-not-IsRe
 one_reading text (Err fault) (Ok kept) refused spelled = absurd (Spells-not-IsRefused text kept spelled fault refused)
 one_reading text (Err fault) (Err other) refused r = ap (λ (f : SettingFault). Err f) (first_unique setting_faults (FailsStage text) fault other refused r)
 
--- A result that satisfies the two clauses is a reading.
+-- A result that satisfies the clauses `spelled` and `refused` of `Setting::read` is a reading of the text.
 IsReading-from_clauses : (text : List ℕ) (r : Result SettingValue SettingFault) → IfOk r (Spells text) → IfErr r (IsRefused text) → IsReading text r
 IsReading-from_clauses text (Ok kept) spelled refused = spelled
 IsReading-from_clauses text (Err fault) spelled refused = refused
 
--- So it is the only one.
+-- If a text spells a setting, a result that satisfies the clauses `spelled` and `refused` of `Setting::read` is Ok with
+-- this setting.
 pub Ok-from_Spells : (text : List ℕ) (r : Result SettingValue SettingFault) → IfOk r (Spells text) → IfErr r (IsRefused text) → (kept : SettingValue) → Spells text kept → r ≡ Ok kept
 unfolding IsReadOneWay
 Ok-from_Spells text r spelled refused kept s = one_reading text r (Ok kept) (IsReading-from_clauses text r spelled refused) s

@@ -1,4 +1,4 @@
--- Serves `same_bytes` in src/same.rt. The loop keeps in `differ` the OR of all byte differences so far;
+-- Lemmas for `same_bytes` in src/same.rt. The loop keeps in `differ` the OR of all byte differences so far;
 -- `differ-zero_iff_fronts_equal` shows that it stays 0 exactly if the fronts so far are equal, and
 -- `differ-zero_is_bytes_eq` that after the last byte this is the result of `==`.
 use Rattle.std.proofs.Common.{◌≡◌, ◌<◌, ◌≤◌, ◌+◌, ◌∙◌, ◌↔◌, ℕ, nat_eq, List, take, length, get_or, bit_or, bit_xor, bytes_eq, refl, sym, ap, arith}
@@ -9,7 +9,8 @@ use Rattle.std.proofs.lemmas.Slice.Eq.{bytes_eq-Decides}
 use Rattle.std.proofs.lemmas.Nat.{and_le_l, and_le_r, le_or_l, le_or_r}
 use lib.Bits.{xor_add_and, xor_self}
 
--- One more byte: the OR is still 0 exactly if the longer fronts are equal.
+-- If the OR is 0 exactly if the first i bytes are equal, then with the next difference it is 0 exactly if the first i +
+-- 1 bytes are.
 pub differ-zero_iff_fronts_equal : (xs ys : List ℕ) (i differ : ℕ) → i < length xs → i < length ys → differ ≡ 0 ↔ take i xs ≡ take i ys
     → bit_or differ (bit_xor (get_or xs i 0) (get_or ys i 0)) ≡ 0 ↔ take (i + 1) xs ≡ take (i + 1) ys
 differ-zero_iff_fronts_equal xs ys i differ inside also so_far =
@@ -28,7 +29,7 @@ differ-zero_iff_fronts_equal xs ys i differ inside also so_far =
     rw (before, here, xor_self y) refl in
     (equal_if_zero, zero_if_equal)
 
--- After the last byte, comparing the OR with 0 gives the same result as `==`.
+-- After the last byte, comparing the OR of all differences with 0 gives the same result as `==`.
 pub differ-zero_is_bytes_eq : (xs ys : List ℕ) (i differ : ℕ) → length xs ≡ length ys → length xs ≤ i → differ ≡ 0 ↔ take i xs ≡ take i ys
     → nat_eq differ 0 ≡ bytes_eq xs ys
 differ-zero_is_bytes_eq xs ys i differ long whole so_far =

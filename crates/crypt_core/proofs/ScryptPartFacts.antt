@@ -15,7 +15,7 @@ pub length-scrypt_part : (params : ScryptParams) → length (scrypt_part params)
 length-scrypt_part params =
     rw (length-append, length-append, length-numerals, length-numerals, length-numerals) refl
 
--- Equal cost parts have equal numbers, and equal rests behind them.
+-- If two texts that begin with cost parts of scrypt are equal, these have the same numbers, and the rests are equal.
 pub scrypt_part_unique : (a b : ScryptParams) (x y : List ℕ) → HasNumerals a → HasNumerals b → scrypt_part a ++ x ≡ scrypt_part b ++ y → (a ≡ b) × (x ≡ y)
 scrypt_part_unique a b x y fits_a fits_b e =
     let whole = append-injective (scrypt_part a) (scrypt_part b) x y (length-scrypt_part a ∙ sym (length-scrypt_part b)) e in

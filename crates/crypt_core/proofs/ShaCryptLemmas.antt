@@ -1,4 +1,4 @@
--- Serves `shacrypt` and `opening` in src/shacrypt.rt and `shacrypt_bound` in src/work.rt: which messages the
+-- Lemmas for `shacrypt` and `opening` in src/shacrypt.rt and `shacrypt_bound` in src/work.rt: which messages the
 -- specification digests, how long each is, and that all of them have the count and the bytes of the closed form. The
 -- digest function is any h whose digests all have the same length, so SHA-256 and SHA-512 share the proofs.
 -- `HaveCountAndSum-shacrypt_messages` adds the four messages before the rounds to the sum over the rounds, which
@@ -25,7 +25,7 @@ pub shacrypt_message-round : (h : List ℕ → List ℕ) (p s : List ℕ) (i : �
 unfolding shacrypt_message
 shacrypt_message-round h p s i = let number : i + 4 ≡ suc (suc (suc (suc i))) = omega arith in rw number refl
 
--- The digest after the last round is that of the last message.
+-- SHA-crypt's digest after i + 1 rounds is h of the message of round i, which has number i + 4.
 shacrypt_digest-add_one : (h : List ℕ → List ℕ) (p s : List ℕ) (i : ℕ) → shacrypt_digest h p s (i + 1) ≡ h (shacrypt_message h p s (i + 4))
 unfolding shacrypt_digest
 shacrypt_digest-add_one h p s i =
@@ -38,7 +38,7 @@ shacrypt_digest-last_message h p s rounds some =
     let number : rounds - 1 + 4 ≡ rounds + 3 = omega (arith, some) in
     ap (λ (n : ℕ). shacrypt_digest h p s n) one_more ∙ (shacrypt_digest-add_one h p s (rounds - 1) ∙ ap (λ (n : ℕ). h (shacrypt_message h p s n)) number)
 
--- The definition digests these messages.
+-- The definition of SHA-crypt digests the messages of `shacrypt_message`, if there is at least one round.
 pub shacrypt-digests_messages : (h : List ℕ → List ℕ) (p s : List ℕ) (rounds : ℕ) → 1 ≤ rounds → AreShacryptMessages h p s rounds
 unfolding shacrypt_message
 shacrypt-digests_messages h p s rounds some = (refl, refl, refl, shacrypt_digest-last_message h p s rounds some)
@@ -53,7 +53,7 @@ pub messages_to-all_rounds : (h : List ℕ → List ℕ) (p s : List ℕ) (round
 unfolding messages_to shacrypt_messages
 messages_to-all_rounds h p s rounds = refl
 
--- The message of a round with equal arguments is equal.
+-- If x, q and r equal the digest before round i and the strings P and S, the message made from them is that of round i.
 pub round_message-same : (h : List ℕ → List ℕ) (p s : List ℕ) (i : ℕ) (x q r : List ℕ)
     → x ≡ sha_digest_before h p s i → q ≡ password_string h p → r ≡ salt_string h p s
     → round_message i x q r ≡ sha_round_message h p s i (sha_digest_before h p s i)
@@ -81,9 +81,9 @@ length-sha_opening_message h p s =
 abbrev pub start_limit : ℕ
 start_limit = 4 * (password_limit * password_limit)
 
--- For a digest function whose digests all have `digest` bytes.
+-- The lemmas here hold for each digest function h whose digests all have `digest` bytes.
 module _ (h : List ℕ → List ℕ) (digest : ℕ) (length-digest : (m : List ℕ) → length (h m) ≡ digest) (p s : List ℕ) where
-  -- The four messages before the rounds stay within the bound.
+  -- The four messages before the rounds have at most `start_limit` bytes in all.
   pub start_bytes-le-start_limit : (times : ℕ) → digest ≤ 64 → length p ≤ password_limit → length s ≤ shacrypt_salt_limit → times ≤ 16 + greatest_byte
       → length (alternate_message p s) + length (sha_opening_message h p s) + length p * length p + times * length s ≤ start_limit
   start_bytes-le-start_limit times small short salt_short few =
@@ -97,7 +97,7 @@ module _ (h : List ℕ → List ℕ) (digest : ℕ) (length-digest : (m : List �
         mul-le-mul_right (length s) few,
       )
 
-  -- The first byte of A is a byte.
+  -- The first byte of the digest A is below 256.
   pub sha_opening_byte-below : 1 ≤ digest → ((m : List ℕ) → All (λ b. b < 256) (h m)) → sha_opening_byte h p s < 256
   sha_opening_byte-below some bytes =
       bytes (sha_opening_message h p s) 0 0 (omega (arith, length-digest (sha_opening_message h p s), some))
@@ -114,7 +114,7 @@ module _ (h : List ℕ → List ℕ) (digest : ℕ) (length-digest : (m : List �
       let salt = length-cycle (h (salt_repeated h p s)) (length s) in
       rw (shacrypt_message-round h p s i, whole, length-sha_digest_before i, password, salt) refl
 
-  -- All messages: their count and their bytes.
+  -- SHA-crypt has `rounds + 4` messages, with `shacrypt_bytes` bytes in all.
   pub HaveCountAndSum-shacrypt_messages : (rounds : ℕ)
       → HaveCountAndSum (shacrypt_messages h p s rounds) (rounds + 4) (shacrypt_bytes digest (sha_opening_byte h p s) rounds (length p) (length s))
   HaveCountAndSum-shacrypt_messages rounds = rw (← messages_to-all_rounds h p s rounds) (record {

@@ -12,7 +12,7 @@ use Rattle.crypt_core.specs.Rounds.{max_rounds}
 use Rattle.crypt_core.specs.Settings.{dollar, IsField, rounds_word, rounds_field, IsRoundsNumber, SpellsRounds}
 use Rattle.crypt_core.proofs.DollarFields.{end_of_field-cases, field_unique}
 
--- The digits of a number before a `$` are a field.
+-- The digits of a number, followed by a `$`, are a field, since they have no `$`.
 pub IsField-rounds_number : (digits rest : List ℕ) → IsRoundsNumber digits → IsField digits (dollar ∷ rest)
 IsField-rounds_number [] rest number = absurd number
 IsField-rounds_number (d ∷ ds) rest number = (

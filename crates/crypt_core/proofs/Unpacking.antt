@@ -1,7 +1,7 @@
--- Serves `is_packed` in src/pack.rt: finds the bytes from which a text of the right length and characters was packed.
--- It goes by induction over the groups: three bytes are four characters, any characters will do, and only the last
--- group, of one or two bytes, needs the bound on the text's last character. `Unpacks` holds the bytes in the order of
--- the groups; PackedTexts puts them at their indices.
+-- Finds the bytes from which a text of the right length and characters was packed, for `is_packed` in src/pack.rt. The
+-- proof goes by induction over the groups: any four characters of the alphabet are three packed bytes, and only the
+-- last group, of one or two bytes, needs the bound on the text's last character. `Unpacks` holds the bytes in the order
+-- of the groups; PackedTexts puts them at their indices.
 use Rattle.std.proofs.Common.{◌≡◌, ℕ, ◌+◌, ◌-◌, ◌*◌, ◌^◌, ◌<◌, ◌≤◌, Bool, true, false, List, [], ◌∷◌, ◌++◌, length, take, drop, get_or, map, eqb, arith, sym, subst, ap, ◌∙◌}
 use Rattle.std.specs.Prelude.{◌&&◌, All, Contains, flat_map, nat_le, slice_index, sum_by}
 use Rattle.std.proofs.lemmas.Bool.{and_parts, eqb-true, leb-true}
@@ -24,14 +24,15 @@ EndsBelow bound text = (v : ℕ) × (v < bound) × (get_or text (length text - 1
 unfoldable pub order : List (List ℕ) → List ℕ
 order groups = flat_map (λ (places : List ℕ). places) groups
 
--- Unpacks groups text: every digest that has these bytes at the indices of the groups is packed as the text.
+-- Unpacks groups text: the text is unpacked to `bytes`. Every digest that has these bytes at the indices of the groups
+-- is packed as the text.
 pub record Unpacks (groups : List (List ℕ)) (text : List ℕ) : Type 0 where
   pub bytes : List ℕ
   pub are_bytes : All (λ b. b < 256) bytes
   pub count : length bytes ≡ length (order groups)
   pub packs : (digest : List ℕ) → map (slice_index digest) (order groups) ≡ bytes → packed_by groups digest ≡ text
 
--- The bytes of a text that is one group.
+-- Unpacks a text that has the length of one packed group and a last value that this group can have.
 Unpacks-one_group : (places text : List ℕ) → length text ≡ length places + 1 → All (Contains alphabet) text → EndsBelow (4 ^ length places) text
     → 4 ^ length places ≤ 64 → Unpacks (places ∷ []) text
 unfolding EndsBelow order joined
@@ -57,7 +58,8 @@ Unpacks-one_group places text long all ends few =
           append-nil (packed_group digest places) ∙ ap (numerals (k + 1)) number_is ∙ numeral;
     }
 
--- The bytes of a first group and of the others.
+-- Unpacks a text by a first group and then others, if its front is unpacked by the first group and its rest by the
+-- others.
 Unpacks-cons : (places : List ℕ) (groups : List (List ℕ)) (front text : List ℕ) → Unpacks (places ∷ []) front → Unpacks groups text
     → Unpacks (places ∷ groups) (front ++ text)
 unfolding order
@@ -82,7 +84,7 @@ fills bound [] = false
 fills bound (places ∷ []) = eqb (4 ^ length places) bound && nat_le bound 64
 fills bound (places ∷ next ∷ groups) = eqb (length places) 3 && fills bound (next ∷ groups)
 
--- text_length groups: the number of characters of the packed form.
+-- text_length groups: the number of characters of a packed digest with these groups.
 unfoldable pub text_length : List (List ℕ) → ℕ
 text_length groups = sum_by (λ places. length places + 1) groups
 

@@ -1,7 +1,7 @@
--- Serves `StoredHash::is_whole` in src/stored.rt, whose clause `dead` says that no password matches a hash that isn't
--- whole. A hash that matches is the canonical form of its setting, a `$` and a packed digest; what remains is that
--- every scheme's digest has the method's length and consists of bytes. For md5crypt and SHA-crypt it is a digest of the
--- last message, and for scrypt one block of PBKDF2.
+-- Lemmas for `StoredHash::is_whole` in src/stored.rt, whose clause `dead` says that no password matches a hash that
+-- isn't whole. A hash that matches is the canonical form of its setting, a `$` and a packed digest; what remains is
+-- that every scheme's digest has the method's length and consists of bytes. For md5crypt and SHA-crypt, that digest is
+-- the digest of the last message, and for scrypt one block of PBKDF2.
 use Rattle.std.proofs.Common.{◌≡◌, ◌≢◌, ◌∷◌, append_assoc, ℕ, zero, suc, List, [], ◌++◌, refl, sym, subst, ap, ◌∙◌, arith}
 use Rattle.std.specs.Prelude.{◌↔◌, Bool, IsTrue, take}
 use Rattle.std.proofs.lemmas.List.{append-nil, take_all}
@@ -27,7 +27,7 @@ use Rattle.crypt_core.specs.declared.scheme.Sha.TheVariants.{Sha256, Sha512}
 use Rattle.crypt_core.proofs.DollarFields.{append-injective}
 use Rattle.crypt_core.proofs.OneSetting.{setting_unique}
 
--- What holds of every digest holds of the digest after the rounds.
+-- What holds of h of every message, and of the digest before the rounds, holds of the digest after n rounds.
 digest_after-from_each : (P : List ℕ → Type 0) (h : List ℕ → List ℕ) → ((message : List ℕ) → P (h message))
     → (opening p q : List ℕ) (n : ℕ) → P opening → P (digest_after h opening p q n)
 unfolding digest_after
@@ -41,7 +41,7 @@ IsDigest-hmac_sha256 : (key text : List ℕ) → IsDigest methods.Scrypt (hmac_s
 unfolding hmac_sha256
 IsDigest-hmac_sha256 key text = IsDigest-sha256 _
 
--- scrypt's digest is one block of PBKDF2, which is a single HMAC tag.
+-- scrypt's digest has the right length and consists of bytes: it is one block of PBKDF2, which is a single HMAC tag.
 IsDigest-pbkdf2_sha256 : (password salt : List ℕ) → IsDigest methods.Scrypt (pbkdf2_sha256 password salt 1 32)
 unfolding pbkdf2_sha256 block chain
 IsDigest-pbkdf2_sha256 password salt =
@@ -69,7 +69,7 @@ IsWhole-from_Fits password text kept spelled fits =
     let digest = digest_by kept.scheme password kept.salt in
     (packed (method_of kept.scheme) digest, (digest, IsDigest-digest_by kept.scheme password kept.salt, refl), sym hash_is_text)
 
--- So no password matches a stored hash that is not whole.
+-- No password matches a stored hash that is not whole.
 pub not_whole-fits_none : (whole : Bool) (text : List ℕ) (kept : SettingValue) → Spells text kept → IsTrue whole ↔ IsWhole text kept
     → ¬ IsTrue whole → (password : List ℕ) → ¬ Fits password text
 not_whole-fits_none whole text kept spelled decides lacks password fits = lacks (decides.1 (IsWhole-from_Fits password text kept spelled fits))
@@ -87,7 +87,7 @@ IsWhole-iff_packed text front rest kept packs front_is cut decides =
           decides.1 (subst (IsPacked (method_of kept.scheme)) (sym rest_is) found.1),
     )
 
--- Otherwise it is not whole.
+-- A text that does not begin with its canonical setting and a `$` is not whole.
 pub not_whole-without_front : (text front : List ℕ) (kept : SettingValue) → front ≡ canonical_text kept ++ dollar ∷ []
     → ((rest : List ℕ) → text ≢ front ++ rest) → ¬ IsWhole text kept
 not_whole-without_front text front kept front_is lacks found =

@@ -22,14 +22,15 @@ use Rattle.crypt_core.proofs.CycleLemmas.{digit_bytes-step}
 
 -- ---- the work
 
--- No first byte repeats the salt more often than the greatest byte does.
+-- SHA-crypt's work with any first byte of the digest A is within the work with the greatest byte, which repeats the
+-- salt most often.
 pub shacrypt_work-within : (digest a rounds password salt : ℕ) → a < 256
     → IsWithin (shacrypt_work digest a rounds password salt) (shacrypt_work digest greatest_byte rounds password salt)
 shacrypt_work-within digest a rounds password salt byte =
     let times : (16 + a) * salt ≤ (16 + greatest_byte) * salt = mul-le-mul_right salt (omega arith) in
     record { digests = omega arith; bytes = omega arith; mixes = omega arith; table = omega arith; scratch = omega arith }
 
--- Each count of a hash with scrypt is below the limit.
+-- Each count of a hash with scrypt is below `work_limit`, for parameters and lengths in range.
 pub scrypt_work-below_limit : (params : ScryptParams) (a password salt : ℕ) → IsBounded params → password ≤ password_limit → salt ≤ scrypt_salt_limit
     → IsBelow (work_by (Scrypt params) a password salt) work_limit
 scrypt_work-below_limit params a password salt most password_short salt_short =
@@ -40,7 +41,8 @@ scrypt_work-below_limit params a password salt most password_short salt_short =
 
 -- ---- the bytes for the binary digits of the length
 
--- A number below 2 ^ k has at most k digits.
+-- A number below 2 ^ k has at most k binary digits, so its pieces have at most k * most bytes if each has at most
+-- `most`.
 pub digit_bytes-le-mul_of_below_pow : (k one other most n : ℕ) → one ≤ most → other ≤ most → n < 2 ^ k → digit_bytes one other n ≤ k * most
 digit_bytes-le-mul_of_below_pow k one other most zero one_le other_le below = omega arith
 digit_bytes-le-mul_of_below_pow zero one other most (suc n) one_le other_le below = absurd (omega (arith, below))
@@ -59,7 +61,7 @@ record IsPower (k most : ℕ) : Type 0 where
   single : digit_bytes 1 1 most ≡ k + 1
   wide : 64 ≤ most
 
--- Such a length has one digit more than any smaller one.
+-- A length of 2 ^ k has one binary digit more than any smaller length, so its pieces have no fewer bytes.
 digit_bytes-le-at_power : (k most one n : ℕ) → IsPower k most → one ≤ most → n ≤ most → digit_bytes one n n ≤ digit_bytes one most most
 digit_bytes-le-at_power k most one n is_power small short = elim (cases_order n most) [
   | inl same ↦ rw same (omega arith)

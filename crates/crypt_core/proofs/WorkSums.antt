@@ -34,7 +34,8 @@ div_ceil-le : (n d : ℕ) → 0 < d → div_ceil n d ≤ n
 div_ceil-le zero d some = omega (arith, div-le_self 0 d, mod-le 0 d)
 div_ceil-le (suc n) d some = rw (← add-one n, div_ceil-suc n d some) (omega (arith, div-le_self n d))
 
--- If every round except those that d divides has w bytes: what round n adds.
+-- If every round has w bytes, except for the rounds whose number d divides, which have none, round n adds w bytes or
+-- none.
 unskipped_bytes-more : (n d w : ℕ) → 0 < d
     → (n + 1 - div_ceil (n + 1) d) * w ≡ (n - div_ceil n d) * w + cond (nat_eq (n % d) 0) 0 w
 unskipped_bytes-more n d w some = go (nat_eq (n % d) 0) (div_ceil-more n d some) where
@@ -47,11 +48,11 @@ unskipped_bytes-more n d w some = go (nat_eq (n % d) 0) (div_ceil-more n d some)
       let one : n + 1 - (div_ceil n d + 0) ≡ n - div_ceil n d + 1 = omega (arith, div_ceil-le n d some) in
       rw (e, one) (omega arith)
 
--- What round n adds in all.
+-- Round n adds the bytes of its message to those of the rounds before it.
 rounds_bytes-more : (n x p q : ℕ) → rounds_bytes (n + 1) x p q ≡ rounds_bytes n x p q + round_length n x p q
 rounds_bytes-more n x p q = omega (arith, unskipped_bytes-more n 3 q (omega arith), unskipped_bytes-more n 7 p (omega arith))
 
--- The bytes of the messages before the rounds, and of n rounds.
+-- The messages of n rounds add `rounds_bytes` to the bytes of the messages before the rounds.
 pub sum_by-messages_to_rounds : (message : ℕ → List ℕ) (before x p q : ℕ) → ((i : ℕ) → length (message (i + before)) ≡ round_length i x p q)
     → (n : ℕ) → sum_by length (messages_to message (n + before)) ≡ sum_by length (messages_to message before) + rounds_bytes n x p q
 sum_by-messages_to_rounds message before x p q each zero =

@@ -1,5 +1,5 @@
--- The loop of `salt_of` appends one character in each turn, as `made_salt` does, and all of them are in the alphabet
--- (clause `characters`).
+-- Each iteration of the loop of `salt_of` appends the next character of `made_salt`, and all its characters are in the
+-- alphabet (clause `characters`).
 use Rattle.std.proofs.Common.{arith, rules, refl}
 use Rattle.std.proofs.lemmas.Nat.{and_mask}
 use Rattle.crypt_core.specs.MadeSalts.{made_salt}

@@ -1,4 +1,4 @@
--- The loop of `salt_of`: the salt so far is the generated salt of i characters.
+-- In the loop of `salt_of`, the salt so far is the generated salt of i characters.
 use Rattle.std.proofs.Common.{◌≡◌}
 use Rattle.arrayvec.specs.ArrayVec.{array_vec_len}
 use Rattle.crypt_core.specs.MadeSalts.{made_salt}

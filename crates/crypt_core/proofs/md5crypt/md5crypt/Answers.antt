@@ -1,7 +1,7 @@
--- The clauses of `md5crypt`. The rounds keep three facts (Invariants): the digest is that of the definition, the meter
--- has counted the messages so far, and their bytes are bounded so that no count overflows. `parts-init` shows them
--- after the opening and `rounds-preserved` after each round. At the end Md5cryptLemmas turns the counted messages into
--- the closed form of the work.
+-- The clauses of `md5crypt`. The rounds keep four facts (`IsAfter` in Invariants): the digest is that of the
+-- definition, it has 16 bytes, the meter has counted the messages so far, and their bytes are bounded so that no count
+-- overflows. `parts-init` shows these facts before the first round and `rounds-preserved` after each round. At the end
+-- Md5cryptLemmas turns the counted messages into the closed form of the work.
 use Rattle.std.proofs.Common.{◌≡◌, ◌+◌, ◌*◌, length, arith, refl, sym, ◌∙◌, ap}
 use Rattle.prims_core.specs.Digests.{length-md5, md5}
 use Rattle.crypt_core.specs.Md5crypt.{md5crypt_digest, md5crypt_opening, opening_message}
@@ -14,7 +14,7 @@ use Rattle.crypt_core.proofs.MessageLists.{digest_after-more, digest_after-zero,
 use Rattle.crypt_core.proofs.CountSums.{with_digests-with_work, with_digests-push, with_digests-two}
 use Rattle.crypt_core.proofs.md5crypt.md5crypt.Goals as goal
 
--- After the opening: the digest, its length, the two counted messages, and the bound on their bytes.
+-- Shows the four facts of `IsAfter` before the first round, when the meter has counted the first two messages.
 pub parts-init : goal.parts-init
 parts-init c =
     let p = c.args.password.now in
@@ -37,7 +37,8 @@ round-requires-clause-digests_room c =
     let digests = ap (λ m. m.digests) c.rounds.invariant.2 in
     omega (arith, digests, length-messages_to (md5crypt_message c.args.password.now c.args.salt.now) (c.rounds.i + 2), c.requires.room.0)
 
--- After one more round, the same four facts. `message_is` says that the code's message is that of the definition.
+-- Shows the four facts of `IsAfter` after one more round. `message_is` says that the code's message is that of the
+-- definition.
 pub rounds-preserved : goal.rounds-preserved
 rounds-preserved c =
     let p = c.args.password.now in

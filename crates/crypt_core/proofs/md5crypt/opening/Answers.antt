@@ -1,5 +1,5 @@
--- The clause `count` of `opening` in src/md5crypt.rt, and that feeding the last piece overflows no count. The five
--- pieces are added up one by one (CountSums), and their lengths sum to that of `opening_message`.
+-- The clause `count` of `opening` in src/md5crypt.rt, and that feeding the last piece overflows no count. The lengths
+-- of the five pieces are added up one by one (CountSums), and their sum is the length of `opening_message`.
 use Rattle.std.proofs.Common.{◌≡◌, ℕ, List, [], ◌∷◌, length, take, arith, refl, ◌∙◌, ap}
 use Rattle.std.proofs.lemmas.List.{take_min}
 use Rattle.std.proofs.Math.Nat.{min_comm}
@@ -13,7 +13,8 @@ use Rattle.crypt_core.proofs.MessageLists.{length-alternate_message}
 use Rattle.crypt_core.proofs.CountSums.{bytes-add_add, with_digest-from_counts}
 use Rattle.crypt_core.proofs.md5crypt.opening.Goals as goal
 
--- The code's `min` takes the first byte of the password, or nothing of an empty one.
+-- Taking as many bytes as the smaller of the password's length and 1 takes its first byte, or nothing of an empty
+-- password.
 take-min_one : (p : List ℕ) (n : ℕ) → n ≡ min (length p) 1 → take n p ≡ take 1 p
 take-min_one p n n_is_min = rw (n_is_min, min_comm (length p) 1) (take_min 1 p)
 

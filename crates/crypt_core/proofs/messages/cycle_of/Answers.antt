@@ -1,4 +1,4 @@
--- The loop of `cycle_of` appends byte i mod length of the digest, as `cycle` defines it, and never exceeds the
+-- The loop of `cycle_of` appends byte number i mod the digest's length, as `cycle` defines it, and never exceeds the
 -- capacity.
 use Rattle.std.proofs.Common.{◌∙◌, length, arith, sym, ap, [], ◌++◌, ◌∷◌, get_or, ◌%◌}
 use Rattle.crypt_core.proofs.CycleLemmas.{cycle-more, cycle-zero, length-cycle}

@@ -1,4 +1,4 @@
--- The loop of `cycle_of`: the bytes so far are the first i bytes of the repeated digest.
+-- In the loop of `cycle_of`, the bytes so far are the first i bytes of the repeated digest.
 use Rattle.std.proofs.Common.{◌≡◌}
 use Rattle.crypt_core.specs.Cycle.{cycle}
 use Rattle.crypt_core.proofs.messages.cycle_of.Given as goal

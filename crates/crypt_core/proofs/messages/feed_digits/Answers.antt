@@ -1,6 +1,7 @@
--- The clauses `message` and `count` of `feed_digits`. Each turn of the loop feeds the piece of the lowest digit and
--- halves the number; `digit_pieces` splits in the same way (CycleLemmas), so what was fed and what is left are always
--- all pieces. The precondition bounds all of them, so no feed overflows the count.
+-- The clauses `message` and `count` of `feed_digits`. Each iteration of the loop feeds the piece for the lowest binary
+-- digit and halves the number. `digit_pieces` splits in the same way (CycleLemmas), so the pieces that were fed and
+-- those of the number that is left are always all pieces. The precondition bounds the bytes of all pieces, so no feed
+-- overflows the count.
 use Rattle.std.proofs.Common.{◌≡◌, ℕ, ◌/◌, ◌%◌, List, [], ◌++◌, length, arith, refl, sym, ◌∙◌, ap, append_assoc, rules}
 use Rattle.std.proofs.lemmas.List.{append-nil, length-append}
 use Rattle.crypt_core.specs.Cycle.{by_digit, digit_pieces}
@@ -47,7 +48,7 @@ digits-preserved g c =
       bytes-add_add c.args.meter.now c.digits.meter c.feed.new.meter _ _ _ c.digits.invariant.3 c.feed.ensures.count (sym (length-append fed piece)),
     )
 
--- Once the number is 0, all pieces have been fed.
+-- Once the number that is left is 0, all pieces have been fed.
 append-digit_pieces_none_left : (one other fed all : List ℕ) (n : ℕ) → n ≡ 0 → fed ++ digit_pieces one other n ≡ all → fed ≡ all
 append-digit_pieces_none_left one other fed all n none e =
     sym (append-nil fed) ∙ (ap (λ rest. fed ++ rest) (sym (digit_pieces-zero one other)) ∙ (ap (λ k. fed ++ digit_pieces one other k) (sym none) ∙ e))

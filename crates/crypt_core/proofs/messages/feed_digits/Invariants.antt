@@ -6,8 +6,8 @@ use Rattle.crypt_core.proofs.messages.feed_digits.Given as goal
 abbrev pub decreases-digits : goal.decreases-digits
 decreases-digits g l = l.rest
 
--- There are bytes `fed` that have been fed and counted; with the pieces of the digits that are left, they are the
--- pieces of the whole number.
+-- Some bytes `fed` have been fed and counted. Followed by the pieces for the digits that are left, they are the pieces
+-- for all digits of the number.
 abbrev pub invariant-digits : goal.invariant-digits
 invariant-digits g l =
     (fed : List ℕ)

@@ -1,4 +1,4 @@
--- The loop of `feed_repeated` feeds one more copy in each turn and counts its bytes.
+-- Each iteration of the loop of `feed_repeated` feeds one more copy of the piece and counts its bytes.
 use Rattle.std.proofs.Common.{◌≡◌, ◌+◌, ◌*◌, length, arith, append_assoc}
 use Rattle.std.proofs.lemmas.List.{append-nil}
 use Rattle.crypt_core.proofs.CycleLemmas.{repeat-more}

@@ -1,4 +1,4 @@
--- The loop of `feed_repeated`: as many copies as there were turns have been fed and counted.
+-- In the loop of `feed_repeated`, as many copies of the piece have been fed and counted as there were iterations.
 use Rattle.std.proofs.Common.{◌≡◌, ℕ, ◌+◌, ◌*◌, List, ◌++◌, length}
 use Rattle.std.specs.List.{repeat}
 use Rattle.crypt_core.proofs.messages.feed_repeated.Given as goal

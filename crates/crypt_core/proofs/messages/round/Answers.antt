@@ -1,5 +1,5 @@
--- The two feeds of `round` don't overflow the count of bytes: the pieces together are the round's message, whose length
--- the precondition `bytes_room` bounds.
+-- The two calls of `feed` in `round` don't overflow the count of bytes: what they feed is the round's message, whose
+-- length the precondition `bytes_room` bounds.
 use Rattle.std.proofs.Common.{◌≡◌, ◌+◌, ◌*◌, ◌≤◌, ◌++◌, List, ℕ, length, arith, ap}
 use Rattle.std.proofs.lemmas.List.{length-append}
 use Rattle.crypt_core.specs.RoundMessage.{round_message}

@@ -1,4 +1,5 @@
--- The loop of `append_packed`: the text so far and the packed groups that are left make the whole result.
+-- In the loop of `append_packed`, the text so far, followed by the packed form of the groups that are left, is the
+-- whole result.
 use Rattle.std.proofs.Common.{◌≡◌, ◌++◌, drop}
 use Rattle.crypt_core.proofs.PackingLemmas.{packed_by}
 use Rattle.crypt_core.specs.Private.Groups.{groups_in}

@@ -1,5 +1,5 @@
--- No step of `number_of` overflows 32 bits: a group has at most three places, and the number so far has a byte for each
--- place so far.
+-- No step of `number_of` overflows 32 bits: a group has at most three indices, and the number so far has one byte for
+-- each index so far.
 use Rattle.std.proofs.Common.{arith, get_or}
 use Rattle.crypt_core.proofs.PackingLemmas.{two_bytes-below_65536, length-from_IsGroup}
 use Rattle.crypt_core.proofs.pack.number_of.Goals as goal

@@ -1,4 +1,5 @@
--- The loop of `number_of`: the number so far is that of the places so far, and has no more bytes than there are places.
+-- In the loop of `number_of`, the number so far is made of the bytes at the indices so far, and has no more bytes than
+-- there are such indices.
 use Rattle.std.proofs.Common.{◌≡◌, ◌^◌, ◌<◌, take}
 use Rattle.crypt_core.proofs.pack.number_of.Given as goal
 use Rattle.crypt_core.specs.Packing.{group_number}

@@ -1,5 +1,5 @@
--- The loop of `same_bytes` keeps its invariant for one more byte, and after the last one its result is that of `==`
--- (SameBytes).
+-- Each iteration of the loop of `same_bytes` keeps the invariant, and after the last byte the function's result is that
+-- of `==` (SameBytes).
 use Rattle.std.proofs.Common.{◌≡◌, length, arith}
 use Rattle.crypt_core.proofs.SameBytes.{differ-zero_is_bytes_eq, differ-zero_iff_fronts_equal}
 use Rattle.crypt_core.proofs.same.same_bytes.Goals as goal

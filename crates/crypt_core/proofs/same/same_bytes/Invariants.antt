@@ -1,4 +1,4 @@
--- The loop of `same_bytes`: `differ` is 0 exactly if the bytes so far are equal.
+-- In the loop of `same_bytes`, `differ` is 0 exactly if the bytes compared so far are equal.
 use Rattle.std.proofs.Common.{◌≡◌, ◌↔◌, take}
 use Rattle.crypt_core.proofs.same.same_bytes.Given as goal
 

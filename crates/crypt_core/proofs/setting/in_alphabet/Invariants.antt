@@ -1,4 +1,4 @@
--- The loop of `in_alphabet`: the bytes so far are characters of the alphabet.
+-- In the loop of `in_alphabet`, the bytes seen so far are characters of the alphabet.
 use Rattle.std.specs.Prelude.{Contains}
 use Rattle.prims_core.specs.Alphabet.{alphabet}
 use Rattle.std.proofs.Common.{All, take}

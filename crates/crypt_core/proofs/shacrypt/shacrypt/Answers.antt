@@ -1,7 +1,7 @@
--- The clauses of `shacrypt`. The rounds keep three facts (Invariants): the digest is that of the specification, the
--- meter has counted the messages so far, and their bytes are bounded so that no count overflows. `rounds-init` shows
--- them after the four messages before the rounds and `rounds-preserved` after each round. At the end ShaCryptLemmas
--- turns the counted messages into the closed form of the work.
+-- The clauses of `shacrypt`. The rounds keep four facts (Invariants): the digest is that of the specification, it has
+-- `H.LEN` bytes, the meter has counted the messages so far, and their bytes are bounded so that no count overflows.
+-- `rounds-init` shows these facts before the first round and `rounds-preserved` after each round. At the end
+-- ShaCryptLemmas turns the counted messages into the closed form of the work.
 use Rattle.crypt_core.specs.Work.{greatest_byte}
 use Rattle.crypt_core.specs.Passwords.{password_limit}
 use Rattle.std.proofs.Common.{◌≡◌, ℕ, List, ◌+◌, ◌≤◌, length, drop, get_or, arith, refl, sym, ◌∙◌, ap}
@@ -26,7 +26,7 @@ string_of-password_string-requires-clause-bytes_room g c =
     let password_short : length p ≤ password_limit = omega (arith, ap length c.bytes-password.ensures.value, c.bytes-password.ensures.password.0) in
     omega (arith, ap (λ m. m.bytes) c.opening-digest.ensures.count, start_bytes-le-start_limit h g.H.Counted.LEN g.met.H.Counted.length_digest p s 0 g.met.H.Counted.at_most_64 password_short c.requires.salt (omega arith), c.requires.room.1)
 
--- Nor does digesting the salt 16 + A[0] times, where A[0] is a byte.
+-- Digesting the salt 16 + A[0] times, where A[0] is a byte, overflows no count.
 pub string_of-salt_string-requires-clause-bytes_room : goal.string_of-salt_string-requires-clause-bytes_room
 string_of-salt_string-requires-clause-bytes_room g c =
     let h = g.H.Counted.digest in
@@ -64,8 +64,7 @@ new-strings-requires g c =
       c.requires.salt,
     )
 
--- After the four messages before the rounds: the digest, its length, the counted messages, and the bound on their
--- bytes.
+-- Shows the four facts that the rounds keep before the first round, when the meter has counted the first four messages.
 pub rounds-init : goal.rounds-init
 rounds-init g c =
     let h = g.H.Counted.digest in
@@ -136,8 +135,8 @@ returns-clause-specified g c =
 refill-whole : (old new : List ℕ) → length new ≡ length old → refill (length old) old new ≡ new
 refill-whole old new same = take_at new (drop (length new) old) (length old) same
 
--- After one more round, the same four facts. `message_is` says that the code's message, with its strings for P and S,
--- is that of the specification.
+-- Shows the four facts that the rounds keep after one more round. `message_is` says that the code's message, with its
+-- strings for P and S, is that of the specification.
 pub rounds-preserved : goal.rounds-preserved
 rounds-preserved g c =
     let h = g.H.Counted.digest in

@@ -1,5 +1,5 @@
--- The loop of `shacrypt`: the digest is that before round i, and the meter has counted the messages so far, whose bytes
--- are bounded.
+-- In the loop of `shacrypt`, the digest is the one before round i, and the meter has counted the messages so far, whose
+-- bytes are bounded.
 use Rattle.std.proofs.Common.{◌≡◌, ◌+◌, ◌*◌, ◌≤◌, length}
 use Rattle.crypt_core.specs.Messages.{sha_digest_before, shacrypt_message}
 use Rattle.crypt_core.proofs.CountSums.{with_digests}

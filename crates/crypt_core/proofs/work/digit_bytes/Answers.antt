@@ -1,5 +1,6 @@
--- The loop of `digit_bytes` in src/work.rt adds the bytes of the lowest digit and halves the number, as `digit_bytes`
--- does; the sum is at most the number times the longer piece, so nothing overflows (CycleLemmas).
+-- The loop of `digit_bytes` in src/work.rt adds the bytes for the lowest binary digit and halves the number, as the
+-- definition `digit_bytes` does. The sum is at most the number times the greater of `one` and `other`, so nothing
+-- overflows (CycleLemmas).
 use Rattle.std.proofs.Common.{◌≡◌, ℕ, arith, ap, ◌∙◌}
 use Rattle.crypt_core.specs.Passwords.{password_limit}
 use Rattle.crypt_core.specs.Cycle.{digit_bytes}
@@ -16,7 +17,7 @@ pub digits-preserved : goal.digits-preserved
 digits-preserved c =
     omega (arith, c.piece_bytes-bytes.ensures, digit_bytes-step c.args.one c.args.other c.digits.rest c.digits-test.true, c.digits.invariant)
 
--- Without digits there are no bytes.
+-- The number 0 has no binary digits, so there are no bytes for them.
 digit_bytes-none_left : (one other n : ℕ) → n ≡ 0 → digit_bytes one other n ≡ 0
 digit_bytes-none_left one other n none = ap (digit_bytes one other) none ∙ digit_bytes-zero one other
 

@@ -1,4 +1,4 @@
--- The loop of `RoundStrings::new`: the joined string so far consists of the pieces so far.
+-- In the loop of `RoundStrings::new`, the joined string so far consists of the strings appended so far.
 use Rattle.std.proofs.Common.{◌≡◌, flat_map, take}
 use Rattle.crypt_core.proofs.messages.RoundStrings.new.Given as goal
 

@@ -1,5 +1,5 @@
--- The clauses of `Scheme::fitted` for the case that the policy's own scheme costs more than the limit. All of them are
--- statements on `fewer_rounds`, which FittedRounds shows.
+-- The clauses of `Scheme::fitted` for the case that the policy's own scheme costs more than the limit. The clauses then
+-- state what FittedRounds shows of `fewer_rounds`.
 use Rattle.std.proofs.Common.{◌<◌, Option, Some, None, arith}
 use Rattle.std.specs.Prelude.{IfSome}
 use Rattle.crypt_core.specs.Policies.{new_cost}
@@ -7,7 +7,7 @@ use Rattle.crypt_core.specs.declared.scheme.Scheme.{Scheme}
 use Rattle.crypt_core.proofs.FittedRounds.{is_outdated_by-fewer_rounds, fewer_rounds-within_limit, IfNone-fewer_rounds, IsSome-fewer_rounds}
 use Rattle.crypt_core.proofs.scheme.Scheme.fitted.Goals as goal
 
--- If some scheme has both properties, it has each.
+-- If the scheme in an option has two properties, it has the first of them.
 IfSome-first : (P Q : Scheme → Type 0) (fewer : Option Scheme) → IfSome fewer (λ s. P s × Q s) → IfSome fewer P
 IfSome-first P Q (Some s) both = both.0
 IfSome-first P Q None both = tt

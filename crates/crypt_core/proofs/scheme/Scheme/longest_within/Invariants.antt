@@ -1,4 +1,5 @@
--- The binary search of `Scheme::longest_within`, which halves the distance of its two ends.
+-- The binary search of `Scheme::longest_within` ends because each step halves the distance between `within` and
+-- `above`.
 use Rattle.std.proofs.Common.{◌+◌, ◌-◌, ◌<◌, ◌≤◌}
 use Rattle.crypt_core.specs.Passwords.{password_limit}
 use Rattle.crypt_core.specs.Policies.{new_cost}

@@ -9,7 +9,7 @@ use Rattle.crypt_core.proofs.CanonicalSpells.{canonical_spells, setting_canonica
 use Rattle.crypt_core.proofs.EachMethod.{length-prefix}
 use Rattle.crypt_core.proofs.setting.Setting.text.Goals as goal
 
--- The length of the text once all three parts are in it.
+-- The text's length once it has the prefix of three bytes, the cost part and the salt.
 length-three_parts : (cost salt begun costed salted whole : List ℕ) → length begun ≡ 3 → costed ≡ begun ++ cost → salted ≡ salt → whole ≡ costed ++ salted → length whole ≡ 3 + (length cost + length salt)
 length-three_parts cost salt begun costed salted whole begins with_cost is_salt with_salt =
     omega (arith, begins, ap length with_cost, ap length is_salt, ap length with_salt, length-append begun cost, length-append costed salted)

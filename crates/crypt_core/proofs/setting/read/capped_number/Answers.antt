@@ -1,5 +1,5 @@
--- The loop of `capped_number`: capping after one more digit equals capping the number of all digits so far
--- (ParsedParts).
+-- The loop of `capped_number` keeps its invariant: capping after one more digit equals capping the number of all digits
+-- so far (ParsedParts).
 use Rattle.crypt_core.specs.Rounds.{max_rounds}
 use Rattle.std.proofs.Common.{ℕ, ◌+◌, ◌*◌, get_or, refl, ap, ◌∙◌}
 use Rattle.std.specs.Prelude.{min}

@@ -1,4 +1,4 @@
--- The loop of `capped_number`: the number so far is that of the digits so far, or the most rounds if that is greater.
+-- In the loop of `capped_number`, the number so far is what the digits so far spell, but at most `max_rounds`.
 use Rattle.crypt_core.specs.Rounds.{max_rounds}
 use Rattle.std.proofs.Common.{◌≡◌, take}
 use Rattle.std.specs.Prelude.{min}

@@ -1,5 +1,6 @@
--- The clauses `none` and `some` of `number_at`: the text has one field up to its first `$`, so without a `$`, or with
--- other digits in the field, it has no number, and otherwise this is the number (ParsedParts).
+-- The clauses `none` and `some` of `number_at`: the text has one field, up to its first `$`. Without a `$`, or if the
+-- field is not a number, the text does not begin with a number and a `$`; otherwise the field is that number
+-- (ParsedParts).
 use Rattle.std.proofs.Common.{◌≡◌, true, take, arith, rules}
 use Rattle.crypt_core.proofs.ParsedParts.{LacksNumber-no_dollar, LacksNumber-bad_digits, append-number_dollar_rest}
 use Rattle.crypt_core.proofs.setting.read.number_at.Goals.{then-end-field-via-then-end-field, then-end-field-via-else-end-field+then-not-is_rounds_number}

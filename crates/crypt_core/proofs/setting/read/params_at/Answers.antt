@@ -1,5 +1,5 @@
--- The clause `err` of `params_at`: the text fails at the stage for missing characters, for the range, or for the
--- ceiling (FirstRefusal).
+-- The clause `err` of `params_at`: the text fails first at the stage `BadCost` if characters are missing, at
+-- `ScryptRange` if the numbers are out of range, or at `AboveCeiling` (FirstRefusal).
 use Rattle.kdf_core.specs.Params.{scrypt_params}
 use Rattle.crypt_core.proofs.FirstRefusal.{refused_bad_cost, refused_scrypt_range, refused_above_ceiling, SpellsScheme-scrypt}
 use Rattle.crypt_core.proofs.setting.read.params_at.Goals as goal

@@ -1,5 +1,5 @@
--- `append_decimal` appends `decimal` of its number: one digit below 10, and otherwise the digits of the tenth, by the
--- recursive call, and then the last one (DecimalDigits).
+-- `append_decimal` appends `decimal` of its number: one digit for a number below 10, and otherwise the digits of a
+-- tenth of it, by the recursive call, and then its last digit (DecimalDigits).
 use Rattle.std.proofs.Common.{◌/◌, length, ap, length-append, arith}
 use Rattle.std.specs.Prelude.{decimal}
 use Rattle.crypt_core.proofs.DecimalDigits.{length-decimal_digit, length-decimal_step, append-decimal_digit, append-decimal_step}

@@ -1,4 +1,4 @@
--- The clause `fits` of `StoredHash::matches`, from the comparison of the hash with the stored one.
+-- The clause `fits` of `StoredHash::matches` follows from the comparison of the password's hash with the stored one.
 use Rattle.std.proofs.Common.{◌≡◌, ◌∙◌, sym, ap, IsTrue}
 use Rattle.std.specs.Bool.{Decides}
 use Rattle.std.proofs.lemmas.Slice.Eq.{bytes_eq-Decides}
