@@ -69,8 +69,7 @@ impl Setting {
         self.scheme
     }
 
-    /// Returns the salt that the method keeps, as the setting spells it, without decoding it. It has no more bytes than
-    /// the method keeps.
+    /// Returns the salt as the setting spells it, not decoded. It has no more bytes than the method keeps.
     pub fn salt(&self) -> &[u8]
         ensures kept { result.now ≡ self.now.salt }
         ensures short { length result.now ≤ salt_limit (method_of self.now.scheme) }

@@ -16,9 +16,10 @@ pub enum SettingFault {
     BadCharacter,
     /// The string begins with none of `$1$`, `$5$`, `$6$` and `$7$`.
     UnknownScheme,
-    /// `rounds=` follows SHA-crypt's prefix, but no number and `$` come after it. A number begins with one of 1 to 9.
+    /// `rounds=` follows SHA-crypt's prefix, but no number and `$` come after it. A number begins with a digit from 1
+    /// to 9.
     BadRounds,
-    /// Fewer than 11 characters of crypt's alphabet follow scrypt's prefix; its cost part has 11.
+    /// Fewer than 11 characters of crypt's alphabet follow scrypt's prefix; scrypt's cost part has 11.
     BadCost,
     /// N, r or p is outside scrypt's range (RFC 7914, section 2): log2 N, r or p is 0, or log2 N is 16r or more.
     ScryptRange,
