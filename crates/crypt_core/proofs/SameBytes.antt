@@ -1,6 +1,6 @@
 -- Lemmas for `same_bytes` in src/same.rt. The loop keeps in `differ` the OR of all byte differences so far;
--- `differ-zero_iff_fronts_equal` shows that it stays 0 exactly if the fronts so far are equal, and
--- `differ-zero_is_bytes_eq` that after the last byte this is the result of `==`.
+-- `differ-zero_iff_fronts_equal` shows that `differ` is 0 exactly if the bytes so far are equal, and
+-- `differ-zero_is_bytes_eq` that after the last byte, testing `differ` for 0 gives the result of `==`.
 use Rattle.std.proofs.Common.{◌≡◌, ◌<◌, ◌≤◌, ◌+◌, ◌∙◌, ◌↔◌, ℕ, nat_eq, List, take, length, get_or, bit_or, bit_xor, bytes_eq, refl, sym, ap, arith}
 use Rattle.std.specs.Cmp.{unsigned_Decides}
 use Rattle.std.proofs.lemmas.Bool.Decides.{same_from_decides}

@@ -1,5 +1,5 @@
--- The clause `metered` of `digest_of` for SHA-crypt: the meter rises by the work of the hash, and the bytes digested
--- stay within the cost (BytesWithinCost).
+-- Proves the clause `metered` of `digest_of` for SHA-crypt: the meter rises by the work of the hash, and the bytes
+-- digested stay within the cost (BytesWithinCost).
 use Rattle.std.proofs.Common.{rules, ◌≡◌, arith}
 use Rattle.crypt_core.specs.Work.{raised_by, work}
 use Rattle.crypt_core.proofs.BytesWithinCost.{work_bytes-le-cost}

@@ -1,5 +1,5 @@
--- The clauses `text` and `spells` of `hash_by`. The text is put together as `crypt` defines it: the canonical setting,
--- a `$`, and the packed digest. Such a text spells its setting (HashedTexts).
+-- Proves the clauses `text` and `spells` of `hash_by`. The text is put together as `crypt` defines it: the canonical
+-- setting, a `$`, and the packed digest. Such a text spells its setting (HashedTexts).
 use Rattle.std.proofs.Common.{◌∷◌, List, [], ℕ, append_assoc, sym, subst, ◌∙◌}
 use Rattle.crypt_core.specs.Crypt.{crypt, digest_by}
 use Rattle.crypt_core.specs.Settings.{Spells, canonical_text, dollar}

@@ -1,5 +1,5 @@
--- The clause `each` of `hash_len`: the lengths of the canonical setting, the `$` and the packed digest add up to the
--- length of the hash of every password (HashedTexts).
+-- Proves the clause `each` of `hash_len`: the lengths of the canonical setting, the `$` and the packed digest add up to
+-- the length of the hash of every password (HashedTexts).
 use Rattle.crypt_core.proofs.HashedTexts.{length-crypt}
 use Rattle.crypt_core.proofs.hash.hash_len.Goals as goal
 

@@ -1,4 +1,4 @@
--- The clauses of `md5crypt`. The rounds keep four facts (`IsAfter` in Invariants): the digest is that of the
+-- Proves the clauses of `md5crypt`. The rounds keep four facts (`IsAfter` in Invariants): the digest is that of the
 -- definition, it has 16 bytes, the meter has counted the messages so far, and their bytes are bounded so that no count
 -- overflows. `parts-init` shows these facts before the first round and `rounds-preserved` after each round. At the end
 -- Md5cryptLemmas turns the counted messages into the closed form of the work.

@@ -1,5 +1,5 @@
--- The clause `count` of `opening` in src/md5crypt.rt, and that feeding the last piece overflows no count. The lengths
--- of the five pieces are added up one by one (CountSums), and their sum is the length of `opening_message`.
+-- Proves the clause `count` of `opening` in src/md5crypt.rt, and that feeding the last piece overflows no count. The
+-- lengths of the five pieces are added up one by one (CountSums), and their sum is the length of `opening_message`.
 use Rattle.std.proofs.Common.{◌≡◌, ℕ, List, [], ◌∷◌, length, take, arith, refl, ◌∙◌, ap}
 use Rattle.std.proofs.lemmas.List.{take_min}
 use Rattle.std.proofs.Math.Nat.{min_comm}

@@ -1,7 +1,7 @@
--- The clauses `message` and `count` of `feed_digits`. Each iteration of the loop feeds the piece for the lowest binary
--- digit and halves the number. `digit_pieces` splits in the same way (CycleLemmas), so the pieces that were fed and
--- those of the number that is left are always all pieces. The precondition bounds the bytes of all pieces, so no feed
--- overflows the count.
+-- Proves the clauses `message` and `count` of `feed_digits`. Each iteration of the loop feeds the piece for the lowest
+-- binary digit and halves the number. `digit_pieces` splits in the same way (CycleLemmas), so the pieces that were fed
+-- and those of the number that is left are always all pieces. The precondition bounds the bytes of all pieces, so no
+-- feed overflows the count.
 use Rattle.std.proofs.Common.{◌≡◌, ℕ, ◌/◌, ◌%◌, List, [], ◌++◌, length, arith, refl, sym, ◌∙◌, ap, append_assoc, rules}
 use Rattle.std.proofs.lemmas.List.{append-nil, length-append}
 use Rattle.crypt_core.specs.Cycle.{by_digit, digit_pieces}

@@ -1,5 +1,6 @@
--- The clause of `is_packed` at each of its returns: a text with another length than the method's, or with a character
--- outside the alphabet, is not packed; for any other text, the value of the last character decides (PackedTexts).
+-- Proves the clause of `is_packed` at each of its returns: a text with another length than the method's, or with a
+-- character outside the alphabet, is not packed; for any other text, the value of the last character decides
+-- (PackedTexts).
 use Rattle.std.proofs.Common.{◌≡◌, length, sym, ◌∙◌}
 use Rattle.std.proofs.lemmas.Bool.{lt-ltb, ltb-true}
 use Rattle.crypt_core.specs.MethodLimits.{packed_len}

@@ -1,5 +1,5 @@
--- The clause `count` of `opening` in src/shacrypt.rt, and that feeding the last piece overflows no count. The lengths
--- of the four pieces are added up one by one (CountSums), and their sum is the length of `sha_opening_message`.
+-- Proves the clause `count` of `opening` in src/shacrypt.rt, and that feeding the last piece overflows no count. The
+-- lengths of the four pieces are added up one by one (CountSums), and their sum is the length of `sha_opening_message`.
 use Rattle.crypt_core.specs.Passwords.{password_limit}
 use Rattle.std.proofs.Common.{◌≤◌, length, arith, refl, ◌∙◌, ap}
 use Rattle.crypt_core.specs.RoundMessage.{alternate_message}

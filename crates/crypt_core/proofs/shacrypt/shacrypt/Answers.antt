@@ -1,6 +1,6 @@
--- The clauses of `shacrypt`. The rounds keep four facts (Invariants): the digest is that of the specification, it has
--- `H.LEN` bytes, the meter has counted the messages so far, and their bytes are bounded so that no count overflows.
--- `rounds-init` shows these facts before the first round and `rounds-preserved` after each round. At the end
+-- Proves the clauses of `shacrypt`. The rounds keep four facts (Invariants): the digest is that of the specification,
+-- it has `H.LEN` bytes, the meter has counted the messages so far, and their bytes are bounded so that no count
+-- overflows. `rounds-init` shows these facts before the first round and `rounds-preserved` after each round. At the end
 -- ShaCryptLemmas turns the counted messages into the closed form of the work.
 use Rattle.crypt_core.specs.Work.{greatest_byte}
 use Rattle.crypt_core.specs.Passwords.{password_limit}

@@ -1,4 +1,4 @@
--- The clause `count` of `string_of`: the repeated piece is fed and digested as one message.
+-- Proves the clause `count` of `string_of`: the repeated piece is fed and digested as one message.
 use Rattle.std.proofs.Common.{sym}
 use Rattle.crypt_core.proofs.CycleLemmas.{length-repeat}
 use Rattle.crypt_core.proofs.CountSums.{with_digest-from_counts}

@@ -1,4 +1,5 @@
--- The clause `bound` of `md5crypt_bound`: the numbers that the code adds up are those that `md5crypt_work` adds up.
+-- Proves the clause `bound` of `md5crypt_bound`: the numbers that the code adds up are those that `md5crypt_work` adds
+-- up.
 use Rattle.crypt_core.specs.Messages.{md5crypt_rounds}
 use Rattle.std.proofs.Common.{◌≡◌, ◌+◌, ap₂, ◌∙◌, arith}
 use Rattle.crypt_core.specs.Work.{digests_alone}

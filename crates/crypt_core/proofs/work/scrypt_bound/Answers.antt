@@ -1,5 +1,5 @@
--- The clause `below` of `scrypt_bound`: each count is below `work_limit` for accepted parameters and lengths in range
--- (WorkBounds).
+-- Proves the clause `below` of `scrypt_bound`: each count is below `work_limit` for accepted parameters and lengths in
+-- range (WorkBounds).
 use Rattle.crypt_core.proofs.WorkBounds.{scrypt_work-below_limit}
 use Rattle.crypt_core.proofs.work.scrypt_bound.Goals as goal
 

@@ -1,5 +1,5 @@
--- The clause `never_passed` of `shacrypt_bound`: the first byte of the digest A is at most 255, which the bound takes
--- (WorkBounds).
+-- Proves the clause `never_passed` of `shacrypt_bound`: the first byte of the digest A is at most 255, which the bound
+-- takes (WorkBounds).
 use Rattle.std.proofs.Common.{◌≡◌, subst, sym, rules}
 use Rattle.prims_core.specs.declared.meter.Work.{Work}
 use Rattle.crypt_core.specs.ShaCrypt.{sha_opening_byte}

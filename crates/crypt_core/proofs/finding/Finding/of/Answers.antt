@@ -1,6 +1,6 @@
--- The clauses `finds` and `judges` of `Finding::of`, for a field that is a stored hash and for one that has an error. A
--- field has at most one reading, so the finding for the setting that was read is the one for every setting that it
--- spells (JudgedHashes), and a field with an error spells none.
+-- Proves the clauses `finds` and `judges` of `Finding::of`, for a field that is a stored hash and for one that has an
+-- error. A field has at most one reading, so the finding for the setting that was read is the one for every setting
+-- that it spells (JudgedHashes), and a field with an error spells none.
 use Rattle.std.proofs.Common.{ℕ, List, Ok, Err, subst}
 use Rattle.crypt_core.specs.Findings.{JudgesHash}
 use Rattle.crypt_core.specs.Readings.{IsFieldReading, IsReadOneWay}

@@ -1,5 +1,5 @@
--- The clauses of `Scheme::fitted` for the case that the policy's own scheme costs more than the limit. The clauses then
--- state what FittedRounds shows of `fewer_rounds`.
+-- Proves the clauses of `Scheme::fitted` for the case that the policy's own scheme costs more than the limit. The
+-- clauses then state what FittedRounds shows of `fewer_rounds`.
 use Rattle.std.proofs.Common.{◌<◌, Option, Some, None, arith}
 use Rattle.std.specs.Prelude.{IfSome}
 use Rattle.crypt_core.specs.Policies.{new_cost}

@@ -1,6 +1,6 @@
--- The clause of `Scheme::longest_within`. The cost grows with the length (CostGrowth), so when the binary search ends
--- with `above` right after `within`, exactly the lengths up to `within` cost at most the limit; and if even the empty
--- password costs more, every password does.
+-- Proves the clause of `Scheme::longest_within`. The cost grows with the length (CostGrowth), so when the binary search
+-- ends with `above` right after `within`, exactly the lengths up to `within` cost at most the limit; and if even the
+-- empty password costs more, every password does.
 use Rattle.std.proofs.Common.{◌≡◌, ℕ, ◌+◌, ◌<◌, ◌≤◌, inl, inr, arith}
 use Rattle.std.specs.Prelude.{◌↔◌}
 use Rattle.std.proofs.lemmas.Bool.{cases_lt}

@@ -1,5 +1,5 @@
--- The clause `admits` of `Scheme::policy_limit`: the limit covers a check of the empty password against every hash with
--- the scheme (EmptyPasswordCost).
+-- Proves the clause `admits` of `Scheme::policy_limit`: the limit covers a check of the empty password against every
+-- hash with the scheme (EmptyPasswordCost).
 use Rattle.std.proofs.Common.{◌≡◌, ◌≤◌, length, subst}
 use Rattle.crypt_core.specs.Policies.{policy_limit}
 use Rattle.crypt_core.specs.Work.{cost}

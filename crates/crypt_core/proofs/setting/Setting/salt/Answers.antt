@@ -1,5 +1,5 @@
--- The clause `short` of `Setting::salt`: a setting is spelled by some text, so its salt is no longer than the method
--- keeps (CanonicalSpells).
+-- Proves the clause `short` of `Setting::salt`: a setting is spelled by some text, so its salt is no longer than the
+-- method keeps (CanonicalSpells).
 use Rattle.std.proofs.Common.{◌≤◌, ap, arith, length, subst}
 use Rattle.crypt_core.specs.MethodLimits.{salt_limit}
 use Rattle.crypt_core.specs.Schemes.{method_of}

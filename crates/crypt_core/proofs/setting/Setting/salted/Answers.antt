@@ -1,5 +1,5 @@
--- The invariant of the setting that `Setting::salted` returns: a generated salt has characters of the alphabet and no
--- more than the method keeps, so the canonical form spells the setting (MadeSettings).
+-- Proves the invariant of the setting that `Setting::salted` returns: a generated salt has characters of the alphabet
+-- and no more than the method keeps, so the canonical form spells the setting (MadeSettings).
 use Rattle.std.proofs.Common.{◌≡◌, ◌≤◌, ◌∙◌, All, Contains, length, subst, ap, arith, rules}
 use Rattle.prims_core.specs.Alphabet.{alphabet}
 use Rattle.crypt_core.specs.MethodLimits.{made_salt_length, salt_limit}

@@ -1,5 +1,5 @@
--- The clauses of `Setting::text`, and that the buffer has room for each part. The lengths of prefix, cost part and salt
--- add up to at most the limit of a canonical form, and that form spells the setting (CanonicalSpells).
+-- Proves the clauses of `Setting::text`, and that the buffer has room for each part. The lengths of prefix, cost part
+-- and salt add up to at most the limit of a canonical form, and that form spells the setting (CanonicalSpells).
 use Rattle.crypt_core.specs.TextLimits.{hash_limit}
 use Rattle.std.proofs.Common.{◌≡◌, ◌+◌, ◌<◌, List, ℕ, ◌++◌, length, ap, subst, ◌∙◌, length-append, arith}
 use Rattle.crypt_core.specs.MethodLimits.{packed_len}

@@ -1,5 +1,5 @@
--- The clause `err` of `check_bytes`: a text that is too long fails at the first stage, and one that has a byte that no
--- setting has fails at the second (FirstRefusal).
+-- Proves the clause `err` of `check_bytes`: a text that is too long fails at the first stage, and one that has a byte
+-- that no setting has fails at the second (FirstRefusal).
 use Rattle.std.proofs.Common.{All, arith, rules}
 use Rattle.crypt_core.specs.Settings.{IsSettingByte}
 use Rattle.crypt_core.proofs.FirstRefusal.{refused_bad_character, refused_too_long}

@@ -1,4 +1,5 @@
--- The clause `field` of `field_len`: what comes before the first `$`, which `position` finds, is a field (ParsedParts).
+-- Proves the clause `field` of `field_len`: what comes before the first `$`, which `position` finds, is a field
+-- (ParsedParts).
 use Rattle.std.proofs.Common.{◌≡◌, ℕ, Option, length, ap, ◌∙◌, rules, tests}
 use Rattle.std.specs.List.{position}
 use Rattle.std.specs.Option.{unwrap_or}

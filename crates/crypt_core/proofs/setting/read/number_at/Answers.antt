@@ -1,5 +1,5 @@
--- The clauses `none` and `some` of `number_at`: the text has one field, up to its first `$`. Without a `$`, or if the
--- field is not a number, the text does not begin with a number and a `$`; otherwise the field is that number
+-- Proves the clauses `none` and `some` of `number_at`: the text has one field, up to its first `$`. Without a `$`, or
+-- if the field is not a number, the text does not begin with a number and a `$`; otherwise the field is that number
 -- (ParsedParts).
 use Rattle.std.proofs.Common.{◌≡◌, true, take, arith, rules}
 use Rattle.crypt_core.proofs.ParsedParts.{LacksNumber-no_dollar, LacksNumber-bad_digits, append-number_dollar_rest}

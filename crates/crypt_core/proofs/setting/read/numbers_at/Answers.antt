@@ -1,5 +1,5 @@
--- The clauses `none` and `some` of `numbers_at`: if log2 N, r or p can't be decoded, a character is missing or outside
--- the alphabet; otherwise the text begins with the cost part of the three numbers (ParsedParts).
+-- Proves the clauses `none` and `some` of `numbers_at`: if log2 N, r or p can't be decoded, a character is missing or
+-- outside the alphabet; otherwise the text begins with the cost part of the three numbers (ParsedParts).
 use Rattle.std.proofs.Common.{arith}
 use Rattle.crypt_core.proofs.ParsedParts.{IfNone-always, LacksCharacters-first, LacksCharacters-group, scrypt_part-from_numerals}
 use Rattle.crypt_core.proofs.setting.read.numbers_at.Goals as goal

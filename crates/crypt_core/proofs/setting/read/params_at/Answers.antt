@@ -1,4 +1,4 @@
--- The clause `err` of `params_at`: the text fails first at the stage `BadCost` if characters are missing, at
+-- Proves the clause `err` of `params_at`: the text fails first at the stage `BadCost` if characters are missing, at
 -- `ScryptRange` if the numbers are out of range, or at `AboveCeiling` (FirstRefusal).
 use Rattle.kdf_core.specs.Params.{scrypt_params}
 use Rattle.crypt_core.proofs.FirstRefusal.{refused_bad_cost, refused_scrypt_range, refused_above_ceiling, SpellsScheme-scrypt}

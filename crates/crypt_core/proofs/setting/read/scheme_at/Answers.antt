@@ -1,5 +1,5 @@
--- The clauses `ok` and `err` of `scheme_at`: scrypt's prefix and numbers spell its scheme, and a text without any of
--- the four prefixes has an unknown scheme (FirstRefusal).
+-- Proves the clauses `ok` and `err` of `scheme_at`: scrypt's prefix and numbers spell its scheme, and a text without
+-- any of the four prefixes has an unknown scheme (FirstRefusal).
 use Rattle.std.proofs.Common.{sym, subst, ◌∙◌}
 use Rattle.crypt_core.specs.declared.scheme.Scheme.TheVariants.{Scrypt}
 use Rattle.crypt_core.specs.Settings.{SpellsScheme}

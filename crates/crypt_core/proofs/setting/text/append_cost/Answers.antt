@@ -1,5 +1,5 @@
--- The preconditions of the three calls of `put_group` in `append_cost`: the text has room for scrypt's 11 characters,
--- and each of the accepted parameters fits its characters (MadeSettings).
+-- Proves the preconditions of the three calls of `put_group` in `append_cost`: the text has room for scrypt's 11
+-- characters, and each of the accepted parameters fits its characters (MadeSettings).
 use Rattle.std.proofs.Common.{◌≡◌, length, ap, ◌∙◌, arith}
 use Rattle.crypt_core.specs.declared.scheme.Scheme.{Scheme}
 use Rattle.crypt_core.specs.Settings.{cost_part}

@@ -1,6 +1,6 @@
--- The clauses `whole` and `dead` of `StoredHash::is_whole`. A text that begins with its canonical setting and a `$` is
--- whole exactly if the rest is a packed digest. A text that doesn't is not whole. No password matches a text that is
--- not whole (WholeHashes).
+-- Proves the clauses `whole` and `dead` of `StoredHash::is_whole`. A text that begins with its canonical setting and a
+-- `$` is whole exactly if the rest is a packed digest. A text that doesn't is not whole. No password matches a text
+-- that is not whole (WholeHashes).
 use Rattle.std.proofs.Common.{◌≡◌, ◌∷◌, ◌++◌, ◌∙◌, List, [], ℕ, Some, None, ap}
 use Rattle.std.specs.Cmp.{unsigned_Decides}
 use Rattle.std.proofs.lemmas.Slice.Eq.{strip_prefix_is}

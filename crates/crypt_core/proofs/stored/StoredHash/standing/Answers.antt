@@ -1,4 +1,4 @@
--- The clause `shut` of `StoredHash::standing`: a dead hash is not whole, so no password matches it.
+-- Proves the clause `shut` of `StoredHash::standing`: a dead hash is not whole, so no password matches it.
 use Rattle.std.proofs.Common.{◌∙◌, sym, true≢false}
 use Rattle.crypt_core.proofs.stored.StoredHash.standing.Goals as goal
 
