@@ -23,7 +23,8 @@ div_ceil-suc n d some = go (n / d) (n % d) (sym (div-add-mod' n d)) (mod_below n
       let next : n + 1 ≡ (q + 1) * d + 0 = omega arith in
       rw (next, div-mul-add (q + 1) d 0 some, mod-mul-add (q + 1) d 0 some) (omega arith)
 
--- `div_ceil n d` counts the numbers below n that d divides: it grows exactly at those.
+-- `div_ceil n d` counts the numbers below n that d divides: it grows by 1 from n to n + 1 if d divides n, and otherwise
+-- stays the same.
 div_ceil-more : (n d : ℕ) → 0 < d → div_ceil (n + 1) d ≡ div_ceil n d + cond (nat_eq (n % d) 0) 1 0
 div_ceil-more n d some = div_ceil-suc n d some ∙ sym (go (n / d) (n % d)) where
   go : (q r : ℕ) → q + min 1 r + cond (nat_eq r 0) 1 0 ≡ q + 1

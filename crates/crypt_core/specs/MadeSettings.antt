@@ -1,5 +1,5 @@
 -- Settings made from a method, rounds and a salt, and the error if they make none. The rounds are the number that the
--- command takes as `-R`: SHA-crypt's own rounds, and for scrypt log2 N less 7.
+-- command takes as `-R`: SHA-crypt's own rounds, and log2 N - 7 for scrypt.
 use Rattle.std.specs.Prelude.{◌≡◌, ℕ, ◌+◌, ◌-◌, ◌<◌, ◌≤◌, ◌⊎◌, ◌==◌, if◌then◌else◌, true, false, List, [], ◌∷◌, length, All, Contains, Option, Some, None}
 use Rattle.prims_core.specs.Alphabet.{alphabet}
 use Rattle.kdf_core.specs.Params.{ScryptParams}
@@ -34,8 +34,8 @@ made_scheme methods.Sha256crypt rounds = Shacrypt Sha256 (made_rounds rounds)
 made_scheme methods.Sha512crypt rounds = Shacrypt Sha512 (made_rounds rounds)
 made_scheme methods.Scrypt rounds = Scrypt (made_params rounds)
 
--- rounds_of scheme: the rounds from which `made_scheme` makes the scheme: SHA-crypt's own, log2 N less 7 for scrypt,
--- and 0 for md5crypt, which ignores them.
+-- rounds_of scheme: the rounds from which `made_scheme` makes the scheme: SHA-crypt's own, log2 N - 7 for scrypt, and 0
+-- for md5crypt, which ignores them.
 abbrev pub rounds_of : Scheme → ℕ
 rounds_of Md5crypt = 0
 rounds_of (Shacrypt sha rounds) = rounds.count

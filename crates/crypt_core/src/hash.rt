@@ -95,7 +95,7 @@ impl From<AllocError> for HashFault {
 ///
 /// # Errors
 ///
-/// - `OutOfMemory`: scrypt could not allocate. The meter counts only those of its three allocations that succeeded. No
+/// - `OutOfMemory`: scrypt could not allocate. Of its three allocations, the meter counts only those that succeeded. No
 ///   other method allocates.
 pub fn hash(
     alloc: Global,

@@ -35,13 +35,13 @@ pub const SCRYPT_PACKED_LEN: usize = 43;
 /// A hashing method of crypt(5).
 #[derive(Clone, Copy, Debug, PartialEq, Eq)]
 pub enum Method {
-    /// FreeBSD's md5crypt, `$1$`.
+    /// FreeBSD's md5crypt, with the prefix `$1$`.
     Md5crypt,
-    /// Drepper's SHA-crypt over SHA-256, `$5$`.
+    /// Drepper's SHA-crypt over SHA-256, with the prefix `$5$`.
     Sha256crypt,
-    /// Drepper's SHA-crypt over SHA-512, `$6$`.
+    /// Drepper's SHA-crypt over SHA-512, with the prefix `$6$`.
     Sha512crypt,
-    /// scrypt (RFC 7914), `$7$`.
+    /// scrypt (RFC 7914), with the prefix `$7$`.
     Scrypt,
 }
 

@@ -173,8 +173,8 @@ impl Scheme {
         }
     }
 
-    /// Returns the rounds from which [`Scheme::made`] makes such a scheme: SHA-crypt's own, log2 N less 7 for scrypt,
-    /// and 0 for md5crypt, which ignores them.
+    /// Returns the rounds from which [`Scheme::made`] makes such a scheme: SHA-crypt's own, log2 N - 7 for scrypt, and
+    /// 0 for md5crypt, which ignores them.
     pub fn rounds(&self) -> u32
         ensures { result ≡ rounds_of self.now }
     {
