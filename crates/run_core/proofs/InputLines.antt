@@ -52,9 +52,6 @@ AllByRecursion-push P xs y firsts last = AllByRecursion-append P xs (y ∷ []) f
 
 -- ---- line feeds
 
-pub HasNoLineFeed-nil : HasNoLineFeed []
-HasNoLineFeed-nil has = omega (arith, has.1)
-
 pub HasNoLineFeed-append : (xs ys : List ℕ) → HasNoLineFeed xs → HasNoLineFeed ys → HasNoLineFeed (xs ++ ys)
 HasNoLineFeed-append xs ys none none_behind has = elim (Contains-append_cases xs ys line_feed has) [
   | inl before ↦ none before
