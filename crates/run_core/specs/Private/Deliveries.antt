@@ -27,27 +27,28 @@ module _ {T : Type 0} where
   Delivers turns old new text (Err fault) = ((fault ≡ Write) × TakesFront 1 old new [] text)
       ⊎ ((fault ≡ Turns) × TakesFront 0 old new [] text × (new.calls ≡ old.calls + turns))
 
-  -- IsKept old new: the contents and the counts are unchanged, except the counts of flushes and failures.
+  -- IsKept old new: the device has the same contents and counts, except perhaps the counts of flushes and failures.
   pub record IsKept (old new : Device T) : Type 0 where
     pub shown : Keeps old.shown new.shown
     pub calls : new.calls ≡ old.calls
     pub bytes : new.bytes ≡ old.bytes
     pub idle : new.idle ≡ old.idle
 
-  -- IsFinished old new: the flush of an output succeeded.
+  -- IsFinished old new: the output was flushed, and the flush succeeded.
   pub record IsFinished (old new : Device T) : Type 0 where
     pub kept : IsKept old new
     pub unfailed : IsUnfailed old new
     pub flushed : IsFlushed old new
 
-  -- IsUnfinished old new: the flush of an output failed.
+  -- IsUnfinished old new: the output was flushed, and the flush failed.
   pub record IsUnfinished (old new : Device T) : Type 0 where
     pub kept : IsKept old new
     pub failed : FailsOnce old new
     pub flush_failed : FailsToFlush old new
 
 module _ {O E : Type 0} where
-  -- FinishesBoth out faults new_out new_faults result: both outputs were flushed, up to the first flush that failed.
+  -- FinishesBoth out faults new_out new_faults result: first `out` and then `faults` was flushed, up to the first flush
+  -- that failed.
   abbrev pub FinishesBoth : Device O → Device E → Device O → Device E → {A : Type 0} → Result A RunFault → Type 0
   FinishesBoth out faults new_out new_faults (Ok done) = IsFinished out new_out × IsFinished faults new_faults
   FinishesBoth out faults new_out new_faults (Err fault) = (fault ≡ Write)
