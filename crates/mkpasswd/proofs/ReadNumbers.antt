@@ -37,7 +37,7 @@ ReadsOne-number_of bits (Unsigned low high) below text passed None reads =
     absurd (reads.1.0 (accepted.0, omega (arith, accepted.3, ltb-true high (2 ^ bits) below)))
 ReadsOne-number_of bits parser below text passed read reads = absurd cc
 
--- The same holds for a value that may be missing: it is read as its number, or as `None` if there is none.
+-- If the parser accepts only numbers below 2^bits, a value is read as its number, and a missing value as `None`.
 ReadsOne-option_map : (bits : ℕ) (parser : ValueParser) → takes_below (2 ^ bits) parser ≡ true → (value : Option Text) → ((text : Text) → value ≡ Some text → HasPassed parser text)
     → (read : Option ℕ) → (value ≡ None → read ≡ None) → ((text : Text) → value ≡ Some text → ReadsOne (Parses bits) text read) → read ≡ option_map number_of value
 ReadsOne-option_map bits parser below None passed read none some = none refl

@@ -50,7 +50,7 @@ module _ {I : Type 0} where
     pub kept : take filled next ≡ take filled buffer
     pub fetched : Fetches left mid new (drop filled next) (Ok count)
 
-  -- After this `fetch`, the first `filled + count` bytes of the buffer are all bytes that were read.
+  -- After the `fetch` of `HasFetched`, the first `filled + count` bytes of the buffer are all bytes that were read.
   Reads_from_HasFetched : (old mid new : Device I) (buffer next : List ℕ) (filled count turns left : ℕ)
       → HasFetched old mid new buffer next filled count turns left
       → (filled + count ≤ buffer_size)
@@ -170,7 +170,7 @@ module _ {I : Type 0} where
     ],
   )
 
-  -- Exit without bytes: if a `fetch` failed or no I/O call was left, reading stops before the first line is known.
+  -- Exit when reading stops: a `fetch` failed, or no I/O call was left. The first line is not known yet.
   pub FindsLine-stopped : (old mid new : Device I) (buffer next : List ℕ) (filled turns left left_new : ℕ) (fault : RunFault)
       → IsReading old mid buffer filled turns left → filled < buffer_size
       → Fetches left mid new (drop filled next) (Err fault) → left_new ≡ left - 1

@@ -84,7 +84,8 @@ ComesTo-not_whole job stream parts field kept (Rehashed hash) made is spells dea
 ComesTo-not_whole job stream parts field kept Misfit made is spells dead comes = refl
 ComesTo-not_whole job stream parts field kept (Audited finding) made is spells dead comes = absurd comes
 
--- If such a line breaks no rule and is not costly, its answer is the verdict `no`.
+-- If the field of a line spells a setting but is not whole, and the line breaks no rule and is not costly, then its
+-- answer is the verdict `no`.
 outcome-not_whole : (job : Job) (field : List ℕ) (kept : SettingValue) (line : List ℕ) (parts : Parts) → Spells field kept → ¬ IsWhole field kept
     → HasParts Check line parts → parts.field ≡ Some field → IsSound Check line → ¬ IsCostly Check job line
     → (number : ℕ) (stream : Stream) (answer : Answer) → IsPasswordAnswer Check job number line stream answer → answer.outcome ≡ Ok Misfit

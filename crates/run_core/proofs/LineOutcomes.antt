@@ -165,8 +165,8 @@ ComesTo_from_IsChecked job stream name password field stored hashings (Rehashed 
     (field, stored.setting, (refl, spells), checked.0 ∙ is, checked.1, checked.2, checked.3)
 ComesTo_from_IsChecked job stream name password field stored hashings outcome is spells checked = absurd checked
 
--- If the cost for a password and a field is not above the budget, their line is not costly, and its outcome is the one
--- that was settled for them.
+-- If the cost for the password and the field of a line is not above the budget, the line is not costly, and its outcome
+-- is the one that was settled for the password and the field.
 ComesTo_from_IsSettled : (kind : Kind) (job : Job) (line : List ℕ) (stream : Stream) (name password : List ℕ) (field : Option (List ℕ)) (stored : Option StoredField)
     (hashings : List Hashing) (outcome : Outcome) → HasSoundParts kind line (parts_with name password field) → IsFieldOf field stored
     → ¬ IsAbove job.budget (field_cost job stored (length password))

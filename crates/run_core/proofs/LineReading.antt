@@ -161,7 +161,8 @@ module _ {I : Type 0} where
           let some : line ≢ [] = λ none. let both = tells.1 none in absurd (cc) in
           (line, moved.2 is.part is.held, given (lines ++ line ∷ []) (sym (lines_are ∙ ap (λ others. lines ++ others) (lines_of-last line no_feed some))))
 
-  -- Exit without bytes: if a read failed or no I/O call was left, reading stopped after the lines that were returned.
+  -- Exit when reading stops: a read failed, or no I/O call was left. The lines that were returned are all lines that
+  -- are known.
   pub HasStopped-fetch_failed : (start now new : Device I) (piece next fetched : List ℕ) (buffer new_buffer : LineBuffer) (lines : List (List ℕ)) (left new_left : ℕ) (fault : RunFault)
       → TakesLine piece next buffer new_buffer false → Reads now new fetched → FetchesPiece left now new fetched (Err fault) → new_left ≡ left - 1
       → IsSeeking start now piece buffer lines → HasStopped new_left start new lines fault

@@ -90,7 +90,7 @@ StopsFetching-failures : {I : Type 0} (left : ℕ) (start now : Device I) (fault
 StopsFetching-failures left start now fault (moves, inl stops) = omega (arith, stops.1)
 StopsFetching-failures left start now fault (moves, inr stops) = omega (arith, stops.1)
 
--- A flush moves no byte.
+-- A flush makes no I/O call, so `MovesBytes` holds for it.
 MovesBytes_from_IsKept : {T : Type 0} (old new : Device T) → IsKept old new → old.failures ≤ new.failures → MovesBytes 0 old new
 MovesBytes_from_IsKept old new kept failures = record {
   idle = omega (arith, kept.idle);
@@ -203,8 +203,7 @@ module _ {I O E : Type 0} where
     });
   }
 
--- In this module, the run has called `next_line`, which left the input in the state `input` and `mid` I/O calls to
--- make.
+-- In this module, the run has called `next_line`, after which the input is `input`, and `mid` I/O calls are left.
 module _ {I O E : Type 0} {turns : ℕ} {kind : Kind} {job : Job} {start old : RunState I O E} {reader : LineReader} {tally : Tally} {left : ℕ}
     (running : IsRunning turns kind job start old reader tally left) (input : Device I) (mid : ℕ) (read_calls : input.calls + mid ≡ old.input.calls + left) where
   -- If the outputs make no more I/O calls after the read than are left, the run is within its limits.
@@ -315,7 +314,7 @@ module _ {I O E : Type 0} {turns : ℕ} {kind : Kind} {job : Job} {start old : R
       let number : job.first_line + tally.lines ≡ job.first_line + length running.lines = omega (arith, ap (λ t. t.lines) running.tallied, lengths) in
       AreAnswers-push kind job job.first_line running.lines line start.stream running.answers answer running.are (rw (number, running.answered.after.stream) at answers)
 
-  -- After the hashes of `answer`, exactly the hashes for these answers have been computed.
+  -- After the hashes for `answer`, exactly the hashes for the answers so far and for `answer` have been computed.
   IsAfter-push : (new : RunState I O E) → new.stream ≡ stream_left old.stream answer.hashings → new.counts ≡ after_work old.counts answer.hashings
       → IsAfter (hashings_of (running.answers ++ answer ∷ [])) start new
   IsAfter-push new stream counts = record {

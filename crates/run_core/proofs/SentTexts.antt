@@ -38,7 +38,8 @@ module _ {T : Type 0} where
         flushed = more.flushed ∙ before.flushed;
       }
 
-  -- If an output has taken `whole` and then a proper prefix of `text`, it has taken both one after the other.
+  -- If an output took `whole` in one step and a proper prefix of `text` in the next, `TakesFront` holds for both steps
+  -- together.
   pub TakesFront-after : {failures : ℕ} (old mid new : Device T) (whole text : List ℕ) → Takes 0 0 old mid whole → TakesFront failures mid new [] text
       → TakesFront failures old new whole text
   TakesFront-after old mid new whole text before front = (

@@ -25,7 +25,7 @@ abbrev pub recipe_of : Source → Recipe
 recipe_of (Setting setting) = record { scheme = setting.scheme; salt = Some setting.salt }
 recipe_of (Scheme scheme) = record { scheme = scheme; salt = None }
 
--- bytes_of reference is the list of bytes that the reference leads to, if there is a reference.
+-- bytes_of reference is the list of bytes that the reference refers to, if there is a reference.
 abbrev pub bytes_of : Option (Bor (List ℕ)) → Option (List ℕ)
 bytes_of = option_map (λ bytes. bytes.now)
 

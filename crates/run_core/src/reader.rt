@@ -60,7 +60,7 @@ impl Piece {
         }
     }
 
-    // Replaces the piece by what one read returns. Returns false at the end of the input.
+    // Reads once, and replaces the piece by the bytes that the read returned. Returns false at the end of the input.
     fn fetch<I: Read>(&mut self, input: &mut Input<I>, left: &mut u64) -> Result<bool, RunFault>
         requires room { HasRoomFor piece_size left.old input.old }
         ensures reads { Reads input.old input.new self.new }

@@ -65,8 +65,8 @@ to_read left piece = piece_size * left + length piece
 abbrev pub lines_limit : ℕ
 lines_limit = piece_size * turns_limit
 
--- HasRoomForLines left piece tally now: with this number of I/O calls left and this unused piece, nothing overflows in
--- the rest of a run over lines.
+-- HasRoomForLines left piece tally now: with `left` I/O calls and the unused bytes `piece` of the last read, nothing
+-- can overflow in the rest of a run over lines.
 pub record HasRoomForLines {I O E : Type 0} (left : ℕ) (piece : List ℕ) (tally : Tally) (now : RunState I O E) : Type 0 where
   pub lines : tally.lines + to_read left piece ≤ lines_limit
   pub refused : tally.refused ≤ tally.lines

@@ -44,7 +44,7 @@ pub record IsNamed (line : List ℕ) : Type 0 where
   pub front : HasFront line name
   pub good : IsGoodName name
 
--- parts_of found is the parts of a line to which the references in `found` lead.
+-- parts_of found is the parts of a line to which the references in `found` refer.
 abbrev pub parts_of : Found → Parts
 parts_of found = record { name = found.name.now; field = bytes_of found.field; password = found.password.now }
 

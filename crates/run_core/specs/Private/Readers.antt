@@ -23,7 +23,7 @@ TakesLine old new buffer new_buffer true = (front : List ℕ) × (old ≡ front 
 TakesLine old new buffer new_buffer false = (new ≡ []) × HasNoLineFeed old
     × ((part : List ℕ) → Represents buffer part → Represents new_buffer (part ++ old))
 
--- FetchesPiece left old new piece result: one `fetch` read `piece` and returned this result.
+-- FetchesPiece left old new piece result: one `fetch` read the bytes `piece` and returned this result.
 --   true   the piece is not empty
 --   false  the input is at its end
 --   Err    nothing was read

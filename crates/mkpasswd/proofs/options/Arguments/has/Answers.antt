@@ -1,5 +1,5 @@
--- `has` returns whether the flag is set: `get_one` reads `true` from the text `true` alone, and a flag that is not
--- given counts as false.
+-- `has` returns whether the rows say that the flag is set. `get_one` reads `true` from the text `true` alone, and a
+-- flag that is not given counts as false.
 use Rattle.std.proofs.Common.{◌≡◌, ◌∙◌, Bool, Option, Some, None, true, false, unwrap_or, ap, refl, subst, sym, inl, inr, codes}
 use Rattle.std.specs.Option.{option_map_or}
 use Rattle.std.specs.Str.{bytes_eq}
