@@ -24,7 +24,7 @@ use run_core::transfer::show;
 use std::alloc::{AllocError, Global};
 use std::io::{Read, Write};
 
-// The capacity for the line of an error. The longest such line has 35 bytes.
+// The capacity for the line that reports an error. The longest line has 35 bytes.
 const FAULT_LINE_ROOM: usize = 80;
 
 /// Runs the command with the arguments after the program's name, and returns the exit status.

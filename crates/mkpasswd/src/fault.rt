@@ -19,7 +19,7 @@ pub enum UsageFault {
     /// `clap` refuses the arguments, or they ask for help or the version. `clap` has the message.
     #[error("{0}")]
     Parse(clap::Error),
-    /// TYPE names no method.
+    /// The value of `-m TYPE` names no method.
     Method,
     /// The salt is given twice, with `-S` and as an argument.
     TwoSalts,

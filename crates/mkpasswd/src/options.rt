@@ -159,7 +159,7 @@ fn parse<'a>(alloc: Global, arguments: &'a [String]) -> Result<Arguments<'a>, cl
     Ok(Arguments { matches })
 }
 
-// Returns the method that TYPE names.
+// Returns the method that the value of `-m TYPE` names.
 fn known_method(given: &Arguments<'_>) -> Result<Method, UsageFault>
     ensures known { IfOk result (λ method. method_named (type_of given.now) ≡ Some method) }
     ensures rule { ChecksRule given.now UsageFault.Method result }

@@ -359,7 +359,7 @@ fn append_number(text: &mut Text, number: u32)
     append(text, Buffer::new().format(number).as_bytes());
 }
 
-// Appends `:digests:bytes:mixes:table`.
+// Appends the counts of the work, in the form `:digests:bytes:mixes:table`.
 fn append_counts(text: &mut Text, work: &Work)
     requires { array_vec_len text.old + 4 * count_limit < answer_limit }
     ensures counts { text.new.items ≡ text.old.items ++ work_text work.now }

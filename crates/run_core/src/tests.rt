@@ -85,7 +85,7 @@ const BY_INPUT: Asked<'static> = Asked {
     ..BATCH
 };
 
-// The hash of "password" from openssl-passwd(1), and its lines.
+// The hash of "password" from openssl-passwd(1), and below it the lines in which answers show this hash.
 const HASH: &str = "$1$xxxxxxxx$UYCIxa628.9qXjpQCjM4a.\n";
 
 const ANN: &str = "ann:$1$xxxxxxxx$UYCIxa628.9qXjpQCjM4a.\n";

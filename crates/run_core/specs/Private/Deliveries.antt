@@ -1,4 +1,4 @@
--- What writing a text to one output, and flushing both outputs, does and returns.
+-- The effects and results of writing a text to one output, and of flushing both outputs.
 use Rattle.std.specs.Prelude.{◌≡◌, ℕ, ◌+◌, ◌⊎◌, List, [], ◌∷◌, Result, Ok, Err}
 use Rattle.std.specs.Io.KnownBytes.{Keeps}
 use Rattle.run_core.specs.Answers.{Answer, fault_texts, texts}
@@ -19,9 +19,9 @@ module _ {T : Type 0} where
   FailsOnce old new = new.failures ≡ old.failures + 1
 
   -- Delivers turns old new text result: writing `text` ended with this result.
-  --   Ok     all of it was taken
-  --   Write  a proper prefix of it was taken, and one call failed
-  --   Turns  a proper prefix of it was taken, `turns` calls were made, and none failed
+  --   Ok     the whole text was taken
+  --   Write  a proper prefix of the text was taken, and one call failed
+  --   Turns  a proper prefix of the text was taken, `turns` calls were made, and none failed
   abbrev pub Delivers : ℕ → Device T → Device T → List ℕ → {A : Type 0} → Result A RunFault → Type 0
   Delivers turns old new text (Ok answer) = Takes 0 0 old new text
   Delivers turns old new text (Err fault) = ((fault ≡ Write) × TakesFront 1 old new [] text)

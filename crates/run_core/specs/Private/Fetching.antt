@@ -58,7 +58,8 @@ module _ {I : Type 0} where
   Obtains old new bytes left (Err fault) = (IsUndecided bytes × StopsFetching left old new fault)
       ⊎ (IsUnfailed old new × IsDecided new bytes × IsPasswordFault fault (first_line bytes))
 
--- TakesAsPassword bytes result: the bytes are a password, or are refused as a password.
+-- TakesAsPassword bytes result: the bytes are a valid password, which is the result, or the error names the rule that
+-- they break.
 abbrev pub TakesAsPassword : List ℕ → Result (List ℕ) RunFault → Type 0
 TakesAsPassword bytes (Ok password) = (password ≡ bytes) × IsPassword bytes
 TakesAsPassword bytes (Err fault) = IsPasswordFault fault bytes

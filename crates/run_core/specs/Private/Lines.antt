@@ -1,4 +1,4 @@
--- The parts of a line as the steps that read it return them.
+-- The buffer of a line, its name and its parts, as the functions that read the line return them.
 use Rattle.std.specs.Prelude.{◌≡◌, ◌≢◌, ℕ, ◌<◌, ◌≤◌, List, [], length, Contains, Option, Some, None, Ok}
 use Rattle.crypt_core.specs.Readings.{IsFieldReading, IsReadOneWay}
 use Rattle.crypt_core.specs.declared.stored.StoredField.{StoredField}
