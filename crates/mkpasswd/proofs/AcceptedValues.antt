@@ -1,9 +1,9 @@
 -- Each value that `clap` finds for an option is one that the option's parser accepts. `parse` needs this for the
 -- invariant of `Arguments`, from which `number32` and `number64` know that their numbers are below their limits.
 --
--- `clap` promises it for a command whose arguments have no rule on one another. The key step: no two arguments have the
--- same id, and building the command adds no argument with one of these ids, so a value under an id passed the parser of
--- the one argument with that id.
+-- `clap` promises this for a command whose arguments have no rules about one another. The main step: no two arguments
+-- have the same id, and `clap` adds none with such an id when it builds the command. So a value under an id has passed
+-- the parser of the one argument with that id.
 use Rattle.std.proofs.Common.{◌≡◌, ◌∙◌, ◌<◌, ◌⊎◌, ◌&&◌, ℕ, Bool, not, true, false, true≢false, Option, Some, None, zero, suc, sym, ap, refl, subst, arith, List, [], ◌∷◌, map, length, codes, inl, inr}
 use Rattle.std.specs.Borrow.{Bor}
 use Rattle.std.specs.List.{All, list_all, slice_index_or}
@@ -30,18 +30,18 @@ use Rattle.clap.proofs.CallerLemmas.{entry_by_id, same_rules_by_id}
 use Rattle.clap.proofs.SimpleLemmas.{is_false, is_nil, ready_simple, simple_groups}
 use Rattle.mkpasswd.specs.Private.Options.{HasPassed, parser_by_id}
 
--- ---- A command whose arguments have no rule on one another
+-- ---- A command whose arguments have no rules about one another
 
 abbrev pub all_free : List Rule → Bool
 all_free = list_all (λ rule. rule.is_free)
 
--- if all rules are free, so is each argument
+-- If every rule is free, so is every argument: it neither excludes other arguments nor conflicts with them.
 is_free_arg-all_free : (xs : List Arg) → all_free (map rule_of xs) ≡ true → All (λ a. is_free_arg a ≡ true) xs
 is_free_arg-all_free [] e k d lt = absurd (omega arith)
 is_free_arg-all_free (x ∷ xs) e zero d lt = (and_parts _ _ e).0
 is_free_arg-all_free (x ∷ xs) e (suc k) d lt = is_free_arg-all_free xs (and_parts _ _ e).1 k d (omega arith)
 
--- such a command has no exclusions, conflicts, overrides or groups
+-- A command all of whose rules are free has no exclusions, conflicts, overrides or groups.
 IsPlain-all_free : (c : Command) → is_ready (shape_of c) ≡ true → HasReadyLeaves c → all_free (shape_of c).rules ≡ true → IsPlain c
 IsPlain-all_free c ready leaves free =
     let simple = ready_simple c ready leaves in
@@ -55,7 +55,8 @@ IsPlain-all_free c ready leaves free =
 
 -- ---- A value of an argument
 
--- the argument at place k has this id and parser, no other has its id, and building the command adds none with it
+-- IsOnly c k id q: argument k of the command has this id and the parser `q`. No other argument has its id, and `clap`
+-- adds none with it when it builds the command.
 record IsOnly (c : Command) (k : ℕ) (id : Text) (q : ValueParser) : Type 0 where
   within : k < length (args_of c)
   called : (d : Arg) → (slice_index_or (args_of c) k d).id.now ≡ id
@@ -64,7 +65,7 @@ record IsOnly (c : Command) (k : ℕ) (id : Text) (q : ValueParser) : Type 0 whe
   named : id ≡ [] → ⊥
   own : (id ≡ codes "help") ⊎ (id ≡ codes "version") → ⊥
 
--- each argument of the built command with this id has this parser
+-- If argument k is the only one with this id, each argument with this id in the built command has its parser.
 parser_of-IsOnly : (c : Command) (m : ArgMatches) (p : IsParsedFrom c m) (k : ℕ) (id : Text) (q : ValueParser) → IsOnly c k id q
     → (j : ℕ) (x : Arg) → j < length (args_of p.built) → slice_index_or (args_of p.built) j x ≡ x → bytes_eq x.id.now id ≡ true
     → parser_of x ≡ q
@@ -76,7 +77,7 @@ parser_of-IsOnly c m p k id q is j x low at same =
     j x low at (subst (λ (t : Text). bytes_eq x.id.now t ≡ true) (sym called) same) in
     ap parser_of_value (rules.parser q (is.parser x))
 
--- if `P` holds of all values, the first text is read from a value of which `P` holds
+-- If `P` holds for all values, the text of the first value is read from a value for which `P` holds.
 first_text-All : (P : Bor Text → Type 0) (how : Reading) (values : List (Bor Text)) (text : Text) → All P values
     → option_map (λ s. read_as how s.now) (slice_get values 0) ≡ Some text → (v : Bor Text) × (text ≡ read_as how v.now) × P v
 first_text-All P how [] text all is = cc
@@ -84,7 +85,8 @@ first_text-All P how (v ∷ vs) text all is =
     let same : text ≡ read_as how v.now = cc in
     (v, same, All-get_or P (v ∷ vs) 0 v (omega arith) all)
 
--- so the text of an entry with this id is a value that the parser accepts
+-- If argument k is the only one with this id, the text of an entry with this id is read from a value that its parser
+-- accepts.
 HasPassed_from_EntryPasses : (c : Command) (m : ArgMatches) (p : IsParsedFrom c m) (k : ℕ) (id : Text) (q : ValueParser) → IsOnly c k id q → groups_of p.built ≡ []
     → (e : Entry) → e.0.now ≡ id → EntryPasses p.built e
     → (text : Text) → option_map (λ s. read_as e.1.reading s.now) (slice_get e.1.vals.items 0) ≡ Some text → HasPassed q text
@@ -110,7 +112,7 @@ HasPassed_from_EntryPasses c m p k id q is no_groups e key pass text read =
       subst (λ (w : ValueParser). Accepts any.1.ignore_case w first.0.now) (own_parser any.0 any.1 any.2 any.3 any.4.0) any.4.1,
     )
 
--- the rule at place k is r, with this parser, and no other has its id
+-- IsOnlyRule rules k r q: rule k is `r`, which has the parser `q`. No other rule has its id.
 pub record IsOnlyRule (rules : List Rule) (k : ℕ) (r : Rule) (q : ValueParser) : Type 0 where
   pub within : k < length rules
   pub place : (z : Rule) → slice_index_or rules k z ≡ r
@@ -119,7 +121,7 @@ pub record IsOnlyRule (rules : List Rule) (k : ℕ) (r : Rule) (q : ValueParser)
   pub named : r.id ≡ [] → ⊥
   pub own : (r.id ≡ codes "help") ⊎ (r.id ≡ codes "version") → ⊥
 
--- then the argument at place k is the only one with its id
+-- If rule k is the only one with its id, argument k is the only argument with that id.
 IsOnly_from_IsOnlyRule : (c : Command) (k : ℕ) (r : Rule) (q : ValueParser) → IsOnlyRule (shape_of c).rules k r q → IsOnly c k r.id q
 IsOnly_from_IsOnlyRule c k r q rule =
     let count : length (map rule_of (args_of c)) ≡ length (args_of c) = length-map (args_of c) rule_of in
@@ -135,13 +137,13 @@ IsOnly_from_IsOnlyRule c k r q rule =
       own = rule.own;
     }
 
--- ---- The rule with an id, if no two have the same
+-- ---- The rule with an id, if no two rules have the same id
 
--- no rule has this id
+-- No rule has this id.
 abbrev lacks_id : Text → List Rule → Bool
 lacks_id id = list_all (λ rule. not (bytes_eq rule.id id))
 
--- no two rules have the same id, and none has that of help or the version
+-- No two rules have the same id, and no id is empty, `help` or `version`.
 abbrev pub have_own_ids : List Rule → Bool
 have_own_ids [] = true
 have_own_ids (rule ∷ rules) =
@@ -156,11 +158,11 @@ lacks_id-each id [] all j z lt same = absurd (omega arith)
 lacks_id-each id (rule ∷ rules) all zero z lt same = true≢false (sym same ∙ not-true (bytes_eq rule.id id) (and_parts _ _ all).0)
 lacks_id-each id (rule ∷ rules) all (suc j) z lt same = lacks_id-each id rules (and_parts _ _ all).1 j z (omega arith) same
 
--- exactly one of these rules has this id, and it has this parser
+-- Exactly one of the rules has this id, and its parser is `q`.
 abbrev HaveOne : List Rule → Text → ValueParser → Type 0
 HaveOne rules id q = (k : ℕ) × (r : Rule) × (r.id ≡ id) × IsOnlyRule rules k r q
 
--- the parser of an id is that of one rule, by induction over the rules
+-- If no two rules have the same id, the parser that `parser_by_id` finds is that of the only rule with this id.
 pub IsOnlyRule-parser_by_id : (rules : List Rule) → have_own_ids rules ≡ true → (id : Text) (q : ValueParser) → parser_by_id id rules ≡ Some q → HaveOne rules id q
 IsOnlyRule-parser_by_id [] own id q is = absurd cc
 IsOnlyRule-parser_by_id (rule ∷ rules) own id q is = go (bytes_eq rule.id id) refl (λ others. IsOnlyRule-parser_by_id rules others id q) is
@@ -209,7 +211,8 @@ IsOnlyRule-parser_by_id (rule ∷ rules) own id q is = go (bytes_eq rule.id id) 
         let found = behind differs_from.1.1.1 parser in
         (suc found.0, found.1, found.2, later found.0 found.1 found.2 differs found.3)
 
--- the text that `clap` found for an argument is a value that its parser accepts
+-- If rule r is the only one with its id, the text that `clap` found for it was read from a value that its parser
+-- accepts.
 pub HasPassed-one_text : (c : Command) (m : ArgMatches) (k : ℕ) (r : Rule) (q : ValueParser) → IsParsedFrom c m
     → is_ready (shape_of c) ≡ true → HasReadyLeaves c → all_free (shape_of c).rules ≡ true → IsOnlyRule (shape_of c).rules k r q
     → (text : Text) → one_text (found_of m) r.id ≡ Some text → HasPassed q text

@@ -1,6 +1,6 @@
--- Properties of the command that `clap`'s clauses require, for `parse`: it is simple, its arguments have no rule on one
--- another, and their ids differ. Each is computed from the definition of the command. The second part computes what
--- `clap` makes of some arguments, so that a reader can check the definition.
+-- Properties of the command that `clap`'s clauses require, for the proof of `parse`: the command is simple, its
+-- arguments have no rules about one another, and their ids differ. Each is computed from the definition of the command.
+-- The second part computes what `clap` makes of some arguments, so that a reader can check the definition.
 use Rattle.std.proofs.Common.{◌≡◌, true, false, refl, List, [], ◌∷◌, codes, Some, None}
 use Rattle.std.specs.List.{list_all}
 use Rattle.clap.specs.Simple.{is_ready, is_ready_leaf}
@@ -41,7 +41,7 @@ pub command-have_own_ids : have_own_ids command.top.rules ≡ true
 unfolding command
 command-have_own_ids = refl
 
--- ---- What it makes of some arguments
+-- ---- What `clap` makes of some arguments
 
 abbrev arguments : List Text
 arguments =
@@ -55,7 +55,7 @@ arguments-no_fault : fault_of command arguments ≡ []
 unfolding command clap_on_literals
 arguments-no_fault = refl
 
--- the rows of these arguments
+-- The rows hold exactly what `arguments` gives.
 abbrev HasArguments : List Row → Type 0
 HasArguments rows =
     (type_of rows ≡ codes "md5") × (given_salt rows ≡ Some (codes "ab")) × (rounds_of rows ≡ 7) × (number_in (codes "budget") rows ≡ Some 36)
@@ -70,7 +70,7 @@ no_words-no_fault : fault_of command [] ≡ []
 unfolding command clap_on_literals
 no_words-no_fault = refl
 
--- and the rows of no arguments
+-- The rows hold the defaults, because no argument is given.
 abbrev HasNoWords : List Row → Type 0
 HasNoWords rows =
     (type_of rows ≡ codes "sha512crypt") × (given_salt rows ≡ None) × (rounds_of rows ≡ 0) × (number_in (codes "budget") rows ≡ None)

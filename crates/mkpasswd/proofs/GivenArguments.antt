@@ -1,8 +1,8 @@
--- What `clap` makes of the arguments `-m TYPE -S SALT PASSWORD`, for any texts that are no options: it takes them, and
--- finds the three texts and nothing else. PrintedHash needs this for the clause `prints` of `run_command`.
+-- What `clap` makes of the arguments `-m TYPE -S SALT PASSWORD`, if none of the three texts is an option: it accepts
+-- them, and finds the three texts and nothing else. PrintedHash needs this for the clause `prints` of `run_command`.
 --
--- The argument walks over the five words as `clap` does. Each word takes the walk from one known state to the next
--- without an error, whatever the text is, because `clap`'s tests for options fail on it.
+-- The proof follows `clap` through the five words. Each word leads from one known state to the next without an error,
+-- whatever its text is, because `clap`'s tests for options fail on it.
 use Rattle.std.proofs.Common.{◌≡◌, ◌==◌, ℕ, false, refl, ap, List, [], ◌∷◌, codes, Some, None, inl, inr}
 use Rattle.std.proofs.lemmas.Bool.{ne_eqb}
 use Rattle.std.specs.List.{fold}
@@ -18,13 +18,13 @@ use Rattle.mkpasswd.specs.Options.{command, rounds_of, given_salt, is_set, mode_
 
 -- ---- A word that is no option
 
--- the tests by which `clap` tells options from other arguments
+-- None of `clap`'s three tests takes this word for an option.
 record IsPlain (word : Text) : Type 0 where
   pub no_end : bytes_eq word (45 ∷ 45 ∷ []) ≡ false
   pub no_long : long_of word ≡ None
   pub no_short : short_of word ≡ None
 
--- fail on a word that is no option
+-- On a word that is no option, `clap`'s three tests for options fail.
 IsPlain_from_IsNoOption : (word : Text) → IsNoOption word → IsPlain word
 IsPlain_from_IsNoOption word (inl hyphen) = rw hyphen (record { no_end = refl; no_long = refl; no_short = refl })
 IsPlain_from_IsNoOption [] (inr none) = record { no_end = refl; no_long = refl; no_short = refl }
@@ -34,26 +34,27 @@ IsPlain_from_IsNoOption (b ∷ bs) (inr none) =
 
 -- ---- One word after another
 
--- the command as `clap` builds it
+-- The command as `clap` builds it.
 shape : Shape
 shape = (built command).top
 
--- a word takes the walk from one state to another, without an error
+-- Goes w word v: this word takes `clap` from the state `w` to the state `v` of its walk over the arguments, without an
+-- error.
 record Goes (w : Walk) (word : Text) (v : Walk) : Type 0 where
   pub goes : walked shape.rules [] w word ≡ v
   pub faultless : turn_fault shape [] w word ≡ []
 
--- and so does a list of words
+-- GoesOn w words v: these words, one after another, take `clap` from the state `w` to the state `v` without an error.
 data GoesOn : Walk → List Text → Walk → Type 0 where
   stays : {w : Walk} → GoesOn w [] w
   first : {w v u : Walk} {word : Text} {rest : List Text} → Goes w word v → GoesOn v rest u → GoesOn w (word ∷ rest) u
 
--- the walk over the words ends in the last state
+-- If words take `clap` from the state `w` to the state `u`, its walk over them ends in `u`.
 GoesOn-fold : (w u : Walk) (arguments : List Text) → GoesOn w arguments u → fold (walked shape.rules []) w arguments ≡ u
 GoesOn-fold w u arguments stays = refl
 GoesOn-fold w u arguments (first one others) = rw one.goes (GoesOn-fold _ u _ others)
 
--- without an error
+-- If words take `clap` from one state to another (`GoesOn`), `clap` finds no error in them.
 GoesOn-faultless : (w u : Walk) (arguments : List Text) → GoesOn w arguments u → walk_fault shape [] w arguments ≡ []
 unfolding walk_fault
 GoesOn-faultless w u arguments stays = refl
@@ -61,7 +62,8 @@ GoesOn-faultless w u arguments (first one others) = rw (one.faultless, one.goes)
 
 -- ---- The five arguments
 
--- the state of the walk between two words: it has read these values of the argument `id`, and not used them yet
+-- A state of the walk between two words: `clap` has read these values of the argument `id`, but has made no row of them
+-- yet.
 abbrev walk_with_pending : List Row → Text → List Text → Waiting → ℕ → Walk
 walk_with_pending rows id values waiting position = record {
   held = record { rows = rows; pending = Some (id, values); skip = 0 };
@@ -134,7 +136,7 @@ GoesOn-hash_arguments name salt password n s p =
 
 -- ---- What the command makes of them
 
--- `clap` takes the arguments
+-- `clap` accepts the arguments `-m TYPE -S SALT PASSWORD`, if none of the three texts is an option.
 pub fault_of-hash_arguments : (name salt password : Text) → IsNoOption name → IsNoOption salt → IsNoOption password
     → fault_of command (hash_arguments name salt password) ≡ []
 unfolding shape command defaults_fault
@@ -142,7 +144,7 @@ fault_of-hash_arguments name salt password n s p =
     let on = GoesOn-hash_arguments name salt password n s p in
     rw (GoesOn-faultless _ _ _ on, GoesOn-fold _ _ _ on)
 
--- it finds the three texts, and nothing else is given
+-- IsGiven name salt password rows: the rows hold these three texts, and say that nothing else is given.
 pub record IsGiven (name salt password : Text) (rows : List Row) : Type 0 where
   pub type : type_of rows ≡ name
   pub salt_is : given_salt rows ≡ Some salt
@@ -162,14 +164,14 @@ IsGiven-rows_after_password : (name salt password : Text) → IsGiven name salt 
 unfolding shape command
 IsGiven-rows_after_password name salt password = record { type = refl; salt_is = refl; rounds = refl; word = refl; stdin = refl; batch = refl; check = refl; audit = refl; work = refl; modes = refl }
 
--- the rows that it finds are those of the last state
+-- The rows that `clap` finds for these arguments are those of the state after the password.
 matches_of-hash_arguments : (name salt password : Text) → IsNoOption name → IsNoOption salt → IsNoOption password
     → matches_of command (hash_arguments name salt password) ≡ rows_after_password name salt password
 unfolding shape command
 matches_of-hash_arguments name salt password n s p =
     ap (λ (w : Walk). finished shape.rules w.held) (GoesOn-fold _ _ _ (GoesOn-hash_arguments name salt password n s p))
 
--- so the three texts are in the rows that it finds
+-- The rows that `clap` finds for `-m TYPE -S SALT PASSWORD` hold the three texts and nothing else.
 pub IsGiven-hash_arguments : (name salt password : Text) (arguments : List Text) → arguments ≡ hash_arguments name salt password
     → IsNoOption name → IsNoOption salt → IsNoOption password → IsGiven name salt password (matches_of command arguments)
 IsGiven-hash_arguments name salt password arguments are n s p =

@@ -1,7 +1,6 @@
--- From what the steps of `plan` find to what the arguments mean (`Means`), for the clause of `plan` if `Maker::new`
--- refuses. The rules on the method, the rounds and the salt come last in the order of the arguments' rules. The method
--- of the rows is the one that `plan` found, so a rule that is broken for one is broken for the other, by induction over
--- the rules.
+-- If `Maker::new` refuses the method, the rounds and the salt, its error is what the arguments mean (`Means`). The
+-- clause of `plan` needs this. The rules on these three come last in the order of the arguments' rules, and the rows
+-- name the method that `plan` found, so the same rules are broken. The proof is by induction over the rules.
 use Rattle.std.proofs.Common.{◌≡◌, List, [], ◌∷◌, map, Some, ap, subst, inl, inr}
 use Rattle.clap.specs.Words.{Row}
 use Rattle.crypt_core.specs.MadeSettings.{BreaksMake, IsMakeRefused, make_faults}
@@ -12,16 +11,16 @@ use Rattle.crypt_core.specs.declared.setting.fault.MakeFault.{MakeFault}
 use Rattle.mkpasswd.specs.Options.{BreaksUsage, given_salt, job_rounds, type_of}
 use Rattle.mkpasswd.specs.declared.fault.UsageFault.TheVariants.{Make}
 
--- ---- The rules of the arguments, in their order
+-- ---- The rules on the method, the rounds and the salt
 
 module _ (rows : List Row) (method : Method) (named : method_named (type_of rows) ≡ Some method) where
-  -- a rule that the method, the rounds and the salt do not break, the arguments do not break
+  -- If the method, the rounds and the salt do not break this rule, the arguments do not break it.
   not_BreaksUsage-Make : (fault : MakeFault) → ¬ BreaksMake method (job_rounds method rows) (given_salt rows) fault → ¬ BreaksUsage rows (Make fault)
   not_BreaksUsage-Make fault whole (own, own_named, breaks) =
       let same : own ≡ method = cc in
       whole (subst (λ (m : Method). BreaksMake m (job_rounds m rows) (given_salt rows) fault) same breaks)
 
-  -- the first rule that the method, the rounds and the salt break is the first of these that the arguments break
+  -- The first rule that the method, the rounds and the salt break is also the first such rule that the arguments break.
   pub IsFirstBroken-Make : (fault : MakeFault) → IsMakeRefused method (job_rounds method rows) (given_salt rows) fault
       → IsFirstBroken (map Make make_faults) (BreaksUsage rows) (Make fault)
   unfolding IsMakeRefused

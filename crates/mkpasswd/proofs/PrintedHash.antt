@@ -1,6 +1,7 @@
 -- The arguments `-m TYPE -S SALT PASSWORD` print the hash of the password, for the clause `prints` of `run_command`.
--- With status 0 the command ended whole (WholeCommands), and `clap` found exactly the three texts (GivenArguments). So
--- the plan is to hash the given password with the given salt: every other plan contradicts what was found.
+-- With status 0 the command did all that they ask for (WholeCommands), and `clap` found exactly the three texts
+-- (GivenArguments). So the plan is to hash this password with this salt, since every other plan contradicts what `clap`
+-- found.
 use Rattle.std.proofs.Common.{◌≡◌, Bool, List, Some, true, false, true≢false, codes, ap, subst, sym, ◌∙◌, inl, inr, append-nil, arith}
 use Rattle.std.proofs.lemmas.Option.{none-some}
 use Rattle.clap.specs.Words.{Row, Text, matches_of}
@@ -31,7 +32,7 @@ module _ (name : Text) (method : Method) (named : method_named name ≡ Some met
 
 -- ---- What the arguments mean
 
--- the answer of this job is the hash alone
+-- The answer of a job with this method, this salt and no counts of the work is the line with the hash.
 text-password_answer : (method : Method) (salt password : Text) (job : Job) (bytes : Text) (stream : Stream)
     → job.maker ≡ record { scheme = made_scheme method 0; salt = Some salt } → job.work ≡ false → bytes ≡ password
     → (password_answer job bytes stream).text ≡ as_line (crypt password (record { scheme = made_scheme method 0; salt = salt }))
@@ -40,7 +41,7 @@ text-password_answer method salt password job bytes stream maker_is work_is byte
 
 module _ (name salt password : Text) (method : Method) (named : method_named name ≡ Some method)
     (salt_is : IsNoOption salt) (password_is : IsNoOption password) where
-  -- the name is no option, because no method's name begins with a hyphen
+  -- The name of a method is no option, because it does not begin with a hyphen.
   name-IsNoOption : IsNoOption name
   name-IsNoOption = inr (method_named-no_hyphen name method named)
 
@@ -50,7 +51,7 @@ module _ (name salt password : Text) (method : Method) (named : method_named nam
   method_named-unique : (own : Method) → method_named name ≡ Some own → own ≡ method
   method_named-unique own own_named = let own_here = own_named in let named_here = named in cc
 
-  -- a job of the rows that were found prints this hash
+  -- A job for rows with these three texts answers with the line of this hash.
   text-IsJob : (rows : List Row) (job : Job) (bytes : Text) (stream : Stream) → IsGiven name salt password rows → IsJob rows job
       → bytes ≡ password → (password_answer job bytes stream).text ≡ as_line (crypt password (record { scheme = made_scheme method 0; salt = salt }))
   text-IsJob rows job bytes stream found is_job bytes_is =
@@ -60,7 +61,8 @@ module _ (name salt password : Text) (method : Method) (named : method_named nam
   not_set_and_unset : {set : Bool} → set ≡ false → set ≡ true → ⊥
   not_set_and_unset off on = true≢false (sym on ∙ off)
 
-  -- so the command prints it, whatever its plan: the other plans are not those of the arguments
+  -- If the command did all that `-m TYPE -S SALT PASSWORD` asks for, it printed the hash. No other plan fits these
+  -- arguments.
   pub PrintsHash_from_EndsWhole : {I O E : Type 0} (Made IsKept : Type 0) (arguments : List Text) (old new : RunState I O E) → arguments ≡ hash_arguments name salt password
       → EndsWhole Made IsKept arguments old new → PrintsHash method salt password old.out new.out
   PrintsHash_from_EndsWhole Made IsKept arguments old new are (inr (asked, (error, refuses, by, text, gives))) =

@@ -1,6 +1,6 @@
--- The number of an option, for the clauses of `number32` and `number64`: if the option's parser accepts only numbers
--- below 2^32 or 2^64, `get_one` reads each value that passed the parser as the number that its digits say. The argument
--- goes by the two kinds of parser, of signed and of unsigned numbers.
+-- The number of an option, for the clauses of `number32` and `number64`. If the option's parser accepts only numbers
+-- below 2^32 or 2^64, `get_one` reads each value that passed the parser as the number that its digits say. The proof
+-- treats signed and unsigned parsers separately.
 use Rattle.std.proofs.Common.{◌≡◌, ◌∙◌, ◌^◌, ℕ, Option, Some, None, Result, true, false, ap, refl, subst, sym, arith}
 use Rattle.std.specs.Option.{option_map, option_map_or}
 use Rattle.std.specs.Prelude.{pos}
@@ -15,15 +15,15 @@ use Rattle.clap.proofs.CallerReads.{signed_reads}
 use Rattle.mkpasswd.specs.Options.{command_rules}
 use Rattle.mkpasswd.specs.Private.Options.{HasPassed, HavePassed, IsNumber, parser_by_id, takes_below}
 
--- what `parse` promises for an unsigned number of so many bits
+-- What `parse` promises for an unsigned number of this many bits.
 abbrev pub Parses : ℕ → Text → Result ℕ ParseIntError → Type 0
 Parses bits text read = ParsesUnsigned bits 10 text read × ExplainsUnsignedError 10 text read × HasUnsignedDigitsIfOk text read
 
--- the number that the digits of a text say
+-- The number that the digits of a text say.
 abbrev pub number_of : Text → ℕ
 number_of text = digits_value 10 (without_leading_plus text)
 
--- a text that passed the parser is read as its number
+-- If a text passed a parser that accepts only numbers below 2^bits, it is read as the number that its digits say.
 ReadsOne-number_of : (bits : ℕ) (parser : ValueParser) → takes_below (2 ^ bits) parser ≡ true → (text : Text) → HasPassed parser text
     → (read : Option ℕ) → ReadsOne (Parses bits) text read → read ≡ Some (number_of text)
 ReadsOne-number_of bits (Signed (pos low) (pos high)) below text passed read reads =
@@ -37,13 +37,13 @@ ReadsOne-number_of bits (Unsigned low high) below text passed None reads =
     absurd (reads.1.0 (accepted.0, omega (arith, accepted.3, ltb-true high (2 ^ bits) below)))
 ReadsOne-number_of bits parser below text passed read reads = absurd cc
 
--- and so is a value that may be missing
+-- If the parser accepts only numbers below 2^bits, a value is read as its number, and a missing value as `None`.
 ReadsOne-option_map : (bits : ℕ) (parser : ValueParser) → takes_below (2 ^ bits) parser ≡ true → (value : Option Text) → ((text : Text) → value ≡ Some text → HasPassed parser text)
     → (read : Option ℕ) → (value ≡ None → read ≡ None) → ((text : Text) → value ≡ Some text → ReadsOne (Parses bits) text read) → read ≡ option_map number_of value
 ReadsOne-option_map bits parser below None passed read none some = none refl
 ReadsOne-option_map bits parser below (Some text) passed read none some = ReadsOne-number_of bits parser below text (passed text refl) read (some text refl)
 
--- so the number of an option is read from its value
+-- `get_one` reads the number of an option from its value, if the option's parser accepts only numbers below 2^bits.
 pub one_text-number_of : (bits : ℕ) (matches : ArgMatches) (id : Text) → IsNumber (2 ^ bits) id → HavePassed matches
     → (read : Option ℕ) → (one_text (found_of matches) id ≡ None → read ≡ None)
     → ((text : Text) → one_text (found_of matches) id ≡ Some text → ReadsOne (Parses bits) text read)

@@ -1,6 +1,6 @@
--- From what the steps of `run_command` promise to its clause `serves`, and the clauses of `report_fault`, `show_error`
--- and `show_refusal`. A text was written to an output, and the lemmas say which part of the command that was: the line
--- of an error, `clap`'s message, or a run with its tally. The argument goes case by case; nothing is computed.
+-- From what the steps of `run_command` promise to its clause `serves`, and to the clauses of `report_fault`,
+-- `show_error` and `show_refusal`. The lemmas say what each written text is: the line that reports an error, `clap`'s
+-- message, or the output of a run with a tally. They go through the cases of the definitions.
 use Rattle.std.proofs.Common.{◌≡◌, ◌≢◌, ◌⊎◌, ℕ, List, [], length, Bool, false, Result, Ok, Err, ap, refl, inl, inr}
 use Rattle.clap.specs.Words.{Text}
 use Rattle.clap.specs.declared.error.kind.ErrorKind.{ErrorKind}
@@ -26,7 +26,7 @@ use Rattle.run_core.specs.declared.tally.Tally.{Tally}
 -- ---- A text that was written
 
 module _ {T : Type 0} where
-  -- the line of an error was written, in at most as many calls as it has bytes
+  -- `IsTold` holds if the line that reports the error was shown, in at most as many calls as it has bytes.
   pub IsTold_from_Shows : {A : Type 0} (fault : Fault) (old new : Device T) (line : List ℕ) (turns : ℕ) (result : Result A RunFault)
       → line ≡ fault_line fault → turns ≡ length line → Shows turns old new line result → IsTold fault old new
   IsTold_from_Shows {A} fault old new line turns result line_is turns_is shows =
@@ -36,7 +36,7 @@ module _ {T : Type 0} where
 
 -- ---- `clap`'s message
 
--- an error of `clap` has status 0 if it is help or the version, and otherwise 2
+-- The status of an error of `clap` is 0 if the error is help or the version, and otherwise 2.
 pub parse_status-cases : (which : ErrorKind)
     → ((which ≢ kind.DisplayHelp) × (which ≢ kind.DisplayVersion) × (parse_status which ≡ 2))
     ⊎ ((¬ ((which ≢ kind.DisplayHelp) × (which ≢ kind.DisplayVersion))) × (parse_status which ≡ 0))
@@ -44,14 +44,14 @@ parse_status-cases kind.DisplayHelp = inr ((λ others. others.0 refl), refl)
 parse_status-cases kind.DisplayVersion = inr ((λ others. others.1 refl), refl)
 parse_status-cases which = inl ((λ help. cc), (λ version. cc), refl)
 
--- help and the version have status 0
+-- Help and the version have status 0.
 pub parse_status-help : (which : ErrorKind) → ¬ ((which ≢ kind.DisplayHelp) × (which ≢ kind.DisplayVersion)) → parse_status which ≡ 0
 parse_status-help which asked = elim (parse_status-cases which) [
   | inl other ↦ absurd (asked (other.0, other.1))
   | inr own ↦ own.1
 ]
 
--- any other error has status 2
+-- An error of `clap` other than help and the version has status 2.
 pub parse_status-mistake : (which : ErrorKind) → (which ≢ kind.DisplayHelp) × (which ≢ kind.DisplayVersion) → parse_status which ≡ 2
 parse_status-mistake which other = elim (parse_status-cases which) [
   | inl own ↦ own.2
@@ -59,7 +59,7 @@ parse_status-mistake which other = elim (parse_status-cases which) [
 ]
 
 module _ {O E : Type 0} where
-  -- any other refusal of the arguments has a line of its own
+  -- A refusal of the arguments that is not an error of `clap` was reported with its own line and status.
   pub RefusalShown-told : (fault : UsageFault) (turns : ℕ) (out : Device O) (faults : Device E) (new_faults : Device E) (status : ℕ)
       → ((error : Error) → fault ≢ Parse error) → IsTold (Usage fault) faults new_faults → status ≡ (fault_row (Usage fault)).0
       → RefusalShown fault turns out faults out new_faults status
@@ -69,26 +69,26 @@ module _ {O E : Type 0} where
 -- ---- The command
 
 module _ {I O E : Type 0} where
-  -- the state with other outputs
+  -- The state of the run with other outputs.
   abbrev pub with_faults : RunState I O E → Device E → RunState I O E
   with_faults old faults = record old { faults = faults }
 
   abbrev pub with_outs : RunState I O E → Device O → Device E → RunState I O E
   with_outs old out faults = record old { out = out; faults = faults }
 
-  -- a run ended with a tally
+  -- If a run ended with a tally, the clause `serves` holds with the status of the tally.
   pub Serves-run : (turns : ℕ) (Made IsKept : Type 0) (generates : Bool) (arguments : List Text) (plan : Plan) (old new : RunState I O E) (tally : Tally) (status : ℕ)
       → Plans arguments (Ok plan) → IsAsked Made IsKept (wants_generator plan) → RunsOrLacks turns generates plan old new (Ok tally) → status ≡ tally_status tally
       → Serves turns Made IsKept generates arguments old new status
   Serves-run turns Made IsKept generates arguments plan old new tally status planned asks runs status_is =
       (Ok plan, planned, asks, rw runs.0 (new, Ok tally, runs.1, (refl, status_is)))
 
-  -- the line of an error changes only `faults`
+  -- Writing the line that reports an error changes only `faults`.
   Tells_from_IsTold : (fault : Fault) (old : RunState I O E) (faults : Device E) (status : ℕ) → IsTold fault old.faults faults → status ≡ (fault_row fault).0
       → Tells fault old (with_faults old faults) status
   Tells_from_IsTold fault old faults status (result, shows) status_is = (result, shows, refl, status_is)
 
-  -- a run ended with an error, or there was no generator for it
+  -- If a run ended with an error, or lacked a generator, and the error was reported, the clause `serves` holds.
   pub Serves-run_fault : (turns : ℕ) (Made IsKept : Type 0) (generates : Bool) (arguments : List Text) (plan : Plan) (old mid : RunState I O E) (faults : Device E) (fault : Fault) (status : ℕ)
       → Plans arguments (Ok plan) → IsAsked Made IsKept (wants_generator plan) → RunsOrLacks turns generates plan old mid (Err fault) → IsTold fault mid.faults faults
       → status ≡ (fault_row fault).0 → Serves turns Made IsKept generates arguments old (with_faults mid faults) status
@@ -98,7 +98,7 @@ module _ {I O E : Type 0} where
       (Ok plan, planned, asks, rw runs.0 (mid, Err fault, runs.1, Tells_from_IsTold (Run fault) mid faults status is_told status_is))
   Serves-run_fault turns Made IsKept generates arguments plan old mid faults (Usage fault) status planned asks runs is_told status_is = absurd runs
 
-  -- `clap` refused the arguments, or they asked for help or the version
+  -- If an error of `clap`, help or the version was shown, the clause `serves` holds.
   pub Serves-clap_error : (turns : ℕ) (Made IsKept : Type 0) (generates : Bool) (arguments : List Text) (error : Error) (old : RunState I O E) (out : Device O) (faults : Device E) (status : ℕ)
       → Plans arguments (Err (Parse error)) → IsAsked Made IsKept false → ErrorShown error turns old.out old.faults out faults status
       → Serves turns Made IsKept generates arguments old (with_outs old out faults) status
@@ -131,7 +131,7 @@ module _ {I O E : Type 0} where
   Serves-clap_error turns Made IsKept generates arguments error old out faults status planned asks (no_text told same status_is) =
       (Err NoMemory, tt, asks, rw same (Tells_from_IsTold (Usage NoMemory) old faults status told status_is))
 
-  -- the arguments were refused
+  -- If a refusal of the arguments was shown, the clause `serves` holds.
   pub Serves-refusal : (turns : ℕ) (Made IsKept : Type 0) (generates : Bool) (arguments : List Text) (fault : UsageFault) (old : RunState I O E) (out : Device O) (faults : Device E) (status : ℕ)
       → Plans arguments (Err fault) → IsAsked Made IsKept false → RefusalShown fault turns old.out old.faults out faults status
       → Serves turns Made IsKept generates arguments old (with_outs old out faults) status

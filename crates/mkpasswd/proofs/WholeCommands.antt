@@ -1,6 +1,6 @@
 -- What status 0 means, for the clause `whole` of `run_command`: everything that the arguments ask for was done, or help
--- or the version was printed in full. The argument goes through the cases of `Serves`. An error of a run, a missing
--- generator and refused arguments have another status, so a run ended with a tally, whose clauses say that all answers
+-- or the version was printed in full. The proof goes through the cases of `Serves`. An error of a run, a missing
+-- generator and refused arguments have other statuses. So the run ended with a tally, and by its clauses all answers
 -- were written.
 use Rattle.std.proofs.Common.{◌≡◌, ℕ, Bool, true, false, not, ◌&&◌, Result, List, [], Option, Some, None, Ok, Err, refl, zero, suc, inl, inr, subst, sym, ◌∙◌, arith}
 use Rattle.std.specs.Prelude.{MatchBool}
@@ -46,7 +46,8 @@ Reads-nothing input = record { shown = Consumes-nothing input.shown; counted = o
 module _ {I O E : Type 0} where
   -- ---- A plan whose run has a tally of status 0
 
-  -- a run with a tally of status 0 wrote all its answers
+  -- If the tally of a run has status 0, the run succeeded: it wrote all its answers, and none of them is a refusal or a
+  -- no.
   Succeeds_from_Finishes : (answers : List Answer) (read : List ℕ) (old new : RunState I O E) (tally : Tally) → tally_status tally ≡ 0
       → Reads old.input new.input read → Finishes answers old new (Ok tally)
       → Succeeds read answers old new
@@ -56,7 +57,7 @@ module _ {I O E : Type 0} where
     status = rw is at well;
   }
 
-  -- the run of one password
+  -- If the run of one password ends with a tally of status 0, the plan to hash this password is done.
   IsDone_from_EndsOne : (turns : ℕ) (job : Job) (from : PasswordFrom) (old new : RunState I O E) (tally : Tally) → tally_status tally ≡ 0
       → EndsOne turns job from old new (Ok tally) → IsDone (One job from) old new
   IsDone_from_EndsOne turns job (Word password) old new tally well (same, (answers, (known, is_password, are), finishes)) = (
@@ -71,13 +72,13 @@ module _ {I O E : Type 0} where
     Succeeds_from_Finishes _ bytes old new tally well reads (subst (λ (a : List Answer). Finishes a old new (Ok tally)) are finishes),
   )
 
-  -- a run over lines
+  -- If a run over lines ends with a tally of status 0, it succeeded on all lines.
   SucceedsByLines_from_EndsLines : (turns : ℕ) (kind : Kind) (job : Job) (old new : RunState I O E) (tally : Tally) → tally_status tally ≡ 0
       → EndsLines turns kind job old new (Ok tally) → SucceedsByLines kind job old new
   SucceedsByLines_from_EndsLines turns kind job old new tally well (bytes, reads, (answers, (read_out, are), finishes)) =
       (bytes, answers, read_out, are, Succeeds_from_Finishes answers bytes old new tally well reads finishes)
 
-  -- the run of any plan
+  -- If the run of any plan ends with a tally of status 0, the plan is done.
   IsDone_from_Ends : (turns : ℕ) (plan : Plan) (old new : RunState I O E) (tally : Tally) → tally_status tally ≡ 0
       → Ends turns plan old new (Ok tally) → IsDone plan old new
   IsDone_from_Ends turns Methods old new tally well (shows, same, is) =
@@ -87,7 +88,7 @@ module _ {I O E : Type 0} where
   IsDone_from_Ends turns (Check job) old new tally well runs = SucceedsByLines_from_EndsLines turns kinds.Check job old new tally well runs.ends
   IsDone_from_Ends turns (Audit job) old new tally well runs = SucceedsByLines_from_EndsLines turns kinds.Audit job old new tally well runs.ends
 
-  -- so with status 0 a plan was run, and all of it was done
+  -- If the arguments make a plan and the status is 0, all of the plan was done.
   EndsWhole-plan : (lacks : Bool) (turns : ℕ) (Made IsKept : Type 0) (plan : Plan) (arguments : List Text) (old new : RunState I O E) (status : ℕ) → status ≡ 0 → Plans arguments (Ok plan)
       → IsAsked Made IsKept (wants_generator plan)
       → MatchBool lacks (Tells Start old new status)
@@ -101,7 +102,7 @@ module _ {I O E : Type 0} where
 
   -- ---- Arguments that are refused
 
-  -- with status 0 an error of `clap` is help or the version, printed in full
+  -- If `clap` returns an error and the status is 0, help or the version was printed in full.
   EndsWhole-clap_error : (kept : ℕ) (turns : ℕ) (Made IsKept : Type 0) (arguments : List Text) (error : Error) (old new : RunState I O E) (status : ℕ) → status ≡ 0
       → Plans arguments (Err (Parse error)) → IsAsked Made IsKept false → parse_status (kind_of error) ≡ kept
       → ShowsError kept turns old new status → EndsWhole Made IsKept arguments old new
@@ -112,7 +113,8 @@ module _ {I O E : Type 0} where
   EndsWhole-clap_error (suc n) turns Made IsKept arguments error old new status well planned asks by (text, result, shows, same, is) =
       absurd (omega (arith, is, well))
 
-  -- so status 0 means that the command ended whole
+  -- If a command that `Serves` describes has status 0, it did all that its arguments ask for, or printed help or the
+  -- version.
   pub EndsWhole_from_Serves : (turns : ℕ) (Made IsKept : Type 0) (generates : Bool) (arguments : List Text) (old new : RunState I O E) (status : ℕ) → status ≡ 0
       → Serves turns Made IsKept generates arguments old new status → EndsWhole Made IsKept arguments old new
   EndsWhole_from_Serves turns Made IsKept generates arguments old new status well (Ok plan, planned, asks, follows) =

@@ -31,19 +31,19 @@ use Rattle.run_core.specs.declared.line.Kind.TheVariants as kinds
 -- ---- Status 0
 
 module _ {I O E : Type 0} where
-  -- GivesOnly text old new: `out` took this text and was flushed. No call failed, and only `out` changed.
+  -- GivesOnly text old new: `out` took this text and was flushed. No call failed, and nothing but `out` changed.
   pub record GivesOnly (text : List ℕ) (old new : RunState I O E) : Type 0 where
     pub others : new ≡ record old { out = new.out }
     pub gives : Takes 0 1 old.out new.out text
 
-  -- Succeeds read answers old new: a run read these bytes and wrote these answers. None of them is a refusal, the
-  -- answer `no` or an account that needs care.
+  -- Succeeds read answers old new: a run read these bytes and wrote these answers. No answer is a refusal, the answer
+  -- `no` or an account that needs care, so the status is 0.
   pub record Succeeds (read : List ℕ) (answers : List Answer) (old new : RunState I O E) : Type 0 where
     pub input : Reads old.input new.input read
     pub run : Finishes answers old new (Ok (tally_of answers))
     pub status : tally_status (tally_of answers) ≡ 0
 
-  -- SucceedsByLines kind job old new: a run read the input to its end, and answered each of its lines.
+  -- SucceedsByLines kind job old new: a run read the input to its end and answered each of its lines, with status 0.
   abbrev pub SucceedsByLines : Kind → Job → RunState I O E → RunState I O E → Type 0
   SucceedsByLines kind job old new =
       (bytes : List ℕ) × (answers : List Answer) × IsAtEnd new.input.shown × AreAnswers kind job job.first_line (lines_of bytes) old.stream answers
@@ -63,14 +63,15 @@ module _ {I O E : Type 0} where
   IsDone (Check job) old new = SucceedsByLines kinds.Check job old new
   IsDone (Audit job) old new = SucceedsByLines kinds.Audit job old new
 
-  -- IsHelped arguments old new: the arguments ask for help or the version, and `out` took some text.
+  -- IsHelped arguments old new: the arguments ask for help or the version. Some text was written to `out`, and nothing
+  -- else changed.
   abbrev pub IsHelped : List Text → RunState I O E → RunState I O E → Type 0
   IsHelped arguments old new =
       (error : Error) × Plans arguments (Err (Parse error)) × (parse_status (kind_of error) ≡ 0)
       × (text : List ℕ) × GivesOnly text old new
 
   -- EndsWhole Made IsKept arguments old new: the arguments make a plan, and all of it was done; or they ask for help or
-  -- the version, which was printed. `Made` and `IsKept` are as in `IsAsked`.
+  -- the version, which was printed. `Made` says that the command asked for a generator, and `IsKept` that it did not.
   abbrev pub EndsWhole : Type 0 → Type 0 → List Text → RunState I O E → RunState I O E → Type 0
   EndsWhole Made IsKept arguments old new =
       ((plan : Plan) × Plans arguments (Ok plan) × IsAsked Made IsKept (wants_generator plan) × IsDone plan old new)
@@ -82,12 +83,12 @@ module _ {I O E : Type 0} where
 abbrev pub hash_arguments : Text → Text → Text → List Text
 hash_arguments method salt password = codes "-m" ∷ method ∷ codes "-S" ∷ salt ∷ password ∷ []
 
--- IsNoOption word: `clap` takes the argument as a value: it does not begin with a hyphen, or is a single hyphen.
+-- IsNoOption word: the argument does not begin with a hyphen, or is a single hyphen. `clap` takes it as a value.
 abbrev pub IsNoOption : Text → Type 0
 IsNoOption word = (word ≡ codes "-") ⊎ ¬ BeginsWith word (codes "-")
 
--- PrintsHash method salt password old new: the output took the hash of the password and a line feed. The setting of the
--- hash has the method, its default rounds and the salt.
+-- PrintsHash method salt password old new: the output took the hash of the password and a line feed. The hash has this
+-- method, its default rounds and this salt.
 abbrev pub PrintsHash : {O : Type 0} → Method → Text → Text → Device O → Device O → Type 0
 PrintsHash method salt password old new =
     Appends old.shown new.shown (as_line (crypt password (record { scheme = made_scheme method 0; salt = salt })))

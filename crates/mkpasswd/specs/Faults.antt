@@ -1,4 +1,4 @@
--- The messages and exit statuses of the errors that end the program early, and the line of an error.
+-- The errors that end the program early: their messages, their exit statuses, and the line that reports each of them.
 use Rattle.std.specs.Prelude.{ℕ, List, [], ◌++◌, codes, length, Result}
 use Rattle.clap.specs.Words.{kind_of}
 use Rattle.crypt_core.specs.Faults.{make_fault_text}
@@ -21,8 +21,8 @@ parse_status DisplayVersion = 0
 parse_status _ = 2
 
 -- fault_row fault: the exit status and the message of an error. The status is 0 if the arguments ask for help or the
--- version, 2 if the arguments or the password are invalid, and 3 after a system error or too many I/O calls. `clap` has
--- messages of its own.
+-- version, 2 if the arguments or the password are invalid, and 3 after a system error, a failed allocation or too many
+-- I/O calls. The message of `Parse` is empty, because `clap` has its own.
 abbrev pub fault_row : Fault → ℕ × List ℕ
 fault_row Start = (3, codes "start fault")
 fault_row (Usage (Parse error)) = (parse_status (kind_of error), [])
@@ -33,12 +33,12 @@ fault_row (Usage (Make fault)) = (2, make_fault_text fault)
 fault_row (Usage OutOfMemory) = (3, codes "out of memory")
 fault_row (Run fault) = run_row fault
 
--- fault_line fault: the line of an error: `mkpasswd: `, the message and a line feed.
+-- fault_line fault: the line that reports an error. It is `mkpasswd: `, the message and a line feed.
 abbrev pub fault_line : Fault → List ℕ
 fault_line fault = as_line (codes "mkpasswd: " ++ (fault_row fault).1)
 
--- IsTold fault old new: the command wrote the line of the error and flushed it, in at most as many calls as it has
--- bytes. If that failed, a prefix of it is written.
+-- IsTold fault old new: the command wrote the line that reports the error, in at most as many calls as this line has
+-- bytes, and flushed it. If that failed, a prefix of the line may be written.
 abbrev pub IsTold : {E : Type 0} → Fault → Device E → Device E → Type 0
 IsTold fault old new =
     (result : Result Tally RunFault) × Shows (length (fault_line fault)) old new (fault_line fault) result

@@ -1,4 +1,4 @@
--- The arguments after the program's name: the command, what `clap` finds in them, and what they mean.
+-- The arguments after the program's name: how `clap` parses them, what it finds in them, and what they mean.
 use Rattle.std.specs.Prelude.{◌≡◌, ◌≢◌, ◌<◌, ◌⊎◌, ⊤, ℕ, pos, Bool, true, false, List, [], ◌∷◌, count_by, fold, map, Option, Some, None, IsSome, is_some, Result, Ok, Err, codes, unwrap_or, if◌then◌else◌}
 use Rattle.std.specs.Option.{option_map, option_map_or}
 use Rattle.std.specs.Str.{bytes_eq}
@@ -30,17 +30,18 @@ abbrev pub value_rule : Text → Rule
 value_rule id = record (new_rule id) { action = Some Set; value_names = 1 }
 
 -- option_rule id letter: the rule of an option that takes one value. Its long name is its id, and its short name is the
--- character with this number, if there is one.
+-- character with the number `letter`, if there is one.
 abbrev pub option_rule : Text → Option ℕ → Rule
 option_rule id letter = record (value_rule id) { short = letter; long = Some id }
 
--- flag_rule id letter: the rule of a flag, which takes no value. It has names like an option.
+-- flag_rule id letter: the rule of a flag, which takes no value. Its long name is its id, and its short name is the
+-- character with the number `letter`, if there is one.
 abbrev pub flag_rule : Text → Option ℕ → Rule
 flag_rule id letter = record (new_rule id) { action = Some SetTrue; short = letter; long = Some id }
 
--- The rules of all arguments. The short options are `-m` (109), `-S` (83), `-R` (82) and `-s` (115). The number of `-R`
--- is at most 2^32 - 1, that of `--budget` at most 2^64 - 1, and that of `--first-line` 1 to 2^32 - 1. The first
--- argument that is no option is the password, and the second is the salt.
+-- command_rules: the rules of all arguments. The short options are `-m` (109), `-S` (83), `-R` (82) and `-s` (115). The
+-- number of `-R` is at most 2^32 - 1, that of `--budget` at most 2^64 - 1, and that of `--first-line` 1 to 2^32 - 1.
+-- The first argument that is no option is the password, and the second is the salt.
 abbrev pub command_rules : List Rule
 command_rules =
     option_rule (codes "method") (Some 109) ∷ option_rule (codes "salt") (Some 83)
@@ -51,13 +52,14 @@ command_rules =
     ∷ record (option_rule (codes "first-line") None) { parser = Some (Signed (pos 1) (pos 4294967295)) }
     ∷ value_rule (codes "password") ∷ value_rule (codes "salt-word") ∷ []
 
--- The command has a version, and its first argument is not the program's name.
+-- command: the command mkpasswd with these rules and a version, for `clap`. Its arguments begin after the program's
+-- name.
 unfoldable pub command : App
 command = fold with_rule (on_top (λ s. record s { no_binary_name = true; has_version = true }) (new_app (codes "mkpasswd"))) command_rules
 
 -- ---- What `clap` finds in the arguments: a row for each one that is given
 
--- is_set id rows: the flag with this id is given.
+-- is_set id rows: whether the flag with this id is given.
 abbrev pub is_set : Text → List Row → Bool
 is_set id rows = option_map_or (bytes_eq (codes "true")) (one_of id rows) false
 
@@ -65,23 +67,25 @@ is_set id rows = option_map_or (bytes_eq (codes "true")) (one_of id rows) false
 abbrev pub number_in : Text → List Row → Option ℕ
 number_in id rows = option_map (λ text. digits_value 10 (without_leading_plus text)) (one_of id rows)
 
--- type_of rows: TYPE: the value of `-m`, or sha512crypt without it.
+-- type_of rows: the name of the method, which is the value of `-m`, or sha512crypt if `-m` is not given.
 abbrev pub type_of : List Row → Text
 type_of rows = unwrap_or (first_of (codes "method") rows) (codes "sha512crypt")
 
--- rounds_of rows: the number of `-R`, or 0 without it.
+-- rounds_of rows: the number of `-R`, or 0 if `-R` is not given.
 abbrev pub rounds_of : List Row → ℕ
 rounds_of rows = unwrap_or (number_in (codes "rounds") rows) 0
 
--- job_rounds method rows: the rounds of the job: those of the arguments. For an audit 0 means the recommended ones.
+-- job_rounds method rows: the rounds of the job. They are the number of `-R`, or 0 without it; for an audit, the
+-- method's recommended rounds replace 0.
 abbrev pub job_rounds : Method → List Row → ℕ
 job_rounds method rows = if is_set (codes "audit") rows then chosen_rounds method (rounds_of rows) else rounds_of rows
 
--- first_line_of rows: the number of the first line: that of `--first-line`, or 1 without it.
+-- first_line_of rows: the number of the first line. It is that of `--first-line`, or 1 if that is not given.
 abbrev pub first_line_of : List Row → ℕ
 first_line_of rows = unwrap_or (number_in (codes "first-line") rows) 1
 
--- given_salt rows: the value of `-S`, or else the second argument, if one is given.
+-- given_salt rows: the salt, which is the value of `-S`, or else the second argument that is no option, if there is
+-- one.
 abbrev pub given_salt : List Row → Option Text
 given_salt rows = if is_some (first_of (codes "salt") rows) then first_of (codes "salt") rows else first_of (codes "salt-word") rows
 
@@ -93,11 +97,12 @@ mode_count rows = count_by (λ given. given)
 
 -- ---- What the arguments mean
 
--- The refusals, in the order of their rules.
+-- usage_faults: the errors in arguments that `clap` accepts, in the order in which their rules are checked.
 abbrev pub usage_faults : List UsageFault
 usage_faults = UnknownMethod ∷ TwoSalts ∷ TwoModes ∷ map Make make_faults
 
--- BreaksUsage rows fault: the arguments break the rule of this refusal. `Parse` and `OutOfMemory` have no rule here.
+-- BreaksUsage rows fault: the arguments break the rule whose error is `fault`. `Parse` and `OutOfMemory` have no rule
+-- here.
 --   UnknownMethod  TYPE names no method
 --   TwoSalts       the salt is given in both ways
 --   TwoModes       more than one mode is given
@@ -124,8 +129,9 @@ pub record IsJob (rows : List Row) (job : Job) : Type 0 where
   pub budget : job.budget ≡ number_in (codes "budget") rows
   pub first_line : job.first_line ≡ first_line_of rows
 
--- IsPlan rows plan: the arguments ask for this plan: its job, in the mode that is given. The password is PASSWORD or
--- the first line of the input, or there are lines to hash, check or audit. Without a mode the password is in the input.
+-- IsPlan rows plan: the arguments ask for this plan. Its job and its mode are those of the arguments: it hashes
+-- PASSWORD or the first line of the input, or it hashes, checks or audits lines. Without a mode the password is the
+-- first line of the input.
 abbrev pub IsPlan : List Row → Plan → Type 0
 IsPlan rows (One job (Word word)) = IsJob rows job × (first_of (codes "password") rows ≡ Some word.items)
 IsPlan rows (One job Input) = IsJob rows job × ((is_set (codes "stdin") rows ≡ true) ⊎ (mode_count rows ≡ 0))
@@ -134,22 +140,23 @@ IsPlan rows (Check job) = IsJob rows job × (is_set (codes "check") rows ≡ tru
 IsPlan rows (Audit job) = IsJob rows job × (is_set (codes "audit") rows ≡ true)
 IsPlan rows Methods = ⊥
 
--- Means rows planned: what the arguments mean. TYPE `help` asks for the list of the methods, whatever else is given.
--- Otherwise they mean the refusal of the first rule that they break, or a plan if they break none.
+-- Means rows planned: what the arguments mean, if `clap` accepts them. TYPE `help` asks for the list of the methods,
+-- whatever else is given. Otherwise the arguments mean the error of the first rule that they break, or a plan if they
+-- break none.
 abbrev pub Means : List Row → Result Plan UsageFault → Type 0
 Means rows (Ok Methods) = type_of rows ≡ codes "help"
 Means rows (Ok plan) = (type_of rows ≢ codes "help") × ((fault : UsageFault) → ¬ BreaksUsage rows fault) × IsPlan rows plan
 Means rows (Err fault) = (type_of rows ≢ codes "help") × IsFirstBroken usage_faults (BreaksUsage rows) fault
 
--- Refuses arguments error: `clap` refuses the arguments with this error, which they call for; or they ask for help or
--- the version.
+-- Refuses arguments error: `clap` returns this error for these arguments. They are invalid in this way, or ask for help
+-- or the version. The error is not a failed allocation.
 pub record Refuses (arguments : List Text) (error : Error) : Type 0 where
   pub called_for : IsAmong (kind_of error) (fault_of command arguments)
   pub not_taken : takes command arguments ≢ true
   pub not_memory : kind_of error ≢ kind.OutOfMemory
 
--- Plans arguments planned: `plan` may return this result: `clap` refuses the arguments, or it accepts them and they
--- mean this. An allocation may fail for any arguments.
+-- Plans arguments planned: `plan` may return this result for these arguments. `clap` refuses them, or it accepts them
+-- and they mean this result. An allocation may fail for any arguments.
 abbrev pub Plans : List Text → Result Plan UsageFault → Type 0
 Plans arguments (Err (Parse error)) = Refuses arguments error
 Plans arguments (Err OutOfMemory) = ⊤

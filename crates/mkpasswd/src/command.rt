@@ -24,7 +24,7 @@ use run_core::transfer::show;
 use std::alloc::{AllocError, Global};
 use std::io::{Read, Write};
 
-// The capacity for the line of an error. The longest such line has 35 bytes.
+// The capacity for the line that reports an error. The longest line has 35 bytes.
 const FAULT_LINE_ROOM: usize = 80;
 
 /// Runs the command with the arguments after the program's name, and returns the exit status.
@@ -47,8 +47,8 @@ const FAULT_LINE_ROOM: usize = 80;
 /// If the message of an error cannot be written, only the exit status reports the error. If help or the version cannot
 /// be written in full, that is an error with status 3.
 ///
-/// The run, or `clap`'s message, takes at most `turns` I/O calls. The line of an error comes on top, with at most as
-/// many calls as it has bytes.
+/// The run, or `clap`'s message, takes at most `turns` I/O calls. The line that reports an error takes at most as many
+/// more calls as it has bytes.
 ///
 /// For example, the arguments `-m md5crypt -S xxxxxxxx password` write `$1$xxxxxxxx$UYCIxa628.9qXjpQCjM4a.` and a line
 /// feed to `out`, and the status is 0.
@@ -93,7 +93,7 @@ pub fn run_command<I: Read, O: Write, E: Write, R: Rng + Drop, M: FnMut() -> Opt
     }
 }
 
-// Makes the generator if the plan needs one.
+// Calls `make` for a generator if the plan needs one, and returns `None` otherwise.
 fn generator_for<R: Rng, M: FnMut() -> Option<R>>(plan: &Plan, make: &mut M) -> Option<R>
     requires { M.pre make.old }
     ensures { IsAsked (M.step make.old result make.new) ((make.new ≡ make.old) × (result ≡ None)) (wants_generator plan.now) }
@@ -104,7 +104,8 @@ fn generator_for<R: Rng, M: FnMut() -> Option<R>>(plan: &Plan, make: &mut M) -> 
     }
 }
 
-// Runs a plan. If the plan needs a generator and there is none, it does nothing and the error is `Start`.
+// Runs a plan. If the plan needs a generator and there is none, the function does nothing and returns the error
+// `Start`.
 fn run_plan<I: Read, O: Write, E: Write, R: Rng>(
     alloc: Global,
     plan: &Plan,
@@ -138,7 +139,7 @@ fn run_plan<I: Read, O: Write, E: Write, R: Rng>(
     }
 }
 
-// Reports why the arguments make no plan, with `clap`'s message or the line of the error, and returns the exit status.
+// Reports why the arguments make no plan, with `clap`'s message or a line of ours, and returns the exit status.
 fn show_refusal<O: Write, E: Write>(
     alloc: Global,
     fault: UsageFault,
@@ -185,8 +186,8 @@ fn show_error<O: Write, E: Write>(
     }
 }
 
-// Returns the message of `clap`'s error, without the tip to pass an unknown option as a value: that value would be the
-// password.
+// Returns the message of `clap`'s error, without the tip to pass an unknown option as a value. If a user followed that
+// tip, the command would take a mistyped option for the password.
 fn text_of(alloc: Global, error: &clap::Error) -> Result<String, AllocError> {
     let text = format!(in alloc; "{error}")?;
     match text.as_str().split_once("\n  tip: to pass ") {
@@ -201,12 +202,12 @@ fn text_of(alloc: Global, error: &clap::Error) -> Result<String, AllocError> {
     }
 }
 
-/// Writes the line of an error, `mkpasswd: MESSAGE`, to `faults`, flushes it, and returns the error's exit status.
+/// Writes the line that reports an error, `mkpasswd: MESSAGE`, to `faults`, flushes it, and returns the exit status.
 ///
-/// It makes at most as many writes as the line has bytes. If one of them fails, only the status reports the error. For
-/// `Parse` MESSAGE is empty, because `clap` has the message.
+/// The function makes at most as many writes as the line has bytes. If a call fails, only the status reports the error.
+/// For `Parse` MESSAGE is empty, because `clap` has the message.
 ///
-/// Precondition: the counts of `faults` are no higher than a run leaves them.
+/// Precondition: the counts of `faults` are at most those that a run can leave.
 pub fn report_fault<E: Write>(fault: &Fault, faults: &mut Output<E>) -> u8
     requires room { HasRoomWithinRun faults.old }
     ensures told { IsTold fault.now faults.old faults.new }
@@ -217,7 +218,7 @@ pub fn report_fault<E: Write>(fault: &Fault, faults: &mut Output<E>) -> u8
     fault.status()
 }
 
-// Returns the line of an error: `mkpasswd: MESSAGE` and a line feed.
+// Returns the line that reports an error: `mkpasswd: MESSAGE` and a line feed.
 fn fault_line(fault: &Fault) -> ArrayVec<u8, FAULT_LINE_ROOM>
     ensures { result.items ≡ fault_line fault.now }
 {

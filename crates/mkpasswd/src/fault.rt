@@ -19,7 +19,7 @@ pub enum UsageFault {
     /// `clap` refuses the arguments, or they ask for help or the version. `clap` has the message.
     #[error("{0}")]
     Parse(clap::Error),
-    /// TYPE names no method.
+    /// The value of `-m TYPE` names no method.
     Method,
     /// The salt is given twice, with `-S` and as an argument.
     TwoSalts,
@@ -112,8 +112,8 @@ impl Fault {
 
     /// Returns the exit status.
     ///
-    /// It is 0 for help and the version, 2 for invalid arguments or an invalid password, and 3 for a system error or
-    /// too many I/O calls.
+    /// It is 0 for help and the version, 2 for invalid arguments or an invalid password, and 3 for a system error, a
+    /// failed allocation or too many I/O calls.
     pub fn status(&self) -> u8
         ensures { result ≡ (fault_row self.now).0 }
     {

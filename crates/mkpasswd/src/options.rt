@@ -1,5 +1,6 @@
 //! The arguments after the program's name: the command with which `clap` parses them, and the plan that they ask for.
-//! Refusals are reported in a fixed order. Only `OutOfMemory` has no place in it: it occurs where an allocation fails.
+//! If they break several rules, the first rule in a fixed order gives the error. Only `OutOfMemory` has no place in
+//! this order: it is returned as soon as an allocation fails.
 ghost use Rattle.std.specs.Prelude.{◌^◌, ◌≡◌, ◌≢◌, List, [], None, Some, codes, map, string_bytes, IfErr, IfOk};
 ghost use Rattle.clap.specs.Words.{app_of, fault_of, first_of, kind_of, matches_of, rule_of};
 ghost use Rattle.run_core.specs.Makers.{bytes_of};
@@ -17,7 +18,7 @@ use crypt_core::version::VERSION;
 use std::alloc::{AllocError, Global};
 use std::marker::Model;
 
-// TYPE if `-m` is not given.
+// The value of `-m TYPE` if `-m` is not given.
 const DEFAULT_TYPE: &str = "sha512crypt";
 
 // The texts of help: its first line, one text for each argument, and its last line.
@@ -59,7 +60,7 @@ const SALT_WORD_HELP: &str = "The salt, in place of --salt";
 
 const AFTER_HELP: &str = "Pass a password that begins with '-' by --stdin.";
 
-// What `clap` found in the arguments. Clauses see it as a list of rows, one for each argument that is given.
+// What `clap` found in the arguments. Contracts see it as a list of rows, one for each argument that is given.
 #[derive(Drop)]
 struct Arguments<'a> {
     matches: ArgMatches<'a>,
@@ -78,22 +79,22 @@ impl<'a> Model for Arguments<'a> {
 }
 
 impl<'a> Arguments<'a> {
-    // Returns the value of an option or an operand.
+    // Returns the value of the option or operand with this id, if it is given.
     fn text(&self, id: &str) -> Option<&'a str>
         ensures { bytes_of result ≡ first_of id.now self.now }
     {
         self.matches.get_str(id)
     }
 
-    // Returns whether the flag is given. It does not use `get_flag`, whose contract covers only values that are a
-    // `bool`.
+    // Returns whether the flag with this id is given. It does not use `get_flag`, whose contract covers only values
+    // that are a `bool`.
     fn has(&self, id: &str) -> bool
         ensures { result ≡ is_set id.now self.now }
     {
         self.matches.get_one(id).unwrap_or(false)
     }
 
-    // Returns the number of an option that only accepts numbers below 2^32.
+    // Returns the number of an option that accepts only numbers below 2^32, if it is given.
     fn number32(&self, id: &str) -> Option<u32>
         requires { IsNumber (2 ^ 32) id.now }
         ensures { result ≡ number_in id.now self.now }
@@ -101,7 +102,7 @@ impl<'a> Arguments<'a> {
         self.matches.get_one(id)
     }
 
-    // Returns the number of an option that only accepts numbers below 2^64.
+    // Returns the number of an option that accepts only numbers below 2^64, if it is given.
     fn number64(&self, id: &str) -> Option<u64>
         requires { IsNumber (2 ^ 64) id.now }
         ensures { result ≡ number_in id.now self.now }
@@ -109,7 +110,7 @@ impl<'a> Arguments<'a> {
         self.matches.get_one(id)
     }
 
-    // Returns TYPE.
+    // Returns the name of the method: the value of `-m TYPE`, or its default.
     fn type_name(&self) -> &'a str
         ensures { result.now ≡ type_of self.now }
     {
@@ -158,7 +159,7 @@ fn parse<'a>(alloc: Global, arguments: &'a [String]) -> Result<Arguments<'a>, cl
     Ok(Arguments { matches })
 }
 
-// Returns the method that TYPE names.
+// Returns the method that the value of `-m TYPE` names.
 fn known_method(given: &Arguments<'_>) -> Result<Method, UsageFault>
     ensures known { IfOk result (λ method. method_named (type_of given.now) ≡ Some method) }
     ensures rule { ChecksRule given.now UsageFault.Method result }
@@ -193,7 +194,7 @@ fn one_mode(given: &Arguments<'_>) -> Result<(), UsageFault>
     Ok(())
 }
 
-// Returns the rounds of the job. An audit without `-R`, or with `-R 0`, compares with the recommended rounds.
+// Returns the rounds of the job. An audit without `-R`, or with `-R 0`, uses the method's recommended rounds.
 fn job_rounds(given: &Arguments<'_>, method: Method) -> u32
     ensures { result ≡ job_rounds method given.now }
 {
@@ -232,7 +233,7 @@ fn planned(alloc: Global, given: &Arguments<'_>, maker: Maker) -> Result<Plan, A
     Ok(Plan::One(job, PasswordFrom::Input))
 }
 
-// Returns the command with which `clap` parses the arguments, with its help.
+// Returns the command with which `clap` parses the arguments, including the texts of its help.
 fn command<'a>(alloc: Global) -> Result<Command<'a>, AllocError>
     ensures { IfOk result (λ made. app_of made ≡ command) }
 {
@@ -262,7 +263,7 @@ fn command<'a>(alloc: Global) -> Result<Command<'a>, AllocError>
         .args(arguments)
 }
 
-// Returns a flag whose long name is its id.
+// Returns a flag whose long name is its id, and whose short name is the letter, if there is one.
 fn flag<'a>(alloc: Global, id: &'a str, letter: Option<char>, help: &'a str) -> Arg<'a>
     ensures { HasRule result (flag_rule id.entry.now letter) }
 {
@@ -273,7 +274,7 @@ fn flag<'a>(alloc: Global, id: &'a str, letter: Option<char>, help: &'a str) -> 
     lettered(arg, letter)
 }
 
-// Returns an option with one value whose long name is its id.
+// Returns an option with one value. Its long name is its id, and its short name is the letter, if there is one.
 fn option<'a>(
     alloc: Global,
     id: &'a str,
@@ -299,7 +300,7 @@ fn number<'a>(
     option(alloc, id, letter, "NUMBER", help).value_parser(parser)
 }
 
-// Returns the argument, with this short name if there is one.
+// Returns the argument with this letter as its short name, if there is one.
 fn lettered<'a>(arg: Arg<'a>, letter: Option<char>) -> Arg<'a>
     requires { (rule_of arg).short ≡ None }
     ensures rule { rule_of result ≡ record (rule_of arg.entry) { short = letter } }
@@ -311,7 +312,7 @@ fn lettered<'a>(arg: Arg<'a>, letter: Option<char>) -> Arg<'a>
     }
 }
 
-// Returns an argument that consists of one value.
+// Returns an argument that takes one value and has no long or short name.
 fn operand<'a>(alloc: Global, id: &'a str, value_name: &'a str, help: &'a str) -> Arg<'a>
     ensures { HasRule result (value_rule id.entry.now) }
 {

@@ -1,4 +1,4 @@
-//! The plan that the arguments ask for, with the job that it runs.
+//! The plan that the arguments ask for. Most plans contain the job to run.
 
 pub use run_core::job::{Job, Maker, PasswordFrom};
 

@@ -1,5 +1,5 @@
-//! The program mkpasswd. Here is what only a process has: its arguments, the standard devices, a seed from the system,
-//! and an exit status. Everything else is in the library.
+//! The program mkpasswd. This module has what only a process has: its arguments, the standard devices, a seed from the
+//! system, and an exit status. Everything else is in the crate mkpasswd.
 #![tactic(auto)]
 
 use mkpasswd::command::{report_fault, run_command};
@@ -11,12 +11,12 @@ use rand::rngs::StdRng;
 use std::env;
 use std::process::ExitCode;
 
-// The limit on the I/O calls of a run.
+// The limit on the I/O calls of a run. It is the greatest limit that `run_command` accepts.
 const TURNS: u64 = 1 << 40;
 
 fn main(rt: HostRuntime) -> ExitCode {
     let mut faults = Output::new(rt.stderr());
-    // The first argument is the program's name.
+    // The first argument is the program's name, which is dropped.
     let arguments: Result<Vec<String>, Fault> = match env::args(&rt) {
         Ok(mut given) => {
             let _ = given.next();

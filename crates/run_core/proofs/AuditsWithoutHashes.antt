@@ -1,7 +1,7 @@
--- Serves the clauses `hashes_none` and `allocates_none` of `run_audit`. No answer of an audit has a hash, so by
--- induction over the lines neither has the whole run. Then `HashesNothing_from_EndsLines` goes through the ways in
--- which a run over lines can end (`EndsLines`): in each of them the meter has counted exactly the hashes of the
--- answers, hence nothing. It can't end with `OutOfMemory`, since that needs a hash for which scrypt could not allocate
+-- Lemmas for the clauses `hashes_none` and `allocates_none` of `run_audit`. No answer of an audit has a hash, so by
+-- induction over the lines neither has the whole run. `HashesNothing_from_EndsLines` goes through the ways in which a
+-- run over lines can end (`EndsLines`). In each of them the meter has counted exactly the hashes of the answers, which
+-- are none. The run cannot end with `OutOfMemory`, since this error needs a hash for which scrypt could not allocate
 -- memory.
 use Rattle.std.specs.Prelude.{◌≢◌}
 use Rattle.std.proofs.Common.{◌≡◌, ℕ, ◌+◌, List, [], ◌∷◌, ◌++◌, Result, Ok, Err, inl, inr, refl, sym, ap, ◌∙◌}
@@ -34,7 +34,7 @@ hashings_of-audit_answers job number (line ∷ lines) stream (answer ∷ answers
 hashings_of-audit_answers job number [] stream (answer ∷ answers) are = absurd are
 hashings_of-audit_answers job number (line ∷ lines) stream [] are = absurd are
 
--- a list of no hashes has no hash for which scrypt could not allocate memory (`not_IsRefusedAmong-nil`)
+-- An empty list of hashes contains no hash for which scrypt could not allocate memory (`not_IsRefusedAmong-nil`).
 append-nil-parts : (front back : List Hashing) → front ++ back ≡ [] → (front ≡ []) × (back ≡ [])
 append-nil-parts [] back is = (refl, is)
 append-nil-parts (made ∷ front) back is = absurd cc
@@ -52,7 +52,7 @@ not_IsRefusedAmong-nil before after hashings stream none (made, next, others, ar
 -- ---- how the run ends
 
 module _ {I O E : Type 0} where
-  -- what both clauses of `run_audit` state
+  -- A run counted no work, and did not end with `OutOfMemory`. The two clauses of `run_audit` state this.
   pub record HashesNothing (old new : RunState I O E) (result : Result Tally RunFault) : Type 0 where
     pub hashes_none : new.counts ≡ old.counts
     pub allocates_none : result ≢ Err OutOfMemory
@@ -64,9 +64,9 @@ module _ {I O E : Type 0} where
     allocates_none = other;
   }
 
-  -- The cases are those of `EndsBy`, in order: all lines are answered, reading stopped (a failed read, no I/O call
-  -- left), an answer was cut short (a failed write, no I/O call left, no memory), or a password was refused, which a
-  -- run over lines never does.
+  -- The cases are those of `EndsBy`, in order: all lines are answered; reading stopped, because a read failed or no I/O
+  -- call was left; an answer was cut short, because a write failed, no I/O call was left or memory was lacking; or a
+  -- password was refused, which a run over lines never does.
   pub HashesNothing_from_EndsLines : (turns : ℕ) (job : Job) (old new : RunState I O E) (result : Result Tally RunFault) → EndsLines turns Audit job old new result → HashesNothing old new result
   HashesNothing_from_EndsLines turns job old new (Ok tally) (bytes, reads, (answers, (at_end, are), (is, takes, after))) =
       HashesNothing_from_IsAfter _ old new (Ok tally) (hashings_of-audit_answers job job.first_line _ old.stream answers are) after (λ same. cc)

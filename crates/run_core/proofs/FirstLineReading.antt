@@ -1,8 +1,8 @@
--- Serves the clause `read` of `read_first_line` (one/password.rt). `IsReading` is the invariant of its loop: the front
--- of the buffer holds what was read, without a line feed. One lemma shows how a `fetch` keeps it (`IsReading-fetched`),
--- and one for each exit of the loop shows what is known there: a line feed was found, the input ended, reading stopped,
--- or the buffer is full. `Reads-trans` and `StopsFetching-after_unfailed`, which join two steps of reading, serve
--- `LineReading` too.
+-- Lemmas for the clause `read` of `read_first_line` (one/password.rt). The invariant of its loop is `IsReading`: the
+-- bytes that were read are at the front of the buffer, and contain no line feed. `IsReading-fetched` shows that a
+-- `fetch` keeps it. One lemma for each exit of the loop shows what is known there: a line feed was found, the input
+-- ended, reading stopped, or the buffer is full. `Reads-trans` and `StopsFetching-after_unfailed` join two steps of
+-- reading, and `LineReading` uses them too.
 use Rattle.std.proofs.Common.{◌≡◌, ◌≢◌, ℕ, ◌+◌, ◌-◌, ◌≤◌, ◌<◌, List, [], ◌++◌, length, take, drop, eqb, Some, None, Ok, Err, sym, ap, subst, ◌∙◌, append-nil, arith, inl, inr}
 use Rattle.std.specs.List.{position, slice_range}
 use Rattle.std.proofs.KnownBytes.{Consumes-trans}
@@ -20,8 +20,8 @@ slice_range-take-drop : (next : List ℕ) (filled count : ℕ) → slice_range n
 slice_range-take-drop next filled count = ap (λ n. take n (drop filled next)) (omega arith)
 
 module _ {I : Type 0} where
-  -- the loop's invariant: the first `filled` bytes of the buffer were read and contain no line feed; no call failed,
-  -- and each returned a byte
+  -- The loop's invariant: the first `filled` bytes of the buffer are those that were read, and contain no line feed. No
+  -- call failed, and each call returned a byte.
   pub record IsReading (old new : Device I) (buffer : List ℕ) (filled turns left : ℕ) : Type 0 where
     pub size : length buffer ≡ buffer_size
     pub within : filled ≤ buffer_size
@@ -42,7 +42,7 @@ module _ {I : Type 0} where
         counted = omega (arith, length-append front piece, counted, more_counted);
       }
 
-  -- a `fetch` put `count` bytes after the first `filled` ones
+  -- A `fetch` put `count` bytes into the buffer, after the first `filled` bytes, which it left unchanged.
   pub record HasFetched (old mid new : Device I) (buffer next : List ℕ) (filled count turns left : ℕ) : Type 0 where
     pub before : IsReading old mid buffer filled turns left
     pub room : filled < buffer_size
@@ -50,7 +50,7 @@ module _ {I : Type 0} where
     pub kept : take filled next ≡ take filled buffer
     pub fetched : Fetches left mid new (drop filled next) (Ok count)
 
-  -- after that `fetch`, the first `filled + count` bytes of the buffer are all that was read
+  -- After the `fetch` of `HasFetched`, the first `filled + count` bytes of the buffer are all bytes that were read.
   Reads_from_HasFetched : (old mid new : Device I) (buffer next : List ℕ) (filled count turns left : ℕ)
       → HasFetched old mid new buffer next filled count turns left
       → (filled + count ≤ buffer_size)
@@ -75,7 +75,7 @@ module _ {I : Type 0} where
         subst (Reads old new) (sym parts) (Reads-trans old mid new _ piece front_reads h.fetched.2),
       )
 
-  -- exit: the new bytes contain a line feed, which ends the first line
+  -- Exit with a line feed: if the new bytes contain a line feed, the first line ends there.
   pub FindsLine-line_feed : (old mid new : Device I) (buffer next : List ℕ) (filled count turns left left_new at : ℕ)
       → HasFetched old mid new buffer next filled count turns left
       → position (λ b. eqb b 10) (slice_range next filled (filled + count)) ≡ Some at
@@ -99,7 +99,7 @@ module _ {I : Type 0} where
         ),
       )
 
-  -- without a line feed in the new bytes, there is none in all that was read
+  -- If the new bytes contain no line feed, no byte that was read is a line feed.
   feed_at-fetched : (old mid new : Device I) (buffer next : List ℕ) (filled count turns left : ℕ)
       → HasFetched old mid new buffer next filled count turns left
       → position (λ b. eqb b 10) (slice_range next filled (filled + count)) ≡ None
@@ -110,7 +110,8 @@ module _ {I : Type 0} where
       let in_piece = position-None piece (rw slice_range-take-drop at none) in
       ap feed_at so_far.1 ∙ feed_at-append (take filled next) piece (so_far.4 ∙ sym so_far.2) ∙ omega (arith, so_far.2, so_far.3, in_piece)
 
-  -- exit: no byte was read, so the input is at its end, and all that was read is the first line
+  -- Exit at the end of the input: if no byte was read, the input is at its end, and all bytes that were read are the
+  -- first line.
   pub FindsLine-end_of_input : (old mid new : Device I) (buffer next : List ℕ) (filled count turns left left_new : ℕ)
       → HasFetched old mid new buffer next filled count turns left
       → position (λ b. eqb b 10) (slice_range next filled (filled + count)) ≡ None → count ≡ 0
@@ -131,7 +132,7 @@ module _ {I : Type 0} where
         ),
       )
 
-  -- the invariant is kept: some bytes were read, and they contain no line feed
+  -- The invariant is kept if some bytes were read that contain no line feed.
   pub IsReading-fetched : (old mid new : Device I) (buffer next : List ℕ) (filled count turns left left_new : ℕ)
       → HasFetched old mid new buffer next filled count turns left
       → position (λ b. eqb b 10) (slice_range next filled (filled + count)) ≡ None → count ≢ 0
@@ -158,7 +159,7 @@ module _ {I : Type 0} where
       let size : length (take filled buffer) ≡ filled = length-take-le filled buffer (omega (arith, long, room)) in
       (not_Contains-feed_at _ (before.no_line_feed ∙ sym size), omega (arith, size, room))
 
-  -- if reading stops after steps that did not fail, it stops as seen from the start too
+  -- If some steps of reading do not fail and a later step stops, then the steps together stop in the same way.
   pub StopsFetching-after_unfailed : (old mid new : Device I) (left left_new : ℕ) (fault : RunFault) → IsUnfailed old mid → MovesBytes 0 old mid
       → StopsFetching left mid new fault → left_new ≡ left - 1 → StopsFetching left_new old new fault
   StopsFetching-after_unfailed old mid new left left_new fault unfailed moves stops took = (
@@ -169,7 +170,7 @@ module _ {I : Type 0} where
     ],
   )
 
-  -- exit: a `fetch` failed, or no I/O call was left for it
+  -- Exit when reading stops: a `fetch` failed, or no I/O call was left. The first line is not known yet.
   pub FindsLine-stopped : (old mid new : Device I) (buffer next : List ℕ) (filled turns left left_new : ℕ) (fault : RunFault)
       → IsReading old mid buffer filled turns left → filled < buffer_size
       → Fetches left mid new (drop filled next) (Err fault) → left_new ≡ left - 1
@@ -183,7 +184,7 @@ module _ {I : Type 0} where
     ),
   )
 
-  -- exit: the buffer is full, so the first line is too long for a password
+  -- Exit with a full buffer: the first line is too long for a password.
   pub FindsLine-full_buffer : (old mid : Device I) (buffer : List ℕ) (filled turns left : ℕ)
       → IsReading old mid buffer filled turns left → buffer_size ≤ filled
       → (bytes : List ℕ) × Reads old mid bytes × FindsLine old mid bytes left buffer (Ok filled)

@@ -1,7 +1,7 @@
--- Serves the clauses `runs` of `run_one` and of `answer_lines`, at their ends: once all answers are written, and
--- `finish_both` has flushed both outputs or failed to, the run has finished (`Finishes`). A flush keeps the contents of
--- an output and its count of bytes, so what the output has taken stays the same, and only its flushes and failures
--- change (`Takes-IsFinished`, `Takes-IsUnfinished`).
+-- Lemmas for the clauses `runs` of `run_one` and `answer_lines` at the end of a run. Once all answers are written, and
+-- `finish_both` has flushed both outputs or failed to, the run has finished (`Finishes`). A flush changes neither the
+-- contents of an output nor its count of bytes. So what the output has taken stays the same, and only its counts of
+-- flushes and failures change (`Takes-IsFinished`, `Takes-IsUnfinished`).
 use Rattle.std.proofs.Common.{◌≡◌, ℕ, List, Option, Some, None, Ok, Err, ◌∙◌, arith, inl, inr}
 use Rattle.std.specs.Io.KnownBytes.{Appends, Keeps}
 use Rattle.run_core.specs.Answers.{Answer, fault_texts, hashings_of, tally_of, texts}
@@ -50,16 +50,16 @@ module _ {T : Type 0} where
 -- ---- both outputs
 
 module _ {I O E : Type 0} where
-  -- all answers were written, and no call failed
+  -- All these answers were written, and no call failed.
   pub record HasAnswered (answers : List Answer) (old mid : RunState I O E) : Type 0 where
     pub takes : TakeAll 0 0 0 0 0 answers old mid
     pub after : IsAfter (hashings_of answers) old mid
 
-  -- the state of the run after the flushes
+  -- state_after_flushes mid out faults: the state `mid` of the run, with the outputs after the flushes.
   abbrev pub state_after_flushes : RunState I O E → Device O → Device E → RunState I O E
   state_after_flushes mid out faults = run_state mid.input out faults mid.stream mid.counts
 
-  -- both flushes succeeded
+  -- If all answers were written and both flushes succeeded, the run has finished with their tally.
   pub Finishes-flushed : (answers : List Answer) (old mid : RunState I O E) (out : Device O) (faults : Device E) (tally : Tally) {A : Type 0} (done : A)
       → HasAnswered answers old mid → tally ≡ tally_of answers
       → FinishesBoth mid.out mid.faults out faults (Ok done)
@@ -74,7 +74,7 @@ module _ {I O E : Type 0} where
     record { stream = answered.after.stream; counts = answered.after.counts },
   )
 
-  -- a flush failed
+  -- If all answers were written and a flush failed, the run has finished with this error.
   pub Finishes-flush_failed : (answers : List Answer) (old mid : RunState I O E) (out : Device O) (faults : Device E) (A : Type 0) (fault : RunFault)
       → HasAnswered answers old mid
       → FinishesBoth mid.out mid.faults out faults {A = A} (Err fault)

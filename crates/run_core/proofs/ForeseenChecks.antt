@@ -1,8 +1,8 @@
--- Serves the clauses `foresees`, `checked` and `refutes` of `run_audit`, which say what an audit tells about later
--- checks. `foresees`: a check of the longest password costs what the audit says, and shorter ones cost no more, so a
--- field within the budget makes no line costly. `heeds_limit`: an audit by its own budget also compares the cost for
--- the empty password with the limit of the policy. `refutes`: a field that is not whole is the hash of no password, so
--- the only outcome that its line can have is `Misfit`.
+-- Lemmas for the clauses `foresees`, `checked` and `refutes` of `run_audit`, which say what the finding of an audit
+-- means for later checks. For `foresees`: a check of the longest password costs what the audit says, and checks of
+-- shorter ones cost no more, so no line with a field within the budget is costly. For `checked` (`heeds_limit`):
+-- without a given budget, an audit also compares the cost for the empty password with the limit of the policy. For
+-- `refutes`: a field that is not whole is the hash of no password, so the only outcome of its line is `Misfit`.
 use Rattle.std.proofs.Common.{◌≡◌, ◌≤◌, ◌<◌, ℕ, List, [], Ok, inl, inr, refl, sym, ap, subst, ◌∙◌, arith, length, Some}
 use Rattle.std.proofs.lemmas.Option.{none-some}
 use Rattle.rand_core.specs.Stream.{Stream}
@@ -33,7 +33,8 @@ use Rattle.run_core.proofs.LineOutcomes.{Spells-unique, IsStored_from_Spells}
 use Rattle.run_core.proofs.LineRules.{sound_not_refused, length-password-le}
 use Rattle.run_core.proofs.LineOptions.{IsAbove-le}
 
--- a check without rehashes costs no more than the maximum cost of the stored hash, so it is within the budget
+-- If the maximum cost of a stored hash is not above the budget, no line to check with this hash is costly without
+-- rehashes.
 not_IsCostly-greatest_cost : (job : Job) (field : List ℕ) (kept : SettingValue) (line : List ℕ) (parts : Parts) → Spells field kept → IsReadOneWay field
     → ¬ IsAbove job.budget (greatest_cost kept) → HasParts Check line parts → parts.field ≡ Some field → ¬ IsCostly Check (without_rehash job) line
 not_IsCostly-greatest_cost job field kept line parts spells once within has is costly =
@@ -53,7 +54,7 @@ foresees job field scheme most OverBudget finds other checking same line parts h
 foresees job field scheme most standing (kept, spells, is_scheme, is_number, stands) other checking same line parts has is =
     not_IsCostly-greatest_cost checking field kept line parts spells (one_reading field) (rw same (λ above. stands.0 (inl above))) has is
 
--- a hash within the audit's own budget is within the limit of the policy for the empty password
+-- If a hash is within the audit's own budget, its cost for the empty password is within the limit of the policy.
 cost-le-policy_limit : (new : Scheme) (budget : ℕ) (kept : SettingValue) → ¬ IsOverBudget new budget kept → budget ≡ 0 → cost kept 0 ≤ policy_limit new
 cost-le-policy_limit new budget kept within default =
     let never : ¬ (policy_limit new < cost kept 0) = λ above. within (inr (default, above)) in
@@ -64,7 +65,7 @@ heeds_limit job field scheme most OverBudget finds other default = absurd (other
 heeds_limit job field scheme most standing (kept, spells, is_scheme, is_number, stands) other default =
     (kept, spells, cost-le-policy_limit job.maker.scheme (given_budget job) kept stands.0 default)
 
--- a line whose field spells a setting but is not whole comes to `Misfit`
+-- If the field of a line spells a setting but is not whole, the outcome of the line is `Misfit`.
 ComesTo-not_whole : (job : Job) (stream : Stream) (parts : Parts) (field : List ℕ) (kept : SettingValue) (outcome : Outcome) (made : List Hashing)
     → parts.field ≡ Some field → Spells field kept → ¬ IsWhole field kept → ComesTo job parts stream outcome made → outcome ≡ Misfit
 ComesTo-not_whole job stream parts field kept (Hashed hash) made is spells dead comes = absurd (none-some field (sym comes.0 ∙ is))
@@ -83,7 +84,8 @@ ComesTo-not_whole job stream parts field kept (Rehashed hash) made is spells dea
 ComesTo-not_whole job stream parts field kept Misfit made is spells dead comes = refl
 ComesTo-not_whole job stream parts field kept (Audited finding) made is spells dead comes = absurd comes
 
--- so its answer is the verdict `no`, unless the line is refused
+-- If the field of a line spells a setting but is not whole, and the line breaks no rule and is not costly, then its
+-- answer is the verdict `no`.
 outcome-not_whole : (job : Job) (field : List ℕ) (kept : SettingValue) (line : List ℕ) (parts : Parts) → Spells field kept → ¬ IsWhole field kept
     → HasParts Check line parts → parts.field ≡ Some field → IsSound Check line → ¬ IsCostly Check job line
     → (number : ℕ) (stream : Stream) (answer : Answer) → IsPasswordAnswer Check job number line stream answer → answer.outcome ≡ Ok Misfit

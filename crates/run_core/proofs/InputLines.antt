@@ -1,8 +1,8 @@
 -- How the lines of an input arise from the pieces in which it is read, for the clause `gives` of
 -- `LineReader::next_line` (`LineReading`). `with_line_feeds` joins lines, each with its line feed.
--- `IsCutAtFeed_from_position` cuts a piece at its first line feed, with nothing but bytes of one line before it.
--- `lines_of-with_line_feeds` shows by induction over the lines that splitting gives back the lines that were joined,
--- followed by those of the rest.
+-- `IsCutAtFeed_from_position` cuts a piece at its first line feed, before which there are only bytes of one line.
+-- `lines_of-with_line_feeds` shows by induction over the lines that splitting joined lines and a rest gives the lines,
+-- and then those of the rest.
 use Rattle.std.proofs.Common.{◌≡◌, ◌≢◌, ℕ, ◌+◌, ◌<◌, false, eqb, List, [], ◌∷◌, ◌++◌, length, take, drop, get_or, flat_map, Some, None, refl, sym, ap, ◌∙◌, append_assoc, append-nil, add-one, get_or-take, arith, inl, inr}
 use Rattle.std.specs.List.{All, AllByRecursion, position, slice_split}
 use Rattle.std.proofs.Math.Seq.{split_at}
@@ -18,7 +18,7 @@ use Rattle.run_core.proofs.LineFeeds.{feed_at, not_Contains-feed_at, position-So
 
 -- ---- lines with their line feeds
 
--- lines as they are in an input
+-- with_line_feeds lines: the bytes of these lines as they are in an input, each with its line feed.
 abbrev pub with_line_feeds : List (List ℕ) → List ℕ
 with_line_feeds = flat_map (λ line. line ++ line_feed ∷ [])
 
@@ -26,15 +26,16 @@ with_line_feeds-push : (lines : List (List ℕ)) (line : List ℕ) → with_line
 with_line_feeds-push lines line =
     flat_map-append (λ line. line ++ line_feed ∷ []) lines (line ∷ []) ∙ ap (λ bytes. with_line_feeds lines ++ bytes) (append-nil (line ++ line_feed ∷ []))
 
--- If the bytes so far are some lines and the beginning `rest` of another, then `front` and a line feed complete that
--- line.
+-- If the bytes so far are some lines and `rest`, which is the beginning of another line, then `front` and a line feed
+-- complete this line.
 with_line_feeds-behind : (bytes : List ℕ) (lines : List (List ℕ)) (rest front line behind : List ℕ) → bytes ≡ with_line_feeds lines ++ rest → line ≡ rest ++ front
     → bytes ++ (front ++ line_feed ∷ behind) ≡ with_line_feeds lines ++ (line ++ line_feed ∷ behind)
 with_line_feeds-behind bytes lines rest front line behind split is_line = rw (split, is_line) (
     append_assoc (with_line_feeds lines) rest (front ++ line_feed ∷ behind)
     ∙ ap (λ others. with_line_feeds lines ++ others) (sym (append_assoc rest front (line_feed ∷ behind))))
 
--- so the bytes are one more line, followed by `behind`
+-- If the bytes so far are some lines and `rest`, then with `front`, a line feed and `behind` added they are these
+-- lines, one more line, and `behind`.
 pub with_line_feeds-behind_line : (bytes : List ℕ) (lines : List (List ℕ)) (rest front line behind : List ℕ) → bytes ≡ with_line_feeds lines ++ rest → line ≡ rest ++ front
     → bytes ++ (front ++ line_feed ∷ behind) ≡ with_line_feeds (lines ++ line ∷ []) ++ behind
 with_line_feeds-behind_line bytes lines rest front line behind split is_line =
@@ -52,9 +53,6 @@ AllByRecursion-push P xs y firsts last = AllByRecursion-append P xs (y ∷ []) f
 
 -- ---- line feeds
 
-pub HasNoLineFeed-nil : HasNoLineFeed []
-HasNoLineFeed-nil has = omega (arith, has.1)
-
 pub HasNoLineFeed-append : (xs ys : List ℕ) → HasNoLineFeed xs → HasNoLineFeed ys → HasNoLineFeed (xs ++ ys)
 HasNoLineFeed-append xs ys none none_behind has = elim (Contains-append_cases xs ys line_feed has) [
   | inl before ↦ none before
@@ -64,7 +62,7 @@ HasNoLineFeed-append xs ys none none_behind has = elim (Contains-append_cases xs
 pub HasNoLineFeed-position : (xs : List ℕ) → position (λ b. eqb b 10) xs ≡ None → HasNoLineFeed xs
 HasNoLineFeed-position xs none = not_Contains-feed_at xs (position-None xs none)
 
--- the list is cut at its first line feed
+-- The list is cut at its first line feed, which is at the position `at`.
 pub record IsCutAtFeed (xs : List ℕ) (at : ℕ) : Type 0 where
   pub within : at < length xs
   pub parts : xs ≡ take at xs ++ line_feed ∷ drop (at + 1) xs
@@ -105,7 +103,8 @@ lines_of-cons line rest none =
     ap without_empty_end (slice_split_at is_feed line line_feed rest (All_from_HasNoLineFeed line none) refl)
     ∙ without_empty_end-cons line (slice_split is_feed rest) (omega (arith, others))
 
--- splitting lines with their line feeds, and more bytes, gives these lines, and then those of the other bytes
+-- Splitting lines with their line feeds, followed by more bytes, gives these lines, and then the lines of the other
+-- bytes.
 pub lines_of-with_line_feeds : (lines : List (List ℕ)) (rest : List ℕ) → AllByRecursion HasNoLineFeed lines → lines_of (with_line_feeds lines ++ rest) ≡ lines ++ lines_of rest
 lines_of-with_line_feeds [] rest none = refl
 lines_of-with_line_feeds (line ∷ lines) rest none =
@@ -121,7 +120,7 @@ without_empty_end-single : (part : List ℕ) → part ≢ [] → without_empty_e
 without_empty_end-single [] some = absurd (some refl)
 without_empty_end-single (b ∷ bs) some = refl
 
--- bytes without a line feed are one line, unless there are none
+-- Bytes without a line feed are one line, unless there are no bytes.
 pub lines_of-last : (line : List ℕ) → HasNoLineFeed line → line ≢ [] → lines_of line ≡ line ∷ []
 unfolding lines_of
 lines_of-last line none some =

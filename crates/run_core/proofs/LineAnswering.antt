@@ -1,8 +1,8 @@
--- Serves the clause `runs` of `answer_lines`: what changes when one more line is answered. For each fold over a list of
--- answers (texts, hashes, random numbers left, counts, tally) a `-push` lemma says what one answer at the end adds;
--- these follow from the lemmas on appended lists. `AreAnswers-push` shows by induction over the lines that the answers
--- stay right for the longer list of lines, since the new line has the next number and begins with the random numbers
--- that the others left.
+-- Lemmas for the clause `runs` of `answer_lines`: what changes when one more line is answered. A lemma `..-push` for
+-- each function of a list of answers (texts, hashes, random numbers left, counts, tally) says what one more answer at
+-- the end adds. It follows from a lemma on appended lists. `AreAnswers-push` shows by induction over the lines that the
+-- answers stay right for the longer list of lines: the new line has the next number, and begins with the random numbers
+-- that the answers before it left.
 use Rattle.std.proofs.Common.{◌≡◌, Bool, ℕ, suc, ◌+◌, List, [], ◌∷◌, ◌++◌, length, count_by, refl, ap, ◌∙◌, append-nil, add-zero, zero-add, arith}
 use Rattle.std.proofs.lemmas.List.{length-append}
 use Rattle.std.proofs.lemmas.List.Concat.{flat_map-append}
@@ -50,14 +50,14 @@ Tally-eq : (a b c d e f : ℕ) → a ≡ d → b ≡ e → c ≡ f
     → ◌≡◌ {A = Tally} (record { lines = a; refused = b; misfits = c }) (record { lines = d; refused = e; misfits = f })
 Tally-eq a b c d e f one two three = cc
 
--- the tally counts one more line
+-- The tally of one more answer counts one more line.
 pub tally_of-push : (answers : List Answer) (next : Answer) → tally_of (answers ++ next ∷ []) ≡ counted (tally_of answers) next.outcome
 tally_of-push answers next = Tally-eq _ _ _ _ _ _ (length-append answers (next ∷ []))
     (count_by-push (λ (answer : Answer). is_refusal answer.outcome) answers next) (count_by-push (λ (answer : Answer). is_misfit answer.outcome) answers next)
 
 -- ---- the answers to lines
 
--- each line has one answer
+-- There are as many answers as lines.
 pub length_from_AreAnswers : (kind : Kind) (job : Job) (number : ℕ) (lines : List (List ℕ)) (stream : Stream) (answers : List Answer)
     → AreAnswers kind job number lines stream answers → length answers ≡ length lines
 length_from_AreAnswers kind job number [] stream [] are = refl
@@ -66,7 +66,7 @@ length_from_AreAnswers kind job number (line ∷ lines) stream (answer ∷ answe
 length_from_AreAnswers kind job number [] stream (answer ∷ answers) are = absurd are
 length_from_AreAnswers kind job number (line ∷ lines) stream [] are = absurd are
 
--- answers to lines, and the answer to the next line, are the answers to all of them
+-- The answers to some lines, and then the answer to the next line, are the answers to all these lines.
 pub AreAnswers-push : (kind : Kind) (job : Job) (number : ℕ) (lines : List (List ℕ)) (line : List ℕ) (stream : Stream) (answers : List Answer) (next : Answer)
     → AreAnswers kind job number lines stream answers
     → IsAnswer kind job (number + length lines) line (stream_left stream (hashings_of answers)) next

@@ -1,8 +1,8 @@
--- Where the first line feed of a list is, and the first line, which ends there. The clause `read` of `read_first_line`
--- needs these facts (`FirstLineReading`), and so does the clause `gives` of `LineReader::next_line` (`InputLines`).
--- `feed_at` is the position of the first line feed, or the length of a list without one. `position-Some` and
--- `position-None` derive it from what `line_feed_at` returns. The other proofs apply the standard library's lemmas on
--- the first item of a list that passes a test.
+-- Where the first line feed of a list is, and the first line, which ends there. The clauses `read` of `read_first_line`
+-- (`FirstLineReading`) and `gives` of `LineReader::next_line` (`InputLines`) need these facts. `feed_at` is the
+-- position of the first line feed, or the length of a list without one. `position-Some` and `position-None` derive it
+-- from the result of `line_feed_at`. The other proofs apply lemmas of the standard library on the first item of a list
+-- that passes a test.
 use Rattle.std.proofs.Common.{◌≡◌, ℕ, ◌+◌, ◌<◌, ◌≤◌, Bool, true, false, cond, eqb, not, List, ◌++◌, length, take, Contains, Some, None, refl, ap, ◌∙◌, arith}
 use Rattle.std.specs.List.{position, position_or_len}
 use Rattle.std.proofs.lemmas.Bool.{eqb-true, eqb-false, ltb-false, ltb-true}
@@ -12,7 +12,7 @@ use Rattle.std.proofs.lemmas.List.Folds.{prefix_len-append}
 use Rattle.std.proofs.lemmas.List.Sums.{fails_before_first, passes_at_first, prefix_len-le-length}
 use Rattle.run_core.specs.Input.{first_line}
 
--- the position of the first line feed, or the length of a list without one
+-- feed_at xs: the position of the first line feed in the list, or the length of the list if it has none.
 abbrev pub feed_at : List ℕ → ℕ
 feed_at xs = position_or_len (λ b. eqb b 10) xs
 
@@ -25,7 +25,7 @@ Contains-feed_at xs some = (feed_at xs, some, eqb-true _ _ (passes_at_first (λ 
 pub feed_at-le-length : (xs : List ℕ) → feed_at xs ≤ length xs
 feed_at-le-length xs = prefix_len-le-length _ xs
 
--- after a list without a line feed, the first line feed is that of what follows the list
+-- If `xs` contains no line feed, the first line feed of `xs ++ ys` is that of `ys`.
 pub feed_at-append : (xs ys : List ℕ) → feed_at xs ≡ length xs → feed_at (xs ++ ys) ≡ length xs + feed_at ys
 feed_at-append xs ys none = grind (arith, nat_tests, prefix_len-append (λ b. not (eqb b 10)) xs ys)
 
@@ -45,7 +45,7 @@ position-None xs e =
     let above : length xs ≤ feed_at xs = ltb-false _ _ (cond-None _ _ e) in
     omega (arith, feed_at-le-length xs)
 
--- a list without a line feed is its own first line
+-- A list without a line feed is its own first line.
 pub first_line-whole : (xs : List ℕ) → feed_at xs ≡ length xs → first_line xs ≡ xs
 unfolding first_line
 first_line-whole xs none = ap (λ n. take n xs) none ∙ take_all (length xs) xs (omega arith)

@@ -1,9 +1,9 @@
--- Serves the clauses `budget` and `rehash` of `run_batch` and `run_check`, and `options` of `RunsOne` in the clause
--- `runs` of `run_one`. A budget occurs in an answer only where a line is costly; for any other line, an answer with the
--- budget is one without it, case by case, and the other way round (`only_refuses`). A rehash changes a cost or an
--- outcome only if the setting in the field is out of date, and the password matches or the line is costly; then the
--- line is renewable, so for any other line the answers with and without rehashes are the same (`only_renews`). The run
--- for a single password mentions neither option.
+-- Lemmas for the clauses `budget` and `rehash` of `run_batch` and `run_check`, and for `options` of `RunsOne` in the
+-- clause `runs` of `run_one`. A budget occurs in an answer only if the line is costly. For any other line,
+-- `only_refuses` shows case by case that the answers with and without the budget are the same. Rehashes change a cost
+-- or an outcome only if the setting in the field is out of date, and the password matches or the line is costly. Such a
+-- line is renewable, and for any other line `only_renews` shows that the answers with and without rehashes are the
+-- same. The run for a single password depends on neither option.
 use Rattle.std.proofs.Common.{◌≡◌, ◌↔◌, ℕ, List, Result, inl, inr, refl, sym, ◌∙◌, arith, ◌≤◌, ◌⊎◌, Bool, true, false, true≢false, length, Option, None, Some}
 use Rattle.std.specs.Prelude.{◌≢◌}
 use Rattle.std.proofs.lemmas.Option.{none-some}
@@ -32,34 +32,34 @@ use Rattle.run_core.specs.declared.tally.Tally.{Tally}
 use Rattle.run_core.proofs.LineOutcomes.{not_IsCostly-unstored}
 use Rattle.run_core.proofs.LineRules.{sound_not_refused}
 
--- ---- lines
+-- ---- a budget
 
--- without a budget no line is costly
+-- Without a budget, no line is costly.
 not_IsCostly-without_budget : (kind : Kind) (job : Job) (line : List ℕ) → ¬ IsCostly kind (without_budget job) line
 not_IsCostly-without_budget kind job line costly = costly.above
 
--- a budget does not change what a line with these parts comes to
+-- A budget does not change the outcome of a line with these parts.
 ComesTo-without_budget : (job : Job) (parts : Parts) (stream : Stream) (outcome : Outcome) (made : List Hashing)
     → ComesTo job parts stream outcome made ↔ ComesTo (without_budget job) parts stream outcome made
 ComesTo-without_budget job parts stream (Hashed hash) made = ((λ comes. comes), λ comes. comes)
 ComesTo-without_budget job parts stream outcome made = ((λ comes. comes), λ comes. comes)
 
 module _ (kind : Kind) (job : Job) (number : ℕ) (line : List ℕ) (stream : Stream) (answer : Answer) where
-  -- an answer to a line that is not costly is an answer without the budget
+  -- If a line is not costly, an answer to it is also an answer without the budget.
   IsPasswordAnswer-drop_budget : ¬ IsCostly kind job line → IsPasswordAnswer kind job number line stream answer → IsPasswordAnswer kind (without_budget job) number line stream answer
   IsPasswordAnswer-drop_budget cheap (inl refused) = inl refused
   IsPasswordAnswer-drop_budget cheap (inr (inl (costly, is))) = absurd (cheap costly)
   IsPasswordAnswer-drop_budget cheap (inr (inr (sound, within, parts, cut, outcome, comes, is))) =
       inr (inr (sound, not_IsCostly-without_budget kind job line, parts, cut, outcome, (ComesTo-without_budget job parts stream outcome answer.hashings).0 comes, is))
 
-  -- an answer without the budget to a line that is not costly is an answer with it
+  -- If a line is not costly, an answer to it without the budget is also an answer with the budget.
   IsPasswordAnswer-add_budget : ¬ IsCostly kind job line → IsPasswordAnswer kind (without_budget job) number line stream answer → IsPasswordAnswer kind job number line stream answer
   IsPasswordAnswer-add_budget cheap (inl refused) = inl refused
   IsPasswordAnswer-add_budget cheap (inr (inl (costly, is))) = absurd costly.above
   IsPasswordAnswer-add_budget cheap (inr (inr (sound, within, parts, cut, outcome, comes, is))) =
       inr (inr (sound, cheap, parts, cut, outcome, (ComesTo-without_budget job parts stream outcome answer.hashings).1 comes, is))
 
-  -- a costly line is refused for its cost
+  -- A costly line is refused as `OverBudget`.
   costly-refused : IsCostly kind job line → IsPasswordAnswer kind job number line stream answer → answer ≡ refusal number OverBudget
   costly-refused costly (inl (fault, refused, is)) = absurd (sound_not_refused kind line fault costly.sound refused)
   costly-refused costly (inr (inl (other, is))) = is
@@ -76,7 +76,7 @@ only_refuses kind job unaudited = record {
 
 -- ---- a single password
 
--- the run ends as it does without a budget and without rehashes
+-- A run for a single password ends in the same way without a budget and without rehashes.
 EndsOne-without_options : {I O E : Type 0} (turns : ℕ) (job : Job) (from : PasswordFrom) (old new : RunState I O E) (result : Result Tally RunFault)
     → EndsOne turns job from old new result → EndsOne turns (without_rehash (without_budget job)) from old new result
 EndsOne-without_options turns job (Word word) old new result ends = ends
@@ -92,18 +92,20 @@ runs_one turns job from old new result ends within = record {
 
 -- ---- rehashes
 
--- a check with rehashes costs at least as much as one without
+-- A check with rehashes costs at least as much as one without.
 check_cost-without_rehash-le : (job : Job) (kept : SettingValue) (password : ℕ)
     → check_cost (without_rehash job) kept password ≤ check_cost job kept password
 check_cost-without_rehash-le job kept password = omega arith
 
--- a higher cost is above a budget if a lower one is
+-- If a cost is above the budget, so is any higher cost.
 pub IsAbove-le : (budget : Option ℕ) (number more : ℕ) → number ≤ more → IsAbove budget number → IsAbove budget more
 IsAbove-le None number more at_most above = above
 IsAbove-le (Some budget) number more at_most above = omega (arith, at_most, above)
 
 module _ (kind : Kind) (job : Job) (line : List ℕ) (stream : Stream) where
-  -- a line that is costly without rehashes is costly with them
+  -- A line that is costly without rehashes is costly with them. If it has no field, rehashes do not change its cost,
+  -- which is that of hashing its password. If its field spells a setting, rehashes can only raise the cost of its
+  -- check.
   IsCostly-add_rehash : IsCostly kind (without_rehash job) line → IsCostly kind job line
   IsCostly-add_rehash costly = elim costly.cost [
     | inl made ↦ record { parts = costly.parts; sound = costly.sound; cut = costly.cut; number = costly.number; cost = inl made; above = costly.above }
@@ -118,8 +120,8 @@ module _ (kind : Kind) (job : Job) (line : List ℕ) (stream : Stream) where
   ]
 
   module _ (not_renewable : ¬ IsRenewable kind job line) where
-    -- if the line is not renewable, but its password matches or it is costly, then the setting in its field is not out
-    -- of date
+    -- If a line is not renewable, but its password matches or it is costly, then the setting in its field is not out of
+    -- date.
     is_outdated-not_renewable : (parts : Parts) (field : List ℕ) (kept : SettingValue) → IsSound kind line → HasParts kind line parts → HasSetting parts field kept
         → (crypt parts.password kept ≡ field) ⊎ IsCostly kind job line → is_outdated job kept ≡ false
     is_outdated-not_renewable parts field kept sound cut spelled why = go (is_outdated job kept) refl
@@ -137,12 +139,13 @@ module _ (kind : Kind) (job : Job) (line : List ℕ) (stream : Stream) where
         }))
         go false is = is
 
-    -- the check of a hash that is not out of date costs the same with and without rehashes
+    -- If the stored setting is not out of date, a check costs the same with and without rehashes.
     check_cost-not_outdated : (kept : SettingValue) (password : ℕ) → is_outdated job kept ≡ false
         → check_cost job kept password ≡ check_cost (without_rehash job) kept password
     check_cost-not_outdated kept password is = rw is refl
 
-    -- a line that is costly with rehashes, but not renewable, is costly without them
+    -- If a line is not renewable but costly with rehashes, it is costly without them. Its cost is the same in both
+    -- cases: that of hashing its password if it has no field, and else that of its check.
     IsCostly-drop_rehash : IsCostly kind job line → IsCostly kind (without_rehash job) line
     IsCostly-drop_rehash costly = record {
       parts = costly.parts;
@@ -157,7 +160,7 @@ module _ (kind : Kind) (job : Job) (line : List ℕ) (stream : Stream) where
       above = costly.above;
     }
 
-    -- it comes to the same outcome, which is never `Rehashed`
+    -- A line that is not renewable has the same outcome with and without rehashes. The outcome is never `Rehashed`.
     ComesTo-without_rehash : (parts : Parts) (outcome : Outcome) (made : List Hashing) → IsSound kind line → HasParts kind line parts
         → ComesTo job parts stream outcome made ↔ ComesTo (without_rehash job) parts stream outcome made
     ComesTo-without_rehash parts (Hashed hash) made sound cut = ((λ comes. comes), λ comes. comes)
@@ -191,7 +194,7 @@ only_renews Audit job unaudited = absurd (unaudited refl)
 only_renews kind job unaudited = λ number line stream answer not_renewable.
     (IsPasswordAnswer-drop_rehash kind job line stream not_renewable number answer, IsPasswordAnswer-add_rehash kind job line stream not_renewable number answer)
 
--- a line to hash has no field, so it is never renewable
+-- A line to hash is never renewable, because it has no field.
 not_IsRenewable-batch : (job : Job) (line : List ℕ) → ¬ IsRenewable Batch job line
 not_IsRenewable-batch job line renewable = none-some renewable.field (sym renewable.cut.1 ∙ renewable.spelled.0)
 

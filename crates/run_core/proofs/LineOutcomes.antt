@@ -1,9 +1,9 @@
--- Serves the clause `settles` of `outcome_of`, and through it `decides` of `answer_line`. The clauses of the functions
--- that hash speak of a password and of a field as it was read (`Settles`); the public ones speak of the line
--- (`IsAnswer`), its cost (`IsCostly`) and its outcome (`ComesTo`). `Concludes_from_Settles` leads from the first to the
--- second. The key step is that the parts of a line are unique and that a field spells at most one setting, so the cost
--- that was compared with the budget is the line's only cost. `would_check` gives the outcome that a check would have
--- had, for the clause `settles` of `check_within_budget` if scrypt could not allocate memory.
+-- Lemmas for the clause `settles` of `outcome_of`, and so for `decides` of `answer_line`. The clauses of the functions
+-- that hash speak of a password and of a field as it was read (`Settles`). The public clauses speak of the line
+-- (`IsAnswer`), its cost (`IsCostly`) and its outcome (`ComesTo`), and `Concludes_from_Settles` leads to them. The main
+-- step: a line has only one list of parts, and a field spells at most one setting, so the cost that was compared with
+-- the budget is the line's only cost. `would_check` gives the outcome that a check would have had if scrypt could not
+-- allocate memory, for the clause `settles` of `check_within_budget`.
 use Rattle.std.proofs.Common.{◌≡◌, ℕ, Bool, true, false, List, [], ◌∷◌, ◌++◌, codes, slice_index, length, Option, Some, None, inl, inr, refl, sym, ap, subst, ◌∙◌, true≢false, arith}
 use Rattle.std.specs.Prelude.{◌≢◌, Result, Ok, Err}
 use Rattle.std.specs.Bool.{Decides}
@@ -52,7 +52,7 @@ not_IsAbove-zero (Some budget) above = omega arith
 abbrev parts_with : List ℕ → List ℕ → Option (List ℕ) → Parts
 parts_with name password field = record { name = name; field = field; password = password }
 
--- a line whose cost is above the budget is costly
+-- A line is costly if its cost, which depends on its field and the length of its password, is above the budget.
 IsCostly_from_parts : (kind : Kind) (job : Job) (line name password : List ℕ) (field : Option (List ℕ)) (stored : Option StoredField)
     → HasSoundParts kind line (parts_with name password field) → IsFieldOf field stored
     → IsAbove job.budget (field_cost job stored (length password)) → IsCostly kind job line
@@ -81,14 +81,14 @@ IsCostly_from_line : (kind : Kind) (job : Job) (line name password : List ℕ) (
     → IsAbove job.budget (field_cost job stored (length password)) → IsCostly kind job line
 IsCostly_from_line kind job line name password stored is above = IsCostly_from_parts kind job line name password is.field stored is.taken is.field_of above
 
--- a field spells at most one setting
+-- A field spells at most one setting.
 pub Spells-unique : (field : List ℕ) (one other : SettingValue) → IsReadOneWay field → Spells field one → Spells field other → one ≡ other
 unfolding IsReadOneWay
 Spells-unique field one other once spells spells_other =
     let both : Ok one ≡ Ok other = once (Ok one) (Ok other) spells spells_other in
     cc
 
--- a line without a field whose cost is not above the budget is not costly
+-- A line without a field is not costly if the cost of hashing its password is not above the budget.
 not_IsCostly-no_field : (kind : Kind) (job : Job) (line name password : List ℕ) → HasSoundParts kind line (parts_with name password None)
     → ¬ IsAbove job.budget (made_cost_by job.maker (length password)) → ¬ IsCostly kind job line
 not_IsCostly-no_field kind job line name password taken within costly =
@@ -99,7 +99,7 @@ not_IsCostly-no_field kind job line name password taken within costly =
       | inr spelled ↦ absurd (none-some spelled.0 (sym (ap (λ (p : Parts). p.field) same) ∙ spelled.2))
     ]
 
--- nor is a line with a stored hash, if the cost of its check is not above the budget
+-- A line with a stored hash is not costly if the cost of its check is not above the budget.
 not_IsCostly-stored : (kind : Kind) (job : Job) (line name password field : List ℕ) (stored : StoredHash)
     → HasSoundParts kind line (parts_with name password (Some field)) → Spells field stored.setting → IsReadOneWay field
     → ¬ IsAbove job.budget (check_cost job stored.setting (length password)) → ¬ IsCostly kind job line
@@ -117,7 +117,8 @@ not_IsCostly-stored kind job line name password field stored taken spells once w
 
 -- ---- a field that spells no setting
 
--- a field that spells a setting begins with `$`, so it is neither empty nor locked (`IsStored_from_Spells`)
+-- A setting's prefix begins with `$` (36). So a field that spells a setting is neither empty nor locked
+-- (`IsStored_from_Spells`).
 prefix-first_byte : (method : Method) (rest : List ℕ) → slice_index (prefix method ++ rest) 0 ≡ 36
 prefix-first_byte Md5crypt rest = refl
 prefix-first_byte method rest = refl
@@ -139,7 +140,7 @@ IsStored_from_Spells field kept spells =
       ],
     )
 
--- a line whose field is empty or locked costs nothing
+-- A line whose field is empty or locked is not costly.
 pub not_IsCostly-unstored : (kind : Kind) (job : Job) (line : List ℕ) (parts : Parts) (field : List ℕ) → HasParts kind line parts
     → parts.field ≡ Some field → ¬ IsStored field → ¬ IsCostly kind job line
 not_IsCostly-unstored kind job line parts field has is unstored costly =
@@ -151,7 +152,7 @@ not_IsCostly-unstored kind job line parts field has is unstored costly =
           unstored (subst IsStored fields (IsStored_from_Spells spelled.0 spelled.1 spelled.3))
     ]
 
--- ---- what it comes to
+-- ---- the outcome of a line
 
 ComesTo_from_IsChecked : (job : Job) (stream : Stream) (name password field : List ℕ) (stored : StoredHash) (hashings : List Hashing) (outcome : Outcome)
     → stored.text ≡ field → Spells field stored.setting → IsChecked job password stored stream hashings outcome
@@ -164,7 +165,8 @@ ComesTo_from_IsChecked job stream name password field stored hashings (Rehashed 
     (field, stored.setting, (refl, spells), checked.0 ∙ is, checked.1, checked.2, checked.3)
 ComesTo_from_IsChecked job stream name password field stored hashings outcome is spells checked = absurd checked
 
--- a line within the budget is not costly, and comes to the outcome that was settled for its password and its field
+-- If the cost for the password and the field of a line is not above the budget, the line is not costly, and its outcome
+-- is the one that was settled for the password and the field.
 ComesTo_from_IsSettled : (kind : Kind) (job : Job) (line : List ℕ) (stream : Stream) (name password : List ℕ) (field : Option (List ℕ)) (stored : Option StoredField)
     (hashings : List Hashing) (outcome : Outcome) → HasSoundParts kind line (parts_with name password field) → IsFieldOf field stored
     → ¬ IsAbove job.budget (field_cost job stored (length password))
@@ -191,19 +193,19 @@ ComesTo_from_IsSettled kind job line stream name password (Some field) None hash
 
 -- ---- the answer
 
--- a line that breaks a rule is answered with its refusal, for each kind of run
+-- If a line breaks a rule, the answer is its refusal, for each kind of run.
 pub IsAnswer-refusal : (kind : Kind) (job : Job) (number : ℕ) (line : List ℕ) (stream : Stream) (fault : LineFault) → IsLineRefused kind line fault
     → IsAnswer kind job number line stream (refusal number fault)
 IsAnswer-refusal Audit job number line stream fault refused = inl (fault, refused, refl)
 IsAnswer-refusal kind job number line stream fault refused = inl (fault, refused, refl)
 
--- a line that is not to be audited has the answer for its password
+-- The answer to a line that is not to be audited is the answer for its password.
 IsAnswer-password : (kind : Kind) (job : Job) (number : ℕ) (line : List ℕ) (stream : Stream) (answer : Answer) → kind ≢ Audit
     → IsPasswordAnswer kind job number line stream answer → IsAnswer kind job number line stream answer
 IsAnswer-password Audit job number line stream answer other is = absurd (other refl)
 IsAnswer-password kind job number line stream answer other is = is
 
--- a line to audit is answered with what the audit finds in its field
+-- The answer to a line to audit is what the audit finds in its field.
 pub IsAnswer-audit : (kind : Kind) (job : Job) (number : ℕ) (line : List ℕ) (stream : Stream) (parts : Parts) (field : List ℕ) (finding : Finding) → kind ≡ Audit
     → HasSoundParts kind line parts → parts.field ≡ Some field → Finds job.maker.scheme (given_budget job) field finding
     → IsAnswer kind job number line stream (answer_of job parts.name (Audited finding) [])
@@ -212,7 +214,7 @@ IsAnswer-audit Audit job number line stream parts field finding is taken fielded
 IsAnswer-audit Batch job number line stream parts field finding is taken fielded finds = absurd cc
 IsAnswer-audit Check job number line stream parts field finding is taken fielded finds = absurd cc
 
--- a line within the budget is answered with the outcome that was settled for it
+-- The answer to a line within the budget is the outcome that was settled for its password and its field.
 IsPasswordAnswer_from_IsSettled : (kind : Kind) (job : Job) (number : ℕ) (line : List ℕ) (stream : Stream) (name password : List ℕ) (stored : Option StoredField)
     (hashings : List Hashing) (outcome : Outcome) → IsLine kind line name password stored
     → ¬ IsAbove job.budget (field_cost job stored (length password))
@@ -221,7 +223,7 @@ IsPasswordAnswer_from_IsSettled kind job number line stream name password stored
     let comes = ComesTo_from_IsSettled kind job line stream name password is.field stored hashings outcome is.taken is.field_of within settled in
     inr (inr (is.taken.sound, comes.0, parts_with name password is.field, is.taken.cut, outcome, comes.1, refl))
 
--- what the step for a password and a field returned is right for the line
+-- If the step for a password and a field returned this result, the result is right for their line.
 pub Concludes_from_Settles : (kind : Kind) (job : Job) (line name password : List ℕ) (stored : Option StoredField) (stream : Stream) (before after : Work) (new_stream : Stream)
     (result : Result (Result Outcome LineFault) HashFault) → IsLine kind line name password stored
     → Settles job password stored stream before after new_stream result → Concludes kind job line name stream before after new_stream result
@@ -247,26 +249,26 @@ Concludes_from_Settles kind job line name password stored stream before after ne
   refused,
 )
 
--- ---- a line by its parts
+-- ---- a line from its parts
 
 pub IsLine_from_parts : (kind : Kind) (line : List ℕ) (parts : Parts) (stored : Option StoredField) → HasSoundParts kind line parts → kind ≢ Audit
     → IsFieldOf parts.field stored → IsLine kind line parts.name parts.password stored
 IsLine_from_parts kind line parts stored taken unaudited field_of = record { unaudited = unaudited; field = parts.field; taken = taken; field_of = field_of }
 
--- a line to audit has a field
+-- If a line has no field, it is not to be audited.
 pub no_field-not_Audit : (kind : Kind) (line : List ℕ) (parts : Parts) → HasParts kind line parts → parts.field ≡ None → kind ≢ Audit
 no_field-not_Audit Audit line parts has none same = none-some has.0 (sym none ∙ has.4)
 no_field-not_Audit Batch line parts has none same = absurd cc
 no_field-not_Audit Check line parts has none same = absurd cc
 
--- a field that was read as `found` is `IsFieldOf` the same
+-- If a field was read as `found`, then `IsFieldOf` holds for the field and `found`.
 pub IsFieldOf-read : (field : List ℕ) (fielded : Option (List ℕ)) (result : Result StoredField SettingFault) (found stored : StoredField) → result ≡ Ok found
     → found ≡ stored → IsFieldReading field result → IsReadOneWay field → fielded ≡ Some field → IsFieldOf fielded (Some stored)
 IsFieldOf-read field fielded result found stored ok is reading once some =
     let same : result ≡ Ok stored = cc in
     subst (λ (f : Option (List ℕ)). IsFieldOf f (Some stored)) (sym some) (subst (IsFieldReading field) same reading, once)
 
--- ---- what a check would come to, if scrypt could allocate memory
+-- ---- the outcome that a check would have if scrypt could allocate memory
 
 pub record WouldCheck (job : Job) (password : List ℕ) (stored : StoredHash) (stream : Stream) : Type 0 where
   pub outcome : Outcome

@@ -1,9 +1,8 @@
--- Serves the clauses `takes` of `Piece::take_line` and `gives` of `LineReader::next_line`. The invariant of the loop in
--- `next_line` is `SeeksNextLine`: from any start at which some lines had been returned, the reader is now seeking the
--- next one (`IsSeeking`), that is, all bytes read are those lines, then a part of a line that is in the buffer, then
--- the piece. A lemma for each step and exit moves bytes from the piece to the buffer and shows that this stays true, or
--- that the next line is complete. At the end of the input, the lines that were returned are all lines, by the lemmas of
--- `InputLines`.
+-- Lemmas for the clauses `takes` of `Piece::take_line` and `gives` of `LineReader::next_line`. The invariant of the
+-- loop in `next_line` is `SeeksNextLine`. For any start of reading, it says that all bytes read since then are the
+-- lines that were returned, a part of the next line, which is in the buffer, and the piece (`IsSeeking`). A lemma for
+-- each step and exit moves bytes from the piece to the buffer and shows that this stays true, or that the next line is
+-- complete. At the end of the input, the lemmas of `InputLines` show that the lines that were returned are all lines.
 use Rattle.std.proofs.Common.{◌≡◌, ◌≢◌, ℕ, ◌+◌, ◌-◌, ◌<◌, ◌≤◌, Bool, true, false, eqb, not, Some, None, take, drop, List, [], ◌∷◌, ◌++◌, length, Ok, Err, refl, sym, ap, ◌∙◌, append_assoc, append-nil, arith}
 use Rattle.std.proofs.KnownBytes.{Consumes-nil}
 use Rattle.std.specs.List.{position, slice_range}
@@ -25,14 +24,14 @@ use Rattle.run_core.proofs.FirstLineReading.{Reads-trans, StopsFetching-after_un
 
 -- ---- a piece
 
--- a range without its first `k` items
+-- A range of a list without its first `k` items is the range that begins `k` items later.
 slice_range-drop : (xs : List ℕ) (start end k : ℕ) → start + k ≤ end → slice_range xs (start + k) end ≡ drop k (slice_range xs start end)
 slice_range-drop xs start end k within =
     ap (λ ys. take (end - (start + k)) ys) (sym (drop-drop k start xs))
     ∙ (sym (drop-take k (end - (start + k)) (drop start xs))
     ∙ ap (λ n. drop k (take n (drop start xs))) (omega arith))
 
--- `take_line` found a line feed
+-- If the piece contains a line feed, `take_line` moves the bytes before it into the buffer and drops it (`TakesLine`).
 pub TakesLine-to_feed : (bytes : List ℕ) (start end at : ℕ) (unread : List ℕ) (buffer new_buffer : LineBuffer)
     → start ≤ end → slice_range bytes start end ≡ unread → position (λ b. eqb b 10) unread ≡ Some at
     → ((part : List ℕ) → Represents buffer part → Represents new_buffer (part ++ take at unread))
@@ -48,7 +47,7 @@ TakesLine-to_feed bytes start end at unread buffer new_buffer within is found ho
       holds,
     )
 
--- `take_line` found none
+-- If the piece contains no line feed, `take_line` moves all its bytes into the buffer (`TakesLine`).
 pub TakesLine-all : (bytes : List ℕ) (end : ℕ) (unread : List ℕ) (buffer new_buffer : LineBuffer) → position (λ b. eqb b 10) unread ≡ None
     → ((part : List ℕ) → Represents buffer part → Represents new_buffer (part ++ unread))
     → TakesLine unread (slice_range bytes end end) buffer new_buffer false
@@ -68,7 +67,8 @@ module _ {I : Type 0} where
     at = rw (more, unread) ((refl, tt), omega arith);
   }
 
-  -- these lines were returned, and the buffer holds a part of the next one
+  -- These lines were returned. Of the bytes after them, the buffer holds a part of the next line, and the rest is the
+  -- piece.
   pub record IsSeeking (start now : Device I) (piece : List ℕ) (buffer : LineBuffer) (lines : List (List ℕ)) : Type 0 where
     pub bytes : List ℕ
     pub part : List ℕ
@@ -79,7 +79,7 @@ module _ {I : Type 0} where
     pub no_feed : HasNoLineFeed part
     pub held : Represents buffer part
 
-  -- all of the piece was moved into the buffer, and a new piece was read
+  -- If the whole piece is moved into the buffer and a new piece is read, the reader is still seeking the next line.
   IsSeeking-read : (start now new : Device I) (piece next fetched : List ℕ) (buffer new_buffer : LineBuffer) (lines : List (List ℕ))
       → IsSeeking start now piece buffer lines → TakesLine piece next buffer new_buffer false → Reads now new fetched
       → IsUnfailed now new → MovesBytes 0 now new → IsSeeking start new fetched new_buffer lines
@@ -101,7 +101,7 @@ module _ {I : Type 0} where
       IsSeeking-read start now new piece next fetched buffer new_buffer lines before moved reads got.0 got.1
   IsSeeking-fetched start now new piece next fetched buffer new_buffer lines left false some moved reads got before = absurd (cc)
 
-  -- exit: the piece had a line feed, so the line is complete
+  -- Exit with a line feed: if the piece has a line feed, the next line is complete.
   pub GivesNext-line_feed : (start now : Device I) (piece : List ℕ) (buffer : LineBuffer) (next : LineReader) (lines : List (List ℕ)) (left : ℕ)
       → next.at_end ≡ false → TakesLine piece next.piece buffer next.buffer true → length piece ≤ piece_size
       → IsSeeking start now piece buffer lines → GivesNext left start now next lines (Ok true)
@@ -127,7 +127,7 @@ module _ {I : Type 0} where
         },
       )
 
-  -- exit: the input is at its end, and the buffer holds the last line, or nothing
+  -- Exit at the end of the input: the buffer holds the last line, or there is no further line.
   pub GivesNext-end_of_input : (start now new : Device I) (piece moved_piece : List ℕ) (buffer : LineBuffer) (next : LineReader) (lines : List (List ℕ)) (left new_left : ℕ) (found is_empty : Bool) → found ≡ false
       → next.at_end ≡ true → TakesLine piece moved_piece buffer next.buffer false → Reads now new next.piece → FetchesPiece left now new next.piece (Ok found)
       → ((part : List ℕ) → Represents next.buffer part → (is_empty ≡ true → part ≡ []) × (part ≡ [] → is_empty ≡ true))
@@ -161,7 +161,8 @@ module _ {I : Type 0} where
           let some : line ≢ [] = λ none. let both = tells.1 none in absurd (cc) in
           (line, moved.2 is.part is.held, given (lines ++ line ∷ []) (sym (lines_are ∙ ap (λ others. lines ++ others) (lines_of-last line no_feed some))))
 
-  -- exit: a read failed, or no I/O call was left for it
+  -- Exit when reading stops: a read failed, or no I/O call was left. The lines that were returned are all lines that
+  -- are known.
   pub HasStopped-fetch_failed : (start now new : Device I) (piece next fetched : List ℕ) (buffer new_buffer : LineBuffer) (lines : List (List ℕ)) (left new_left : ℕ) (fault : RunFault)
       → TakesLine piece next buffer new_buffer false → Reads now new fetched → FetchesPiece left now new fetched (Err fault) → new_left ≡ left - 1
       → IsSeeking start now piece buffer lines → HasStopped new_left start new lines fault
@@ -176,8 +177,8 @@ module _ {I : Type 0} where
 
   -- ---- the loop
 
-  -- the loop's invariant: `seeking` serves the clause `gives`, and the fields after it serve the clauses on I/O calls
-  -- and room
+  -- The loop's invariant. The clause `gives` needs the field `seeking`; the clauses on I/O calls and on room for counts
+  -- need the fields after it.
   pub record SeeksNextLine (old_reader : LineReader) (old now : Device I) (reader : LineReader) (old_left left : ℕ) : Type 0 where
     pub more : reader.at_end ≡ false
     pub seeking : (start : Device I) (lines : List (List ℕ)) → HasGiven start old old_reader lines → IsSeeking start now reader.piece reader.buffer lines
@@ -190,7 +191,7 @@ module _ {I : Type 0} where
   IsUnfailed-fetched now new fetched left true got = got.0
   IsUnfailed-fetched now new fetched left false got = got.0
 
-  -- after a `fetch`, the counts have room for the calls that are left
+  -- After a `fetch`, the counts have room for the I/O calls that are left.
   pub HasRoomFor-fetched : (now new : Device I) (fetched : List ℕ) (left new_left : ℕ) (found : Bool) → HasRoomFor piece_size left now → Reads now new fetched
       → FetchesPiece left now new fetched (Ok found) → length fetched ≤ piece_size → 0 < left → new_left ≡ left - 1 → new.calls + new_left ≡ now.calls + left
       → HasRoomFor piece_size new_left new

@@ -1,9 +1,10 @@
--- Serves the clause `refused` of `check_name`, `sound` and `refused` of `check`, `each_refusal` of `inspect`, and the
--- clause of `Parts::of`. `IsLineRefused` names the first rule that a line breaks, in the order of `line_faults`. So to
--- show a refusal, a lemma shows that the line breaks none of the rules before it. The lemmas follow that order: length
--- and name (`refused_after_name` skips these rules), the parts, the password, the field. They rest on `UniqueParts`: a
--- line has only one name and one list of parts, so what was checked of the parts that were found holds of any parts.
--- The last sections say what holds of a line that breaks no rule, for `outcome_of` and `answer_line`.
+-- Lemmas for the clauses `refused` of `check_name`, `sound` and `refused` of `check`, `each_refusal` of `inspect`, and
+-- for the clause of `Parts::of`. `IsLineRefused` names the first rule that a line breaks, in the order of
+-- `line_faults`. So each lemma on a refusal shows that the line breaks none of the rules before it. The lemmas follow
+-- that order: length and name (`refused_after_name` skips these rules), the parts, the password, the field. They rest
+-- on `UniqueParts`: a line has only one name and one list of parts, so what was checked for the parts that were found
+-- holds for any parts. The last sections say what holds for a line that breaks no rule; `outcome_of` and `answer_line`
+-- need them.
 use Rattle.std.proofs.Common.{◌≡◌, ℕ, ◌≤◌, ◌<◌, List, [], ◌∷◌, ◌++◌, length, map, Contains, Option, Some, None, inl, inr, refl, sym, ap, subst, ◌∙◌, arith}
 use Rattle.std.proofs.lemmas.Bool.{cases_order}
 use Rattle.std.proofs.lemmas.List.{nil_from_length}
@@ -39,7 +40,7 @@ HasFront_from_parts Batch line parts cut = inl (parts.password, cut.0)
 HasFront_from_parts kind line parts cut = inl (cut.1, cut.2)
 
 module _ (kind : Kind) (line name : List ℕ) (short : length line ≤ line_limit) (good : IsGoodName name) (has : HasFront line name) where
-  -- a line that is not too long and has a good name breaks none of the first three rules
+  -- A line that is not too long and has a good name breaks none of the first three rules.
   keeps-LineTooLong : ¬ BreaksLine kind LineTooLong line
   keeps-LineTooLong long = omega (arith, short, long)
 
@@ -49,14 +50,14 @@ module _ (kind : Kind) (line name : List ℕ) (short : length line ≤ line_limi
   keeps-NameTooLong : ¬ BreaksLine kind NameTooLong line
   keeps-NameTooLong long = omega (arith, good.short, long.2, ap length (name_unique line name long.0 has long.1))
 
-  -- so it is refused for the first of the other rules that it breaks
+  -- A line that is not too long and has a good name is refused for the first of the other rules that it breaks.
   refused_after_name : (fault : LineFault)
       → IsFirstBroken (NoPassword ∷ map Password password_faults ++ map Setting setting_faults) (λ broken. BreaksLine kind broken line) fault
       → IsLineRefused kind line fault
   unfolding IsLineRefused
   refused_after_name fault later = inr (keeps-LineTooLong, inr (keeps-NoName, inr (keeps-NameTooLong, later)))
 
--- an empty name, or one that is too long, is refused as such
+-- A line whose name is empty is refused as `NoName`, and one whose name is too long as `NameTooLong`.
 pub refused_for_no_name : (kind : Kind) (line name : List ℕ) (back : Option (List ℕ)) → length line ≤ line_limit → IsCutOrWhole line name back
     → length name ≡ 0 → IsLineRefused kind line NoName
 unfolding IsLineRefused
@@ -75,19 +76,20 @@ refused_for_long_name kind line name back short cut long =
 
 -- ---- parts
 
--- a line without a colon has no parts
+-- A line without a colon has no parts.
 pub no_parts_uncut : (kind : Kind) (line : List ℕ) → ¬ Contains line colon → (parts : Parts) → HasParts kind line parts → ⊥
 no_parts_uncut Batch line uncut parts cut = uncut (cut_has_colon line parts.name parts.password cut.0)
 no_parts_uncut kind line uncut parts cut = uncut (cut_has_colon line parts.name cut.1 cut.2)
 
--- nor has a line to check with only one colon
+-- A line to check that has only one colon has no parts.
 pub no_parts_cut_once : (line name back : List ℕ) → IsCut line name back → ¬ Contains back colon → (parts : Parts) → HasParts Check line parts → ⊥
 no_parts_cut_once line name back first uncut parts cut =
     uncut (subst (λ (bytes : List ℕ). Contains bytes colon) (sym (cut_unique first cut.2).1) (cut_has_colon cut.1 cut.0 parts.password cut.3))
 
 -- ---- the rules before that of the field
 
--- the line breaks none of these rules
+-- The line breaks none of the rules before those on the field: it is not too long, and has a good name, all its parts
+-- and a valid password.
 pub record IsEntry (kind : Kind) (line : List ℕ) (parts : Parts) : Type 0 where
   pub short : length line ≤ line_limit
   pub good : IsGoodName parts.name
@@ -102,7 +104,7 @@ pub refused_without_parts : (kind : Kind) (line : List ℕ) → IsNamed line →
 refused_without_parts kind line named lacks =
     refused_after_name kind line named.name named.short named.good named.front NoPassword (inl (refl, lacks))
 
--- the refusal of a password is for the first rule that it breaks
+-- The error of a refused password is that of the first rule that the password breaks.
 password-first_broken : (bytes : List ℕ) (fault : PasswordFault) → IsPasswordRefused bytes fault → IsFirstBroken password_faults (IsPasswordRefused bytes) fault
 password-first_broken bytes TooLong refused = inl (refl, refused)
 password-first_broken bytes HasNul refused = inr ((λ long. omega (arith, long, refused.0)), inl (refl, refused))
@@ -138,14 +140,15 @@ keeps-Password kind line parts entry fault breaks =
 
 -- ---- the field
 
--- if the line breaks the rule of a setting, then its field is refused for that rule
+-- If a line breaks a rule of settings, its field is refused for that rule.
 IsFieldRefused_from_BreaksLine : (kind : Kind) (line : List ℕ) (parts : Parts) → HasParts kind line parts
     → (fault : SettingFault) → BreaksLine kind (Setting fault) line → (field : List ℕ) × (parts.field ≡ Some field) × IsFieldRefused field fault
 IsFieldRefused_from_BreaksLine kind line parts has fault breaks =
     let same = parts_unique kind line breaks.1 parts breaks.3 has in
     (breaks.2, sym (ap (λ (p : Parts). p.field) same) ∙ breaks.4, (breaks.5, breaks.6))
 
--- a line breaks no rule if it breaks none of those before the field's, and its field is not refused or is to be audited
+-- A line breaks no rule if it breaks none of those before the rules on the field, and its field is not refused or is to
+-- be audited.
 IsSound_from_IsEntry : (kind : Kind) (line : List ℕ) (parts : Parts) → IsEntry kind line parts
     → ((fault : SettingFault) (field : List ℕ) → kind ≢ Audit → parts.field ≡ Some field → IsFieldRefused field fault → ⊥) → IsSound kind line
 IsSound_from_IsEntry kind line parts entry right fault breaks = go fault breaks
@@ -167,7 +170,7 @@ IsSound_from_IsEntry kind line parts entry right fault breaks = go fault breaks
 pub IsSound-no_field : (kind : Kind) (line : List ℕ) (parts : Parts) → IsEntry kind line parts → parts.field ≡ None → IsSound kind line
 IsSound-no_field kind line parts entry none = IsSound_from_IsEntry kind line parts entry (λ fault field unaudited some refused. cc)
 
--- a field that can be read is not refused
+-- A field that can be read is not refused.
 not_IsFieldRefused-read : (field : List ℕ) (stored : StoredField) → IsReadOneWay field → IsFieldReading field (Ok stored) → (fault : SettingFault) → IsFieldRefused field fault → ⊥
 unfolding IsReadOneWay
 not_IsFieldRefused-read field Empty one read fault refused = refused.0.0 read
@@ -182,7 +185,7 @@ IsSound-field kind line parts field stored entry is one read = IsSound_from_IsEn
     let same : other ≡ field = cc in
     not_IsFieldRefused-read field stored one read fault (subst IsStored same refused.0, subst (λ (bytes : List ℕ). IsRefused bytes fault) same refused.1))
 
--- a line to audit breaks no rule once it has a good name and its parts: its password is empty, and its field is free
+-- A line to audit breaks no rule if it has a good name and its parts: its password is empty, and any field is allowed.
 pub IsSound-audit : (kind : Kind) (line : List ℕ) (parts : Parts) → kind ≡ Audit → IsNamed line → HasParts kind line parts → IsSound kind line
 IsSound-audit Audit line parts audited named cut =
     let is_password = subst IsPassword (sym cut.5) (omega arith, λ some. omega (arith, some.1)) in
@@ -190,7 +193,7 @@ IsSound-audit Audit line parts audited named cut =
 IsSound-audit Batch line parts audited named cut = absurd cc
 IsSound-audit Check line parts audited named cut = absurd cc
 
--- a line that breaks none of the rules before the field's is refused for the first rule that its field breaks
+-- A line that breaks none of the rules before those on the field is refused for the first rule that its field breaks.
 pub refused_field : (kind : Kind) (line : List ℕ) (parts : Parts) (field : List ℕ) (fault : SettingFault) → kind ≢ Audit → IsEntry kind line parts
     → parts.field ≡ Some field → IsFieldRefused field fault → IsLineRefused kind line (Setting fault)
 unfolding IsRefused
@@ -213,26 +216,26 @@ refused_field kind line parts field fault unaudited entry is (stored, refused) =
       go others broken,
     )
 
--- a line is refused for only one rule
+-- A line is refused for only one rule.
 pub refusal_unique : (kind : Kind) (line : List ℕ) (a b : LineFault) → IsLineRefused kind line a → IsLineRefused kind line b → a ≡ b
 unfolding IsLineRefused
 refusal_unique kind line = first_unique line_faults (λ broken. BreaksLine kind broken line)
 
--- a line that breaks no rule is not refused
+-- A line that breaks no rule is not refused.
 pub sound_not_refused : (kind : Kind) (line : List ℕ) (fault : LineFault) → IsSound kind line → IsLineRefused kind line fault → ⊥
 unfolding IsLineRefused
 sound_not_refused kind line fault sound refused = sound fault (first_breaks line_faults (λ broken. BreaksLine kind broken line) fault refused)
 
 -- ---- a line that is too long
 
--- a line that is too long is refused as such, whatever its bytes are
+-- A line that is too long is refused as `LineTooLong`, whatever its bytes are.
 pub too_long-refused : (kind : Kind) (line : List ℕ) → IsTooLong line → IsLineRefused kind line LineTooLong
 unfolding IsLineRefused
 too_long-refused kind line long = inl (refl, long)
 
 -- ---- a line that breaks no rule
 
--- its password and its field are not refused
+-- If a line breaks no rule, its password is not refused, and neither is its field unless it is to be audited.
 pub password-not_refused : (kind : Kind) (line : List ℕ) (parts : Parts) (fault : PasswordFault) → HasSoundParts kind line parts
     → ¬ IsPasswordRefused parts.password fault
 password-not_refused kind line parts fault taken refused = taken.sound (Password fault) (parts, taken.cut, refused)
@@ -242,7 +245,7 @@ pub field-not_refused : (kind : Kind) (line : List ℕ) (parts : Parts) (field :
 field-not_refused kind line parts field fault taken unaudited is refused =
     taken.sound (Setting fault) (unaudited, parts, field, taken.cut, is, refused.0, refused.1)
 
--- its password is not too long
+-- If a line breaks no rule, its password is not too long.
 pub length-password-le : (kind : Kind) (line : List ℕ) (parts : Parts) → IsSound kind line → HasParts kind line parts → length parts.password ≤ password_limit
 length-password-le kind line parts sound has = elim (cases_order (length parts.password) password_limit) [
   | inl same ↦ omega (arith, same)
@@ -252,7 +255,7 @@ length-password-le kind line parts sound has = elim (cases_order (length parts.p
   ]
 ]
 
--- its name is not too long
+-- If a line breaks no rule, its name is not too long.
 pub length-name-le : (kind : Kind) (line : List ℕ) (parts : Parts) → HasSoundParts kind line parts → length parts.name ≤ name_limit
 length-name-le kind line parts taken = elim (cases_order (length parts.name) name_limit) [
   | inl same ↦ omega (arith, same)

@@ -1,9 +1,9 @@
--- Serves the clause `runs` of `answer_lines`, and with it of `run_batch`, `run_check` and `run_audit`. `IsRunning` is
--- the invariant of the loop: each line that the reader has returned is answered, these answers are all that the outputs
--- have taken, and the limits leave room for the rest of the run. `IsRunning-start` sets it up, and `IsRunning-answered`
--- keeps it when one more answer is written. For each exit of the loop, a lemma shows `RunsLines`:
--- reading stopped, scrypt could not allocate memory, an answer was cut short, or all lines are answered and the outputs
--- are flushed or not.
+-- Lemmas for the clause `runs` of `answer_lines`, and so of `run_batch`, `run_check` and `run_audit`. The invariant of
+-- the loop is `IsRunning`: each line that the reader has returned is answered, the outputs have taken these answers and
+-- nothing else, and no count can overflow in the rest of the run. `IsRunning-start` shows that it holds at first, and
+-- `IsRunning-answered` that it still holds when one more answer is written. For each exit of the loop, a lemma shows
+-- `RunsLines`: reading stopped, scrypt could not allocate memory, an answer was cut short, or all lines are answered
+-- and the outputs are flushed or not.
 use Rattle.std.proofs.Common.{◌≡◌, ℕ, ◌+◌, ◌*◌, ◌^◌, ◌≤◌, ◌<◌, ◌⊎◌, Bool, true, false, MatchBool, List, [], ◌∷◌, ◌++◌, length, Result, Ok, Err, refl, sym, ap, subst, ◌∙◌, add-zero, append-nil, arith, inl, inr}
 use Rattle.std.specs.Io.KnownBytes.{IsAtEnd}
 use Rattle.std.proofs.Math.Nat.{mul-le-mul_left}
@@ -37,9 +37,9 @@ use Rattle.run_core.proofs.LineReading.{HasGiven-nil}
 use Rattle.run_core.proofs.MovedBytes.{MovesBytes-none, MovesBytes-trans}
 use Rattle.run_core.proofs.SentTexts.{Takes-trans, TakesFront-after, Takes-nil}
 
--- ---- room
+-- ---- room for counts
 
--- fewer I/O calls need less room
+-- If the counts have room for some I/O calls, they have room for fewer.
 pub HasRoomFor-fewer : {T : Type 0} (size left fewer : ℕ) (device : Device T) → fewer ≤ left → HasRoomFor size left device → HasRoomFor size fewer device
 HasRoomFor-fewer size left fewer device less room = record {
   failures = room.failures;
@@ -52,7 +52,8 @@ as_count-le-one : (seen : Bool) → as_count seen ≤ 1
 as_count-le-one true = omega arith
 as_count-le-one false = omega arith
 
--- the bound on the counts of the meter grows with each line by the limit on its work
+-- If the meter's counts are within the bound for some lines, then after the hashes of one more line they are within the
+-- bound for one line more.
 IsAtMost-line_work : (lines : ℕ) (old new : Work) → IsAtMost old (2 ^ 100 + line_work_limit * lines) → IsRaisedBelow line_work_limit old new
     → IsAtMost new (2 ^ 100 + line_work_limit * (lines + 1))
 IsAtMost-line_work lines old new room small = record {
@@ -63,14 +64,14 @@ IsAtMost-line_work lines old new room small = record {
   scratch = (let before = room.scratch in let more = small.scratch in omega arith);
 }
 
--- ---- calls
+-- ---- I/O calls
 
 module _ {I O E : Type 0} where
   abbrev failures_of : RunState I O E → ℕ
   failures_of now = now.input.failures + now.out.failures + now.faults.failures
 
-  -- At most one call failed, since the run ended with it. So the calls are at most two more than the bytes moved: that
-  -- one, and the read that found the end of the input.
+  -- If at most one call failed, the run is within its limits. It made at most two more calls than it moved bytes: the
+  -- call that failed, and the read that found the end of the input.
   IsWithinTurns-one_failure : (turns left : ℕ) (start new : RunState I O E) → calls_of new + left ≡ calls_of start + turns → failures_of new ≤ failures_of start + 1
       → MovesBytes 1 start.input new.input → MovesBytes 0 start.out new.out → MovesBytes 0 start.faults new.faults → IsWithinTurns turns start new
   IsWithinTurns-one_failure turns left start new calls once input out faults = record {
@@ -89,7 +90,7 @@ StopsFetching-failures : {I : Type 0} (left : ℕ) (start now : Device I) (fault
 StopsFetching-failures left start now fault (moves, inl stops) = omega (arith, stops.1)
 StopsFetching-failures left start now fault (moves, inr stops) = omega (arith, stops.1)
 
--- a flush moves no byte
+-- A flush makes no I/O call, so `MovesBytes` holds for it.
 MovesBytes_from_IsKept : {T : Type 0} (old new : Device T) → IsKept old new → old.failures ≤ new.failures → MovesBytes 0 old new
 MovesBytes_from_IsKept old new kept failures = record {
   idle = omega (arith, kept.idle);
@@ -102,7 +103,7 @@ MovesBytes_from_IsFinished old new finished = MovesBytes_from_IsKept old new fin
 MovesBytes_from_IsUnfinished : {T : Type 0} (old new : Device T) → IsUnfinished old new → MovesBytes 0 old new
 MovesBytes_from_IsUnfinished old new unfinished = MovesBytes_from_IsKept old new unfinished.kept (let failed = unfinished.failed in omega (arith, failed))
 
--- flushing both outputs makes no I/O call, and at most one flush fails
+-- Flushing both outputs makes no I/O call, and at most one flush fails.
 MovesBytes_from_FinishesBoth : {O E : Type 0} (out new_out : Device O) (faults new_faults : Device E) {A : Type 0} (result : Result A RunFault)
     → FinishesBoth out faults new_out new_faults result
     → MovesBytes 0 out new_out × MovesBytes 0 faults new_faults × (new_out.calls + new_faults.calls ≡ out.calls + faults.calls)
@@ -128,7 +129,8 @@ MovesBytes_from_FinishesBoth out new_out faults new_faults (Err fault) (is, inr 
 
 -- ---- the lines that were returned
 
--- the line that is being answered has its line feed among the last bytes, or the input is at its end
+-- The line feed of the last line that was returned is among the last `piece_size` bytes that were read, or the input is
+-- at its end.
 IsAt-cases : {I : Type 0} (now : Device I) (piece : List ℕ) (at_end : Bool) (lines : List (List ℕ)) (bytes : List ℕ) → IsAt now piece at_end lines bytes
     → ((rest : List ℕ) × HasLines bytes lines rest × (length rest < piece_size)) ⊎ (IsAtEnd now.shown × (lines ≡ lines_of bytes))
 IsAt-cases now piece false lines bytes at = inl (piece, at.0, at.1)
@@ -138,7 +140,7 @@ pub outcome_from_Renders : (job : Job) (number : ℕ) (value : Result Answered L
 outcome_from_Renders job number (Ok answered) next renders = ap (λ (a : Answer). a.outcome) renders.0
 outcome_from_Renders job number (Err fault) next renders = ap (λ (a : Answer). a.outcome) renders
 
--- an answer was written in part, after others that were written in full
+-- If some answers were written in full and then one in part, the outputs have taken them all in this order.
 TakeInPart-after : {O E : Type 0} (failures : ℕ) (done : List Answer) (next : Answer) (start old new : Device O) (fault_start faults new_faults : Device E)
     → Takes 0 0 start old (texts done) → Takes 0 0 fault_start faults (fault_texts done)
     → TakeInPart failures [] next old faults new new_faults → TakeInPart failures done next start fault_start new new_faults
@@ -159,7 +161,7 @@ TakeInPart-after failures done next start old new fault_start faults new_faults 
   )
 
 module _ {I O E : Type 0} where
-  -- the loop's invariant: each line that the reader has returned is answered
+  -- The loop's invariant: each line that the reader has returned is answered.
   pub record IsRunning (turns : ℕ) (kind : Kind) (job : Job) (start now : RunState I O E) (reader : LineReader) (tally : Tally) (left : ℕ) : Type 0 where
     pub lines : List (List ℕ)
     pub answers : List Answer
@@ -201,10 +203,10 @@ module _ {I O E : Type 0} where
     });
   }
 
--- The run has called `next_line`, which left the device `input`, and `mid` I/O calls.
+-- In this module, the run has called `next_line`, after which the input is `input`, and `mid` I/O calls are left.
 module _ {I O E : Type 0} {turns : ℕ} {kind : Kind} {job : Job} {start old : RunState I O E} {reader : LineReader} {tally : Tally} {left : ℕ}
     (running : IsRunning turns kind job start old reader tally left) (input : Device I) (mid : ℕ) (read_calls : input.calls + mid ≡ old.input.calls + left) where
-  -- the run ends within its I/O calls: those up to here, and those that the outputs make after it
+  -- If the outputs make no more I/O calls after the read than are left, the run is within its limits.
   IsWithinTurns-after_read : (new_left : ℕ) (new : RunState I O E) → MovesBytes 1 start.input new.input → MovesBytes 0 old.out new.out → MovesBytes 0 old.faults new.faults
       → failures_of new ≤ failures_of start + 1 → new.input.calls ≡ input.calls
       → new.out.calls + new.faults.calls + new_left ≡ old.out.calls + old.faults.calls + mid → IsWithinTurns turns start new
@@ -213,7 +215,7 @@ module _ {I O E : Type 0} {turns : ℕ} {kind : Kind} {job : Job} {start old : R
       IsWithinTurns-one_failure turns new_left start new (omega (arith, before, read_calls, calls, same)) once read
       (MovesBytes-trans 0 start.out old.out new.out running.out_moves out) (MovesBytes-trans 0 start.faults old.faults new.faults running.faults_moves faults)
 
-  -- exit: reading stopped
+  -- Exit while reading: if reading stopped, the run ends with this error.
   pub RunsLines-reading_stopped : (fault : RunFault) → HasStopped mid start.input input running.lines fault → RunsLines turns kind job start (run_state input old.out old.faults old.stream old.counts) (Err fault)
   RunsLines-reading_stopped fault stop =
       let now = run_state input old.out old.faults old.stream old.counts in
@@ -247,7 +249,7 @@ module _ {I O E : Type 0} {turns : ℕ} {kind : Kind} {job : Job} {start old : R
             (omega (arith, once, of_out, of_faults)) refl refl;
       }
 
-  -- the reader found the end of the input, so all lines are answered
+  -- If the reader found the end of the input, the answers so far are those to all lines of the input.
   AreAnswers-at_end : (next : LineReader) (given : HasGiven start.input input next running.lines) → next.at_end ≡ true
       → (IsAtEnd input.shown × AreAnswers kind job job.first_line (lines_of given.bytes) start.stream running.answers)
       × HasAnswered running.answers start (run_state input old.out old.faults old.stream old.counts)
@@ -270,7 +272,7 @@ module _ {I O E : Type 0} {turns : ℕ} {kind : Kind} {job : Job} {start old : R
       IsWithinTurns-after_read mid (run_state input out faults old.stream old.counts) (MovesBytes-at_end next.at_end start.input input given.moves) moved.0 moved.1
       (omega (arith, unfailed, of_out, of_faults, moved.3)) refl (omega (arith, moved.2))
 
-  -- exit: all lines are answered, and both outputs were flushed
+  -- Exit after the last line: if both outputs were flushed, the run ends with its tally.
   pub RunsLines-flushed : (next : LineReader) (out : Device O) (faults : Device E) {A : Type 0} (done : A) (more : Bool) → more ≡ false
       → GivesNext mid start.input input next running.lines (Ok more)
       → FinishesBoth old.out old.faults out faults (Ok done) → RunsLines turns kind job start (run_state input out faults old.stream old.counts) (Ok tally)
@@ -282,7 +284,7 @@ module _ {I O E : Type 0} {turns : ℕ} {kind : Kind} {job : Job} {start old : R
         within_turns = IsWithinTurns-flushed next out faults (Ok done) given flushes;
       }
 
-  -- exit: all lines are answered, and a flush failed
+  -- Exit after the last line: if a flush failed, the run ends with this error.
   pub RunsLines-flush_failed : (next : LineReader) (out : Device O) (faults : Device E) (A : Type 0) (fault : RunFault) (more : Bool) → more ≡ false
       → GivesNext mid start.input input next running.lines (Ok more)
       → FinishesBoth old.out old.faults out faults {A = A} (Err fault) → RunsLines turns kind job start (run_state input out faults old.stream old.counts) (Err fault)
@@ -294,25 +296,25 @@ module _ {I O E : Type 0} {turns : ℕ} {kind : Kind} {job : Job} {start old : R
         within_turns = IsWithinTurns-flushed next out faults {A = A} (Err fault) given flushes;
       }
 
--- `next_line` returned a line
+-- If `next_line` returned true, there is one more line, and it is in the reader's buffer.
 pub GivesNext-line : {I : Type 0} (left : ℕ) (start now : Device I) (reader : LineReader) (lines : List (List ℕ)) (more : Bool) → more ≡ true
     → GivesNext left start now reader lines (Ok more) → (line : List ℕ) × Represents reader.buffer line × HasGiven start now reader (lines ++ line ∷ [])
 GivesNext-line left start now reader lines true some gives = gives
 GivesNext-line left start now reader lines false some gives = absurd (cc)
 
--- `next_line` returned a line, whose answer is `answer`.
+-- In this module, `next_line` returned a line whose answer is `answer`.
 module _ {I O E : Type 0} {turns : ℕ} {kind : Kind} {job : Job} {start old : RunState I O E} {reader : LineReader} {tally : Tally} {left : ℕ}
     (running : IsRunning turns kind job start old reader tally left) (input : Device I) (mid : ℕ) (read_calls : input.calls + mid ≡ old.input.calls + left)
     (next : LineReader) (line : List ℕ) (given : HasGiven start.input input next (running.lines ++ line ∷ []))
     (answer : Answer) (answers : IsAnswer kind job (job.first_line + tally.lines) line old.stream answer) where
-  -- with it, the answers are those to all lines that were returned
+  -- The answers so far, and then `answer`, are the answers to all lines that were returned.
   AreAnswers-next_line : AreAnswers kind job job.first_line (running.lines ++ line ∷ []) start.stream (running.answers ++ answer ∷ [])
   AreAnswers-next_line =
       let lengths = length_from_AreAnswers kind job job.first_line running.lines start.stream running.answers running.are in
       let number : job.first_line + tally.lines ≡ job.first_line + length running.lines = omega (arith, ap (λ t. t.lines) running.tallied, lengths) in
       AreAnswers-push kind job job.first_line running.lines line start.stream running.answers answer running.are (rw (number, running.answered.after.stream) at answers)
 
-  -- exactly the hashes for these answers were computed
+  -- After the hashes for `answer`, exactly the hashes for the answers so far and for `answer` have been computed.
   IsAfter-push : (new : RunState I O E) → new.stream ≡ stream_left old.stream answer.hashings → new.counts ≡ after_work old.counts answer.hashings
       → IsAfter (hashings_of (running.answers ++ answer ∷ [])) start new
   IsAfter-push new stream counts = record {
@@ -320,7 +322,7 @@ module _ {I O E : Type 0} {turns : ℕ} {kind : Kind} {job : Job} {start old : R
     counts = counts ∙ (ap (λ c. after_work c answer.hashings) running.answered.after.counts ∙ sym (after_work-push start.counts running.answers answer));
   }
 
-  -- exit: scrypt could not allocate memory for one of its hashes
+  -- Exit without memory: if scrypt could not allocate memory for a hash of `answer`, the run ends with `OutOfMemory`.
   pub RunsLines-out_of_memory : (stream : Stream) (counts : Work) → IsRefusedAmong old.counts answer.hashings counts stream
       → RunsLines turns kind job start (run_state input old.out old.faults stream counts) (Err OutOfMemory)
   RunsLines-out_of_memory stream counts refused =
@@ -346,7 +348,7 @@ module _ {I O E : Type 0} {turns : ℕ} {kind : Kind} {job : Job} {start old : R
             (MovesBytes-none old.out) (MovesBytes-none old.faults) (omega (arith, unfailed, of_out, of_faults)) refl refl;
       }
 
-  -- exit: it was written in part
+  -- Exit while writing: if `answer` was written only in part, the run ends with this error.
   pub RunsLines-written_in_part : (out : Device O) (faults : Device E) (stream : Stream) (counts : Work) (new_left : ℕ) (A : Type 0) (fault : RunFault)
       → stream ≡ stream_left old.stream answer.hashings → counts ≡ after_work old.counts answer.hashings
       → Sends new_left answer old.out old.faults out faults {A = A} (Err fault)
@@ -386,7 +388,7 @@ module _ {I O E : Type 0} {turns : ℕ} {kind : Kind} {job : Job} {start old : R
             out_moves faults_moves (omega (arith, unfailed, of_out, of_faults, once)) refl calls;
       }
 
-  -- the invariant is kept: it was written in full
+  -- The invariant is kept if `answer` was written in full.
   pub IsRunning-answered : (out : Device O) (faults : Device E) (stream : Stream) (counts : Work) (new_left : ℕ) (new_tally : Tally) {A : Type 0} (done : A)
       → stream ≡ stream_left old.stream answer.hashings → counts ≡ after_work old.counts answer.hashings
       → Sends new_left answer old.out old.faults out faults (Ok done)

@@ -1,7 +1,7 @@
--- Serves the clause `runs` of `run_one`, which has no loop: each exit of the function has a lemma that builds `EndsOne`
--- from the clauses of the steps before it. In order: there is no password, scrypt could not allocate memory, writing
--- stopped, both outputs were flushed, a flush failed. `EndsOne_from_EndsPassword` treats both sources of the password
--- alike, so the lemmas after it need not know where the password came from.
+-- Lemmas for the clause `runs` of `run_one`. The function has no loop, so there is a lemma for each of its exits, which
+-- shows `EndsOne` from the clauses of the steps before it. The exits are, in order: there is no password, scrypt could
+-- not allocate memory, writing stopped, both outputs were flushed, or a flush failed. `EndsOne_from_EndsPassword`
+-- covers both sources of the password, so the lemmas after it need not know where the password came from.
 use Rattle.std.proofs.Common.{◌≡◌, ℕ, ◌+◌, ◌≤◌, List, [], ◌∷◌, length, Result, Ok, Err, refl, sym, ap, subst, ◌∙◌, add-zero, append-nil, arith, inl, inr}
 use Rattle.std.specs.Prelude.{⊤}
 use Rattle.rand_core.specs.Stream.{Stream}
@@ -28,30 +28,30 @@ use Rattle.run_core.specs.declared.tally.Tally.{Tally}
 use Rattle.run_core.proofs.Flushes.{HasAnswered, Finishes-flushed, Finishes-flush_failed}
 use Rattle.run_core.proofs.SentTexts.{Takes-nil}
 
--- a password was obtained, so it is a valid one, and no read failed
+-- If a password was obtained, it is valid, and no read failed.
 IsPassword_from_ObtainsFrom : {I : Type 0} (from : PasswordFrom) (old input : Device I) (left : ℕ) (password : List ℕ)
     → ObtainsFrom from old input left (Ok password) → IsPassword password × (input.failures ≡ old.failures)
 IsPassword_from_ObtainsFrom (Word word) old input left password (same, (is, ok)) = (subst IsPassword (sym is) ok, ap (λ d. d.failures) same)
 IsPassword_from_ObtainsFrom Input old input left password (bytes, reads, (unfailed, decided, is, ok)) = (ok, unfailed)
 
 module _ {I O E : Type 0} (turns : ℕ) (job : Job) where
-  -- the state of the run after steps that left the outputs alone
+  -- outputs_kept old input stream counts: the state of the run after steps that left both outputs as they were.
   abbrev outputs_kept : RunState I O E → Device I → Stream → Work → RunState I O E
   outputs_kept old input stream counts = run_state input old.out old.faults stream counts
 
-  -- nothing was written
+  -- If nothing was written, the outputs have taken no answers.
   TakeAll-nil : (old : RunState I O E) (input : Device I) (stream : Stream) (counts : Work) (failed : ℕ)
       → input.failures ≡ old.input.failures + failed → TakeAll failed 0 0 0 0 [] old (outputs_kept old input stream counts)
   TakeAll-nil old input stream counts failed failures =
       record { of_input = failures; text = Takes-nil old.out; fault_text = Takes-nil old.faults }
 
-  -- nothing was hashed or drawn
+  -- If no hash was computed and no number drawn, the state is that after an empty list of hashes.
   IsAfter-nil : (old : RunState I O E) (input : Device I) → IsAfter [] old (outputs_kept old input old.stream old.counts)
   IsAfter-nil old input = record { stream = refl; counts = refl }
 
   -- ---- the password
 
-  -- the password is refused
+  -- If the password is refused, the run ends with this error.
   EndsPassword-refused : (Decided Undecided : Type 0) (password : List ℕ) (old : RunState I O E) (input : Device I) (fault : RunFault)
       → Decided → input.failures ≡ old.input.failures → IsPasswordFault fault password
       → EndsPassword Decided Undecided turns job password old (outputs_kept old input old.stream old.counts) (Err fault)
@@ -63,7 +63,7 @@ module _ {I O E : Type 0} (turns : ℕ) (job : Job) where
     IsAfter-nil old input,
   )))
 
-  -- reading stopped before the password was known
+  -- If reading stops before the password is known, the run ends with this error.
   EndsPassword-undecided : (Decided Undecided : Type 0) (password : List ℕ) (old : RunState I O E) (input : Device I) (left : ℕ) (fault : RunFault)
       → Undecided → StopsFetching left old.input input fault → input.calls + left ≡ old.input.calls + turns
       → EndsPassword Decided Undecided turns job password old (outputs_kept old input old.stream old.counts) (Err fault)
@@ -80,7 +80,7 @@ module _ {I O E : Type 0} (turns : ℕ) (job : Job) where
     ),
   ))
 
-  -- exit: there is no password, since it was refused or reading stopped
+  -- Exit without a password: if the password was refused or reading stopped, the run ends with this error.
   pub EndsOne-without_password : (from : PasswordFrom) (old : RunState I O E) (input : Device I) (left : ℕ) (fault : RunFault)
       → ObtainsFrom from old.input input left (Err fault) → input.calls + left ≡ old.input.calls + turns
       → EndsOne turns job from old (outputs_kept old input old.stream old.counts) (Err fault)
@@ -91,7 +91,7 @@ module _ {I O E : Type 0} (turns : ℕ) (job : Job) where
   EndsOne-without_password Input old input left fault (bytes, reads, inr (unfailed, decided, refused)) calls =
       (bytes, reads, EndsPassword-refused (IsDecided input bytes) _ (first_line bytes) old input fault decided unfailed refused)
 
-  -- how the run ends depends on the password alone, not on where it comes from
+  -- How a run ends with a password depends on the password alone, not on where it comes from.
   EndsOne_from_EndsPassword : (from : PasswordFrom) (old new : RunState I O E) (left : ℕ) (password : List ℕ) (result : Result Tally RunFault)
       → ObtainsFrom from old.input new.input left (Ok password)
       → ((Decided Undecided : Type 0) → Decided → EndsPassword Decided Undecided turns job password old new result)
@@ -108,7 +108,7 @@ module _ {I O E : Type 0} (turns : ℕ) (job : Job) where
 
   -- ---- the hash
 
-  -- exit: scrypt could not allocate memory for the hash
+  -- Exit without memory: if scrypt could not allocate memory for the hash, the run ends with `OutOfMemory`.
   pub EndsOne-out_of_memory : (from : PasswordFrom) (password : List ℕ) (old : RunState I O E) (input : Device I) (stream : Stream) (counts : Work) (left : ℕ)
       → ObtainsFrom from old.input input left (Ok password) → stream ≡ stream_after job.maker old.stream
       → IsAfterRefusedGrowth old.counts (next_setting job.maker old.stream).scheme counts
@@ -126,7 +126,8 @@ module _ {I O E : Type 0} (turns : ℕ) (job : Job) where
         )),
       ))))
 
-  -- the hash was computed: its random numbers are drawn, its work is counted, and `line` is its output line
+  -- The hash was computed. Its random numbers have been drawn, its work has been counted, and `line` is its output
+  -- line.
   pub record HasHash (from : PasswordFrom) (password line : List ℕ) (old : RunState I O E) (input : Device I) (stream : Stream) (counts : Work) (left : ℕ) : Type 0 where
     pub obtains : ObtainsFrom from old.input input left (Ok password)
     pub calls : input.calls + left ≡ old.input.calls + turns
@@ -149,7 +150,7 @@ module _ {I O E : Type 0} (turns : ℕ) (job : Job) where
 
   -- ---- writing
 
-  -- exit: only a part of the line was written
+  -- Exit while writing: if only a prefix of the line was written, the run ends with this error.
   pub EndsOne-written_in_part : (from : PasswordFrom) (password line : List ℕ) (old : RunState I O E) (input : Device I) (out : Device O) (stream : Stream) (counts : Work) (left : ℕ) (fault : RunFault)
       → HasHash from password line old input stream counts left
       → Delivers left old.out out line {A = Unit {0}} (Err fault)
@@ -173,7 +174,7 @@ module _ {I O E : Type 0} (turns : ℕ) (job : Job) where
         ],
       ))))
 
-  -- the whole line was written
+  -- If the whole line was written, the answer to the password is all that the run has written.
   HasAnswered_from_HasHash : (from : PasswordFrom) (password line : List ℕ) (old : RunState I O E) (input : Device I) (out : Device O) (stream : Stream) (counts : Work) (left : ℕ)
       → HasHash from password line old input stream counts left → Takes 0 0 old.out out line
       → HasAnswered (password_answer job password old.stream ∷ []) old (run_state input out old.faults stream counts)
@@ -188,7 +189,7 @@ module _ {I O E : Type 0} (turns : ℕ) (job : Job) where
         after = IsAfter_from_HasHash from password line old input out old.faults stream counts left has;
       }
 
-  -- exit: the line was written, and both outputs were flushed
+  -- Last exit: if the line was written and both outputs were flushed, the run ends with a tally of one line.
   pub EndsOne-flushed : (from : PasswordFrom) (password line : List ℕ) (old : RunState I O E) (input : Device I) (out new_out : Device O) (faults : Device E) (stream : Stream) (counts : Work) (left : ℕ) {A : Type 0} (done : A)
       → HasHash from password line old input stream counts left → Takes 0 0 old.out out line
       → FinishesBoth out old.faults new_out faults (Ok done)
@@ -204,7 +205,7 @@ module _ {I O E : Type 0} (turns : ℕ) (job : Job) where
             (HasAnswered_from_HasHash from password line old input out stream counts left has takes) refl flushes,
       ))
 
-  -- exit: the line was written, and a flush failed
+  -- Exit while flushing: if the line was written but a flush failed, the run ends with this error.
   pub EndsOne-flush_failed : (from : PasswordFrom) (password line : List ℕ) (old : RunState I O E) (input : Device I) (out new_out : Device O) (faults : Device E) (stream : Stream) (counts : Work) (left : ℕ) (A : Type 0) (fault : RunFault)
       → HasHash from password line old input stream counts left → Takes 0 0 old.out out line
       → FinishesBoth out old.faults new_out faults {A = A} (Err fault)

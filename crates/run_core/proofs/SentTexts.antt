@@ -1,7 +1,7 @@
--- Serves the clauses of `send`, whose loop has the invariant `IsUnderWay`: a front of the text was taken, no call
+-- Lemmas for the clauses of `send`. The invariant of its loop is `IsUnderWay`: a prefix of the text was taken, no call
 -- failed, and each call took a byte. `IsUnderWay-step` shows that one `give` keeps it. `Takes-trans` and
--- `TakesFront-after`, which join what an output took in two steps, serve the runs too. `Shows-as_tally` serves the
--- clause `shows` of `run_methods`, and the crate mkpasswd where it shows an error.
+-- `TakesFront-after` join what an output took in two steps, and the runs use them too. `Shows-as_tally` is for the
+-- clause `shows` of `run_methods`, and for the crate mkpasswd where it shows an error.
 use Rattle.std.proofs.Common.{◌≡◌, ℕ, ◌+◌, ◌<◌, ◌≤◌, List, [], ◌++◌, length, take, drop, arith, refl, sym, ◌∙◌, ap, append_assoc, false, nat_eq, Result, Ok, Err, nat_lt, ◌&&◌, ◌-◌, add-zero}
 use Rattle.std.proofs.lemmas.List.{length-append, length-take-le, take-append-drop}
 use Rattle.std.specs.Io.KnownBytes.{Appends}
@@ -38,7 +38,8 @@ module _ {T : Type 0} where
         flushed = more.flushed ∙ before.flushed;
       }
 
-  -- the first bytes of a text were taken, after all that was taken before
+  -- If an output took `whole` in one step and a proper prefix of `text` in the next, `TakesFront` holds for both steps
+  -- together.
   pub TakesFront-after : {failures : ℕ} (old mid new : Device T) (whole text : List ℕ) → Takes 0 0 old mid whole → TakesFront failures mid new [] text
       → TakesFront failures old new whole text
   TakesFront-after old mid new whole text before front = (
@@ -51,7 +52,7 @@ module _ {T : Type 0} where
 
   -- ---- writing a text
 
-  -- the loop's invariant: `rest` is what is left of the text; no call failed, and each took a byte
+  -- The loop's invariant: `rest` is what is left of the text. No call failed, and each call took a byte.
   pub record IsUnderWay (old new : Device T) (text rest : List ℕ) (turns left : ℕ) : Type 0 where
     pub sent : List ℕ
     pub split : sent ++ rest ≡ text
@@ -61,7 +62,7 @@ module _ {T : Type 0} where
     pub untried : left ≡ turns → rest ≡ text
     pub moves : MovesBytes 0 old new
 
-  -- the invariant is kept: a `give` took `count` bytes of the rest
+  -- The invariant is kept when a `give` takes `count` bytes of the rest.
   pub IsUnderWay-step : (old mid new : Device T) (text rest next : List ℕ) (turns left count : ℕ)
       → IsUnderWay old mid text rest turns left → 0 < left → 0 < count → count ≤ length rest
       → Appends mid.shown new.shown (take count rest)
@@ -109,7 +110,7 @@ module _ {T : Type 0} where
 
 -- ---- the result of a text that was written and flushed
 
--- the same result with an empty tally
+-- as_tally result: the same result, with an empty tally as its value.
 abbrev pub as_tally : {A : Type 0} → Result A RunFault → Result Tally RunFault
 as_tally (Ok done) = Ok (tally_of [])
 as_tally (Err fault) = Err fault

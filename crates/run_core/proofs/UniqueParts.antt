@@ -1,6 +1,7 @@
 -- A text can be cut at its first colon in only one way, so a line has one name and one list of parts. `LineRules`,
--- `LineOutcomes` and `ForeseenChecks` need this, since their statements say "for some parts". The key lemma is
--- `append-colon-unique`, by induction over both fronts: if one front ended earlier, the other would contain a colon.
+-- `LineOutcomes` and `ForeseenChecks` need this, since their statements begin with "there are parts". The main lemma is
+-- `append-colon-unique`. It is shown by induction over both texts before the colon: if one of them ended earlier, the
+-- other would contain a colon.
 use Rattle.std.proofs.Common.{◌≡◌, ℕ, List, [], ◌∷◌, ◌++◌, Contains, Option, Some, inl, inr, refl, sym, ap, subst, ◌∙◌, arith}
 use Rattle.std.proofs.lemmas.List.Elements.{Contains-append_right}
 use Rattle.run_core.specs.Lines.{HasFront, HasParts, IsCut, Parts}
@@ -13,7 +14,7 @@ use Rattle.run_core.specs.declared.line.Kind.TheVariants.{Batch, Check, Audit}
 Contains-colon-cons : (b : ℕ) (bytes : List ℕ) → b ≡ colon → Contains (b ∷ bytes) colon
 Contains-colon-cons b bytes is = (0, omega arith, is)
 
--- two fronts without a colon that are followed by one in the same text are the same
+-- If the texts `f` and `g` contain no colon, and each is followed by a colon in the same text, they are the same.
 append-colon-unique : (f g b d : List ℕ) → ¬ Contains f colon → ¬ Contains g colon → f ++ colon ∷ b ≡ g ++ colon ∷ d → (f ≡ g) × (b ≡ d)
 append-colon-unique [] [] b d no_f no_g e = (refl, cc)
 append-colon-unique [] (y ∷ g) b d no_f no_g e = absurd (no_g (Contains-colon-cons y g (cc)))
@@ -43,7 +44,7 @@ name_unique line name other (inr whole) (inr again) = sym whole.0 ∙ again.0
 
 -- ---- parts
 
--- parts are the same if each of the three is
+-- Two `Parts` are the same if they have the same name, field and password.
 Parts-eq : (p q : Parts) → p.name ≡ q.name → p.field ≡ q.field → p.password ≡ q.password → p ≡ q
 Parts-eq p q names fields passwords =
     joined p.name q.name p.field q.field p.password q.password names fields passwords

@@ -39,8 +39,8 @@ after_work counts made = fold (λ before next. raised_by before (work next.passw
 abbrev pub stream_left : Stream → List Hashing → Stream
 stream_left stream made = fold (λ before next. next.stream) stream made
 
--- IsRefusedAmong before hashings after stream: the hashes were computed in order, up to one for which scrypt could not
--- allocate memory.
+-- IsRefusedAmong before hashings after stream: these hashes were computed in order, up to one for which scrypt could
+-- not allocate memory.
 --   before, after  the counts before and after
 --   stream         the random numbers that are left
 abbrev pub IsRefusedAmong : Work → List Hashing → Work → Stream → Type 0
@@ -129,8 +129,8 @@ counts_text wanted made = if wanted then work_text (after_work no_work made) els
 abbrev pub new_hash : Job → List ℕ → Stream → List ℕ
 new_hash job password stream = crypt password (next_setting job.maker stream)
 
--- new_hashing job password stream is that hash as a `Hashing`. The random numbers for its setting are drawn before it
--- begins.
+-- new_hashing job password stream is the hash of the password with the job's next setting, as a `Hashing`. The random
+-- numbers for the setting are drawn before hashing begins.
 abbrev pub new_hashing : Job → List ℕ → Stream → Hashing
 new_hashing job password stream = hashing password (next_setting job.maker stream) (stream_after job.maker stream)
 

@@ -1,4 +1,5 @@
--- The effect of a single call of a device. Of the public clauses, only those of the wrappers cite these definitions.
+-- The effect of a single call of a device. Among public contracts, only those of the wrappers of devices cite these
+-- definitions.
 use Rattle.std.specs.Prelude.{◌≡◌, ℕ, ◌+◌, ◌==◌, ◌&&◌, Bool, true, false, nat_lt, List, length, Option, Result, Ok, Err, refl, if◌then◌else◌}
 use Rattle.std.specs.Coded.{Coded, code_by, coded×, coded_ℕ, coded_list, coded_option}
 use Rattle.run_core.specs.Devices.{Device}
@@ -54,13 +55,13 @@ pub record IsUnflushed {T : Type 0} (old new : Device T) : Type 0 where
   pub flushes : new.flushes ≡ old.flushes
   pub flushed : new.flushed ≡ old.flushed
 
--- IsFlushed old new: the device was flushed once, after all bytes had been moved, and this is recorded as a success.
--- Whether it did succeed shows in `failures`.
+-- IsFlushed old new: one flush was tried, after all bytes had been moved, and the counts of flushes record it as a
+-- success. Whether it failed shows in `failures`.
 pub record IsFlushed {T : Type 0} (old new : Device T) : Type 0 where
   pub flushes : new.flushes ≡ old.flushes + 1
   pub flushed : new.flushed ≡ new.bytes
 
--- FailsToFlush old new: one flush was tried, and it is not recorded as a success.
+-- FailsToFlush old new: one flush was tried, and the counts of flushes do not record it as a success.
 pub record FailsToFlush {T : Type 0} (old new : Device T) : Type 0 where
   pub flushes : new.flushes ≡ old.flushes + 1
   pub flushed : new.flushed ≡ old.flushed

@@ -10,8 +10,8 @@ use Rattle.run_core.specs.Texts.{line_feed}
 unfoldable pub first_line : List ℕ → List ℕ
 first_line bytes = take (position_or_len (λ b. b == line_feed) bytes) bytes
 
--- Reads old new bytes: the calls of `fetch` returned these bytes. If the input exposes its contents, they are its next
--- bytes.
+-- Reads old new bytes: the calls of `fetch` returned these bytes. If the input exposes its contents, they began with
+-- these bytes, which are now gone.
 pub record Reads {I : Type 0} (old new : Device I) (bytes : List ℕ) : Type 0 where
   pub shown : Consumes old.shown new.shown bytes
   pub counted : new.bytes ≡ old.bytes + length bytes

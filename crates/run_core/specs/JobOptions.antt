@@ -11,12 +11,13 @@ use Rattle.run_core.specs.declared.job.Job.{Job}
 abbrev pub without_budget : Job → Job
 without_budget job = record job { budget = None }
 
--- given_budget job is the budget that an audit is given. It is the budget of the job, or 0 if the job has none. A
--- budget of 0 stands for the audit's own.
+-- given_budget job is the budget that an audit is given. It is the budget of the job, or 0 if the job has none. With 0,
+-- the audit uses a budget of its own.
 abbrev pub given_budget : Job → ℕ
 given_budget job = unwrap_or job.budget 0
 
--- is_outdated job kept is true if the job asks for rehashes, and its scheme replaces the one of the setting `kept`.
+-- is_outdated job kept is true if the job asks for rehashes and a hash with the setting `kept` is out of date for its
+-- scheme.
 abbrev pub is_outdated : Job → SettingValue → Bool
 is_outdated job kept = job.rehash && is_outdated_by kept.scheme job.maker.scheme
 

@@ -23,7 +23,7 @@ use Rattle.run_core.specs.declared.line.LineFault.TheVariants.{OverBudget}
 
 -- ---- the outcome of a line
 
--- HasCost job parts number: a line with these parts costs at most `number`. Without a field, that is the cost of
+-- HasCost job parts number: a line with these parts costs at most `number`. Without a field, `number` is the cost of
 -- hashing the password with a setting that the job makes. With a field, it is the cost of the check with the setting
 -- that the field spells.
 abbrev pub HasCost : Job → Parts → ℕ → Type 0
@@ -50,8 +50,9 @@ HasSetting parts field kept = (parts.field ≡ Some field) × Spells field kept
 --   Hashed    there is no field, and the password is hashed with a setting that the job makes
 --   NoHash    the field is empty
 --   Locked    the field begins with `!` or `*`
---   Match     hashing the password with the setting in the field reproduces the field, and it is not out of date
---   Rehashed  likewise, but the setting is out of date, so the password is hashed again
+--   Match     hashing the password with the setting in the field reproduces the field, and this setting is current
+--   Rehashed  hashing the password with the setting in the field reproduces the field, but the setting is out of date,
+--             so the password is hashed again
 --   Misfit    hashing the password with the setting in the field does not reproduce the field
 abbrev pub ComesTo : Job → Parts → Stream → Outcome → List Hashing → Type 0
 ComesTo job parts stream (Hashed hash) made =
@@ -87,8 +88,8 @@ refusal number fault = record {
 }
 
 -- IsPasswordAnswer kind job number line stream answer: this is the answer to the line with this number, which is to be
--- hashed or checked. If the line breaks a rule, it is refused for the first one that it breaks. If it breaks none but
--- can cost more than the budget, it is refused for that. Otherwise the answer is its name and its outcome.
+-- hashed or checked. If the line breaks a rule, it is refused for the first rule that it breaks. If it breaks none but
+-- can cost more than the budget, it is refused as `OverBudget`. Otherwise the answer is its name and its outcome.
 abbrev pub IsPasswordAnswer : Kind → Job → ℕ → List ℕ → Stream → Answer → Type 0
 IsPasswordAnswer kind job number line stream answer =
     ((fault : LineFault) × IsLineRefused kind line fault × (answer ≡ refusal number fault))
@@ -98,7 +99,7 @@ IsPasswordAnswer kind job number line stream answer =
     × (answer ≡ answer_of job parts.name outcome answer.hashings)))
 
 -- IsAuditAnswer job number line answer: this is the answer to the line with this number, which is to be audited. If the
--- line breaks a rule, it is refused for the first one that it breaks. Otherwise the answer is its name and what an
+-- line breaks a rule, it is refused for the first rule that it breaks. Otherwise the answer is its name and what an
 -- audit finds in its field. No hash is computed.
 abbrev pub IsAuditAnswer : Job → ℕ → List ℕ → Answer → Type 0
 IsAuditAnswer job number line answer =
@@ -113,7 +114,7 @@ IsAnswer Audit job number line stream answer = IsAuditAnswer job number line ans
 IsAnswer kind job number line stream answer = IsPasswordAnswer kind job number line stream answer
 
 -- AreAnswers kind job number lines stream answers: these are the answers to these lines, which are numbered from
--- `number` on. Each answer begins with the random numbers that the one before it left.
+-- `number` on. The random numbers for each answer are those that the answer before it left.
 abbrev pub AreAnswers : Kind → Job → ℕ → List (List ℕ) → Stream → List Answer → Type 0
 AreAnswers kind job number [] stream [] = ⊤
 AreAnswers kind job number (line ∷ lines) stream (answer ∷ answers) =

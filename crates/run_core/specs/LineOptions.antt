@@ -62,8 +62,8 @@ RenewsNone kind job = (number : ℕ) → (line : List ℕ) → (stream : Stream)
 
 -- ---- audits
 
--- Foresees job: if an audit finds that a field is a hash within its budget, then no line with this field is over the
--- same budget in a check without rehashes, whatever its password is.
+-- Foresees job: if an audit finds that a field is a hash within the audit's budget, then no line with this field is
+-- over the same budget in a check without rehashes, whatever its password is.
 abbrev pub Foresees : Job → Type 0
 Foresees job = (field : List ℕ) → (scheme : Scheme) → (most : ℕ) → (standing : Standing)
     → Finds job.maker.scheme (given_budget job) field (Hash scheme most standing) → standing ≢ OverBudget
@@ -71,8 +71,9 @@ Foresees job = (field : List ℕ) → (scheme : Scheme) → (most : ℕ) → (st
     → (line : List ℕ) → (parts : Parts) → HasParts Check line parts → parts.field ≡ Some field
     → ¬ IsCostly Check (without_rehash checking) line
 
--- HeedsLimit job: if an audit by its own budget finds that a field is a hash within it, then a login whose new hashes
--- have the job's scheme can check this hash within the limit of the policy, at least for the empty password.
+-- HeedsLimit job: if an audit for which no budget is given finds that a field is a hash within its own budget, then a
+-- login whose new hashes have the job's scheme can check this hash within the limit of the policy, at least for the
+-- empty password.
 abbrev pub HeedsLimit : Job → Type 0
 HeedsLimit job = (field : List ℕ) → (scheme : Scheme) → (most : ℕ) → (standing : Standing)
     → Finds job.maker.scheme (given_budget job) field (Hash scheme most standing) → standing ≢ OverBudget → given_budget job ≡ 0

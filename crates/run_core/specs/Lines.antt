@@ -27,8 +27,8 @@ pub record Parts : Type 0 where
   pub field : Option (List ℕ)
   pub password : List ℕ
 
--- HasParts kind line parts: these are the parts of the line. It is `name:password` to hash, `name:field:password` to
--- check, and `name:field` or `name:field:` and anything to audit. A password may contain colons.
+-- HasParts kind line parts: these are the parts of the line. A line to hash is `name:password`, and a line to check is
+-- `name:field:password`. A line to audit is `name:field`, or `name:field:` and anything. A password may contain colons.
 abbrev pub HasParts : Kind → List ℕ → Parts → Type 0
 HasParts Batch line parts = IsCut line parts.name parts.password × (parts.field ≡ None)
 HasParts Check line parts =
@@ -46,13 +46,14 @@ line_limit = 2048
 abbrev pub name_limit : ℕ
 name_limit = 64
 
--- line_faults is the list of the refusals of a line, in the order in which their rules are checked. `OverBudget` is not
--- among them, since it depends on the job.
+-- line_faults is the list of the errors for which a line can be refused, in the order in which their rules are checked.
+-- `OverBudget` is not among them, since it depends on the job.
 abbrev pub line_faults : List LineFault
 line_faults = LineTooLong ∷ NoName ∷ NameTooLong ∷ NoPassword ∷ map Password password_faults ++ map Setting setting_faults
 
--- BreaksLine kind fault line: the line breaks the rule of this refusal. The line alone never breaks `OverBudget`. A
--- line to audit never breaks a rule of settings, since whatever is wrong with its field becomes its answer.
+-- BreaksLine kind fault line: the line breaks the rule whose error is `fault`. `OverBudget` has no rule here, since it
+-- depends on the job. A line to audit never breaks a rule of settings, since whatever is wrong with its field becomes
+-- its answer.
 abbrev pub BreaksLine : Kind → LineFault → List ℕ → Type 0
 BreaksLine kind LineTooLong line = line_limit < length line
 BreaksLine kind NoName line = HasFront line []
@@ -63,7 +64,7 @@ BreaksLine kind (Setting fault) line = (kind ≢ Audit)
     × (parts : Parts) × (field : List ℕ) × HasParts kind line parts × (parts.field ≡ Some field) × IsStored field × IsRefused field fault
 BreaksLine kind OverBudget line = ⊥
 
--- IsLineRefused kind line fault: `fault` is the first rule that the line breaks.
+-- IsLineRefused kind line fault: `fault` is the error of the first rule that the line breaks.
 unfoldable pub IsLineRefused : Kind → List ℕ → LineFault → Type 0
 IsLineRefused kind line = IsFirstBroken line_faults (λ fault. BreaksLine kind fault line)
 

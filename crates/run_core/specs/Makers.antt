@@ -1,4 +1,5 @@
--- The setting of each hash of a run. It has a scheme, and a salt that is given once or made anew for each hash.
+-- The setting of each hash of a run. It has a scheme, and a salt that is given once for all hashes or made anew for
+-- each.
 use Rattle.std.specs.Prelude.{ℕ, List, length, Option, Some, None, is_some, option_map, if◌then◌else◌}
 use Rattle.std.specs.Borrow.{Bor}
 use Rattle.std.specs.Option.{option_map_or}
@@ -19,12 +20,12 @@ pub record Recipe : Type 0 where
   pub scheme : SchemeValue
   pub salt : Option (List ℕ)
 
--- recipe_of source is the recipe of a maker: the scheme and the salt of the setting that it holds, or a scheme alone.
+-- recipe_of source is the recipe for settings that the source holds: a scheme and a given salt, or a scheme alone.
 abbrev pub recipe_of : Source → Recipe
 recipe_of (Setting setting) = record { scheme = setting.scheme; salt = Some setting.salt }
 recipe_of (Scheme scheme) = record { scheme = scheme; salt = None }
 
--- bytes_of reference is the list of bytes that the reference leads to, if there is a reference.
+-- bytes_of reference is the list of bytes that the reference refers to, if there is a reference.
 abbrev pub bytes_of : Option (Bor (List ℕ)) → Option (List ℕ)
 bytes_of = option_map (λ bytes. bytes.now)
 
@@ -38,8 +39,8 @@ setting_by recipe numbers = option_map_or (λ salt. record { scheme = recipe.sch
 abbrev pub next_setting : Recipe → Stream → SettingValue
 next_setting recipe stream = setting_by recipe (three_words stream).0
 
--- stream_after recipe stream is what is left of the random numbers after that setting. If no salt is given, three of
--- them have been drawn.
+-- stream_after recipe stream is what is left of the random numbers after the next setting is made. If no salt is given,
+-- three of them have been drawn.
 abbrev pub stream_after : Recipe → Stream → Stream
 stream_after recipe stream = if is_some recipe.salt then stream else (three_words stream).1
 

@@ -5,10 +5,10 @@ use Rattle.run_core.specs.Devices.{Device, MovesBytes}
 use Rattle.run_core.specs.declared.fault.RunFault.{RunFault}
 use Rattle.run_core.specs.declared.fault.RunFault.TheVariants.{Write, Turns}
 
--- Takes failures flushes old new bytes: the output has taken exactly these bytes. If it exposes its contents, they are
--- the last ones.
+-- Takes failures flushes old new bytes: the output has taken exactly these bytes. If the output exposes its contents,
+-- they now end with these bytes.
 --   failures  the number of calls that failed
---   flushes   the number of flushes, all after these bytes; if one flush and no call failed, the flush is recorded
+--   flushes   the number of flushes, all after these bytes; a single flush is recorded as a success if no call failed
 pub record Takes {T : Type 0} (failures flushes : ℕ) (old new : Device T) (bytes : List ℕ) : Type 0 where
   pub shown : Appends old.shown new.shown bytes
   pub counted : new.bytes ≡ old.bytes + length bytes
@@ -23,9 +23,9 @@ TakesFront failures old new whole text =
     (sent unsent : List ℕ) × (sent ++ unsent ≡ text) × (unsent ≢ []) × Takes failures 0 old new (whole ++ sent)
 
 -- Gives turns old new text result: writing and flushing `text` ended with this result.
---   Ok     all of it was taken and flushed, and no call failed
---   Write  one call failed: a `give` before all of it was taken, or the flush
---   Turns  `turns` calls were made and none failed, but not all of it was taken
+--   Ok     the whole text was taken and flushed, and no call failed
+--   Write  one call failed: a `give` before the whole text was taken, or the flush
+--   Turns  `turns` calls were made and none failed, but the text was not taken as a whole
 abbrev pub Gives : {A T : Type 0} → ℕ → Device T → Device T → List ℕ → Result A RunFault → Type 0
 Gives turns old new text (Ok answer) = Takes 0 1 old new text
 Gives turns old new text (Err fault) = ((fault ≡ Write) × (TakesFront 1 old new [] text ⊎ Takes 1 1 old new text))

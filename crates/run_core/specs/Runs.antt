@@ -1,5 +1,5 @@
--- The effect of a run on its three devices, on the random numbers of its generator and on its meter. The definitions
--- take answers as arguments: those that the run wrote in full, and the one at which it stopped.
+-- The effect of a run on its three devices, on the random numbers of its generator and on its meter. Many definitions
+-- take as arguments the answers that the run wrote in full, and the answer at which it stopped.
 use Rattle.std.specs.Prelude.{◌≡◌, ℕ, ◌+◌, ◌^◌, ◌≤◌, ◌⊎◌, List, [], ◌∷◌, ◌++◌, replicate, MatchBool, Result, Ok, Err}
 use Rattle.rand_core.specs.Stream.{Stream}
 use Rattle.prims_core.specs.Work.{IsAtMost}
@@ -29,16 +29,16 @@ no_numbers = record { u32_after = λ calls. 0; u64_after = λ calls. 0; bytes_af
 abbrev pub run_state : {I O E : Type 0} → Device I → Device O → Device E → Stream → Work → RunState I O E
 run_state input out faults stream counts = record { input = input; out = out; faults = faults; stream = stream; counts = counts }
 
--- IsReady turns input out faults counts: a run can begin. `turns` is within the limit on I/O calls, and the counts of
--- the devices and of the meter have room for the run.
+-- IsReady turns input out faults counts: a run can begin. `turns` is at most the limit on I/O calls, and no count of
+-- the devices or of the meter can overflow during the run.
 pub record IsReady {I O E : Type 0} (turns : ℕ) (input : Device I) (out : Device O) (faults : Device E) (counts : Work) : Type 0 where
   pub limit : turns ≤ turns_limit
   pub devices : HasRoomBeforeRun input × HasRoomBeforeRun out × HasRoomBeforeRun faults
   pub meter : IsAtMost counts (2 ^ 100)
 
 -- TakeInPart failures done next out faults new_out new_faults: the outputs have taken the answers `done`, and the
--- output of `next` has then taken a proper prefix of it. Exactly `failures` calls of that output failed, and none of
--- the other.
+-- output to which `next` goes has then taken a proper prefix of `next`. Exactly `failures` calls of that output failed,
+-- and no call of the other output.
 abbrev pub TakeInPart : {O E : Type 0} → ℕ → List Answer → Answer → Device O → Device E → Device O → Device E → Type 0
 TakeInPart failures done next out faults new_out new_faults = MatchBool (is_refusal next.outcome)
     (Takes 0 0 out new_out (texts done) × TakesFront failures faults new_faults (fault_texts done) next.text)
@@ -47,12 +47,12 @@ TakeInPart failures done next out faults new_out new_faults = MatchBool (is_refu
 module _ {I O E : Type 0} where
   -- ---- I/O calls
 
-  -- calls_of state is the number of I/O calls, which are the calls that move bytes.
+  -- calls_of state is the number of I/O calls of all three devices. An I/O call is a call that moves bytes.
   abbrev pub calls_of : RunState I O E → ℕ
   calls_of state = state.input.calls + state.out.calls + state.faults.calls
 
-  -- IsWithinTurns turns old new: the run made at most `turns` I/O calls, and at most two more of them than it moved
-  -- bytes. Each call moved a byte or failed, except one read that finds the end of the input.
+  -- IsWithinTurns turns old new: the run made at most `turns` I/O calls. It made at most two more calls than it moved
+  -- bytes, because each call moved a byte or failed, except one read that found the end of the input.
   pub record IsWithinTurns (turns : ℕ) (old new : RunState I O E) : Type 0 where
     pub at_most_turns : calls_of new ≤ calls_of old + turns
     pub at_most_bytes : calls_of new + old.input.bytes + old.out.bytes + old.faults.bytes ≤ calls_of old + new.input.bytes + new.out.bytes + new.faults.bytes + 2
@@ -77,18 +77,18 @@ module _ {I O E : Type 0} where
 
   -- ---- the end of a run
 
-  -- Finishes answers old new result: the run has written all its answers. The numbers after `TakeAll` are the failed
-  -- calls of `input`, `out` and `faults`, and the flushes of `out` and `faults`.
+  -- Finishes answers old new result: the run has written all its answers. In each `TakeAll`, the first three numbers
+  -- are the failed calls of `input`, `out` and `faults`, and the last two are the flushes of `out` and `faults`.
   --   Ok     both outputs were flushed, and no call failed
-  --   Write  a flush failed: the one of `out`, after which `faults` was not flushed, or the one of `faults`
+  --   Write  the flush of `out` failed, and `faults` was not flushed; or the flush of `faults` failed
   abbrev pub Finishes : List Answer → RunState I O E → RunState I O E → Result Tally RunFault → Type 0
   Finishes answers old new (Ok tally) =
       (tally ≡ tally_of answers) × TakeAll 0 0 0 1 1 answers old new × IsAfter (hashings_of answers) old new
   Finishes answers old new (Err fault) =
       (fault ≡ Write) × (TakeAll 0 1 0 1 0 answers old new ⊎ TakeAll 0 0 1 1 1 answers old new) × IsAfter (hashings_of answers) old new
 
-  -- StopsReading turns done old new fault: the run stopped while it read, and flushed nothing. It had written the
-  -- answers `done`. Each `fetch` returned a byte or failed, so the run did not find the end of the input.
+  -- StopsReading turns done old new fault: the run stopped while it read. It had written the answers `done`, and
+  -- flushed nothing. Each `fetch` returned a byte or failed, so the run did not find the end of the input.
   --   Read   one read failed
   --   Turns  `turns` calls were made, and none failed
   abbrev pub StopsReading : ℕ → List Answer → RunState I O E → RunState I O E → RunFault → Type 0
@@ -114,11 +114,12 @@ module _ {I O E : Type 0} where
       ⊎ ((fault ≡ OutOfMemory) × TakeAll 0 0 0 0 0 done old new
       × IsRefusedAmong (after_work old.counts (hashings_of done)) next.hashings new.counts new.stream))
 
-  -- EndsBy AreAll AreBefore AreUpTo IsBad turns old new result: the run ends with this result. The first four arguments
-  -- are statements about the answers, or about the password.
-  --   AreAll     these are all the answers; the run has finished
-  --   AreBefore  these are the answers before the run stopped while it read
-  --   AreUpTo    these are the answers up to the one at which the run stopped
+  -- EndsBy AreAll AreBefore AreUpTo IsBad turns old new result: the run ends with this result. It finishes, stops while
+  -- it reads, stops at an answer, or refuses the password. The first four arguments are statements about the answers,
+  -- or about the rule that the password breaks.
+  --   AreAll     these are all the answers of a run that finished
+  --   AreBefore  these are the answers that the run had written when it stopped while it read
+  --   AreUpTo    these are the answers up to and including the one at which the run stopped
   --   IsBad      this is the rule that the password breaks; nothing was written, drawn or hashed
   abbrev pub EndsBy : (List Answer → Type 0) → (List Answer → Type 0) → (List Answer → Type 0) → (PasswordFault → Type 0)
       → ℕ → RunState I O E → RunState I O E → Result Tally RunFault → Type 0

@@ -49,7 +49,7 @@ pub(crate) enum Outcome {
     Hashed(Hashed),
     /// The password matches its stored hash.
     Match,
-    /// The password matches, but the stored setting is out of date. This is the new hash.
+    /// The password matches, but the stored setting is out of date. The value is the new hash.
     Rehashed(Hashed),
     /// The password does not match its stored hash.
     Misfit,
@@ -85,7 +85,7 @@ impl Outcome {
     }
 }
 
-/// The answer to a line before it is rendered: the name, the outcome, and the work of the line's hashes.
+/// The answer to a line, not yet as text: the name, the outcome, and the work of the line's hashes.
 #[derive(Drop)]
 pub(crate) struct Answered<'a> {
     pub(crate) name: &'a [u8],
@@ -191,7 +191,7 @@ fn hash_within_budget<R: Rng>(
 }
 
 // Checks the password against its stored hash, and hashes a matching password again if the setting is out of date.
-// Returns `OverBudget` and hashes nothing if all of that can cost more than the budget.
+// Returns `OverBudget` and hashes nothing if these hashes together can cost more than the budget.
 fn check_within_budget<R: Rng>(
     alloc: Global,
     job: &Job,
@@ -359,7 +359,7 @@ fn append_number(text: &mut Text, number: u32)
     append(text, Buffer::new().format(number).as_bytes());
 }
 
-// Appends `:digests:bytes:mixes:table`.
+// Appends the counts of the work, in the form `:digests:bytes:mixes:table`.
 fn append_counts(text: &mut Text, work: &Work)
     requires { array_vec_len text.old + 4 * count_limit < answer_limit }
     ensures counts { text.new.items ≡ text.old.items ++ work_text work.now }

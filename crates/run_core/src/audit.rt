@@ -12,7 +12,7 @@ use rand_core::Rng;
 
 /// Returns what an audit finds in a field, given the job's scheme and budget.
 ///
-/// Without a budget it passes 0 on, which stands for the budget of the scheme ([`Finding::of`]).
+/// Without a budget in the job, the audit uses the budget of the scheme, for which 0 stands in [`Finding::of`].
 pub(crate) fn audit(job: &Job, field: &[u8]) -> Finding
     ensures { Finds job.now.maker.scheme (given_budget job.now) field.now result }
 {
@@ -31,7 +31,7 @@ pub(crate) fn standing_text(standing: Standing) -> &'static [u8]
     }
 }
 
-/// A generator of zeros, for an audit, which never draws a number.
+/// A generator of zeros for the run of an audit, which never draws a number from it.
 #[derive(Drop)]
 pub(crate) struct NoNumbers;
 

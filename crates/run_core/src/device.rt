@@ -102,10 +102,10 @@ impl<I: Read> Input<I> {
 
 /// A writer that counts its calls.
 ///
-/// - `failures`: failed calls and flushes, and calls of `give` that took no byte of a piece that is not empty.
+/// - `failures`: failed calls and flushes, and calls of `give` that took no byte although they were given some.
 /// - `calls`: calls of `give`, including failed ones.
 /// - `bytes`: bytes that these calls took.
-/// - `idle`: calls of `give` with an empty piece that did not fail.
+/// - `idle`: calls of `give` that were given no byte and did not fail.
 /// - `flushes`: flushes, including failed ones.
 /// - `flushed`: bytes that were taken before the last successful flush.
 ///
@@ -151,7 +151,8 @@ impl<O: Write> Output<O> {
         }
     }
 
-    /// Returns the number of failed calls and flushes. Taking no byte of a piece that is not empty is a failure.
+    /// Returns the number of failed calls and flushes. A call of `give` that takes no byte has failed, unless it was
+    /// given none.
     pub fn failures(&self) -> u64
         ensures { result ≡ self.now.failures }
     {

@@ -39,7 +39,7 @@ pub struct Job {
 }
 
 impl Job {
-    /// Returns whether the cost exceeds the budget, if there is one.
+    /// Returns whether the cost exceeds the budget. Without a budget, no cost does.
     pub(crate) fn is_exceeded_by(&self, cost: u64) -> bool
         ensures { IsTrue result ↔ IsAbove self.now.budget cost }
     {
@@ -48,7 +48,7 @@ impl Job {
 
     /// Returns whether a password that matches this stored hash is to be hashed again.
     ///
-    /// It is if the job asks for rehashes, and its scheme makes the stored hash out of date.
+    /// That is so if the job asks for rehashes, and its scheme makes the stored hash out of date.
     pub(crate) fn is_outdated(&self, stored: &StoredHash<'_>) -> bool
         ensures { result ≡ is_outdated self.now stored.now.setting }
     {
@@ -60,7 +60,7 @@ impl Job {
 /// The source of a single password.
 #[derive(Drop)]
 pub enum PasswordFrom {
-    /// The bytes of an argument, whatever they are.
+    /// The bytes of an argument. They may be invalid as a password.
     Word(Vec<u8>),
     /// The first line of the input.
     Input,

@@ -22,11 +22,11 @@ pub const NAME_LIMIT: usize = 64;
 /// What a run does with each line.
 #[derive(Clone, Copy, Debug, PartialEq, Eq)]
 pub enum Kind {
-    /// It hashes the password of `name:password`.
+    /// Hash the password of `name:password`.
     Batch,
-    /// It checks the password of `name:field:password` against the field.
+    /// Check the password of `name:field:password` against the field.
     Check,
-    /// It audits the field of `name:field`. A second colon and anything after it are ignored.
+    /// Audit the field of `name:field`. A second colon and anything after it are ignored.
     Audit,
 }
 
@@ -42,7 +42,7 @@ pub enum LineFault {
     NameTooLong,
     /// The line has no colon, or only one if it is to be checked.
     NoPassword,
-    /// The password is invalid. It follows the first colon, or the second in a line to check.
+    /// The password is invalid. It is what follows the first colon, or the second colon of a line to check.
     Password(PasswordFault),
     /// The field to check is not empty, does not begin with `!` or `*`, and has no valid setting.
     Setting(SettingFault),
@@ -125,7 +125,7 @@ fn check(kind: Kind, line: &[u8]) -> Result<(), LineFault>
     Ok(())
 }
 
-// Checks the length of a line and its name.
+// Checks the length of a line, and that it has a name, which is not too long.
 fn check_name(line: &[u8]) -> Result<(), LineFault>
     ensures named { IfOk result (λ _. IsNamed line.now) }
     ensures refused { IfErr result (λ fault. (kind : LineKind) → IsLineRefused kind line.now fault) }
@@ -154,8 +154,8 @@ pub(crate) struct Parts<'a> {
 }
 
 impl<'a> Parts<'a> {
-    /// Splits a line at its first colon, and a line to check or to audit also at its second. Returns `None` if a colon
-    /// is missing, except the second one of a line to audit.
+    /// Splits a line at its first colon, and a line to check or to audit also at its second colon. Returns `None` if a
+    /// colon is missing, except the second colon of a line to audit.
     pub(crate) fn of(kind: Kind, line: &'a [u8]) -> Option<Parts<'a>>
         ensures { MatchOption result ((parts : LineParts) → ¬ HasParts kind line.now parts) (λ parts. HasParts kind line.now (parts_of parts)) }
     {
@@ -186,7 +186,7 @@ impl<'a> Parts<'a> {
     }
 }
 
-// Returns what comes before the first colon and what comes after it, or the whole text and `None` if there is no colon.
+// Returns the text before the first colon and the text after it, or the whole text and `None` if there is no colon.
 fn cut_front(text: &[u8]) -> (&[u8], Option<&[u8]>)
     ensures { IsCutOrWhole text.now result.0.now (bytes_of result.1) }
 {
@@ -196,7 +196,7 @@ fn cut_front(text: &[u8]) -> (&[u8], Option<&[u8]>)
     }
 }
 
-// Splits a text at its first colon. Returns `None` if there is none.
+// Splits a text at its first colon. Returns `None` if it has none.
 fn cut(text: &[u8]) -> Option<(&[u8], &[u8])>
     ensures { MatchOption result (¬ Contains text.now colon) (λ parts. IsCut text.now parts.0.now parts.1.now) }
 {

@@ -1,5 +1,5 @@
-//! The runs over the lines of an input. A run answers each line as soon as it has read the end of it, before it reads
-//! more. So it holds one line and one piece of the input at a time, and its memory does not grow with the input.
+//! The runs over the lines of an input. A run answers each line as soon as it has read the line's end, before it reads
+//! more. So it holds only one line and one piece of the input, and its memory does not grow with the input.
 ghost use Rattle.std.specs.Prelude.{◌≡◌, ◌≢◌, ℕ, ◌+◌, ◌^◌, ◌<◌, ◌≤◌, length, Err, IfOk, OnOk};
 ghost use Rattle.crypt_core.specs.Passwords.{password_limit};
 ghost use Rattle.crypt_core.specs.Settings.{SettingValue};
@@ -55,7 +55,8 @@ use std::io::{Read, Write};
 ///
 /// # Errors
 ///
-/// All earlier lines have been answered in full. Nothing else has been written, except where stated.
+/// When the run ends with an error, all earlier lines have been answered in full. Nothing else has been written, except
+/// where stated.
 ///
 /// - `Read`: a read failed. The earlier lines are those whose line feed was read.
 /// - `OutOfMemory`: scrypt could not allocate memory for the next line.
@@ -99,8 +100,8 @@ pub fn run_batch<I: Read, O: Write, E: Write, R: Rng>(
 /// Checks the password of each line `name:field:password` of the input and writes the verdict to `out`.
 ///
 /// - `name:ok`: hashing the password with the setting in `field` reproduces `field`.
-/// - `name:ok:NEWHASH`: likewise, but the job asks for a `rehash`, and its settings replace the one in `field`
-///   ([`Setting::replaced_by`]).
+/// - `name:ok:NEWHASH`: hashing the password reproduces `field`, but the job asks for a `rehash`, and its settings
+///   replace the one in `field` ([`Setting::replaced_by`]).
 /// - `name:no`: hashing the password does not reproduce `field`.
 /// - `name:none`: `field` is empty.
 /// - `name:locked`: `field` begins with `!` or `*`.
@@ -120,7 +121,7 @@ pub fn run_batch<I: Read, O: Write, E: Write, R: Rng>(
 ///
 /// # Errors
 ///
-/// As for [`run_batch`].
+/// The errors are those of [`run_batch`].
 ///
 /// [`Setting::replaced_by`]: crypt_core::setting::Setting::replaced_by
 pub fn run_check<I: Read, O: Write, E: Write, R: Rng>(
@@ -158,11 +159,12 @@ pub fn run_check<I: Read, O: Write, E: Write, R: Rng>(
 ///
 /// - `name:METHOD:ROUNDS:COST:over budget`: `field` has a valid setting, whose hash is over the job's `budget`
 ///   ([`Standing::OverBudget`]).
-/// - `name:METHOD:ROUNDS:COST:dead`: it is within the budget, but no password matches `field`, because it is not
+/// - `name:METHOD:ROUNDS:COST:dead`: the hash is within the budget, but no password matches `field`, because it is not
 ///   [whole](crypt_core::stored::StoredHash::is_whole).
-/// - `name:METHOD:ROUNDS:COST:outdated`: it is within the budget and whole, and the job's settings replace its setting
-///   ([`Setting::replaced_by`]).
-/// - `name:METHOD:ROUNDS:COST:current`: it is within the budget and whole, and they don't replace it.
+/// - `name:METHOD:ROUNDS:COST:outdated`: the hash is within the budget and whole, and the job's settings replace its
+///   setting ([`Setting::replaced_by`]).
+/// - `name:METHOD:ROUNDS:COST:current`: the hash is within the budget and whole, and the job's settings do not replace
+///   its setting.
 /// - `name:none`: `field` is empty.
 /// - `name:locked`: `field` begins with `!` or `*`.
 /// - `name:malformed:MESSAGE`: `field` begins with `$` but breaks a rule of settings, and the first broken rule is not
@@ -185,7 +187,7 @@ pub fn run_check<I: Read, O: Write, E: Write, R: Rng>(
 ///
 /// # Errors
 ///
-/// As for [`run_batch`], but never `OutOfMemory`.
+/// The errors are those of [`run_batch`], but never `OutOfMemory`.
 ///
 /// [`Setting::replaced_by`]: crypt_core::setting::Setting::replaced_by
 /// [`SettingFault`]: crypt_core::setting::SettingFault
@@ -227,7 +229,7 @@ pub fn run_audit<I: Read, O: Write, E: Write>(
     )
 }
 
-// Answers each line as soon as it is read, and flushes both outputs at the end.
+// Answers each line as soon as it is read, and flushes both outputs after the last line.
 fn answer_lines<I: Read, O: Write, E: Write, R: Rng>(
     alloc: Global,
     kind: Kind,

@@ -39,8 +39,8 @@ impl Model for Piece {
 }
 
 impl Piece {
-    // Moves the bytes before the first line feed into `buffer` and drops the line feed, or moves all bytes if there is
-    // none. Returns whether there was one.
+    // Moves the bytes before the first line feed into `buffer` and drops the line feed. If there is no line feed, moves
+    // all bytes. Returns whether there was a line feed.
     fn take_line(&mut self, buffer: &mut LineBuffer) -> bool
         ensures takes { TakesLine self.old self.new buffer.old buffer.new result }
         ensures size { length self.old ≤ piece_size }
@@ -60,7 +60,7 @@ impl Piece {
         }
     }
 
-    // Replaces the piece by what one read returns. Returns false at the end of the input.
+    // Reads once, and replaces the piece by the bytes that the read returned. Returns false at the end of the input.
     fn fetch<I: Read>(&mut self, input: &mut Input<I>, left: &mut u64) -> Result<bool, RunFault>
         requires room { HasRoomFor piece_size left.old input.old }
         ensures reads { Reads input.old input.new self.new }

@@ -1,7 +1,7 @@
 //! The counts of a run's lines, which decide its exit status.
 ghost use Rattle.std.specs.Prelude.{◌≡◌, []};
 
-/// The counts of a run's lines. A single password is one line.
+/// The counts of a run's lines. A single password counts as one line.
 #[derive(Clone, Copy, Debug, PartialEq, Eq)]
 pub struct Tally {
     /// All lines, including refused ones.
@@ -15,7 +15,7 @@ pub struct Tally {
 impl Tally {
     ghost use Rattle.run_core.specs.Answers.{tally_of, tally_status};
 
-    /// Returns the tally of no lines.
+    /// Returns a tally whose counts are all 0.
     pub fn new() -> Tally
         ensures { result ≡ tally_of [] }
     {

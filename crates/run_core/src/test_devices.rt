@@ -10,10 +10,10 @@ use std::io;
 use std::io::{ErrorKind, Read, Write};
 use std::marker::Model;
 
-/// The error of a call that the test makes fail. A run must not retry such a call, though others often do.
+/// The error of a call that a test makes fail. Many programs repeat a call after this error, but a run must not.
 pub const FAILURE: ErrorKind = ErrorKind::Interrupted;
 
-/// A limit on the bytes of a call that no call reaches.
+/// A limit on the bytes of each call. No call reaches it.
 pub const ALL: usize = usize::MAX;
 
 /// A call of a device.
@@ -25,7 +25,7 @@ pub enum Call {
     Failed,
 }
 
-// Records a call. If it is the one that fails, counted from 1, records and returns a failure instead.
+// Records a call. If its number, counted from 1, is `fails_at`, records and returns a failure instead.
 fn record(calls: &mut Vec<Call>, fails_at: usize, call: Call) -> io::Result<()> {
     if calls.len().saturating_add(1) == fails_at {
         calls.push(Call::Failed)?;
@@ -55,7 +55,7 @@ impl MemoryWriter {
         }
     }
 
-    /// Makes this call fail, counted from 1, or none if it is 0.
+    /// Makes the call with this number fail, counted from 1. With 0 no call fails.
     pub fn failing_at(mut self, call: usize) -> MemoryWriter {
         self.fails_at = call;
         self
@@ -66,7 +66,7 @@ impl MemoryWriter {
         self.taken.as_slice()
     }
 
-    /// Returns its calls, in order.
+    /// Returns the calls of the writer, in order.
     pub fn calls(&self) -> &[Call] {
         self.calls.as_slice()
     }
@@ -140,7 +140,7 @@ impl<'a> MemoryReader<'a> {
         self
     }
 
-    /// Makes this call fail, counted from 1, or none if it is 0.
+    /// Makes the call with this number fail, counted from 1. With 0 no call fails.
     pub fn failing_at(mut self, call: usize) -> MemoryReader<'a>
         ensures { result ≡ self.entry }
     {
@@ -148,7 +148,7 @@ impl<'a> MemoryReader<'a> {
         self
     }
 
-    /// Returns its calls, in order.
+    /// Returns the calls of the reader, in order.
     pub fn calls(&self) -> &[Call] {
         self.calls.as_slice()
     }

@@ -43,7 +43,7 @@ enum Run<'a> {
     Audit,
 }
 
-// A run and its job.
+// A kind of run, with the options of its job.
 #[derive(Clone, Copy)]
 struct Asked<'a> {
     run: Run<'a>,
@@ -85,7 +85,7 @@ const BY_INPUT: Asked<'static> = Asked {
     ..BATCH
 };
 
-// The hash of "password" from openssl-passwd(1), and its lines.
+// The hash of "password" from openssl-passwd(1), and below it the lines in which answers show this hash.
 const HASH: &str = "$1$xxxxxxxx$UYCIxa628.9qXjpQCjM4a.\n";
 
 const ANN: &str = "ann:$1$xxxxxxxx$UYCIxa628.9qXjpQCjM4a.\n";
@@ -209,7 +209,7 @@ fn run_on<'a>(
     ))
 }
 
-// What is left after a run: its outcome, its devices, the next random number and the meter.
+// What a run leaves: its outcome, its devices, the next random number and the meter.
 #[derive(Drop)]
 struct Left<'a> {
     outcome: Outcome,
@@ -268,7 +268,7 @@ impl Left<'_> {
     }
 }
 
-// Returns the same run with a new salt for each hash.
+// Returns the same run, with a new salt for each hash.
 fn salting(asked: Asked<'_>) -> Asked<'_> {
     Asked {
         salt: None,
@@ -276,7 +276,7 @@ fn salting(asked: Asked<'_>) -> Asked<'_> {
     }
 }
 
-// Returns the same run with a budget.
+// Returns the same run, with a budget.
 fn within(asked: Asked<'_>, budget: u64) -> Asked<'_> {
     Asked {
         budget: Some(budget),
@@ -306,8 +306,8 @@ fn draws_and_counts(rt: HostRuntime) -> Result<(), Fail> {
         ..within(salting(CHECK), 1927021)
     };
     let over = "mkpasswd: line 1: over budget\n";
-    // The run, its input and outcome, both outputs, the next random number, and the number of digests. If that is 0, so
-    // are all other counts.
+    // In each row: the run, its input and outcome, both outputs, the next random number, and the number of digests. If
+    // no digests were computed, all other counts of the meter must be 0 too.
     let rows: [(Asked<'_>, &str, Outcome, &str, &str, u64, u128); 10] = [
         (
             salting(BATCH),

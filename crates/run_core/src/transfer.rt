@@ -1,5 +1,5 @@
-//! The device calls that all runs share: read a piece and find its line feed, write a whole text, flush both outputs at
-//! the end. Each read or write uses one of the I/O calls that the run has left.
+//! The device calls that all runs share: read a piece of the input, find the line feed in it, write a whole text, and
+//! flush both outputs at the end. Each read or write uses one of the I/O calls that the run has left.
 ghost use Rattle.std.specs.Prelude.{◌≡◌, ◌+◌, ◌-◌, ◌^◌, ◌<◌, ◌≤◌, ◌==◌, length, position, OnOk};
 ghost use Rattle.run_core.specs.Devices.{HasRoomWithinRun, MovesBytes, turns_limit};
 ghost use Rattle.run_core.specs.Output.{Shows};
@@ -13,7 +13,7 @@ use std::io::{Read, Write};
 
 /// Reads once into `buffer` and returns the number of bytes read, 0 at the end of the input.
 ///
-/// It uses one of the `left` I/O calls.
+/// The read uses one of the `left` I/O calls.
 ///
 /// # Errors
 ///
@@ -54,7 +54,7 @@ pub(crate) fn line_feed_at(bytes: &[u8]) -> Option<usize>
 ///
 /// # Errors
 ///
-/// Only a prefix of `text` has been written.
+/// After an error, only a prefix of `text` has been written.
 ///
 /// - `Write`: a write failed.
 /// - `Turns`: another write is needed, and `left` is 0.

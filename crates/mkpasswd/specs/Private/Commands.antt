@@ -1,4 +1,4 @@
--- What the command's steps do to its devices.
+-- What the steps of the command do to its devices.
 use Rattle.std.specs.Prelude.{◌≡◌, ℕ, ◌&&◌, Bool, true, false, not, List, [], Result, Ok, Err}
 use Rattle.clap.specs.Words.{kind_of}
 use Rattle.clap.specs.declared.error.Error.{Error}
@@ -16,7 +16,7 @@ use Rattle.mkpasswd.specs.declared.fault.UsageFault.{UsageFault}
 use Rattle.mkpasswd.specs.declared.fault.UsageFault.TheVariants.{Parse, OutOfMemory}
 use Rattle.mkpasswd.specs.declared.plan.Plan.{Plan}
 
--- lacks_generator generates plan: the plan needs a generator, and there is none.
+-- lacks_generator generates plan: whether the plan needs a generator and there is none.
 abbrev pub lacks_generator : Bool → Plan → Bool
 lacks_generator generates plan = wants_generator plan && not generates
 
@@ -29,12 +29,12 @@ module _ {I O E : Type 0} where
   RunsOrLacks turns generates plan old new (Err Start) = (lacks_generator generates plan ≡ true) × (new ≡ old)
   RunsOrLacks turns generates plan old new (Err (Usage fault)) = ⊥
 
--- ErrorShown error turns out faults new_out new_faults status: the command reported an error of `clap` in one of these
+-- ErrorShown error turns out faults new_out new_faults status: the command reported an error of `clap`, in one of these
 -- ways.
---   mistake  it wrote the message about the arguments to `faults`
---   help     it wrote help or the version to `out`
---   front    it wrote only a prefix of help or the version to `out`, and reported that error
---   no_text  an allocation for the message failed, and it reported that
+--   mistake  the command wrote the message about the arguments to `faults`, or tried to
+--   help     the command wrote help or the version to `out`
+--   front    writing help or the version to `out` failed, and the command reported this error
+--   no_text  an allocation for the message failed, and the command reported this error
 pub data ErrorShown {O E : Type 0} (error : Error) (turns : ℕ) (out : Device O) (faults : Device E) (new_out : Device O)
     (new_faults : Device E) (status : ℕ) : Type 0 where
   mistake : (text : List ℕ) → (result : Result Tally RunFault) → parse_status (kind_of error) ≡ 2

@@ -1,4 +1,4 @@
--- The arguments that the code passes to `clap`, and its checks of the rows that `clap` finds.
+-- Which rules the code passes to `clap`, which values `clap` accepts, and what the code's checks of the arguments say.
 use Rattle.std.specs.Prelude.{◌≡◌, ℕ, pos, nat_lt, Bool, true, false, if◌then◌else◌, List, [], ◌∷◌, Option, Some, None, Result, Ok, Err}
 use Rattle.std.specs.Option.{option_map_or}
 use Rattle.std.specs.Str.{bytes_eq}
@@ -11,7 +11,8 @@ use Rattle.clap.specs.declared.parser.matches.ArgMatches.{ArgMatches}
 use Rattle.mkpasswd.specs.Options.{BreaksUsage, command_rules}
 use Rattle.mkpasswd.specs.declared.fault.UsageFault.{UsageFault}
 
--- HasRule arg rule: the argument has this rule, and belongs to the command alone, not to subcommands.
+-- HasRule arg rule: the argument `arg`, as the code builds it for `clap`, has this rule. It belongs to the command
+-- alone, not to subcommands.
 abbrev pub HasRule : Arg → Rule → Type 0
 HasRule arg rule = (rule_of arg ≡ rule) × (arg.global ≡ false)
 
@@ -21,17 +22,17 @@ HasRule arg rule = (rule_of arg ≡ rule) × (arg.global ≡ false)
 abbrev pub HasPassed : ValueParser → Text → Type 0
 HasPassed parser text = (value : Text) × (ignore_case : Bool) × (text ≡ read_as (reading_of parser) value) × Accepts ignore_case parser value
 
--- parser_by_id id rules: the parser of the rule with this id.
+-- parser_by_id id rules: the parser of the first rule with this id, if it has one.
 abbrev pub parser_by_id : Text → List Rule → Option ValueParser
 parser_by_id id [] = None
 parser_by_id id (rule ∷ rules) = if bytes_eq rule.id id then rule.parser else parser_by_id id rules
 
--- HavePassed matches: the parser of its option accepts each value that `clap` found.
+-- HavePassed matches: each value that `clap` found is one that the parser of its option accepts.
 abbrev pub HavePassed : ArgMatches → Type 0
 HavePassed matches = (id : Text) (parser : ValueParser) → parser_by_id id command_rules ≡ Some parser
     → (text : Text) → one_text (found_of matches) id ≡ Some text → HasPassed parser text
 
--- takes_below limit parser: the parser accepts only numbers below the limit.
+-- takes_below limit parser: whether the parser accepts only numbers below the limit.
 abbrev pub takes_below : ℕ → ValueParser → Bool
 takes_below limit (Signed (pos low) (pos high)) = nat_lt high limit
 takes_below limit (Unsigned low high) = nat_lt high limit
@@ -43,7 +44,8 @@ IsNumber limit id = option_map_or (takes_below limit) (parser_by_id id command_r
 
 -- ---- Checks
 
--- ChecksRule rows fault result: the arguments do not break the rule of `fault`, or the result is that refusal.
+-- ChecksRule rows fault result: a check of one rule has this result. After `Ok` the arguments do not break the rule of
+-- `fault`. After an error they break it, and the error is `fault`.
 abbrev pub ChecksRule : {A : Type 0} → List Row → UsageFault → Result A UsageFault → Type 0
 ChecksRule rows fault (Ok value) = ¬ BreaksUsage rows fault
 ChecksRule rows fault (Err refusal) = (refusal ≡ fault) × BreaksUsage rows fault

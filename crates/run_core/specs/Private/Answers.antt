@@ -1,4 +1,4 @@
--- What the steps that decide and render an answer return.
+-- What each step towards an answer returns. The steps find its outcome and render it as text.
 use Rattle.std.specs.Prelude.{◌≡◌, ◌≢◌, Bool, ℕ, ◌+◌, ◌<◌, true, false, List, [], ◌∷◌, ◌++◌, decimal, length, if◌then◌else◌, Option, Some, None, Result, Ok, Err}
 use Rattle.rand_core.specs.Stream.{Stream}
 use Rattle.prims_core.specs.Work.{no_work}
@@ -40,8 +40,8 @@ field_cost job (Some (fields.Hash stored)) password_length = check_cost job stor
 field_cost job (Some other) password_length = 0
 
 -- IsChecked job password stored stream hashings outcome: checking the password against its stored hash has this
--- outcome, and takes these hashes. This also states what the outcome would have been if scrypt could not allocate
--- memory.
+-- outcome, and takes these hashes. If scrypt could not allocate memory, `outcome` is what the outcome would have been
+-- otherwise.
 abbrev pub IsChecked : Job → List ℕ → StoredHash → Stream → List Hashing → Outcome → Type 0
 IsChecked job password stored stream hashings Misfit =
     (crypt password stored.setting ≢ stored.text) × (hashings ≡ hashing password stored.setting stream ∷ [])
@@ -63,8 +63,8 @@ IsSettled job password (Some fields.Locked) stream hashings outcome = (outcome �
 IsSettled job password (Some (fields.Hash stored)) stream hashings outcome = IsChecked job password stored stream hashings outcome
 
 -- Settles job password field stream before after new_stream result: the step for a line with this password and this
--- field returned this result: an outcome, or a refusal for its cost, or an error because scrypt could not allocate
--- memory. In the last case, `outcome` is what the outcome would have been.
+-- field returned this result: an outcome, a refusal for its cost, or an error because scrypt could not allocate memory.
+-- After such an error, `outcome` is what the outcome would have been otherwise.
 abbrev pub Settles : Job → List ℕ → Option StoredField → Stream → Work → Work → Stream → Result (Result Outcome LineFault) HashFault → Type 0
 Settles job password field stream before after new_stream (Ok (Ok outcome)) =
     (¬ IsAbove job.budget (field_cost job field (length password)))
@@ -78,7 +78,7 @@ Settles job password field stream before after new_stream (Err fault) =
     × IsRefusedAmong before hashings after new_stream
 
 -- Concludes kind job line name stream before after new_stream result: the step for a line with this name, which breaks
--- no rule, returned this result, which is right for any number of the line.
+-- no rule, returned this result. The result is right whatever the number of the line is.
 abbrev pub Concludes : Kind → Job → List ℕ → List ℕ → Stream → Work → Work → Stream → Result (Result Outcome LineFault) HashFault → Type 0
 Concludes kind job line name stream before after new_stream (Ok (Ok outcome)) =
     (hashings : List Hashing) × ((number : ℕ) → IsAnswer kind job number line stream (answer_of job name outcome hashings))
@@ -89,15 +89,16 @@ Concludes kind job line name stream before after new_stream (Err fault) =
     (outcome : Outcome) × (hashings : List Hashing) × ((number : ℕ) → IsAnswer kind job number line stream (answer_of job name outcome hashings))
     × IsRefusedAmong before hashings after new_stream
 
--- Renders job number answer next: `next` is the answer to the line with this number whose parts the value holds. The
--- work in the value is that of the answer's hashes.
+-- Renders job number answer next: `next` is the full answer to the line with this number, for which `answer` holds the
+-- name, the outcome and the work, or the reason why the line is refused.
 abbrev pub Renders : Job → ℕ → Result Answered LineFault → Answer → Type 0
 Renders job number (Ok answered) next = (next ≡ answer_of job answered.name.now answered.outcome next.hashings)
     × (after_work no_work next.hashings ≡ answered.work)
 Renders job number (Err fault) next = next ≡ refusal number fault
 
 -- Decides kind job line stream before after new_stream result: the step for a line returned this result, which is right
--- for any number of the line. If scrypt could not allocate memory, `next` is what the answer would have been.
+-- whatever the number of the line is. If scrypt could not allocate memory, `next` is what the answer would have been
+-- otherwise.
 abbrev pub Decides : Kind → Job → List ℕ → Stream → Work → Work → Stream → Result (Result Answered LineFault) HashFault → Type 0
 Decides kind job line stream before after new_stream (Ok answer) = (number : ℕ) → (next : Answer)
     × IsAnswer kind job number line stream next × Renders job number answer next
@@ -130,7 +131,7 @@ counted tally outcome = record {
   misfits = tally.misfits + as_count (is_misfit outcome);
 }
 
--- outcome_of answer is the outcome in the value, or the reason why the line is refused.
+-- outcome_of answer is the outcome that the answer holds, or the reason why the line is refused.
 abbrev pub outcome_of : Result Answered LineFault → Result Outcome LineFault
 outcome_of (Ok answered) = Ok answered.outcome
 outcome_of (Err fault) = Err fault

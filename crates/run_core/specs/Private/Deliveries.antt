@@ -1,4 +1,4 @@
--- What writing a text to one output, and flushing both outputs, does and returns.
+-- The effects and results of writing a text to one output, and of flushing both outputs.
 use Rattle.std.specs.Prelude.{◌≡◌, ℕ, ◌+◌, ◌⊎◌, List, [], ◌∷◌, Result, Ok, Err}
 use Rattle.std.specs.Io.KnownBytes.{Keeps}
 use Rattle.run_core.specs.Answers.{Answer, fault_texts, texts}
@@ -19,35 +19,36 @@ module _ {T : Type 0} where
   FailsOnce old new = new.failures ≡ old.failures + 1
 
   -- Delivers turns old new text result: writing `text` ended with this result.
-  --   Ok     all of it was taken
-  --   Write  a proper prefix of it was taken, and one call failed
-  --   Turns  a proper prefix of it was taken, `turns` calls were made, and none failed
+  --   Ok     the whole text was taken
+  --   Write  a proper prefix of the text was taken, and one call failed
+  --   Turns  a proper prefix of the text was taken, `turns` calls were made, and none failed
   abbrev pub Delivers : ℕ → Device T → Device T → List ℕ → {A : Type 0} → Result A RunFault → Type 0
   Delivers turns old new text (Ok answer) = Takes 0 0 old new text
   Delivers turns old new text (Err fault) = ((fault ≡ Write) × TakesFront 1 old new [] text)
       ⊎ ((fault ≡ Turns) × TakesFront 0 old new [] text × (new.calls ≡ old.calls + turns))
 
-  -- IsKept old new: the contents and the counts are unchanged, except the counts of flushes and failures.
+  -- IsKept old new: the device has the same contents and counts, except perhaps the counts of flushes and failures.
   pub record IsKept (old new : Device T) : Type 0 where
     pub shown : Keeps old.shown new.shown
     pub calls : new.calls ≡ old.calls
     pub bytes : new.bytes ≡ old.bytes
     pub idle : new.idle ≡ old.idle
 
-  -- IsFinished old new: the flush of an output succeeded.
+  -- IsFinished old new: the output was flushed, and the flush succeeded.
   pub record IsFinished (old new : Device T) : Type 0 where
     pub kept : IsKept old new
     pub unfailed : IsUnfailed old new
     pub flushed : IsFlushed old new
 
-  -- IsUnfinished old new: the flush of an output failed.
+  -- IsUnfinished old new: the output was flushed, and the flush failed.
   pub record IsUnfinished (old new : Device T) : Type 0 where
     pub kept : IsKept old new
     pub failed : FailsOnce old new
     pub flush_failed : FailsToFlush old new
 
 module _ {O E : Type 0} where
-  -- FinishesBoth out faults new_out new_faults result: both outputs were flushed, up to the first flush that failed.
+  -- FinishesBoth out faults new_out new_faults result: first `out` and then `faults` was flushed, up to the first flush
+  -- that failed.
   abbrev pub FinishesBoth : Device O → Device E → Device O → Device E → {A : Type 0} → Result A RunFault → Type 0
   FinishesBoth out faults new_out new_faults (Ok done) = IsFinished out new_out × IsFinished faults new_faults
   FinishesBoth out faults new_out new_faults (Err fault) = (fault ≡ Write)

@@ -1,4 +1,5 @@
--- What one `fetch` returns, the first line in a buffer that several of them fill, and the password in that line.
+-- What one `fetch` returns, the first line in a buffer that several calls of `fetch` fill, and the password in that
+-- line.
 use Rattle.std.specs.Prelude.{◌≡◌, ◌≢◌, ℕ, ◌+◌, ◌≤◌, ◌⊎◌, List, [], length, take, Result, Ok, Err}
 use Rattle.std.specs.Io.KnownBytes.{IsAtEnd}
 use Rattle.crypt_core.specs.Passwords.{IsPassword, IsPasswordRefused, password_limit}
@@ -22,12 +23,13 @@ buffer_size = password_limit + 1
 abbrev pub IsUndecided : List ℕ → Type 0
 IsUndecided bytes = HasNoLineFeed bytes × (length bytes ≤ password_limit)
 
--- IsPasswordFault fault bytes: the bytes are refused as a password, and the error names the rule that they break.
+-- IsPasswordFault fault bytes: the bytes are refused as a password, and `fault` names the rule that they break.
 abbrev pub IsPasswordFault : RunFault → List ℕ → Type 0
 IsPasswordFault fault bytes = (rule : PasswordFault) × (fault ≡ Password rule) × IsPasswordRefused bytes rule
 
 module _ {I : Type 0} where
-  -- StopsFetching left old new fault: a read failed, or no I/O call was left. Each earlier read returned a byte.
+  -- StopsFetching left old new fault: reading stopped, because a read failed or no I/O call was left. Each earlier read
+  -- returned a byte.
   abbrev pub StopsFetching : ℕ → Device I → Device I → RunFault → Type 0
   StopsFetching left old new fault = MovesBytes 0 old new
       × (((fault ≡ Read) × FailsOnce old new) ⊎ ((fault ≡ Turns) × IsUnfailed old new × (left ≡ 0)))
@@ -42,26 +44,27 @@ module _ {I : Type 0} where
   Fetches left old new buffer (Err fault) = Reads old new [] × StopsFetching left old new fault
 
   -- FindsLine old new bytes left buffer result: these bytes were read, and their first line is at the front of the
-  -- buffer. Or reading stopped before that line was known.
+  -- buffer; or reading stopped before the first line was known.
   abbrev pub FindsLine : Device I → Device I → List ℕ → ℕ → List ℕ → Result ℕ RunFault → Type 0
   FindsLine old new bytes left buffer (Ok count) =
       IsUnfailed old new × IsDecided new bytes × (count ≤ length buffer) × (take count buffer ≡ first_line bytes)
   FindsLine old new bytes left buffer (Err fault) = IsUndecided bytes × StopsFetching left old new fault
 
   -- Obtains old new bytes left result: these bytes were read, and their first line is the password, or is refused as a
-  -- password. Or reading stopped before that line was known.
+  -- password; or reading stopped before the first line was known.
   abbrev pub Obtains : Device I → Device I → List ℕ → ℕ → Result (List ℕ) RunFault → Type 0
   Obtains old new bytes left (Ok password) =
       IsUnfailed old new × IsDecided new bytes × (password ≡ first_line bytes) × IsPassword password
   Obtains old new bytes left (Err fault) = (IsUndecided bytes × StopsFetching left old new fault)
       ⊎ (IsUnfailed old new × IsDecided new bytes × IsPasswordFault fault (first_line bytes))
 
--- TakesAsPassword bytes result: the bytes are a password, or are refused as a password.
+-- TakesAsPassword bytes result: the bytes are a valid password, which is the result, or the error names the rule that
+-- they break.
 abbrev pub TakesAsPassword : List ℕ → Result (List ℕ) RunFault → Type 0
 TakesAsPassword bytes (Ok password) = (password ≡ bytes) × IsPassword bytes
 TakesAsPassword bytes (Err fault) = IsPasswordFault fault bytes
 
--- ObtainsFrom from old new left result: the password from this source was obtained or refused, or could not be read.
+-- ObtainsFrom from old new left result: the password from this source was obtained, refused, or could not be read.
 --   Word   the password is the argument, and the input is unchanged
 --   Input  the password is the first line of the input
 abbrev pub ObtainsFrom : {I : Type 0} → PasswordFrom → Device I → Device I → ℕ → Result (List ℕ) RunFault → Type 0

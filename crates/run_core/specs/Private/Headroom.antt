@@ -45,19 +45,19 @@ finding_limit = 11 + 1 + rounds_limit + count_limit + 1 + 11
 abbrev pub answer_limit : ℕ
 answer_limit = verdict_front_limit + 1 + hash_limit + 4 * count_limit + 1
 
--- HasRoomFor size left device: the counts of the device have room for the `left` I/O calls that are left, if each of
--- them moves at most `size` bytes, and for one more such call.
+-- HasRoomFor size left device: no count of the device can overflow in the `left` I/O calls that are left, if each moves
+-- at most `size` bytes, or in one more such call.
 pub record HasRoomFor {T : Type 0} (size left : ℕ) (device : Device T) : Type 0 where
   pub failures : device.failures ≤ 2 ^ 62
   pub calls : device.calls + left ≤ 2 ^ 63
   pub bytes : device.bytes + size * (left + 1) ≤ 2 ^ 63
 
--- HasCountsForLine counts: the counts have room for the hashes of one more line.
+-- HasCountsForLine counts: no count can overflow while the hashes of one more line are computed.
 abbrev pub HasCountsForLine : Work → Type 0
 HasCountsForLine counts = IsAtMost counts (2 ^ 110)
 
 -- to_read left piece is the maximum number of bytes from which a run can still cut lines, with this number of I/O calls
--- left: the unused bytes of the last read, and those of later reads. It falls with each line.
+-- left: the unused bytes of the last read, and those of later reads. The number falls with each line.
 abbrev pub to_read : ℕ → List ℕ → ℕ
 to_read left piece = piece_size * left + length piece
 
@@ -65,8 +65,8 @@ to_read left piece = piece_size * left + length piece
 abbrev pub lines_limit : ℕ
 lines_limit = piece_size * turns_limit
 
--- HasRoomForLines left piece tally now: with this number of I/O calls left and this unused piece, nothing overflows in
--- the rest of a run over lines.
+-- HasRoomForLines left piece tally now: with `left` I/O calls and the unused bytes `piece` of the last read, nothing
+-- can overflow in the rest of a run over lines.
 pub record HasRoomForLines {I O E : Type 0} (left : ℕ) (piece : List ℕ) (tally : Tally) (now : RunState I O E) : Type 0 where
   pub lines : tally.lines + to_read left piece ≤ lines_limit
   pub refused : tally.refused ≤ tally.lines

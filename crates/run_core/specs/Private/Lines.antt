@@ -1,4 +1,4 @@
--- The parts of a line as the steps that read it return them.
+-- The buffer of a line, its name and its parts, as the functions that read the line return them.
 use Rattle.std.specs.Prelude.{◌≡◌, ◌≢◌, ℕ, ◌<◌, ◌≤◌, List, [], length, Contains, Option, Some, None, Ok}
 use Rattle.crypt_core.specs.Readings.{IsFieldReading, IsReadOneWay}
 use Rattle.crypt_core.specs.declared.stored.StoredField.{StoredField}
@@ -15,8 +15,8 @@ use Rattle.run_core.specs.declared.reader.buffer.LineBuffer.TheVariants.{Bytes, 
 abbrev pub IsTooLong : List ℕ → Type 0
 IsTooLong line = line_limit < length line
 
--- Represents buffer line: the buffer stands for this line, or the part of it that was read. It has the same bytes, or
--- it is `TooLong` and so is the line.
+-- Represents buffer line: the buffer stands for this line, or for the part of a line that was read. It holds the same
+-- bytes, or it is `TooLong` and the line has more than `line_limit` bytes.
 abbrev pub Represents : LineBuffer → List ℕ → Type 0
 Represents (Bytes bytes) line = bytes.items ≡ line
 Represents TooLong line = IsTooLong line
@@ -44,7 +44,7 @@ pub record IsNamed (line : List ℕ) : Type 0 where
   pub front : HasFront line name
   pub good : IsGoodName name
 
--- parts_of found is the parts of a line that these references lead to.
+-- parts_of found is the parts of a line to which the references in `found` refer.
 abbrev pub parts_of : Found → Parts
 parts_of found = record { name = found.name.now; field = bytes_of found.field; password = found.password.now }
 
@@ -52,7 +52,7 @@ parts_of found = record { name = found.name.now; field = bytes_of found.field; p
 abbrev pub AreSound : Kind → Parts → Type 0
 AreSound kind parts = (line : List ℕ) × HasSoundParts kind line parts
 
--- IsFieldOf field stored: there is no field, or the field is read as `stored`.
+-- IsFieldOf field stored: there is no field and `stored` is `None`, or the field is read as `stored`.
 abbrev pub IsFieldOf : Option (List ℕ) → Option StoredField → Type 0
 IsFieldOf None None = Unit {0}
 IsFieldOf (Some field) (Some stored) = IsFieldReading field (Ok stored) × IsReadOneWay field

@@ -16,15 +16,15 @@ use Rattle.run_core.specs.declared.reader.buffer.LineBuffer.{LineBuffer}
 -- ---- one read
 
 -- TakesLine old new buffer new_buffer found: the bytes before the first line feed were moved into the buffer, or all
--- bytes if there is none.
+-- bytes if there is no line feed. `found` says whether there is one.
 abbrev pub TakesLine : List ℕ → List ℕ → LineBuffer → LineBuffer → Bool → Type 0
 TakesLine old new buffer new_buffer true = (front : List ℕ) × (old ≡ front ++ line_feed ∷ new) × HasNoLineFeed front
     × ((part : List ℕ) → Represents buffer part → Represents new_buffer (part ++ front))
 TakesLine old new buffer new_buffer false = (new ≡ []) × HasNoLineFeed old
     × ((part : List ℕ) → Represents buffer part → Represents new_buffer (part ++ old))
 
--- FetchesPiece left old new piece result: one `fetch` read this piece and returned this result.
---   true   the piece has bytes
+-- FetchesPiece left old new piece result: one `fetch` read the bytes `piece` and returned this result.
+--   true   the piece is not empty
 --   false  the input is at its end
 --   Err    nothing was read
 abbrev pub FetchesPiece : {I : Type 0} → ℕ → Device I → Device I → List ℕ → Result Bool RunFault → Type 0
@@ -36,7 +36,7 @@ FetchesPiece left old new piece (Err fault) = (piece ≡ []) × StopsFetching le
 
 module _ {I : Type 0} where
   -- IsAt now piece at_end lines bytes: the bytes are these lines, each with its line feed, and then `piece`, which has
-  -- fewer than `piece_size` bytes. Or the input is at its end, and these are all lines of the bytes.
+  -- fewer than `piece_size` bytes. If the input is at its end, these are all lines of the bytes.
   abbrev pub IsAt : Device I → List ℕ → Bool → List (List ℕ) → List ℕ → Type 0
   IsAt now piece false lines bytes = HasLines bytes lines piece × (length piece < piece_size)
   IsAt now piece true lines bytes = IsAtEnd now.shown × (lines ≡ lines_of bytes)

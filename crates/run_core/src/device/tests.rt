@@ -50,7 +50,7 @@ fn hands_on_each_write(rt: HostRuntime) {
     );
 }
 
-// It is a failure if no byte of a piece is taken, unless the piece is empty. A read that returns nothing is none.
+// A write that takes no byte is a failure, unless its piece is empty. A read that returns no byte is not a failure.
 #[test]
 fn counts_failures(rt: HostRuntime) {
     let mut input = Input::new(MemoryReader::new(rt.alloc(), b"abcd", 3));

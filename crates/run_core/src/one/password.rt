@@ -1,5 +1,5 @@
-//! Reads a password from an input: the first line, without its line feed. The buffer has a fixed size, so nothing is
-//! allocated.
+//! Reads a password from an input. The password is the first line, without its line feed. The buffer has a fixed size,
+//! so nothing is allocated.
 ghost use Rattle.std.specs.Prelude.{◌≡◌, ℕ, ◌+◌, ◌-◌, ◌^◌, ◌<◌, ◌≤◌, List, drop, length, take};
 ghost use Rattle.run_core.specs.Devices.{HasRoomBeforeRun, MovesBytes, turns_limit};
 ghost use Rattle.run_core.specs.Input.{Reads};
@@ -41,7 +41,7 @@ pub(crate) fn read_password<I: Read>(
     Ok(Password::new(&buffer[..end])?)
 }
 
-// Reads until the first line is complete or fills `buffer`, and returns its length.
+// Reads until the first line has ended or fills `buffer`, and returns the length of the line.
 fn read_first_line<I: Read>(
     input: &mut Input<I>,
     buffer: &mut [u8],
@@ -70,7 +70,8 @@ fn read_first_line<I: Read>(
     Ok(filled)
 }
 
-// Reads once into `buffer`, after its first `filled` bytes. Returns the number of bytes read, 0 at the end.
+// Reads once into `buffer`, after its first `filled` bytes. Returns the number of bytes read, 0 at the end of the
+// input.
 fn fetch_after<I: Read>(
     input: &mut Input<I>,
     buffer: &mut [u8],

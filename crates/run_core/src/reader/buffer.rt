@@ -10,7 +10,7 @@ use arrayvec::ArrayVec;
 pub(crate) enum LineBuffer {
     /// The bytes, at most [`LINE_LIMIT`].
     Bytes(ArrayVec<u8, LINE_LIMIT>),
-    /// The line has more than [`LINE_LIMIT`] bytes. They are dropped.
+    /// The line has more than [`LINE_LIMIT`] bytes, which have been dropped.
     TooLong,
 }
 

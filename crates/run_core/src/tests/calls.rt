@@ -13,12 +13,12 @@ enum Device {
 
 type Step = (Device, Call);
 
-// A run with each of its device calls, in order.
+// A run, with the device calls that it makes if none fails, in order.
 #[derive(Clone, Copy)]
 struct Listed<'a> {
     asked: Asked<'a>,
     input: &'a [u8],
-    /// The most bytes of a read and of a write.
+    /// The greatest number of bytes that a read returns, and that a write takes.
     by: (usize, usize),
     steps: &'a [Step],
     outcome: Outcome,
@@ -42,7 +42,8 @@ const FLUSH: Step = (Device::Output, Call::Flushed);
 
 const FLUSH_FAULTS: Step = (Device::Faults, Call::Flushed);
 
-// Returns the calls of one device if the step after the first `whole` steps fails. Without such a step no call fails.
+// Returns the calls of one device if the step after the first `whole` steps fails. If there is no such step, no call
+// fails.
 fn calls_of(
     alloc: Global,
     steps: &[Step],
@@ -58,7 +59,7 @@ fn calls_of(
     Ok(calls)
 }
 
-// Returns the front of the text, as many bytes as these calls took.
+// Returns the front of the text that these calls have written.
 fn taken_of<'a>(text: &'a str, calls: &[Call]) -> &'a [u8] {
     let mut taken = 0usize;
     for call in calls {
@@ -69,7 +70,7 @@ fn taken_of<'a>(text: &'a str, calls: &[Call]) -> &'a [u8] {
     text.as_bytes().get(..taken).unwrap_or(text.as_bytes())
 }
 
-// Asserts what the run does if each of its steps in turn fails, and if none fails.
+// Asserts what the run does if one of its steps fails, for each step, and if no step fails.
 fn want_steps(rt: &impl Abort, alloc: Global, what: &str, listed: Listed<'_>) -> Result<(), Fail> {
     let steps = listed.steps;
     for whole in 0..steps.len() + 1 {
@@ -174,7 +175,8 @@ fn calls_in_order_over_lines(rt: HostRuntime) -> Result<(), Fail> {
     Ok(())
 }
 
-// A run with the password in an argument reads nothing. Otherwise each read asks for the rest of 1,025 bytes.
+// A run whose password is an argument reads nothing. A run that reads its password asks each time for as many bytes as
+// are missing from 1,025.
 #[test]
 fn calls_in_order_for_one_password(rt: HostRuntime) -> Result<(), Fail> {
     let by_word = Listed {
@@ -277,7 +279,7 @@ fn calls_in_order_for_one_password(rt: HostRuntime) -> Result<(), Fail> {
 
 const INPUT: &[u8] = b"ann:password\n:x\nbob:password\n";
 
-// With one byte a read, every line that was read before the failure is answered.
+// If each read returns one byte, every line that was read before a failure is answered.
 #[test]
 fn answers_what_was_read(rt: HostRuntime) -> Result<(), Fail> {
     for call in 1..32 {
@@ -304,7 +306,7 @@ fn answers_what_was_read(rt: HostRuntime) -> Result<(), Fail> {
     Ok(())
 }
 
-// With one byte a write, every byte before the failure is written.
+// If each write takes one byte, every byte before the failure is written.
 #[test]
 fn writes_up_to_the_failure(rt: HostRuntime) -> Result<(), Fail> {
     for taken in 0..78usize {

@@ -1,8 +1,8 @@
-//! Inputs and outputs in pieces, and the limit on I/O calls.
+//! Tests inputs that come in pieces, and the limit on I/O calls.
 
 use super::*;
 
-// The outputs are the same in whatever pieces the input comes.
+// The answers are the same, whatever pieces the input comes in.
 #[test]
 fn answers_any_pieces_alike(rt: HostRuntime) -> Result<(), Fail> {
     let counted = Asked {
@@ -33,15 +33,16 @@ fn answers_any_pieces_alike(rt: HostRuntime) -> Result<(), Fail> {
     Ok(())
 }
 
-// Tests each limit, and one byte more. The long line follows a short one, so that pieces end anywhere in it.
+// Lines and passwords at their limits, and one byte longer. The input comes in pieces of three sizes, so a long line is
+// cut at different places.
 #[test]
 fn measures_any_pieces_alike(rt: HostRuntime) -> Result<(), Fail> {
     let name = "mkpasswd: line 1: no password field\nmkpasswd: line 2: name too long\n";
     let line = "mkpasswd: line 1: no password field\nmkpasswd: line 2: line too long\n";
     let first = "mkpasswd: line 1: line too long\n";
     let hash = "$1$xxxxxxxx$K/D5CvaOI4iV5zX0cnQoW0\n";
-    // The first bytes, the number of letters after them, the last bytes, the outcome, and both outputs. The hash is
-    // passlib's.
+    // In each row: the run, the first bytes of the input, the number of letters after them, the last bytes, the
+    // outcome, and both outputs. The hash is passlib's.
     let rows: [(Asked<'_>, &[u8], usize, &[u8], Outcome, &str, &str); 6] = [
         (BATCH, b"b\n", 2048, b"", Ok((2, 2, 0)), "", name),
         (BATCH, b"b\n", 2049, b"\n", Ok((2, 2, 0)), "", line),
@@ -73,7 +74,8 @@ fn measures_any_pieces_alike(rt: HostRuntime) -> Result<(), Fail> {
     Ok(())
 }
 
-// A run finishes with as many turns as it needs, and returns `Turns` with one fewer. An endless input uses them all.
+// A run finishes if its limit on I/O calls is as high as the number of calls that it needs, and returns `Turns` if the
+// limit is lower by one. An endless input uses all calls up to the limit.
 #[test]
 fn stops_with_its_turns(rt: HostRuntime) -> Result<(), Fail> {
     let begun = "Available methods:\nmd5crypt\nsha256crypt\nsha512cryp";
@@ -83,8 +85,8 @@ fn stops_with_its_turns(rt: HostRuntime) -> Result<(), Fail> {
         ..BATCH
     };
     let line = "ann:password\n";
-    // The input, whether it is repeated forever, the most bytes of a read and of a write, the turns, the outcome, and a
-    // text with the number of times that it is in the output.
+    // In each row: the run, its input, whether the input is repeated forever, the most bytes of a read and of a write,
+    // the limit on I/O calls, the outcome, and a text with the number of times that it is in the output.
     let rows: [(Asked<'_>, &str, bool, [usize; 2], u64, Outcome, &str, usize); 15] = [
         (BATCH, "", false, [ALL, ALL], 0, TURNS, "", 0),
         (BATCH, "", false, [ALL, ALL], 1, Ok((0, 0, 0)), "", 0),

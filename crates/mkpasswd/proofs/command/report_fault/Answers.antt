@@ -1,4 +1,4 @@
--- `report_fault` writes the line of the error, in at most as many calls as it has bytes (`told`).
+-- `report_fault` writes the line that reports the error, in at most as many calls as this line has bytes (`told`).
 use Rattle.std.proofs.Common.{◌∙◌, ap, length, sym}
 use Rattle.mkpasswd.proofs.ServedCommands.{IsTold_from_Shows}
 use Rattle.mkpasswd.proofs.command.report_fault.Goals as goal

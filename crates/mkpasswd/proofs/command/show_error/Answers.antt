@@ -1,6 +1,6 @@
--- The clause of `show_error` on its ways out: a message about the arguments, help or the version, and help or the
--- version of which only a prefix was written. `use_stderr` decides which, and the status follows from the kind of the
--- error.
+-- The clause of `show_error` where the message of `clap`'s error was made. The function wrote a message about the
+-- arguments, or help or the version, or failed to write help or the version. `use_stderr` decides which output it wrote
+-- to, and the status follows from the kind of the error.
 use Rattle.std.proofs.Common.{◌≢◌, ◌∙◌, true≢false, Ok, Err, refl, sym}
 use Rattle.clap.specs.Words.{kind_of}
 use Rattle.clap.specs.declared.error.kind.ErrorKind.TheVariants as kind

@@ -1,6 +1,6 @@
--- `command` returns the command of the definition. Its calls of `clap` set one field after another, and then add one
--- argument after another; each argument has the rule that its function promises, so the result is the fold over the
--- rules, by induction over the arguments.
+-- `command` returns the command of the definition. Its calls of `clap` set one field after another and then add the
+-- arguments. Each argument has the rule that the function that made it promises, so the result is the fold over the
+-- rules. The proof is by induction over the arguments.
 use Rattle.std.proofs.Common.{◌≡◌, ◌∙◌, List, [], ◌∷◌, true, fold, ap, sym}
 use Rattle.std.specs.Prelude.{⊤}
 use Rattle.std.proofs.lemmas.Result.{IfOk-weaker}
@@ -15,13 +15,13 @@ use Rattle.mkpasswd.proofs.options.command.Goals as goal
 
 -- ---- All arguments
 
--- the arguments have these rules, one by one
+-- Each argument has the rule at the same place in the list of rules.
 abbrev HaveRules : List Arg → List Rule → Type 0
 HaveRules [] [] = ⊤
 HaveRules (arg ∷ args) (rule ∷ rules) = HasRule arg rule × HaveRules args rules
 HaveRules args rules = ⊥
 
--- adding them adds these rules to the command
+-- Adding arguments that have these rules adds the rules to the command, in the same order.
 app_of-args : (before after : Command) (args : List Arg) (rules : List Rule) → AddsInTurn AddsArg before args after → HaveRules args rules
     → app_of after ≡ fold with_rule (app_of before) rules
 app_of-args before after [] [] same have = ap app_of (sym same)
@@ -31,7 +31,7 @@ app_of-args before after (arg ∷ args) (rule ∷ rules) (mid, adds, others) (ha
 app_of-args before after [] (rule ∷ rules) adds have = absurd have
 app_of-args before after (arg ∷ args) [] adds have = absurd have
 
--- a pair, written between its parts
+-- `a & b` is the pair of `a` and `b`. It makes long nested pairs readable.
 infixr 35 ◌&◌
 ◌&◌ : {A B : Type 0} → A → B → A × B
 first & others = (first, others)

@@ -1,5 +1,5 @@
--- The clauses `ok` and `err` of `parse`, and the invariant of its result, from `clap`'s clauses for this command.
--- CommandFacts has the properties of the command that those require.
+-- The clauses `ok` and `err` of `parse`, and the invariant of its result, follow from `clap`'s clauses for this
+-- command. CommandFacts has the properties of the command that `clap`'s clauses require.
 use Rattle.std.proofs.Common.{◌≡◌, ◌≢◌, ◌∙◌, List, [], true, map, string_bytes, ap, subst, sym, inl, inr}
 use Rattle.std.specs.List.{list_all}
 use Rattle.std.proofs.lemmas.Result.{err_from_is_err_and}
@@ -18,7 +18,7 @@ use Rattle.mkpasswd.proofs.options.parse.Goals as goal
 
 -- ---- Refusals
 
--- an error that is not a failed allocation is one that the arguments call for
+-- If `clap` returns an error other than a failed allocation, it refuses the arguments in a way that they call for.
 Refuses-clap_error : (a : App) (arguments : List Text) (e : Error) → a ≡ command → (takes a arguments ≡ true → kind_of e ≡ kind.OutOfMemory)
     → (is_simple_and_free a ≡ true → HasKind (fault_of a arguments) e) → kind_of e ≢ kind.OutOfMemory → Refuses arguments e
 Refuses-clap_error a arguments e is passes kinds other = record {
@@ -36,11 +36,11 @@ returns-in_err-matches-clause-err c =
 
 -- ---- Values
 
--- the rows of the matches are those of the arguments
+-- The rows that `clap` finds are those that the definition `matches_of` computes from the arguments.
 rows_of-matches : (a : App) (arguments : List Text) (m : ArgMatches) → a ≡ command → HasMatchesOf a arguments m → rows_of (found_of m) ≡ matches_of command arguments
 rows_of-matches a arguments m is matches = (subst (λ (x : App). HasMatchesOf x arguments m) is matches facts.command-is_simple).0
 
--- and the parser of its option accepts each value
+-- Each value that `clap` found is accepted by the parser of its option.
 HavePassed-parsed : (c : Command) (m : ArgMatches) → app_of c ≡ command → IsParsedFrom c m → HavePassed m
 HavePassed-parsed c m is parsed id parser parser_is text read =
     let rule = IsOnlyRule-parser_by_id command.top.rules facts.command-have_own_ids id parser (facts.command-parser_by_id id parser parser_is) in

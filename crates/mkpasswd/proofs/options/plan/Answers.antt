@@ -1,6 +1,6 @@
--- The clause of `plan` on two of its ways out: `parse` fails, or `Maker::new` refuses. In the first, the error is a
--- refusal by `clap` or a failed allocation. In the second, the rules before it are not broken, and PlannedMeaning has
--- the first broken one.
+-- The clause of `plan` if `parse` fails or `Maker::new` refuses. If `parse` fails, the error is a refusal by `clap` or
+-- a failed allocation. If `Maker::new` refuses, the arguments break no earlier rule, and its error is that of the first
+-- rule that they break (PlannedMeaning).
 use Rattle.std.proofs.Common.{◌≡◌, ◌≢◌, ◌∙◌, Err, List, codes, inr, subst, sym, true≢false}
 use Rattle.std.proofs.lemmas.Slice.Eq.{bytes_eq-Decides}
 use Rattle.std.proofs.lemmas.Result.{err_from_is_err_and}
@@ -13,7 +13,7 @@ use Rattle.mkpasswd.specs.declared.fault.UsageFault.TheVariants.{Parse, Make, Ou
 use Rattle.mkpasswd.proofs.PlannedMeaning.{IsFirstBroken-Make}
 use Rattle.mkpasswd.proofs.options.plan.Goals as goal
 
--- an error of `clap` is a refusal of the arguments, or a failed allocation
+-- An error of `clap` is a refusal of the arguments, or a failed allocation.
 Plans-clap_error : (arguments : List Text) (error : Error) (fault : UsageFault) → (kind_of error ≡ kind.OutOfMemory → fault ≡ OutOfMemory) → (kind_of error ≢ kind.OutOfMemory → fault ≡ Parse error)
     → (kind_of error ≢ kind.OutOfMemory → Refuses arguments error) → Plans arguments (Err fault)
 Plans-clap_error arguments error OutOfMemory memory other refuses = tt

@@ -1,7 +1,7 @@
--- Answers the goals of `answer_line`: its clause `decides` at each return, the clause `short`, and the precondition of
--- `unwrap`. A line that is too long is refused as such. Any other line that `inspect` accepts has its parts, to which
--- the clause `settles` of `outcome_of` applies. The work in the answer is the difference of two readings of the meter,
--- which is the work of the hashes (`after_work-told`).
+-- Proves the goals of `answer_line`: its clause `decides` at each return, the clause `short`, and the precondition of
+-- `unwrap`. A line that is too long is refused as `LineTooLong`. Any other line that `inspect` accepts has its parts,
+-- to which the clause `settles` of `outcome_of` applies. The work in the answer is the difference of two readings of
+-- the meter, which is the work of the hashes (`after_work-told`).
 use Rattle.std.proofs.Common.{◌≡◌, ℕ, List, ap, sym, subst, ◌∙◌, refl, rules, Option, Some, None}
 use Rattle.std.specs.Prelude.{Result, Ok, MatchOption}
 use Rattle.std.specs.Option.{IsSome}
@@ -33,7 +33,7 @@ returns-in_default-clause-decides g c = λ text stands number.
       refl,
     )
 
--- a result is `Some` if what `None` would mean is false
+-- If `None` would state something that is false, the result is `Some`.
 IsSome-never_lacks : {A : Type 0} (result : Option A) (Lacks : Type 0) (Has : A → Type 0) → MatchOption result Lacks Has → ¬ Lacks → IsSome result
 IsSome-never_lacks (Some found) Lacks Has has never = search rules
 IsSome-never_lacks None Lacks Has lacks never = absurd (never lacks)
@@ -53,7 +53,7 @@ returns-in_err-outcome-clause-decides g c = λ text stands.
     let ends = c.in_err-outcome.ensures.settles text (subst (λ (t : List ℕ). HasSoundParts c.args.kind t parts) (c.as_slice-bytes.ensures.value ∙ is) taken) in
     rw p.1 (λ number. (answer_of c.args.job.now parts.name ends.0 ends.1, ends.2 number, ends.3))
 
--- the work since the first reading of the meter is that of the hashes
+-- The work that the meter counted between its two readings is that of the hashes.
 after_work-told : (before after reading told : Work) (hashings : List Hashing) → after ≡ after_work before hashings → reading ≡ before
     → ((more : Work) → after ≡ raised_by reading more → told ≡ more) → after_work no_work hashings ≡ told
 after_work-told before after reading told hashings made read raised =

@@ -1,6 +1,7 @@
--- Answers the goals of `check_within_budget` where scrypt could not allocate memory; the prover finds the others. If
--- the hash to compare with was refused, `would_check` gives the outcome that the check would have had. If the new hash
--- was refused, the password had matched and the setting is out of date, so the outcome would have been `Rehashed`.
+-- Proves the goals of `check_within_budget` where scrypt could not allocate memory; the prover finds the other proofs.
+-- If there was no memory for the hash that is compared with the stored one, `would_check` gives the outcome that the
+-- check would have had. If there was none for the new hash, the password had matched and the setting is out of date, so
+-- the outcome would have been `Rehashed`.
 use Rattle.std.proofs.Common.{◌≡◌, [], ◌∷◌, Some, true, length, refl, sym, subst, ◌∙◌, rules}
 use Rattle.std.proofs.lemmas.Result.{err_from_is_err_and}
 use Rattle.prims_core.specs.declared.meter.Work.{Work}

@@ -1,6 +1,6 @@
--- Answers the goal of `hash_within_budget` where scrypt could not allocate memory; the prover finds the others. The
--- outcome would have been `Hashed`, with the one hash that was refused. It is within the budget, since the cost that
--- was compared with the budget is `field_cost`.
+-- Proves the goal of `hash_within_budget` where scrypt could not allocate memory; the prover finds the other proofs.
+-- With enough memory the outcome would have been `Hashed`, with this one hash. The line is within the budget, since the
+-- cost that was compared with the budget is `field_cost`.
 use Rattle.std.proofs.Common.{◌≡◌, [], ◌∷◌, None, length, refl, sym, subst, ◌∙◌, true≢false}
 use Rattle.std.proofs.lemmas.Result.{err_from_is_err_and}
 use Rattle.crypt_core.specs.Standings.{IsAbove}

@@ -1,7 +1,7 @@
--- Answers the goals of `outcome_of`: its clause `settles` at each return, and the preconditions of `unwrap`. Since the
+-- Proves the goals of `outcome_of`: its clause `settles` at each return, and the preconditions of `unwrap`. Since the
 -- line breaks no rule, neither its password nor its field is refused (`IsOk-never_refused`, `IsOk-field_not_refused`).
--- At each return, `Concludes_from_Settles` turns what is known of the password and of the field as it was read into a
--- statement about the line; for a line to audit, `IsAnswer-audit` does.
+-- At each return, what is known of the password and the field becomes a statement about the line, by `IsAnswer-audit`
+-- if the line is to be audited, and otherwise by `Concludes_from_Settles`.
 use Rattle.std.proofs.Common.{◌≡◌, ℕ, List, [], Option, Some, None, refl, sym, ap, subst, true≢false, rules}
 use Rattle.std.specs.Prelude.{◌≢◌, Result, Ok, Err}
 use Rattle.std.specs.Result.{IfErr, IsOk}
@@ -21,7 +21,7 @@ use Rattle.run_core.proofs.LineOutcomes.{not_IsAbove-zero, IsAnswer-audit, Concl
 use Rattle.run_core.proofs.LineRules.{IsFieldRefused, field-not_refused, password-not_refused}
 use Rattle.run_core.proofs.answer.outcome_of.Goals as goal
 
--- a result is `Ok` if no refusal is possible
+-- If no error is possible, the result is `Ok`.
 IsOk-never_refused : {A E : Type 0} (result : Result A E) (Refused : E → Type 0) → IfErr result Refused → ((fault : E) → ¬ Refused fault) → IsOk result
 IsOk-never_refused (Ok found) Refused refused never = search rules
 IsOk-never_refused (Err fault) Refused refused never = absurd (never fault refused)

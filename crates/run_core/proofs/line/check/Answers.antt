@@ -1,6 +1,5 @@
--- Answers the goals of `check`, one for each return, by the lemmas of `LineRules`. What the lemma for a return needs is
--- what the calls before it returned: the line has a good name and its parts, and its password and its field are valid
--- or refused.
+-- Proves the goals of `check`, one for each return, by the lemmas of `LineRules`. The calls before a return have shown
+-- what its lemma needs: the line has a good name and its parts, and its password and its field are valid or refused.
 use Rattle.std.proofs.Common.{◌≡◌, Some, sym, ap, true≢false, rules}
 use Rattle.std.specs.Prelude.{◌≢◌}
 use Rattle.std.proofs.lemmas.Result.{err_from_is_err_and}

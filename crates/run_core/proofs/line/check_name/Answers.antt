@@ -1,4 +1,4 @@
--- Answers the goals of `check_name` where it refuses a line, by the lemmas of `LineRules`: the line is too long, its
+-- Proves the goals of `check_name` where it refuses a line, by the lemmas of `LineRules`: the line is too long, its
 -- name is empty, or its name is too long. `cut_front` gives the cut at the first colon, and so the name.
 use Rattle.std.proofs.Common.{◌∙◌, sym, arith}
 use Rattle.std.proofs.lemmas.Bool.{eqb-true}

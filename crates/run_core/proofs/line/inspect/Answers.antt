@@ -1,4 +1,4 @@
--- Answers the clause `each_refusal` of `inspect`. `check` finds the first rule that the line breaks. Since a line is
+-- Proves the clause `each_refusal` of `inspect`. `check` finds the first rule that the line breaks. Since a line is
 -- refused for only one rule, and a line that breaks none is not refused, each refusal of the line is the one returned.
 use Rattle.std.proofs.Common.{◌≡◌, ◌∙◌, ℕ, List, ap}
 use Rattle.std.specs.Prelude.{Result, Ok, Err, Some}
@@ -9,7 +9,7 @@ use Rattle.run_core.specs.declared.line.Kind.{Kind}
 use Rattle.run_core.proofs.LineRules.{refusal_unique, sound_not_refused}
 use Rattle.run_core.proofs.line.inspect.Goals as goal
 
--- a check that finds the first broken rule finds the only refusal
+-- If a check returns the first rule that a line breaks, each refusal of the line is for this rule.
 result_err-refused : {A : Type 0} (kind : Kind) (line : List ℕ) (result : Result A LineFault) (fault : LineFault) → IfOk result (λ _. IsSound kind line)
     → IfErr result (IsLineRefused kind line) → IsLineRefused kind line fault → result_err result ≡ Some fault
 result_err-refused kind line (Ok unit) fault sound other refused = absurd (sound_not_refused kind line fault sound refused)

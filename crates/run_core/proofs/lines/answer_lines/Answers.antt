@@ -1,6 +1,7 @@
--- Answers the goals of `answer_lines`, by the lemmas of `LinesRunning`. `lines-init` and `lines-preserved` set up and
--- keep the invariant of the loop, `IsRunning`. The other goals are the clause `runs` at each return, and the
--- preconditions of calls. Each proof names the states and passes on what the calls returned.
+-- Proves the goals of `answer_lines`, by the lemmas of `LinesRunning`. `lines-init` shows that the invariant of the
+-- loop, `IsRunning`, holds at first, and `lines-preserved` that each pass keeps it. The other goals are the clause
+-- `runs` at each return, and the preconditions of calls. Each proof names the states of the run, and applies a lemma to
+-- what the calls returned.
 use Rattle.std.proofs.Common.{◌+◌, arith}
 use Rattle.std.proofs.lemmas.Result.{err_from_is_err_and}
 use Rattle.run_core.specs.Runs.{run_state}

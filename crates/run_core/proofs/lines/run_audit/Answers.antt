@@ -1,6 +1,6 @@
--- Answers the clauses of `run_audit` that follow from `runs`. `AuditsWithoutHashes` has those on hashes and memory,
--- `ForeseenChecks` those on later checks, and `WorkBounds` of crypt_core the one on the maximum cost. `rehash` is
--- immediate, since the answer to a line to audit does not depend on rehashes.
+-- Proves the clauses of `run_audit` from `hashes_none` on. `AuditsWithoutHashes` has the lemmas on hashes and memory,
+-- `ForeseenChecks` those on later checks, and `WorkBounds` of crypt_core the one on the maximum cost. The clause
+-- `rehash` is immediate, since the answer to a line to audit does not depend on rehashes.
 use Rattle.run_core.proofs.AuditsWithoutHashes.{HashesNothing_from_EndsLines}
 use Rattle.run_core.proofs.ForeseenChecks.{foresees, heeds_limit, refutes}
 use Rattle.crypt_core.proofs.WorkBounds.{cost-le-longest_password}

@@ -1,5 +1,5 @@
--- Answers the clauses `rehash` and `budget` of `run_batch`, by the lemmas of `LineOptions`. A line to hash has no
--- field, so rehashes change none of the answers.
+-- Proves the clauses `rehash` and `budget` of `run_batch`, by the lemmas of `LineOptions`. Rehashes change no answer,
+-- since a line to hash has no field.
 use Rattle.run_core.proofs.LineOptions.{batch_renews_none, only_refuses}
 use Rattle.run_core.specs.declared.line.Kind.TheVariants.{Batch}
 use Rattle.run_core.proofs.lines.run_batch.Goals as goal

@@ -1,4 +1,4 @@
--- Answers the clauses `rehash` and `budget` of `run_check`, by the lemmas of `LineOptions` for lines that are not to be
+-- Proves the clauses `rehash` and `budget` of `run_check`, by the lemmas of `LineOptions` for lines that are not to be
 -- audited.
 use Rattle.run_core.proofs.LineOptions.{only_refuses, only_renews}
 use Rattle.run_core.specs.declared.line.Kind.TheVariants.{Check}

@@ -1,5 +1,5 @@
--- Answers the clause `shows` of `run_methods`. The clause of `show` states it for the bytes of `METHODS` and for its
--- own result. These bytes are `methods_text`, and `Shows-as_tally` replaces the result by one with a tally.
+-- Proves the clause `shows` of `run_methods`. The clause of `show` says this for the bytes of `METHODS` and for the
+-- result of `show`. These bytes are `methods_text`, and `Shows-as_tally` replaces the result by one with a tally.
 use Rattle.std.proofs.Common.{ℕ, List, Ok, Err, subst}
 use Rattle.std.proofs.lemmas.Result.{err_from_is_err_and}
 use Rattle.run_core.specs.Methods.{methods_text}

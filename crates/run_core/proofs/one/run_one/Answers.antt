@@ -1,4 +1,4 @@
--- Answers the clause `runs` of `run_one` at each of its returns, by the lemmas of `PasswordRunEnds`, and the
+-- Proves the clause `runs` of `run_one` at each of its returns, by the lemmas of `PasswordRunEnds`, and the
 -- precondition of `work_since`. `as_line-password_answer` shows that the line to write is the text of the answer: the
 -- work between the two readings of the meter is that of the one hash.
 use Rattle.std.proofs.Common.{rules, ◌≡◌, ℕ, List, [], ◌∷◌, ◌++◌, ap, sym, ◌∙◌, arith}
@@ -19,7 +19,7 @@ use Rattle.run_core.proofs.PasswordRunEnds as ending
 use Rattle.run_core.proofs.CountedWork.{after_work-raised_by, IsBelow-work_between}
 use Rattle.run_core.proofs.one.run_one.Goals as goal
 
--- the rendered line is the text of the answer
+-- The output line that was rendered is the text of the answer.
 as_line-password_answer : (job : Job) (password : List ℕ) (stream : Stream) (hash : List ℕ) (before after reading told : Work) → hash ≡ new_hash job password stream
     → after ≡ raised_by before (work password (next_setting job.maker stream)) → reading ≡ before
     → ((more : Work) → after ≡ raised_by reading more → told ≡ more)

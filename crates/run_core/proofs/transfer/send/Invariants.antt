@@ -1,5 +1,5 @@
 -- The invariant of the loop in `send` is `IsUnderWay`: all bytes before `rest` were taken. The loop ends since each
--- pass shortens `rest`.
+-- pass takes bytes from `rest`.
 use Rattle.std.proofs.Common.{length}
 use Rattle.run_core.proofs.SentTexts.{IsUnderWay}
 use Rattle.run_core.proofs.transfer.send.Given as goal

@@ -1,5 +1,5 @@
--- `has` returns whether the flag is set: `get_one` reads `true` from the text `true` alone, and a flag that is not
--- given counts as false.
+-- `has` returns whether the rows say that the flag is set. `get_one` reads `true` from the text `true` alone, and a
+-- flag that is not given counts as false.
 use Rattle.std.proofs.Common.{◌≡◌, ◌∙◌, Bool, Option, Some, None, true, false, unwrap_or, ap, refl, subst, sym, inl, inr, codes}
 use Rattle.std.specs.Option.{option_map_or}
 use Rattle.std.specs.Str.{bytes_eq}
@@ -14,7 +14,7 @@ use Rattle.mkpasswd.proofs.options.Arguments.has.Goals as goal
 abbrev is_true : Text → Bool
 is_true = bytes_eq (codes "true")
 
--- `parse` reads `true` from the text `true` alone
+-- `get_one` reads `true` from the text `true` alone. Every other text counts as false.
 flag_of_text : (E : Type 0) (text : Text) (read : Option Bool) → ReadsOne {E = E} ParsesBool text read → unwrap_or read false ≡ is_true text
 flag_of_text E text (Some true) is = subst (λ (t : Text). true ≡ is_true t) (sym is) refl
 flag_of_text E text (Some false) is = subst (λ (t : Text). false ≡ is_true t) (sym is) refl
@@ -23,7 +23,7 @@ flag_of_text E text None (e, other) = elim (cases_Bool (is_true text)) [
   | inr differs ↦ sym differs
 ]
 
--- and a value that is missing counts as false
+-- A flag for which `clap` has no value counts as not set.
 flag_of_value : (E : Type 0) (value : Option Text) (read : Option Bool) → (value ≡ None → read ≡ None) → ((text : Text) → value ≡ Some text → ReadsOne {E = E} ParsesBool text read)
     → unwrap_or read false ≡ option_map_or is_true value false
 flag_of_value E None read none some = ap (λ (r : Option Bool). unwrap_or r false) (none refl)

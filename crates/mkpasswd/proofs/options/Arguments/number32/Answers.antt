@@ -1,5 +1,5 @@
--- `number32` returns the number in the rows: `get_one` reads it from the matches (ReadNumbers), and the rows have the
--- same texts as the matches.
+-- `number32` returns the number that the rows hold. `get_one` reads the number from `clap`'s matches (ReadNumbers), and
+-- the rows have the same texts as the matches.
 use Rattle.std.proofs.Common.{◌∙◌, ap}
 use Rattle.std.specs.Option.{option_map}
 use Rattle.clap.specs.Words.{found_of}

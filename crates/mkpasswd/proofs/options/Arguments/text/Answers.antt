@@ -1,4 +1,5 @@
--- `text` returns the value in the rows, because the rows have the same texts as the matches, which `get_str` reads.
+-- `text` returns the value that the rows hold. `get_str` reads the value from `clap`'s matches, and the rows have the
+-- same texts as the matches.
 use Rattle.std.proofs.Common.{◌∙◌, ap}
 use Rattle.clap.specs.Words.{first_of, found_of}
 use Rattle.clap.proofs.WalkLemmas.{first_value-rows}

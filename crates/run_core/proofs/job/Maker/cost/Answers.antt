@@ -1,5 +1,5 @@
--- Answers the clauses `number` and `each` of `Maker::cost`. The result is `made_cost_by`, and by `cost-setting_by` each
--- setting of the maker has this cost, whatever random numbers its salt is made from.
+-- Proves the clauses `number` and `each` of `Maker::cost`. The result is `made_cost_by`. By `cost-setting_by`, hashing
+-- with any setting of the maker has this cost, whatever random numbers its salt is made from.
 use Rattle.std.proofs.Common.{sym, ◌∙◌, rules}
 use Rattle.run_core.proofs.MakerCosts.{cost-setting_by}
 use Rattle.run_core.proofs.job.Maker.cost.Goals as goal

@@ -1,6 +1,6 @@
--- Answers the goals of `Maker::new` at its four returns. With a salt, its clauses are those of `Setting::make`, moved
--- from the salt in the branch to the argument (`accepted-same_salt`). Without one, they follow from what `Scheme::made`
--- returned, since only the cost can be refused (`MakerCosts`).
+-- Proves the goals of `Maker::new` at its four returns. With a salt, its clauses are those of `Setting::make`, moved
+-- from the salt in the branch to the argument (`accepted-same_salt`). Without a salt, they follow from what
+-- `Scheme::made` returned, since only the cost can be refused (`MakerCosts`).
 use Rattle.std.proofs.Common.{◌≡◌, ℕ, List, ap, refl, subst, sym, ◌∙◌}
 use Rattle.std.specs.Prelude.{◌↔◌, Err, None, Option, Some}
 use Rattle.crypt_core.specs.MadeSettings.{BreaksMake, IsMakeRefused}
@@ -10,7 +10,7 @@ use Rattle.run_core.specs.Makers.{bytes_of}
 use Rattle.run_core.proofs.MakerCosts.{IsMakeRefused-only_Cost, IsMakeRefused-not_accepted, not_accepted-BreaksMake}
 use Rattle.run_core.proofs.job.Maker.new.Goals as goal
 
--- a statement about the salt in a branch holds for the argument, which is the same
+-- What holds for the salt in a branch of the code holds for the argument, since both are the same.
 accepted-same_salt : (P : Type 0) (method : Method) (cost : ℕ) (given other : Option (List ℕ)) → given ≡ other
     → (P ↔ ((fault : MakeFault) → ¬ BreaksMake method cost other fault)) → P ↔ ((fault : MakeFault) → ¬ BreaksMake method cost given fault)
 accepted-same_salt P method cost given other is accepted =

@@ -1,5 +1,5 @@
--- Answers the goals of `Parts::of` where it returns `None`; the prover finds the others. A line without a colon has no
--- parts, and neither has a line to check with only one.
+-- Proves the goals of `Parts::of` where it returns `None`; the prover finds the other proofs. A line without a colon
+-- has no parts, and neither has a line to check with only one colon.
 use Rattle.run_core.proofs.LineRules.{no_parts_cut_once, no_parts_uncut}
 use Rattle.run_core.proofs.line.Parts.of.Goals as goal
 

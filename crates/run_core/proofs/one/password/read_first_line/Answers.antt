@@ -1,5 +1,5 @@
--- Answers the goals of `read_first_line`. Each return, and the pass that keeps the invariant of the loop, has a lemma
--- in `FirstLineReading`, which is applied here to what `fetch_after` and `line_feed_at` returned.
+-- Proves the goals of `read_first_line`. For each return, and for the pass that keeps the invariant of the loop, a
+-- lemma of `FirstLineReading` is applied to what `fetch_after` and `line_feed_at` returned.
 use Rattle.std.proofs.Common.{arith, sym, ◌∙◌}
 use Rattle.std.proofs.lemmas.Result.{err_from_is_err_and}
 use Rattle.run_core.proofs.FirstLineReading.{FindsLine-stopped, FindsLine-end_of_input, FindsLine-line_feed, FindsLine-full_buffer, IsReading-fetched}

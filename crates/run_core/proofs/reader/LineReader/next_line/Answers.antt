@@ -1,6 +1,6 @@
--- Answers the goals of `LineReader::next_line`. Each exit of the loop, and the pass that keeps its invariant, has a
--- lemma in `LineReading`, which is applied here to what `take_line` and `fetch` returned. The prover finds the goal for
--- a reader that was at its end before.
+-- Proves the goals of `LineReader::next_line`. For each exit of the loop, and for the pass that keeps its invariant, a
+-- lemma of `LineReading` is applied to what `take_line` and `fetch` returned. The prover finds the proof for a reader
+-- that is already at the end of its input.
 use Rattle.std.proofs.Common.{true, refl, arith}
 use Rattle.std.proofs.lemmas.Result.{err_from_is_err_and}
 use Rattle.run_core.proofs.LineReading.{HasRoomFor-fetched, GivesNext-end_of_input, HasStopped-fetch_failed, GivesNext-line_feed, IsSeeking-fetched}

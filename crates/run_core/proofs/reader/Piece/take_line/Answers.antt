@@ -1,4 +1,4 @@
--- Answers the clause `takes` of `Piece::take_line`, with a line feed in the piece and without one, by the lemmas of
+-- Proves the clause `takes` of `Piece::take_line`, with a line feed in the piece and without one, by the lemmas of
 -- `LineReading` on the range of bytes that is the piece.
 use Rattle.std.proofs.Common.{refl, sym, ◌∙◌}
 use Rattle.run_core.proofs.LineReading.{TakesLine-all, TakesLine-to_feed}
