@@ -86,7 +86,7 @@ length-cycle d n = length-map-range_with_len _ 0 n
 pub digit_pieces-zero : (one other : List ℕ) → digit_pieces one other 0 ≡ []
 digit_pieces-zero one other = refl
 
--- The piece of the lowest digit comes first, then those of the half.
+-- The pieces of a positive n are the piece of its lowest binary digit and then those of n / 2.
 pub digit_pieces-step : (one other : List ℕ) (n : ℕ) → 0 < n
     → digit_pieces one other n ≡ by_digit one other (n % 2) ++ digit_pieces one other (n / 2)
 digit_pieces-step one other n h = ap (flat_map (by_digit one other)) (binary_digits-step n h)
@@ -117,7 +117,7 @@ length-digit_pieces one other n =
 pub digit_bytes-zero : (one other : ℕ) → digit_bytes one other 0 ≡ 0
 digit_bytes-zero one other = refl
 
--- The piece of the lowest digit comes first, then those of the half.
+-- The bytes for the binary digits of a positive n are those for its lowest digit and those for n / 2.
 pub digit_bytes-step : (one other n : ℕ) → 0 < n
     → digit_bytes one other n ≡ by_digit one other (n % 2) + digit_bytes one other (n / 2)
 digit_bytes-step one other n some =

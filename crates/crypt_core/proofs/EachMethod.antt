@@ -21,7 +21,7 @@ each_method test all Scrypt = (and_parts (test Scrypt) _ (and_parts (test Sha512
 pub length-prefix : (m : Method) → length (prefix m) ≡ 3
 length-prefix m = eqb-true _ _ (each_method (λ n. eqb (length (prefix n)) 3) refl m)
 
--- SHA-crypt keeps as many bytes of salt with either digest function.
+-- SHA-crypt keeps the same number of bytes of salt with either digest function.
 pub salt_limit-sha_method : (sha : Sha) → salt_limit (sha_method sha) ≡ shacrypt_salt_limit
 salt_limit-sha_method Sha256 = refl
 salt_limit-sha_method Sha512 = refl

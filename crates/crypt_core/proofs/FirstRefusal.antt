@@ -42,7 +42,7 @@ pub SpellsScheme-scrypt : (text : List ℕ) (n : ScryptParams) (after rest : Lis
 SpellsScheme-scrypt text n after rest begins parts numbers =
     SpellsScheme-from_cost_part text (Scrypt n) after (scrypt_part n) rest begins parts (refl, numbers.0, numbers.1, numbers.2)
 
--- Dropping the 11 characters of the cost part leaves what follows it.
+-- Dropping the 11 characters of scrypt's cost part leaves what follows it.
 pub drop-scrypt_part : (after rest : List ℕ) (n : ScryptParams) → after ≡ scrypt_part n ++ rest → drop scrypt_part_len after ≡ rest
 drop-scrypt_part after rest n parts =
     ap (λ (k : ℕ). drop k after) (sym (length-scrypt_part n)) ∙ ap (λ (t : List ℕ). drop (length (scrypt_part n)) t) parts ∙ drop-append_seam (scrypt_part n) rest

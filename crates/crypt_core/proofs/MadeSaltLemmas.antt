@@ -17,7 +17,7 @@ use Rattle.crypt_core.proofs.EachMethod.{each_method}
 abbrev made_character : List ℕ → ℕ → ℕ
 made_character numbers i = character_of (slice_index numbers (i / 10) / 2 ^ (6 * (i % 10)) % 64)
 
--- A salt of n + 1 characters is one of n and the next character.
+-- The generated salt of n + 1 characters is the one of n characters and then character n.
 pub made_salt-more : (numbers : List ℕ) (n : ℕ) → made_salt numbers (n + 1) ≡ made_salt numbers n ++ made_character numbers n ∷ []
 unfolding made_salt
 made_salt-more numbers n = map-range_with_len_more (made_character numbers) 0 n n (omega arith)
@@ -30,6 +30,6 @@ pub length-made_salt : (numbers : List ℕ) (n : ℕ) → length (made_salt numb
 unfolding made_salt
 length-made_salt numbers n = length-map-range_with_len (made_character numbers) 0 n
 
--- Every method keeps as many characters as its generated salt has.
+-- Every method keeps at least as many characters of salt as its generated salts have.
 pub made_salt_length-le-salt_limit : (m : Method) → made_salt_length m ≤ salt_limit m
 made_salt_length-le-salt_limit m = leb-true _ _ (each_method (λ n. nat_le (made_salt_length n) (salt_limit n)) refl m)

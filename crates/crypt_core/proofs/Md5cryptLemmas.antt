@@ -27,7 +27,7 @@ pub messages_to-all_rounds : (p s : List ℕ) → messages_to (md5crypt_message 
 unfolding messages_to md5crypt_messages
 messages_to-all_rounds p s = refl
 
--- The message of round i has number i + 2.
+-- md5crypt's message of round i has number i + 2.
 pub md5crypt_message-round : (p s : List ℕ) (i : ℕ)
     → md5crypt_message p s (i + 2) ≡ round_message i (digest_after md5 (md5crypt_opening p s) p s i) p s
 unfolding md5crypt_message

@@ -90,7 +90,7 @@ fold_bytes-below digest (p ∷ ps) number bound all small =
     let product : bound * 256 * 256 ^ length ps ≡ bound * 256 ^ suc (length ps) = rw power (grind arith) in
     rw product at rest
 
--- The last character of a packed text has a value below the bound.
+-- If `fills` holds of the bound and the groups, the last character of a packed digest has a value below the bound.
 EndsBelow-packed_by : (bound : ℕ) (groups : List (List ℕ)) (digest : List ℕ) → fills bound groups ≡ true → All (λ b. b < 256) digest
     → (0 < length (packed_by groups digest)) × EndsBelow bound (packed_by groups digest)
 unfolding fills EndsBelow

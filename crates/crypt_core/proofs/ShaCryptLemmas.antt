@@ -19,7 +19,7 @@ use Rattle.crypt_core.proofs.CycleLemmas.{digit_bytes-le-mul, length-cycle, leng
 use Rattle.crypt_core.proofs.MessageLists.{digest_after-more, length-messages_to, length-round_message, length-alternate_message, messages_to, round_length}
 use Rattle.crypt_core.proofs.WorkSums.{sum_by-messages_to_rounds}
 
--- The message of round i has number i + 4.
+-- SHA-crypt's message of round i has number i + 4.
 pub shacrypt_message-round : (h : List ℕ → List ℕ) (p s : List ℕ) (i : ℕ)
     → shacrypt_message h p s (i + 4) ≡ sha_round_message h p s i (sha_digest_before h p s i)
 unfolding shacrypt_message

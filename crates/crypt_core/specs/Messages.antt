@@ -20,7 +20,7 @@ md5crypt_message password salt (suc (suc i)) =
 abbrev pub md5crypt_rounds : ℕ
 md5crypt_rounds = 1000
 
--- md5crypt_messages password salt: all messages in order.
+-- md5crypt_messages password salt: all messages of md5crypt, in order.
 unfoldable pub md5crypt_messages : List ℕ → List ℕ → List (List ℕ)
 md5crypt_messages password salt = map (md5crypt_message password salt) (range_with_len 0 (md5crypt_rounds + 2))
 
@@ -51,7 +51,7 @@ shacrypt_message h password salt (suc (suc (suc zero))) = salt_repeated h passwo
 shacrypt_message h password salt (suc (suc (suc (suc i)))) =
     sha_round_message h password salt i (sha_digest_before h password salt i)
 
--- shacrypt_messages h password salt rounds: all messages in order.
+-- shacrypt_messages h password salt rounds: all messages of SHA-crypt, in order.
 unfoldable pub shacrypt_messages : (List ℕ → List ℕ) → List ℕ → List ℕ → ℕ → List (List ℕ)
 shacrypt_messages h password salt rounds = map (shacrypt_message h password salt) (range_with_len 0 (rounds + 4))
 

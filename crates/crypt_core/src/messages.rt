@@ -1,7 +1,7 @@
 //! What the messages of md5crypt and SHA-crypt have in common. Both methods feed each message to a running digest piece
 //! by piece.
 //!
-//! - The first message is the same in both.
+//! - The first message is the same in both methods.
 //! - The second message has a digest repeated to the password's length, and one string for each binary digit of that
 //!   length.
 //! - The rounds' messages differ between the two only in the strings that stand for the password and the salt. A round
@@ -131,7 +131,7 @@ impl<'a> Model for RoundStrings<'a> {
 }
 
 impl<'a> RoundStrings<'a> {
-    /// Returns the strings of the rounds, joined once.
+    /// Returns the two strings for all rounds, and joins them once.
     ///
     /// Precondition: three copies of the password and one of the salt have at most [`JOINED_LIMIT`] bytes together.
     pub(crate) fn new(password: &'a [u8], salt: &'a [u8]) -> Self

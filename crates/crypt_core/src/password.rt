@@ -9,7 +9,7 @@ use thiserror::Error;
 /// The most bytes of a password.
 pub const PASSWORD_LIMIT: usize = 1024;
 
-/// Why bytes are not a password: the first of these errors.
+/// Why bytes are not a password. If both of these errors apply, the first of them is reported.
 #[derive(Clone, Copy, Debug, PartialEq, Eq, Drop, Error)]
 #[error("{}", self.text())]
 pub enum PasswordFault {

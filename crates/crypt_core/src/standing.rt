@@ -11,7 +11,7 @@ use crate::scheme::Scheme;
 use crate::stored::StoredHash;
 use crate::work::cost;
 
-/// The standing of a stored hash: the first of these that applies.
+/// The standing of a stored hash: the first of these variants that applies.
 #[derive(Clone, Copy, Debug, PartialEq, Eq)]
 pub enum Standing {
     /// Hashing a password with the hash's setting can cost more than the budget. With a budget of 0, which means the

@@ -6,7 +6,7 @@ ghost use Rattle.crypt_core.specs.Faults.{setting_fault_text, make_fault_text};
 use kdf_core::params::ParamFault;
 use thiserror::Error;
 
-/// Why a string is not a setting: the first of these errors.
+/// Why a string is not a setting. If several of these errors apply, the first of them is reported.
 #[derive(Clone, Copy, Debug, PartialEq, Eq, Drop, Error)]
 #[error("{}", self.text())]
 pub enum SettingFault {
@@ -48,7 +48,7 @@ impl SettingFault {
     }
 }
 
-/// Why a setting can't be made: the first of these errors.
+/// Why a setting can't be made. If several of these errors apply, the first of them is reported.
 #[derive(Clone, Copy, Debug, PartialEq, Eq, Drop, Error)]
 #[error("{}", self.text())]
 pub enum MakeFault {

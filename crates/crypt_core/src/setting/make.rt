@@ -24,7 +24,7 @@ impl Setting {
     ///
     /// # Errors
     ///
-    /// The first of these that applies.
+    /// The first of these errors that applies.
     ///
     /// - `SaltLength`: the salt is empty, or has more characters than the method keeps.
     /// - `SaltCharacter`: the salt has a byte outside crypt's alphabet.
