@@ -1,9 +1,9 @@
 -- What the report of an audit says about the stored hash, for the clauses `current`, `passes` and `checked` of
--- `report_audit` and the clause `idle` of `finding_report`. An audit passes exactly the current hashes; and one that it
--- does not report as over its own budget can be checked by a login.
+-- `report_audit` and the clause `idle` of `finding_report`. An audit passes exactly the current hashes. A login can
+-- check each hash that an audit with a budget of 0 does not report as over the budget.
 --
--- Each argument goes through the findings. The number of a reason determines the reason (`reason_row-unique`) and is
--- never 0, so the error in the report determines the standing of the hash.
+-- Each proof goes through the possible findings. The number of a reason determines the reason (`reason_row-unique`) and
+-- is never 0, so the error in the report determines the standing of the hash.
 use Rattle.std.proofs.Common.{◌≡◌, ◌≢◌, ◌⊎◌, ◌≤◌, ◌<◌, ◌∙◌, ℕ, List, [], inl, inr, refl, subst, sym, ap, true≢false, arith}
 use Rattle.prims_core.specs.Work.{no_work}
 use Rattle.crypt_core.specs.Findings.{Finds, JudgesHash}
@@ -41,23 +41,25 @@ Current-unique new budget text kept standings.Current is has = refl
 
 -- ---- The error in the report of a finding
 
--- adding the scheme changes neither the error nor `outdated`
+-- adding the scheme to a report changes neither its error nor its `outdated`
 with_scheme-error : (scheme : Scheme) (report : Report) → ((with_scheme scheme report).error ≡ report.error) × ((with_scheme scheme report).outdated ≡ report.outdated)
 with_scheme-error Md5crypt report = (refl, refl)
 with_scheme-error (Shacrypt sha rounds) report = (refl, refl)
 with_scheme-error (Scrypt params) report = (refl, refl)
 
--- the report of a finding other than a hash has an error
+-- a refusal, such as the report of a finding other than a hash, has an error
 error-refused : (reason : Reason) → (refused reason 0).error ≡ 0 → ⊥
 error-refused reason e = reason_row-nonzero reason e
 
 -- ---- The work of an audit
 
+-- adding the scheme to a report does not change its work
 pub work-with_scheme : (scheme : Scheme) (report : Report) → (with_scheme scheme report).work ≡ report.work
 work-with_scheme Md5crypt report = refl
 work-with_scheme (Shacrypt sha rounds) report = refl
 work-with_scheme (Scrypt params) report = refl
 
+-- the report of a hash with any standing has no work
 pub work-standing_report : (standing : Standing) (most : ℕ) → (standing_report standing most).work ≡ no_work
 work-standing_report standings.OverBudget most = refl
 work-standing_report standings.Dead most = refl
@@ -73,7 +75,7 @@ Current_from_Passes standings.Dead most passes = absurd (reason_row-nonzero reas
 Current_from_Passes standings.Outdated most passes = absurd cc
 Current_from_Passes standings.Current most passes = refl
 
--- so a finding whose report passes is a current hash
+-- a finding whose report passes is a current hash
 Hash_from_Passes : (finding : Finding) → Passes (audit_report finding) → (scheme : Scheme) × (most : ℕ) × (finding ≡ findings.Hash scheme most standings.Current)
 Hash_from_Passes (findings.Hash scheme most standing) passes =
     let stays = with_scheme-error scheme (standing_report standing most) in
@@ -86,7 +88,7 @@ Hash_from_Passes (findings.Other other) passes = absurd (error-refused reasons.U
 Hash_from_Passes findings.Unknown passes = absurd (error-refused reasons.UnknownScheme passes.0)
 Hash_from_Passes findings.NoScheme passes = absurd (error-refused reasons.NoScheme passes.0)
 
--- and the field is current
+-- if the report of what an audit finds in a field passes, the field is current
 pub IsCurrent_from_Passes : (number rounds budget : ℕ) (new : Scheme) (field : List ℕ) (finding : Finding) → IsSchemeMade TakesNewRounds number rounds new
     → Finds new budget field finding → Passes (audit_report finding) → IsCurrent field number rounds budget
 IsCurrent_from_Passes number rounds budget new field finding makes finds passes =
@@ -94,7 +96,7 @@ IsCurrent_from_Passes number rounds budget new field finding makes finds passes 
     let (kept, spells, same, cost_is, has) = subst (Finds new budget field) is finds in
     (kept, new, spells, makes, has)
 
--- conversely, the report of a current field passes: it has one standing, and that is Current
+-- the report of a current field passes, because its hash has only the standing Current
 pub Passes_from_IsCurrent : (number rounds budget : ℕ) (new : Scheme) (field : List ℕ) (finding : Finding) → IsSchemeMade TakesNewRounds number rounds new
     → ((kept : SettingValue) → Spells field kept → JudgesHash new budget field kept finding) → IsCurrent field number rounds budget
     → Passes (audit_report finding)
@@ -112,7 +114,7 @@ limit_of-empty_password : (number rounds : ℕ) (scheme : Scheme) → IsSchemeMa
 limit_of-empty_password number rounds scheme makes =
     limit_by-policy_limit scheme 0 _ (limit_in-allowance number rounds scheme Policy 0 makes) (omega arith) (new_cost-empty-le scheme)
 
--- so a hash whose cost is within the policy's limit can be checked by that login
+-- a login with the empty password can check a hash whose cost for it is within the policy's limit
 pub not_IsUncheckable-policy_limit : (field : List ℕ) (kept : SettingValue) (number rounds : ℕ) (scheme : Scheme) → Spells field kept
     → IsSchemeMade TakesNewRounds number rounds scheme → cost kept 0 ≤ policy_limit scheme → ¬ IsUncheckable [] field (limit_of number rounds twice 0)
 not_IsUncheckable-policy_limit field kept number rounds scheme spells makes within un =
@@ -120,13 +122,13 @@ not_IsUncheckable-policy_limit field kept number rounds scheme spells makes with
     let limit = limit_of-empty_password number rounds scheme makes in
     omega (arith, above, within, limit)
 
--- ---- What an audit foresees
+-- ---- A login can check what an audit finds within the budget
 
--- a report without an error, or of a dead hash, is that of a hash within the budget
+-- IsJudged report: the report has no error or reports a dead hash, so it is that of a hash within the budget
 abbrev IsJudged : Report → Type 0
 IsJudged report = (report.error ≡ 0) ⊎ (report.error ≡ (reason_row reasons.Dead).0)
 
--- a refusal for any reason but Dead is no such report
+-- a refusal for any reason but Dead is not `IsJudged`
 not_IsJudged-refused : (reason : Reason) (most : ℕ) → reason ≢ reasons.Dead → IsJudged (refused reason most) → ⊥
 not_IsJudged-refused reason most other (inl none) = reason_row-nonzero reason none
 not_IsJudged-refused reason most other (inr dead) = other (reason_row-unique reason reasons.Dead dead)
@@ -137,7 +139,7 @@ not_over_budget_from_IsJudged standings.Dead most judged = λ is. absurd (cc is)
 not_over_budget_from_IsJudged standings.Outdated most judged = λ is. absurd (cc is)
 not_over_budget_from_IsJudged standings.Current most judged = λ is. absurd (cc is)
 
--- so a finding with such a report is a hash within the budget
+-- a finding whose report is `IsJudged` is a hash within the budget
 Hash_from_IsJudged : (finding : Finding) → IsJudged (audit_report finding)
     → (scheme : Scheme) × (most : ℕ) × (standing : Standing) × (finding ≡ findings.Hash scheme most standing) × (standing ≢ standings.OverBudget)
 Hash_from_IsJudged (findings.Hash scheme most standing) judged =
@@ -150,7 +152,7 @@ Hash_from_IsJudged (findings.Other other) judged = absurd (not_IsJudged-refused 
 Hash_from_IsJudged findings.Unknown judged = absurd (not_IsJudged-refused reasons.UnknownScheme 0 (λ is. absurd (cc is)) judged)
 Hash_from_IsJudged findings.NoScheme judged = absurd (not_IsJudged-refused reasons.NoScheme 0 (λ is. absurd (cc is)) judged)
 
--- a hash within the audit's own budget costs at most the policy's limit, with the empty password
+-- with a budget of 0, a hash whose standing isn't OverBudget costs at most the policy's limit with the empty password
 not_IsOverBudget_from_HasStanding : (new : Scheme) (field : List ℕ) (kept : SettingValue) (told : Standing) → HasStanding new 0 field kept told → told ≢ standings.OverBudget
     → ¬ IsOverBudget new 0 kept
 not_IsOverBudget_from_HasStanding new field kept standings.OverBudget has other = absurd (other refl)
@@ -161,7 +163,7 @@ not_IsOverBudget_from_HasStanding new field kept standings.Current has other = h
 cost-le-policy_limit : (new : Scheme) (kept : SettingValue) → ¬ IsOverBudget new 0 kept → cost kept 0 ≤ policy_limit new
 cost-le-policy_limit new kept within = omega (arith, λ (above : policy_limit new < cost kept 0). within (inr (refl, above)))
 
--- and so a login can check it
+-- a login can check a hash that an audit with a budget of 0 reports as current, outdated or dead
 pub ForeseesLogins_from_Finds : (number rounds budget : ℕ) (new : Scheme) (field : List ℕ) (finding : Finding) → IsSchemeMade TakesNewRounds number rounds new
     → Finds new budget field finding → ForeseesLogins field number rounds budget (audit_report finding)
 ForeseesLogins_from_Finds number rounds budget new field finding makes finds judged default =

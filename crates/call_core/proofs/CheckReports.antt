@@ -1,6 +1,6 @@
--- The report of a check, for the clauses `verifies` and `shut` of `verify`, `admits` of `checkable`, and `shut` and
--- `dead` of `log_in`. The report is that of a refused field, of a hash above the budget, or of a comparison; a test of
--- the budget decides between the last two.
+-- The report of a password's check, for the clauses `verifies` and `shut` of `verify`, `admits` of `checkable`, and
+-- `shut` and `dead` of `log_in`. The report is that of a refused field, of a hash above the budget, or of a comparison.
+-- A comparison of the cost with the budget decides between the last two.
 use Rattle.std.proofs.Common.{◌≡◌, ◌<◌, ◌≤◌, ℕ, List, length, nat_lt, true, false, inl, inr, arith}
 use Rattle.crypt_core.specs.Crypt.{crypt}
 use Rattle.crypt_core.specs.Passwords.{IsPassword}
@@ -17,28 +17,28 @@ use Rattle.call_core.specs.declared.report.Report.{Report}
 pub not_fits-IsDead : (password field : List ℕ) (kept : SettingValue) → Spells field kept → crypt password kept ≡ field → IsDead field → ⊥
 not_fits-IsDead password field kept spells fits dead = dead.2 (IsWhole-from_Fits password field dead.0 dead.1 (kept, spells, fits))
 
--- a cost is not both above the budget and within it
+-- the costs of equal settings are not one above the budget and one within it
 pub cost-not_above : (password : List ℕ) (budget : ℕ) (kept other : SettingValue) → kept ≡ other
     → budget < cost kept (length password) → cost other (length password) ≤ budget → ⊥
 cost-not_above password budget kept other same above low =
     let low_too : cost kept (length password) ≤ budget = rw same low in
     omega arith
 
--- above the budget
+-- `Verifies` holds of the report OverBudget of a check whose hash costs more than the budget
 pub Verifies-over_budget : (password stored : List ℕ) (budget : ℕ) (kept : SettingValue) (report : Report) → IsPassword password → Spells stored kept
     → budget < cost kept (length password) → report ≡ refused OverBudget (cost kept (length password)) → Verifies password stored budget report
 Verifies-over_budget password stored budget kept report is spells above e =
     let test : nat_lt budget (cost kept (length password)) ≡ true = grind arith in
     inl (is, inl (kept, spells, rw test e))
 
--- within the budget
+-- `Verifies` holds of the report of a comparison, if the hash costs at most the budget
 pub Verifies_from_Compares : (password stored : List ℕ) (budget : ℕ) (kept : SettingValue) (report : Report) → IsPassword password → Spells stored kept
     → cost kept (length password) ≤ budget → Compares password kept stored 0 WrongPassword report → Verifies password stored budget report
 Verifies_from_Compares password stored budget kept report is spells low compares =
     let test : nat_lt budget (cost kept (length password)) ≡ false = grind arith in
     inl (is, inl (kept, spells, rw test compares))
 
--- the field is refused, or the hash is above the budget
+-- `Verifies` holds of the report of a check that is refused for its field or for the budget
 pub Verifies-refused : (password stored : List ℕ) (budget : ℕ) (report : Report) → IsPassword password → IsCheckRefused password stored budget report
     → Verifies password stored budget report
 Verifies-refused password stored budget report is (inl (reason, refused, e)) = inl (is, inr (reason, refused, e))

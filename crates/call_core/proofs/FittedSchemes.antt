@@ -1,5 +1,5 @@
 -- The rounds that mkpasswd_rounds reports make the fitted scheme again, for the clause `fitted` of `report_rounds`. The
--- argument goes method by method: SHA-crypt clamps rounds that are in range to themselves, and scrypt's parameters give
+-- proof goes method by method. SHA-crypt does not change rounds that are in its range, and scrypt's parameters give
 -- back the rounds that made them. GivenSettings uses `made_rounds-chosen_rounds` too.
 use Rattle.std.proofs.Common.{◌≡◌, ◌==◌, ◌<◌, ◌≤◌, ◌∙◌, ℕ, Bool, Some, None, true, false, nat_le, if◌then◌else◌, inl, inr, refl, ap, sym, arith}
 use Rattle.crypt_core.specs.MadeSettings.{made_params, made_rounds, made_scheme, rounds_of}
@@ -14,7 +14,7 @@ use Rattle.call_core.specs.Arguments.{IsSchemeMade, TakesNewRounds}
 
 -- ---- SHA-crypt
 
--- SHA-crypt's rounds that are in range make themselves, and are written in the setting
+-- rounds that are in SHA-crypt's range are not changed, and are written in the setting
 made_rounds-clamped : (n : ℕ) → made_rounds (chosen_rounds methods.Sha512crypt (clamped n)) ≡ record { count = clamped n; is_written = true }
 made_rounds-clamped n = go (clamped n) (omega arith) (omega arith) where
   go : (count : ℕ) → 0 < count → clamped count ≡ count → made_rounds (chosen_rounds methods.Sha512crypt count) ≡ record { count = count; is_written = true }
@@ -22,7 +22,7 @@ made_rounds-clamped n = go (clamped n) (omega arith) (omega arith) where
       let none : (count == 0) ≡ false = grind (arith, some) in
       rw (none, none, same) refl
 
--- so are the rounds of a new hash, clamped
+-- the rounds of a new hash are the chosen ones, clamped, and are written in the setting
 pub made_rounds-chosen_rounds : (rounds : ℕ) → made_rounds (chosen_rounds methods.Sha512crypt rounds)
     ≡ record { count = clamped (chosen_rounds methods.Sha512crypt rounds); is_written = true }
 made_rounds-chosen_rounds rounds = go (rounds == 0) refl where
@@ -33,7 +33,7 @@ made_rounds-chosen_rounds rounds = go (rounds == 0) refl where
 
 -- ---- scrypt
 
--- the rounds of scrypt's parameters make the same parameters
+-- the rounds that scrypt's parameters give back make the same parameters
 made_scheme-made_params : (rounds : ℕ) → 6 ≤ rounds → rounds ≤ 11
     → made_scheme methods.Scrypt (chosen_rounds methods.Scrypt (rounds_of (Scrypt (made_params rounds)))) ≡ Scrypt (made_params rounds)
 made_scheme-made_params rounds low high =
@@ -64,14 +64,14 @@ IsSchemeMade-rounds_of number rounds scheme (methods.Scrypt, named, inr (low, hi
     let same : rounds_of (Scrypt (made_params rounds)) ≡ rounds = rw some (omega arith) in
     rw (made, same) (methods.Scrypt, named, inr (low, high), rw (some, some) refl)
 
--- the scheme that is found with fewer rounds of SHA-crypt is the one that is tried
+-- if `fewer_rounds` finds a scheme, it is the one with the rounds that it tried
 Some-within-unique : (sha : Sha) (n : ℕ) (within : Bool) (own : Scheme)
     → (if within then Some (Shacrypt sha (record { count = clamped n; is_written = true })) else None) ≡ Some own
     → Shacrypt sha (record { count = clamped n; is_written = true }) ≡ own
 Some-within-unique sha n true own e = cc e
 Some-within-unique sha n false own e = absurd (cc e)
 
--- its rounds make it again too
+-- the rounds of a scheme that `fewer_rounds` finds make that scheme
 IsSchemeMade-fewer_rounds : (number rounds limit len : ℕ) (scheme own : Scheme) → IsSchemeMade TakesNewRounds number rounds scheme
     → fewer_rounds scheme limit len ≡ Some own → IsSchemeMade TakesNewRounds number (rounds_of own) own
 IsSchemeMade-fewer_rounds number rounds limit len scheme own (methods.Md5crypt, named, takes, is) e = absurd (cc (rw is at e))
@@ -83,7 +83,7 @@ IsSchemeMade-fewer_rounds number rounds limit len scheme own (methods.Sha512cryp
     let same = Some-within-unique Sha512 _ _ own (rw is at e) in
     rw (← same) (methods.Sha512crypt, named, inr (omega arith), sym (ap (Shacrypt Sha512) (made_rounds-clamped _)))
 
--- so do the rounds of a fitted scheme: it is the policy's own, or one with fewer rounds
+-- the rounds of a fitted scheme make that scheme, which is the policy's own or has fewer rounds
 pub IsSchemeMade-fitted : (number rounds limit len : ℕ) (scheme own : Scheme) → IsSchemeMade TakesNewRounds number rounds scheme
     → fitted scheme limit len ≡ Some own → IsSchemeMade TakesNewRounds number (rounds_of own) own
 IsSchemeMade-fitted number rounds limit len scheme own makes = go (nat_le (new_cost scheme len) limit) where

@@ -1,7 +1,8 @@
--- The first rule that a method, rounds and a given salt break, for the clause of `given_setting`. Either making the
--- setting finds it (`IsGivenRefused_from_IsMakeRefused`), or making it succeeds and the rounds were clamped
--- (`IsGivenRefused-clamped`); if neither happens, no rule is broken (`not_BreaksGiven`). The rules on the salt are the
--- same for both; the rule on the rounds is compared method by method.
+-- The first rule that a method, rounds and a given salt break, for the clause of `given_setting`. If making the setting
+-- fails, the rule that it reports is the first (`IsGivenRefused_from_IsMakeRefused`). If making it succeeds but the
+-- rounds were clamped, the rule on the rounds is the first (`IsGivenRefused-clamped`). Otherwise no rule is broken
+-- (`not_BreaksGiven`). The rules on the salt are the same for any setting and for one of a new hash; the rule on the
+-- rounds is compared method by method.
 use Rattle.std.proofs.Common.{◌≡◌, ◌≢◌, ◌==◌, ◌∙◌, ℕ, List, Some, false, inl, inr, refl, sym, ap, arith}
 use Rattle.crypt_core.specs.MadeSettings.{BreaksMake, IsMakeRefused, TakesRounds, made_rounds, made_scheme}
 use Rattle.crypt_core.specs.Policies.{chosen_rounds}
@@ -14,33 +15,33 @@ use Rattle.call_core.specs.Arguments.{BreaksGiven, IsGivenRefused, TakesNewRound
 use Rattle.call_core.specs.Private.Settings.{IsClamped}
 use Rattle.call_core.proofs.FittedSchemes.{made_rounds-chosen_rounds}
 
--- rounds other than 0 are used as they are
+-- `chosen_rounds` returns rounds other than 0 unchanged
 chosen_rounds-nonzero : (rounds : ℕ) → rounds ≢ 0 → chosen_rounds methods.Sha512crypt rounds ≡ rounds
 chosen_rounds-nonzero rounds some =
     let none : (rounds == 0) ≡ false = grind (arith, some) in
     rw none refl
 
--- so a made scheme of SHA-crypt has these rounds, clamped
+-- for rounds other than 0, a made scheme of SHA-crypt has these rounds, clamped
 made_count-nonzero : (rounds : ℕ) → rounds ≢ 0 → (made_rounds (chosen_rounds methods.Sha512crypt rounds)).count ≡ clamped rounds
 made_count-nonzero rounds some = ap (λ (made : Rounds). made.count) (made_rounds-chosen_rounds rounds) ∙ ap clamped (chosen_rounds-nonzero rounds some)
 
 -- ---- The rule on the rounds
 
--- scrypt takes the recommended rounds too, so what it takes, it takes after 0 is replaced
+-- if scrypt takes the rounds, it also takes them after `chosen_rounds` replaced 0 by the recommended ones
 TakesRounds-chosen_rounds : (rounds : ℕ) → TakesRounds methods.Scrypt rounds → TakesRounds methods.Scrypt (chosen_rounds methods.Scrypt rounds)
 TakesRounds-chosen_rounds rounds (inl none) = rw none (inr (omega arith, omega arith))
 TakesRounds-chosen_rounds rounds (inr (low, high)) =
     let some : (rounds == 0) ≡ false = grind (arith, low) in
     rw some (inr (low, high))
 
--- rounds that the method does not take are not taken for new hashes
+-- rounds that a method does not take are not taken for new hashes
 not_TakesNewRounds-not_taken : (method : Method) (rounds : ℕ) → ¬ TakesRounds method (chosen_rounds method rounds) → ¬ TakesNewRounds method rounds
 not_TakesNewRounds-not_taken methods.Md5crypt rounds never takes = never tt
 not_TakesNewRounds-not_taken methods.Sha256crypt rounds never takes = never tt
 not_TakesNewRounds-not_taken methods.Sha512crypt rounds never takes = never tt
 not_TakesNewRounds-not_taken methods.Scrypt rounds never takes = never (TakesRounds-chosen_rounds rounds takes)
 
--- nor are rounds that it clamps
+-- rounds that a method clamps are not taken for new hashes
 not_TakesNewRounds-clamped : (method : Method) (rounds : ℕ) → IsClamped (made_scheme method (chosen_rounds method rounds)) rounds → ¬ TakesNewRounds method rounds
 not_TakesNewRounds-clamped methods.Md5crypt rounds is takes = is
 not_TakesNewRounds-clamped methods.Sha256crypt rounds (some, other) (inl none) = some none
@@ -49,7 +50,7 @@ not_TakesNewRounds-clamped methods.Sha512crypt rounds (some, other) (inl none) =
 not_TakesNewRounds-clamped methods.Sha512crypt rounds (some, other) (inr same) = other (made_count-nonzero rounds some ∙ same)
 not_TakesNewRounds-clamped methods.Scrypt rounds is takes = is
 
--- but all other rounds are
+-- rounds that a method takes without clamping them are taken for new hashes
 not_not_TakesNewRounds : (method : Method) (rounds : ℕ) → ¬ (¬ TakesRounds method (chosen_rounds method rounds))
     → ¬ IsClamped (made_scheme method (chosen_rounds method rounds)) rounds → ¬ (¬ TakesNewRounds method rounds)
 not_not_TakesNewRounds methods.Md5crypt rounds taken same never = never tt
@@ -65,7 +66,7 @@ not_not_TakesNewRounds methods.Scrypt rounds taken same never = taken (λ made. 
 
 -- ---- The first rule that is broken
 
--- a rule that making the setting finds broken is the first
+-- the rule that making the setting reports is also the first that a new hash's arguments break
 pub IsGivenRefused_from_IsMakeRefused : (method : Method) (rounds : ℕ) (salt : List ℕ) (fault : MakeFault)
     → IsMakeRefused method (chosen_rounds method rounds) (Some salt) fault → IsGivenRefused method rounds salt fault
 unfolding IsMakeRefused IsGivenRefused
@@ -75,7 +76,7 @@ IsGivenRefused_from_IsMakeRefused method rounds salt fault (inr (fits, inr (know
     inr (fits, inr (known, inl (is, not_TakesNewRounds-not_taken method rounds broken)))
 IsGivenRefused_from_IsMakeRefused method rounds salt fault (inr (fits, inr (known, inr never))) = absurd never.1
 
--- if making it finds none and the rounds were clamped, it is the rule on the rounds
+-- if making the setting breaks no rule but the rounds were clamped, the first broken rule is the one on the rounds
 pub IsGivenRefused-clamped : (method : Method) (rounds : ℕ) (salt : List ℕ)
     → ((fault : MakeFault) → ¬ BreaksMake method (chosen_rounds method rounds) (Some salt) fault)
     → IsClamped (made_scheme method (chosen_rounds method rounds)) rounds → IsGivenRefused method rounds salt Cost
@@ -83,7 +84,7 @@ unfolding IsGivenRefused
 IsGivenRefused-clamped method rounds salt none is =
     inr (none SaltLength, inr (none SaltCharacter, inl (refl, not_TakesNewRounds-clamped method rounds is)))
 
--- otherwise no rule is broken
+-- if making the setting breaks no rule and the rounds were not clamped, no rule is broken
 pub not_BreaksGiven : (method : Method) (rounds : ℕ) (salt : List ℕ)
     → ((fault : MakeFault) → ¬ BreaksMake method (chosen_rounds method rounds) (Some salt) fault)
     → ¬ IsClamped (made_scheme method (chosen_rounds method rounds)) rounds → (fault : MakeFault) → ¬ BreaksGiven method rounds salt fault

@@ -1,6 +1,6 @@
--- What mkpasswd_login and web_login promise (their clauses `judges` and `treats_alike`) follows from what `log_in`
--- ensures. Each field of `JudgesStoredHash` and `TreatsFieldsAlike` is a lemma of LoginReports about the report, or of
--- PolicyLimits about the limit. mkpasswd_new uses `limit_of-policy` too.
+-- The clauses `judges` and `treats_alike` of mkpasswd_login and web_login follow from what `log_in` ensures. Each field
+-- of `JudgesStoredHash` and `TreatsFieldsAlike` is a lemma of LoginReports about the report, or of PolicyLimits about
+-- the limit. mkpasswd_new uses `limit_of-policy` too.
 use Rattle.std.proofs.Common.{◌≡◌, ◌≢◌, ℕ, ℤ, pos, List, length, inl, inr}
 use Rattle.crypt_core.specs.declared.scheme.Scheme.{Scheme}
 use Rattle.call_core.specs.Arguments.{IsSchemeMade, TakesNewRounds}
@@ -26,7 +26,7 @@ pub limit_of-policy : (number rounds budget len : ℕ) (scheme : Scheme) → IsS
     → limit_of number rounds budget len ≡ limit_by scheme len
 limit_of-policy number rounds budget len scheme makes policy = rw policy (limit_in-allowance number rounds scheme Policy len makes)
 
--- `log_in` judges the stored hash, where `budget` is its limit
+-- `JudgesStoredHash` follows from the clauses of `log_in`, where `budget` is the limit of the login
 pub JudgesStoredHash_from_LogsIn : (password field : List ℕ) (number rounds budget : ℕ) (result : ℤ) (report : Report) → Answers result report
     → LogsIn password field number rounds budget report
     → (IsDead field → (report.error ≢ 0))
@@ -42,7 +42,8 @@ JudgesStoredHash_from_LogsIn password field number rounds budget result report a
   as_verify = λ scheme made. reports.Agrees_from_LogsIn password field number rounds budget scheme report made logged;
 }
 
--- and treats all fields alike, where its limit is the one that the budget means
+-- `TreatsFieldsAlike` follows from the clauses of `log_in`, where the limit of the login is the one that the budget
+-- means
 pub TreatsFieldsAlike_from_LogsIn : (password field : List ℕ) (number rounds budget : ℕ) (result : ℤ) (report : Report) → Answers result report
     → LogsIn password field number rounds (limit_of number rounds budget (length password)) report
     → (report.error ≡ 0 → Opens password field (limit_of number rounds budget (length password)))

@@ -1,7 +1,6 @@
 -- The schemes that a method's number and rounds make, and which of them replaces another. The lemmas serve all calls
--- that take a method and rounds: `read_request`, `report_rehash`, `new_hash_of`, `log_in` and `login_need`,
--- `report_audit` and `report_rounds`. The key step is always that a number has one method, so two schemes that it makes
--- are equal.
+-- that take a method and rounds: `read_request`, `report_rehash`, `new_hash_of`, `log_in`, `login_need`, `report_audit`
+-- and `report_rounds`. No two methods have the same number, so two schemes that a number and rounds make are equal.
 use Rattle.std.proofs.Common.{◌≡◌, ℕ, Some, Err, false, inl, inr, refl, subst, arith}
 use Rattle.crypt_core.specs.MadeSettings.{TakesRounds}
 use Rattle.crypt_core.specs.OutdatedSchemes.{is_outdated_by}
@@ -13,14 +12,14 @@ use Rattle.crypt_core.specs.declared.scheme.Sha.TheVariants.{Sha256, Sha512}
 use Rattle.call_core.specs.Arguments.{IsSchemeMade, IsSchemeReading, OnScheme, TakesNewRounds, chosen_method}
 use Rattle.call_core.specs.declared.reason.Reason.{Reason}
 
--- the branch of a refused method or rounds, from the reading of the scheme
+-- if reading the scheme fails, and `Fails` holds of the reason, then `OnScheme` holds by its branch of a refusal
 pub OnScheme-refused : (Takes : Method → ℕ → Type 0) (number rounds : ℕ) (reason : Reason) (Fails : Reason → Type 0) (Then : Scheme → Type 0)
     → IsSchemeReading Takes number rounds (Err reason) → Fails reason → OnScheme Takes number rounds Fails Then
 OnScheme-refused Takes number rounds reason Fails Then (inl (kind, none)) fails = inr (inl (none, subst Fails kind fails))
 OnScheme-refused Takes number rounds reason Fails Then (inr (kind, (method, named, never))) fails =
     inr (inr (method, named, never, subst Fails kind fails))
 
--- rounds of new hashes are rounds that the method takes
+-- rounds that a method takes for new hashes are rounds that it takes
 TakesRounds_from_TakesNewRounds : (method : Method) (rounds : ℕ) → TakesNewRounds method rounds → TakesRounds method rounds
 TakesRounds_from_TakesNewRounds methods.Scrypt rounds takes = takes
 TakesRounds_from_TakesNewRounds method rounds takes = tt
@@ -28,7 +27,7 @@ TakesRounds_from_TakesNewRounds method rounds takes = tt
 pub IsSchemeMade-TakesRounds : (number rounds : ℕ) (scheme : Scheme) → IsSchemeMade TakesNewRounds number rounds scheme → IsSchemeMade TakesRounds number rounds scheme
 IsSchemeMade-TakesRounds number rounds scheme made = (made.0, made.1, TakesRounds_from_TakesNewRounds made.0 rounds made.2, made.3)
 
--- a number and rounds make one scheme
+-- two schemes that the same number and rounds make are equal
 pub IsSchemeMade-unique : (Takes Also : Method → ℕ → Type 0) (number rounds : ℕ) (a b : Scheme)
     → IsSchemeMade Takes number rounds a → IsSchemeMade Also number rounds b → a ≡ b
 IsSchemeMade-unique Takes Also number rounds a b one two =

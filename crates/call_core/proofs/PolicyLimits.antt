@@ -1,9 +1,10 @@
--- The limit of a policy. It admits a new hash of each password of up to 64 bytes; a login under it makes the decoy if
--- it admits a new hash of the password, and makes no hash and lets nobody in if it does not.
+-- The limit of a policy. It admits a new hash of each password of up to 64 bytes. If it admits a new hash of the
+-- password, a login under it makes the decoy for a field that it can't check. If it does not, a login makes no hash and
+-- lets nobody in.
 --
--- The clauses `used` of `report_limit`, `writes` of mkpasswd_new, and `treats_alike` of a login rest on this, and so
--- does `ForeseesLogins` of an audit. The key step for a password whose new hash is above the limit: its limit is 0, and
--- every hash costs more than 0.
+-- The clauses `used` of `report_limit`, `writes` of mkpasswd_new, and `treats_alike` of a login rest on these lemmas,
+-- and so does `ForeseesLogins` of an audit. The limit for a password whose new hash is above the policy's limit is 0,
+-- and every hash costs more than 0.
 use Rattle.std.proofs.Common.{◌≡◌, ◌≤◌, ◌<◌, ◌+◌, ◌*◌, ◌⊎◌, ℕ, Bool, List, [], ◌∷◌, length, nat_lt, false, true, inl, inr, refl, ap, sym, ◌∙◌, arith}
 use Rattle.std.specs.Prelude.{MatchBool, ◌||◌, if◌then◌else◌}
 use Rattle.std.specs.Option.{option_map_or}
@@ -37,14 +38,14 @@ use Rattle.call_core.proofs.MadeSchemes.{IsSchemeMade-unique}
 
 -- ---- The limit of a call
 
--- the test of the rounds holds if the method takes them
+-- `takes_new_rounds` is true if the method takes the rounds for new hashes
 takes_new_rounds-true : (method : Method) (rounds : ℕ) → TakesNewRounds method rounds → takes_new_rounds method rounds ≡ true
 takes_new_rounds-true methods.Md5crypt rounds takes = refl
 takes_new_rounds-true methods.Sha256crypt rounds takes = grind (arith, nat_tests, takes)
 takes_new_rounds-true methods.Sha512crypt rounds takes = grind (arith, nat_tests, takes)
 takes_new_rounds-true methods.Scrypt rounds takes = grind (arith, nat_tests, takes)
 
--- by a method's number and rounds the limit is that by the scheme that they make
+-- the limit for a method's number and rounds is the limit for the scheme that they make
 pub limit_in-allowance : (number rounds : ℕ) (scheme : Scheme) (limit : Limit) (len : ℕ) → IsSchemeMade TakesNewRounds number rounds scheme
     → limit_in number rounds limit len ≡ allowance limit scheme len
 limit_in-allowance number rounds scheme (Bytes budget) len makes = refl
@@ -55,7 +56,7 @@ limit_in-allowance number rounds scheme Policy len (method, named, takes, is) =
     ap (λ (takes : Bool). if takes then limit_by (made_scheme method (chosen_rounds method rounds)) len else 0) (takes_new_rounds-true method rounds takes) in
     found ∙ own ∙ ap (λ (s : Scheme). limit_by s len) (sym is)
 
--- if the new hash of a password is within the policy's limit, its limit is that of the policy
+-- if a new hash of a password is within the policy's limit, the limit for this password is the policy's
 pub limit_by-policy_limit : (scheme : Scheme) (len limit : ℕ) → limit ≡ limit_by scheme len → len ≤ password_limit → new_cost scheme len ≤ policy_limit scheme
     → limit ≡ policy_limit scheme
 limit_by-policy_limit scheme len limit is short within =
@@ -63,7 +64,7 @@ limit_by-policy_limit scheme len limit is short within =
     let below : nat_lt (policy_limit scheme) (new_cost scheme len) ≡ false = grind (arith, within) in
     rw (few, below) at is
 
--- so it is under any limit that the new hash is within
+-- if a new hash of a password is within a limit, the policy's or a budget, the limit for this password is that limit
 pub limit_in-limit_bytes : (number rounds : ℕ) (scheme : Scheme) (limit : Limit) (len : ℕ) → IsSchemeMade TakesNewRounds number rounds scheme
     → len ≤ password_limit → new_cost scheme len ≤ limit_bytes limit scheme → limit_in number rounds limit len ≡ limit_bytes limit scheme
 limit_in-limit_bytes number rounds scheme (Bytes budget) len makes short within = refl
@@ -85,7 +86,7 @@ new_cost-empty-le scheme =
 pub cost-salted : (scheme : Scheme) (numbers : List ℕ) (len : ℕ) → cost (salted scheme numbers) len ≡ new_cost scheme len
 cost-salted scheme numbers len = ap (cost_by scheme len) (length-made_salt numbers (method_row (method_of scheme)).made_salt_length)
 
--- a limit that admits a new hash admits the decoy
+-- if the policy's limit admits a new hash of a password, the decoy's work is done in full, unless scrypt lacks memory
 pub decoy_work-policy_limit : (password : List ℕ) (scheme : Scheme) (limit : ℕ) (done : Work) → limit ≡ policy_limit scheme
     → new_cost scheme (length password) ≤ policy_limit scheme → IsHashWork password (decoy scheme) limit done
     → (done ≡ work password (decoy scheme)) ⊎ IsAfterRefusedGrowth no_work scheme done
@@ -95,7 +96,7 @@ decoy_work-policy_limit password scheme limit done is within hashed =
     ap (nat_lt limit) (cost-salted scheme (0 ∷ 0 ∷ 0 ∷ []) (length password)) ∙ below in
     rw test at hashed
 
--- a limit that admits no new hash of a password is 0 for it
+-- if a new hash of a password is above the policy's limit, the limit for this password is 0
 pub limit_by-zero : (scheme : Scheme) (len limit : ℕ) → limit ≡ limit_by scheme len → policy_limit scheme < new_cost scheme len → limit ≡ 0
 limit_by-zero scheme len limit is above =
     let test : nat_lt (policy_limit scheme) (new_cost scheme len) ≡ true = grind (arith, above) in
@@ -117,7 +118,7 @@ SpellsRounds-positive : (rounds : Rounds) (part after : List ℕ) → SpellsRoun
 SpellsRounds-positive rounds part after spells =
     count-positive rounds.is_written rounds.count _ _ (λ is. omega (arith, is.3)) (λ is. omega (arith, is.1)) spells
 
--- so at least one digest is made, and the cost is positive
+-- if `count` and `digest` are positive, so is each number that is at least their product
 product-positive : (count digest bytes : ℕ) → 0 < count → 0 < digest → count * digest ≤ bytes → 0 < bytes
 product-positive count digest bytes some long most =
     let times : 1 * digest ≤ count * digest = mul-le-mul_right digest some in
@@ -135,13 +136,13 @@ SpellsCost-positive (Scrypt params) part after len salt spells = omega arith
 Spells-cost_positive : (text : List ℕ) (kept : SettingValue) (len : ℕ) → Spells text kept → 0 < cost kept len
 Spells-cost_positive text kept len spells = SpellsCost-positive kept.scheme spells.scheme.0 _ len (length kept.salt) spells.scheme.2
 
--- so within a limit of 0 no hash is made
+-- a hash whose cost is positive does no work within a limit of 0
 no_work-zero_limit : (password : List ℕ) (kept : SettingValue) (done : Work) → 0 < cost kept (length password) → IsHashWork password kept 0 done → done ≡ no_work
 no_work-zero_limit password kept done some hashed =
     let test : nat_lt 0 (cost kept (length password)) ≡ true = grind (arith, some) in
     rw test at hashed
 
--- a login does no work then
+-- a login within a limit of 0 does no work, if a new hash of the password is above the policy's limit
 pub IsLoginWork-zero_limit : (password field : List ℕ) (number rounds : ℕ) (scheme : Scheme) (done : Work)
     → IsSchemeMade TakesNewRounds number rounds scheme → policy_limit scheme < new_cost scheme (length password)
     → IsLoginWork password field number rounds 0 done → done ≡ no_work
@@ -155,7 +156,7 @@ IsLoginWork-zero_limit password field number rounds scheme done makes above (inr
     ∙ ap (λ (own : Scheme). new_cost own (length password)) one in
     no_work-zero_limit password kept done (omega (arith, price, above)) hashed
 
--- and lets nobody in
+-- no password opens a stored hash within a limit of 0
 pub not_Opens-zero_limit : (password stored : List ℕ) → Opens password stored 0 → ⊥
 not_Opens-zero_limit password stored opens =
     let some = Spells-cost_positive stored opens.1.0 (length password) opens.1.1 in

@@ -1,7 +1,7 @@
 -- The hash that a call made is the one that it writes to the caller's bytes, for the clauses `hashes` and `opens` of
--- `put_hash` and `put_new_hash`. A step makes a hash or a refusal (`MakesHash`), another writes it (`IsPut`); the
--- lemmas put the two together, case by case. A hash that fits is written whole, so what holds of it holds of the first
--- `length` bytes of `out`.
+-- `put_hash` and `put_new_hash`. The first step of a call makes a hash or a refusal (`MakesHash`), and the second step
+-- writes it (`IsPut`). The lemmas combine the two steps, case by case. A hash that fits is written whole, so what holds
+-- of the hash holds of the first `length` bytes of `out`.
 use Rattle.std.proofs.Common.{◌≡◌, ◌⊎◌, ◌<◌, ℕ, List, [], ◌∷◌, length, take, Result, Ok, Err, inl, inr, refl, subst, sym, arith}
 use Rattle.std.proofs.Math.Seq.{take-append_seam}
 use Rattle.std.proofs.lemmas.List.{take_all}
@@ -15,7 +15,7 @@ use Rattle.call_core.specs.Private.Hashes.{IsPut, IsTold, MakesHash, MakesHashOf
 use Rattle.call_core.specs.Reports.{LacksMemory, Leaves, put, succeeded, token}
 use Rattle.call_core.specs.declared.report.Report.{Report}
 
--- by what the budget and the capacity admit
+-- making a hash and writing it has the effect of `PutsHash` in both cases of `admission`: a cost, or a refusal
 IsPut-admission : (password text : List ℕ) (kept : SettingValue) (lock old : List ℕ) (made : Result (List ℕ × Report) Report) (report : Report) (new : List ℕ)
     (admitted : Result ℕ Report)
     → MatchResult admitted
@@ -39,7 +39,7 @@ pub PutsHash_from_IsPut : (password : List ℕ) (kept : SettingValue) (budget : 
 PutsHash_from_IsPut password kept budget lock old made report new makes put =
     IsPut-admission password (crypt password kept) kept lock old made report new (admission budget (length old) password kept) makes put
 
--- with the setting in a text it has the effect `Hashes`, also if an argument is refused
+-- making a hash with the setting in a text and writing it has the effect `Hashes`, also if an argument is refused
 pub Hashes_from_IsPut : (password text : List ℕ) (budget : ℕ) (old : List ℕ) (made : Result (List ℕ × Report) Report) (report : Report) (new : List ℕ)
     → MakesHashOf password text budget (length old) made → IsPut made (token text) old report new → Hashes password text budget old report new
 Hashes_from_IsPut password text budget old made report new (inr (fault, is, e)) put = inr (fault, is, rw e at put)
@@ -47,14 +47,14 @@ Hashes_from_IsPut password text budget old made report new (inl (is, inr (fault,
 Hashes_from_IsPut password text budget old made report new (inl (is, inl (kept, spells, makes))) put =
     inl (is, inl (kept, spells, PutsHash_from_IsPut password kept budget (token text) old made report new makes put))
 
--- a text that fits is written whole
+-- `put` writes a text that is shorter than `old` whole
 take-put : (text old : List ℕ) → length text < length old → take (length text) (put text old) ≡ text
 take-put text [] room = absurd (omega arith)
 take-put text (b ∷ rest) room =
     let whole : take (length rest) text ≡ text = take_all (length rest) text (omega arith) in
     rw whole (take-append_seam text _)
 
--- what holds of the hash that was made holds of the bytes that the report counts in `out`
+-- if the error is 0, what holds of the hash that was made holds of the first `length` bytes of `out`
 pub IsPut-whole : (Holds : List ℕ → Type 0) (budget : ℕ) (lock old : List ℕ) (done : Work) (made : Result (List ℕ × Report) Report) (report : Report)
     (new : List ℕ) → IsTold budget (length old) done made → IsPut made lock old report new → IfOk made (λ both. Holds both.0)
     → report.error ≡ 0 → Holds (take report.length new)

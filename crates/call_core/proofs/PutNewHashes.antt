@@ -1,6 +1,6 @@
 -- The effect of a call that makes a new hash, for the clauses of `new_hash_of` and `put_new_hash` and for the clause
--- `writes` of mkpasswd_new. The argument splits on whether there are three random numbers: with them the hash is made
--- and written as in PutHashes; without them the call reports the first refusal, or NoRandomNumbers.
+-- `writes` of mkpasswd_new. The proof splits on whether there are three random numbers. With them the hash is made and
+-- written as in PutHashes. Without them the call reports the first refusal, or NoRandomNumbers.
 use Rattle.std.proofs.Common.{◌≡◌, ◌≢◌, ◌==◌, ◌⊎◌, ap, nat_lt, refl, ℕ, List, [], ◌∷◌, length, Result, Ok, Err, false, inl, inr, arith}
 use Rattle.std.specs.Prelude.{MatchBool, MatchResult, Bool, true}
 use Rattle.crypt_core.specs.Crypt.{crypt}
@@ -24,7 +24,7 @@ use Rattle.call_core.specs.Private.Hashes.{MakesHashAnew}
 
 -- ---- What the first step makes
 
--- without three numbers: a refusal
+-- without three random numbers the first step makes a refusal
 pub MakesHashAnew-no_numbers : (password : List ℕ) (number rounds : ℕ) (numbers : List ℕ) (budget room : ℕ) (scheme : Scheme) (admitted : Result ℕ Report)
     (made : Result (List ℕ × Report) Report) → IsPassword password → IsSchemeMade TakesNewRounds number rounds scheme
     → (length numbers == 3) ≡ false → admitted ≡ admission budget room password (salted scheme (0 ∷ 0 ∷ 0 ∷ []))
@@ -33,7 +33,7 @@ pub MakesHashAnew-no_numbers : (password : List ℕ) (number rounds : ℕ) (numb
 MakesHashAnew-no_numbers password number rounds numbers budget room scheme admitted made is makes missing e fails =
     inl (is, inl (scheme, makes, rw missing (rw e at fails)))
 
--- with three numbers: the hash with the setting that they make
+-- with three random numbers the first step makes the hash with the setting that they make
 pub MakesHashAnew-numbers : (password : List ℕ) (number rounds : ℕ) (numbers : List ℕ) (budget room : ℕ) (scheme : Scheme)
     (made : Result (List ℕ × Report) Report) → IsPassword password → IsSchemeMade TakesNewRounds number rounds scheme
     → (length numbers == 3) ≡ true → MakesHash password (salted scheme numbers) budget room made
@@ -42,7 +42,7 @@ MakesHashAnew-numbers password number rounds numbers budget room scheme made is 
 
 -- ---- What the call writes
 
--- the refusal without three numbers is reported, and the token written
+-- without three random numbers the call reports the refusal and writes the token
 IsPut-no_numbers : (old : List ℕ) (made : Result (List ℕ × Report) Report) (report : Report) (new : List ℕ) (admitted : Result ℕ Report)
     → MatchResult admitted (λ most. made ≡ Err (refused NoRandomNumbers most)) (λ refusal. made ≡ Err refusal)
     → IsPut made (token []) old report new
@@ -50,7 +50,7 @@ IsPut-no_numbers : (old : List ℕ) (made : Result (List ℕ × Report) Report) 
 IsPut-no_numbers old made report new (Ok most) e put = rw e at put
 IsPut-no_numbers old made report new (Err refusal) e put = rw e at put
 
--- by whether there are three numbers
+-- making a new hash and writing it has the effect of `HashesAnew`, with three random numbers and without
 IsPut-numbers : (password : List ℕ) (scheme : Scheme) (numbers : List ℕ) (budget : ℕ) (old : List ℕ) (made : Result (List ℕ × Report) Report)
     (report : Report) (new : List ℕ) (three : Bool)
     → MatchBool three
@@ -69,7 +69,7 @@ IsPut-numbers password scheme numbers budget old made report new true makes put 
 IsPut-numbers password scheme numbers budget old made report new false makes put =
     IsPut-no_numbers old made report new (admission budget (length old) password (salted scheme (0 ∷ 0 ∷ 0 ∷ []))) makes put
 
--- so the call has the effect `HashesAnew`
+-- making a new hash and writing it has the effect `HashesAnew`
 pub HashesAnew_from_IsPut : (password : List ℕ) (number rounds budget : ℕ) (numbers old : List ℕ) (made : Result (List ℕ × Report) Report) (report : Report)
     (new : List ℕ) → MakesHashAnew password number rounds numbers budget (length old) made → IsPut made (token []) old report new
     → HashesAnew password number rounds budget numbers old report new
@@ -97,7 +97,7 @@ PutsHash-made password kept budget lock old report new low room puts =
       | inr lacks ↦ inr (ap (λ (r : Report). r.error) lacks.0.2)
     ]
 
--- so a new hash of a valid password with three numbers is written, unless scrypt lacks memory
+-- a new hash of a valid password with three random numbers is written, unless scrypt lacks memory
 pub HashesAnew-made : (password : List ℕ) (number rounds budget : ℕ) (numbers old : List ℕ) (scheme : Scheme) (report : Report) (new : List ℕ)
     → IsSchemeMade TakesNewRounds number rounds scheme → IsPassword password → (length numbers == 3) ≡ true
     → nat_lt budget (cost (salted scheme numbers) (length password)) ≡ false

@@ -1,12 +1,12 @@
--- The numbers of the reasons, for the clause of `put_message` and wherever an error determines the reason (logins and
--- audits). The list of the reasons gives each back by its number, case by case; so no two reasons have the same number,
--- and none has the number 0.
+-- The numbers of the reasons, for the clause of `put_message`, and for the lemmas on logins and audits in which an
+-- error determines the reason. For each reason, the list of all reasons finds it by its number. So no two reasons have
+-- the same number, and none has the number 0.
 use Rattle.std.proofs.Common.{◌≡◌, ◌≢◌, ◌∙◌, Some, refl, sym, ap}
 use Rattle.call_core.specs.Reasons.{reason_numbered, reason_row}
 use Rattle.call_core.specs.declared.reason.Reason.{Reason}
 use Rattle.call_core.specs.declared.reason.Reason.TheVariants.{PasswordTooLong}
 
--- the number of a reason finds the reason
+-- `reason_numbered` returns each reason for its own number
 pub reason_numbered-reason_row : (reason : Reason) → reason_numbered ((reason_row reason).0) ≡ Some reason
 reason_numbered-reason_row PasswordTooLong = refl
 reason_numbered-reason_row reason = refl
@@ -18,6 +18,6 @@ Some-unique a b e = cc e
 pub reason_row-unique : (a b : Reason) → (reason_row a).0 ≡ (reason_row b).0 → a ≡ b
 reason_row-unique a b e = Some-unique a b (sym (reason_numbered-reason_row a) ∙ ap reason_numbered e ∙ reason_numbered-reason_row b)
 
--- no reason has the number 0, which finds none
+-- no reason has the number 0, because `reason_numbered` returns none for it
 pub reason_row-nonzero : (reason : Reason) → (reason_row reason).0 ≢ 0
 reason_row-nonzero reason = λ e. absurd (cc (sym (reason_numbered-reason_row reason) ∙ ap reason_numbered e))

@@ -25,24 +25,24 @@ use Rattle.call_core.specs.declared.reason.Reason.TheVariants.{PasswordTooLong, 
 use Rattle.call_core.specs.declared.report.Report.{Report}
 
 -- OnPassword bytes Refuses Then: the bytes are a password and `Then` holds; or they break a rule of passwords, and
--- `Refuses` holds of the reason for the first one.
+-- `Refuses` holds of the reason for the first rule that they break.
 abbrev pub OnPassword : List ℕ → (Reason → Type 0) → Type 0 → Type 0
 OnPassword bytes Refuses Then =
     (IsPassword bytes × Then) ⊎ ((fault : PasswordFault) × IsPasswordRefused bytes fault × Refuses (password_reason fault))
 
--- OnLength len Refuses Then: a password can have this length and `Then` holds; or none can, and `Refuses` holds of
--- PasswordTooLong.
+-- OnLength len Refuses Then: a password can have this length and `Then` holds; or no password can, and `Refuses` holds
+-- of PasswordTooLong.
 abbrev pub OnLength : ℕ → (Reason → Type 0) → Type 0 → Type 0
 OnLength len Refuses Then = ((len ≤ password_limit) × Then) ⊎ ((password_limit < len) × Refuses PasswordTooLong)
 
 -- OnSetting text Refuses Then: the text spells a setting of which `Then` holds; or it breaks a rule of settings, and
--- `Refuses` holds of the reason for the first one.
+-- `Refuses` holds of the reason for the first rule that it breaks.
 abbrev pub OnSetting : List ℕ → (Reason → Type 0) → (SettingValue → Type 0) → Type 0
 OnSetting text Refuses Then =
     ((kept : SettingValue) × Spells text kept × Then kept) ⊎ ((fault : SettingFault) × IsRefused text fault × Refuses (setting_reason fault))
 
--- IsFieldRefusal field reason: a stored field is refused for this reason: it is empty, or locked, or otherwise breaks a
--- rule of settings, of which this is the first.
+-- IsFieldRefusal field reason: a stored field is refused for this reason, which is NoHash if the field is empty, Locked
+-- if it is locked, and otherwise the reason for the first rule of settings that it breaks.
 abbrev pub IsFieldRefusal : List ℕ → Reason → Type 0
 IsFieldRefusal field reason =
     ((reason ≡ NoHash) × (field ≡ [])) ⊎ (((reason ≡ Locked) × IsLocked field)
@@ -54,18 +54,18 @@ abbrev pub OnField : List ℕ → (Reason → Type 0) → (SettingValue → Type
 OnField field Refuses Then =
     ((kept : SettingValue) × Spells field kept × Then kept) ⊎ ((reason : Reason) × IsFieldRefusal field reason × Refuses reason)
 
--- TakesNewRounds method rounds: the method takes the rounds for new hashes, without clamping them.
+-- TakesNewRounds method rounds: the method takes the rounds for new hashes, and does not clamp them.
 abbrev pub TakesNewRounds : Method → ℕ → Type 0
 TakesNewRounds methods.Sha256crypt rounds = (rounds ≡ 0) ⊎ (clamped rounds ≡ rounds)
 TakesNewRounds methods.Sha512crypt rounds = (rounds ≡ 0) ⊎ (clamped rounds ≡ rounds)
 TakesNewRounds method rounds = TakesRounds method rounds
 
--- chosen_method number: the method with this number, if there is one; 0 is the recommended method, sha512crypt.
+-- chosen_method number: the method with this number, if there is one. 0 means the recommended method, sha512crypt.
 abbrev pub chosen_method : ℕ → Option Method
 chosen_method number = if number == 0 then Some methods.Sha512crypt else method_numbered number
 
--- IsSchemeMade Takes number rounds scheme: this is the scheme of the method with this number and of rounds that it
--- takes. Rounds of 0 are the recommended ones.
+-- IsSchemeMade Takes number rounds scheme: `scheme` is made of the method with this number and of rounds that the
+-- method takes, as `Takes` says. Rounds of 0 are the recommended ones.
 abbrev pub IsSchemeMade : (Method → ℕ → Type 0) → ℕ → ℕ → Scheme → Type 0
 IsSchemeMade Takes number rounds scheme =
     (method : Method) × (chosen_method number ≡ Some method) × Takes method rounds × (scheme ≡ made_scheme method (chosen_rounds method rounds))
@@ -92,12 +92,13 @@ abbrev pub BreaksGiven : Method → ℕ → List ℕ → MakeFault → Type 0
 BreaksGiven method rounds salt making.Cost = ¬ TakesNewRounds method rounds
 BreaksGiven method rounds salt fault = BreaksMake method rounds (Some salt) fault
 
--- IsGivenRefused method rounds salt fault: `fault` is the first rule that they break.
+-- IsGivenRefused method rounds salt fault: `fault` is the first rule that the method, the rounds and the given salt
+-- break.
 unfoldable pub IsGivenRefused : Method → ℕ → List ℕ → MakeFault → Type 0
 IsGivenRefused method rounds salt = IsFirstBroken make_faults (BreaksGiven method rounds salt)
 
--- IsGivenMade number rounds salt kept: this is the setting of the method with this number, of rounds that it takes for
--- new hashes, and of a given salt.
+-- IsGivenMade number rounds salt kept: `kept` is the setting of the method with this number, of rounds that it takes
+-- for new hashes, and of a given salt that it takes.
 abbrev pub IsGivenMade : ℕ → ℕ → List ℕ → SettingValue → Type 0
 IsGivenMade number rounds salt kept =
     (method : Method) × (chosen_method number ≡ Some method) × ((fault : MakeFault) → ¬ BreaksGiven method rounds salt fault)

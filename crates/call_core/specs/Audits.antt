@@ -30,20 +30,20 @@ standing_report standings.Dead most = refused reasons.Dead most
 standing_report standings.Outdated most = found 1 most no_work
 standing_report standings.Current most = found 0 most no_work
 
--- with_scheme scheme report: the report with the number of the scheme and its rounds, or N, r and p for scrypt.
+-- with_scheme scheme report: the report with the scheme added: its number, and its rounds, or N, r and p for scrypt.
 abbrev pub with_scheme : Scheme → Report → Report
 with_scheme Md5crypt report = record report { scheme = (method_row methods.Md5crypt).number; rounds = md5crypt_rounds }
 with_scheme (Shacrypt sha rounds) report = record report { scheme = (method_row (sha_method sha)).number; rounds = rounds.count }
 with_scheme (Scrypt params) report =
     record report { scheme = (method_row methods.Scrypt).number; n = row_count params; r = params.r; p = params.p }
 
--- audit_report finding: the report of a finding.
---   Hash       the report of its standing, with its scheme
+-- audit_report finding: the report of what an audit found in the field.
+--   Hash       the report of the hash's standing, with its scheme
 --   NoHash     the field is empty
 --   Locked     the field is locked
---   Malformed  what is wrong with the setting
---   Other      an unknown scheme, with its number
---   Unknown    an unknown scheme
+--   Malformed  the field begins with `$` but is no valid setting; the report has the first rule that it breaks
+--   Other      the field has the form of another scheme of crypt(5); the report has its number
+--   Unknown    the field begins with `$` but has the form of no scheme that mkpasswd knows
 --   NoScheme   the field has the form of no scheme
 abbrev pub audit_report : Finding → Report
 audit_report (Hash scheme most standing) = with_scheme scheme (standing_report standing most)
@@ -55,7 +55,7 @@ audit_report Unknown = refused reasons.UnknownScheme 0
 audit_report NoScheme = refused reasons.NoScheme 0
 
 -- Audits field number rounds budget report: the report of mkpasswd_audit and web_audit. It says what the audit finds in
--- the field, or that it refuses the method or the rounds. A budget of 0 is the audit's own.
+-- the field, or that it refuses the method or the rounds. A budget of 0 means the audit's own budget.
 abbrev pub Audits : List ℕ → ℕ → ℕ → ℕ → Report → Type 0
 Audits field number rounds budget report =
     OnScheme TakesNewRounds number rounds (Refuses report) (λ scheme.
@@ -72,9 +72,9 @@ IsCurrent field number rounds budget =
 abbrev pub Passes : Report → Type 0
 Passes report = (report.error ≡ 0) × (report.outdated ≡ 0)
 
--- ForeseesLogins field number rounds budget report: if an audit by its own budget reports the hash as current, outdated
--- or dead, a login by the same method and rounds can check it within the limit of their policy, at least with the empty
--- password.
+-- ForeseesLogins field number rounds budget report: if an audit with a budget of 0 reports the hash as current,
+-- outdated or dead, a login by the same method and rounds can check it within the limit of their policy, at least with
+-- the empty password.
 abbrev pub ForeseesLogins : List ℕ → ℕ → ℕ → ℕ → Report → Type 0
 ForeseesLogins field number rounds budget report =
     (report.error ≡ 0) ⊎ (report.error ≡ (reason_row reasons.Dead).0) → budget ≡ 0

@@ -26,13 +26,13 @@ Opens password stored budget =
 abbrev pub NeedsNoMemory : List ℕ → Type 0
 NeedsNoMemory text = (kept : SettingValue) × Spells text kept × (allocates kept.scheme ≡ false)
 
--- IsDead text: a dead hash: the text spells a setting but is not whole, so no password matches it.
+-- IsDead text: the text is a dead hash: it spells a setting but is not whole, so no password matches it.
 abbrev pub IsDead : List ℕ → Type 0
 IsDead text = (kept : SettingValue) × Spells text kept × ¬ IsWhole text kept
 
--- Compares password kept stored outdated misses report: the report of a password's hash that is compared with the
--- stored one. If they are equal, there is no error, and `outdated` is reported; otherwise the error is `misses`. Or
--- scrypt lacked memory.
+-- Compares password kept stored outdated misses report: the report of comparing the password's hash with the stored
+-- one. If the two are equal, there is no error, and `outdated` is reported; otherwise the error is `misses`. If scrypt
+-- lacked memory for the hash, the report says that instead.
 abbrev pub Compares : List ℕ → SettingValue → List ℕ → ℕ → Reason → Report → Type 0
 Compares password kept stored outdated misses report =
     let most = cost kept (length password) in

@@ -13,8 +13,8 @@ use Rattle.call_core.specs.declared.reason.Reason.{Reason}
 use Rattle.call_core.specs.declared.reason.Reason.TheVariants.{TooFewBytes, OverBudget, NoRandomNumbers}
 use Rattle.call_core.specs.declared.report.Report.{Report}
 
--- admission budget room password kept: the cost of the hash, if the budget allows it and `room` bytes hold it with a
--- zero byte; otherwise the report of the refusal. The budget comes first.
+-- admission budget room password kept: the cost of the hash, if the budget allows it and `room` bytes hold the hash and
+-- a zero byte; otherwise the report of the refusal. The budget is tested first.
 abbrev pub admission : ℕ → ℕ → List ℕ → SettingValue → Result ℕ Report
 admission budget room password kept =
     let most = cost kept (length password) in
@@ -40,8 +40,8 @@ Hashes password text budget old report new =
     OnPassword password Locks (OnSetting text Locks (λ kept. PutsHash password kept budget (token text) old report new))
 
 -- HashesAnew password number rounds budget numbers old report new: the effect of mkpasswd_proved_new_from. With three
--- random numbers it hashes with the setting that they make. Without them it reports the first refusal that precedes
--- them, or else NoRandomNumbers.
+-- random numbers it hashes with the setting that they make. Otherwise it reports the first refusal by another check, or
+-- NoRandomNumbers if the password, the method, the rounds, the budget and the capacity pass.
 abbrev pub HashesAnew : List ℕ → ℕ → ℕ → ℕ → List ℕ → List ℕ → Report → List ℕ → Type 0
 HashesAnew password number rounds budget numbers old report new =
     let Locks = λ (reason : Reason). Leaves (refused reason 0) (token []) old report new in

@@ -7,7 +7,7 @@ use Rattle.std.specs.Option.{option_map_or}
 use Rattle.prims_core.specs.Work.{no_work}
 use Rattle.crypt_core.specs.MadeSettings.{made_scheme, rounds_of}
 use Rattle.crypt_core.specs.Passwords.{password_limit}
--- The cost of a new hash, and the limit of a policy.
+-- The cost of a new hash and the limit of a policy are re-exported here.
 pub use Rattle.crypt_core.specs.Policies.{new_cost, policy_limit}
 use Rattle.crypt_core.specs.Policies.{IsLongestWithin, chosen_rounds, fitted}
 use Rattle.crypt_core.specs.OutdatedSchemes.{is_outdated_by}
@@ -22,7 +22,7 @@ use Rattle.call_core.specs.declared.limit.Limit.TheVariants.{Policy, Bytes}
 use Rattle.call_core.specs.declared.reason.Reason.TheVariants.{OverBudget}
 use Rattle.call_core.specs.declared.report.Report.{Report}
 
--- The budget that means the limit of the policy.
+-- The budget that means the limit of the policy, which is about twice the cost of a new hash.
 abbrev pub twice : ℕ
 twice = 0
 
@@ -32,7 +32,7 @@ abbrev pub limit_by : Scheme → ℕ → ℕ
 limit_by scheme len =
     if nat_lt password_limit len || nat_lt (policy_limit scheme) (new_cost scheme len) then 0 else policy_limit scheme
 
--- takes_new_rounds method rounds: `TakesNewRounds` as a test.
+-- takes_new_rounds method rounds: whether `TakesNewRounds` holds, as a test.
 abbrev pub takes_new_rounds : Method → ℕ → Bool
 takes_new_rounds methods.Md5crypt rounds = true
 takes_new_rounds methods.Sha256crypt rounds = (rounds == 0) || (clamped rounds == rounds)
@@ -50,15 +50,17 @@ abbrev pub limit_in : ℕ → ℕ → Limit → ℕ → ℕ
 limit_in number rounds Policy len = option_map_or (λ (method : Method). method_limit method rounds len) (chosen_method number) 0
 limit_in number rounds (Bytes budget) len = budget
 
--- meant budget: the limit that a budget means.
+-- meant budget: the limit that a budget means. 0 means the limit of the policy.
 abbrev pub meant : ℕ → Limit
 meant budget = if budget == twice then Policy else Bytes budget
 
--- limit_of number rounds budget len: `limit_in` by the budget of a call, where `twice` means the limit of the policy.
+-- limit_of number rounds budget len: `limit_in` for the budget that a caller passes, where 0 means the limit of the
+-- policy.
 abbrev pub limit_of : ℕ → ℕ → ℕ → ℕ → ℕ
 limit_of number rounds budget len = limit_in number rounds (meant budget) len
 
--- allowance limit scheme len: `limit_in` for a policy whose new hashes have this scheme.
+-- allowance limit scheme len: the most that a login or a new hash may cost for a password of this length, by a policy
+-- whose new hashes have this scheme.
 abbrev pub allowance : Limit → Scheme → ℕ → ℕ
 allowance Policy scheme len = limit_by scheme len
 allowance (Bytes budget) scheme len = budget
@@ -84,24 +86,25 @@ Limits number rounds limit report =
     (longest : Option ℕ) × IsLongestWithin scheme (limit_bytes limit scheme) longest
     × (report ≡ limit_report scheme (limit_bytes limit scheme) longest))
 
--- rounds_report scheme len own: the report of the rounds of a new hash of a password of this length, and of its cost;
--- or OverBudget with the cost by the policy's scheme if no such hash is within the limit.
+-- rounds_report scheme len own: the report of the rounds and the cost of a new hash of a password of this length with
+-- the scheme `own`, which is within the limit; or OverBudget with the cost by the policy's scheme if there is no such
+-- scheme.
 abbrev pub rounds_report : Scheme → ℕ → Option Scheme → Report
 rounds_report scheme len (Some own) = record (succeeded 0 (new_cost own len) no_work) { rounds = rounds_of own }
 rounds_report scheme len None = refused OverBudget (new_cost scheme len)
 
--- ReportsRounds len number rounds limit report: the report of mkpasswd_rounds and web_rounds: the rounds of the fitted
--- scheme.
+-- ReportsRounds len number rounds limit report: the report of mkpasswd_rounds and web_rounds: rounds with which a new
+-- hash of a password of this length is within the limit, and the cost of that hash.
 abbrev pub ReportsRounds : ℕ → ℕ → ℕ → Limit → Report → Type 0
 ReportsRounds len number rounds limit report =
     OnLength len (Refuses report) (OnScheme TakesNewRounds number rounds (Refuses report) (λ scheme.
     report ≡ rounds_report scheme len (fitted scheme (limit_bytes limit scheme) len)))
 
--- AreFitted len number limit scheme report: what holds of the reported rounds, for a policy with this scheme.
---   makes   the method takes them for new hashes, whose scheme is `own`
---   price   a new hash of a password of this length has the reported cost
---   within  that is at most the limit
---   fewer   they are no more than the policy's
+-- AreFitted len number limit scheme report: what holds of the reported rounds and cost, for a policy with this scheme.
+--   makes   the method takes the rounds for new hashes, whose scheme is `own`
+--   price   a new hash of a password of this length with these rounds has the reported cost
+--   within  the cost is at most the limit
+--   fewer   the rounds are no more than the policy's
 pub record AreFitted (len number limit : ℕ) (scheme : Scheme) (report : Report) : Type 0 where
   pub own : Scheme
   pub makes : IsSchemeMade TakesNewRounds number report.rounds own

@@ -1,4 +1,4 @@
--- A login: it checks a password against a stored hash, and does the work of a new hash if it can't check it.
+-- A login: it checks a password against a stored hash, or does the work of a new hash if it can't check the stored one.
 --
 -- A password is the list of its bytes, `kept` is the setting that a text spells, and `most` is the cost of a hash: the
 -- most bytes that it digests and mixes.
@@ -25,13 +25,13 @@ use Rattle.call_core.specs.declared.reason.Reason.{Reason}
 use Rattle.call_core.specs.declared.reason.Reason.TheVariants.{Dead, OutOfMemory, OverBudget, WrongPassword}
 use Rattle.call_core.specs.declared.report.Report.{Report}
 
--- decoy scheme: the setting of the hash that a login makes and drops if it can't check the stored one. It is that of a
--- new hash, with a fixed salt.
+-- decoy scheme: the setting of the hash that a login makes and drops if it can't check the stored one. It is the
+-- setting of a new hash, with a fixed salt.
 abbrev pub decoy : Scheme → SettingValue
 decoy scheme = salted scheme (0 ∷ 0 ∷ 0 ∷ [])
 
 -- IsHashWork password kept budget done: the work of a hash with this setting, or of scrypt's allocations before one
--- failed. There is none if the hash can cost more than the budget.
+-- failed. There is no work if the hash can cost more than the budget.
 abbrev pub IsHashWork : List ℕ → SettingValue → ℕ → Work → Type 0
 IsHashWork password kept budget done =
     MatchBool (nat_lt budget (cost kept (length password)))
@@ -39,9 +39,9 @@ IsHashWork password kept budget done =
     ((done ≡ work password kept) ⊎ IsAfterRefusedGrowth no_work kept.scheme done)
 
 -- Declines password kept budget refusal report: the report of a login that can't check the stored hash, and instead
--- makes and drops a hash with this setting. It is the refusal with the work of that hash; or, if scrypt lacked memory
--- for it, OutOfMemory with the work of the allocations before; or the refusal alone, if the hash can cost more than the
--- budget.
+-- makes and drops a hash with this setting. It is the refusal with the work of that hash. If scrypt lacked memory for
+-- it, it is OutOfMemory with the work of the allocations before the one that failed. If the hash can cost more than the
+-- budget, it is the refusal without work.
 abbrev pub Declines : List ℕ → SettingValue → ℕ → Report → Report → Type 0
 Declines password kept budget refusal report =
     MatchBool (nat_lt budget (cost kept (length password)))
@@ -50,8 +50,8 @@ Declines password kept budget refusal report =
     ⊎ ((done : Work) × IsAfterRefusedGrowth no_work kept.scheme done
     × (report ≡ record refusal { error = (reason_row OutOfMemory).0; work = done })))
 
--- IsMiss field kept reason: the reason for a password that doesn't match the stored hash: Dead if no password does,
--- because the hash is not whole.
+-- IsMiss field kept reason: the reason to report if a password doesn't match the stored hash: Dead if the hash is not
+-- whole, so that no password matches it, and otherwise WrongPassword.
 abbrev pub IsMiss : List ℕ → SettingValue → Reason → Type 0
 IsMiss field kept reason = ((reason ≡ WrongPassword) × IsWhole field kept) ⊎ ((reason ≡ Dead) × ¬ IsWhole field kept)
 
@@ -60,7 +60,7 @@ IsMiss field kept reason = ((reason ≡ WrongPassword) × IsWhole field kept) �
 --   a stored hash that can't be checked   the report of mkpasswd_verify with the work of the decoy, or OutOfMemory if
 --                                         scrypt lacked memory for the decoy
 --   otherwise                             the report of mkpasswd_verify; after a match it says whether the scheme
---                                         replaces the setting, and Dead replaces WrongPassword if the hash is not whole
+--                                         replaces the setting. Dead replaces WrongPassword if the hash is not whole
 abbrev pub LogsIn : List ℕ → List ℕ → ℕ → ℕ → ℕ → Report → Type 0
 LogsIn password field number rounds budget report =
     OnPassword password (Refuses report) (OnScheme TakesNewRounds number rounds (Refuses report) (λ scheme.
@@ -71,8 +71,8 @@ LogsIn password field number rounds budget report =
     ((misses : Reason) × IsMiss field kept misses
     × Compares password kept field (if is_outdated_by kept.scheme scheme then 1 else 0) misses report))))
 
--- spent scheme done: what the work of a hash with this scheme cost: the bytes that it digested and, for scrypt, those
--- that it mixed, 2r blocks of 64 bytes each time.
+-- spent scheme done: the cost of the work of a hash with this scheme, in bytes: those that it digested and, for scrypt,
+-- those that it mixed, 2r blocks of 64 bytes in each mixing.
 abbrev pub spent : Scheme → Work → ℕ
 spent (Scrypt params) done = done.bytes + done.mixes * (128 * params.r)
 spent scheme done = done.bytes
@@ -91,8 +91,8 @@ abbrev pub IsUncheckable : List ℕ → List ℕ → ℕ → Type 0
 IsUncheckable password field budget = (kept : SettingValue) → Spells field kept → budget < cost kept (length password)
 
 -- Agrees scheme report verified: the report of a login agrees with that of mkpasswd_verify, for a policy whose new
--- hashes have this scheme. The cost is the same. So is the error, except that Dead may replace WrongPassword and, if
--- the decoy needs memory, OutOfMemory may replace a refusal without work.
+-- hashes have this scheme. The cost is the same. The error is the same too, except that Dead may replace WrongPassword
+-- and, if the decoy needs memory, OutOfMemory may replace a refusal without work.
 abbrev pub Agrees : Scheme → Report → Report → Type 0
 Agrees scheme report verified =
     (report.cost ≡ verified.cost)
@@ -114,8 +114,8 @@ TellsDead password field number rounds budget report =
 -- and for web pages.
 --   shut       a dead hash lets nobody in
 --   dead       the report of a check against a dead hash is Dead
---   tells      only a dead hash has that report
---   outdated   the report says so exactly if the password is let in and a new hash would replace the stored one
+--   tells      the report is Dead only if the stored hash is dead
+--   outdated   `outdated` is 1 exactly if the password is let in and a new hash would replace the stored one
 --   as_verify  the report agrees with that of mkpasswd_verify with the same budget
 pub record JudgesStoredHash (password field : List ℕ) (number rounds budget : ℕ) (result : ℤ) (report : Report) : Type 0 where
   pub shut : IsDead field → result ≡ pos 0
@@ -126,14 +126,14 @@ pub record JudgesStoredHash (password field : List ℕ) (number rounds budget : 
       → (verified : Report) × Verifies password field budget verified × Agrees scheme report verified
 
 -- TreatsFieldsAlike password field number rounds budget result report: what a login does alike for all fields, or for
--- all that it can't check, both for C and for web pages. Its limit is `limit_of`. With scrypt the decoy may end at an
--- allocation.
+-- all that it can't check, both for C and for web pages. Its limit is `limit_of`. A decoy of scrypt can end at an
+-- allocation that fails.
 --   one_hash      the work is that of at most one hash, within the limit
---   decoy_lacks   if the limit admits the decoy, it is made, or the error is OutOfMemory since scrypt lacked memory for it
---   decoy_made    under the policy's limit, if that admits a new hash, a field that can't be checked costs the decoy
---   decoy         under any other limit too, if it admits the decoy; otherwise such a field costs nothing
+--   decoy_lacks   for a field that can't be checked, the decoy is made if the limit admits it, or scrypt lacks memory
+--   decoy_made    under a policy's limit that admits a new hash, a field that can't be checked costs the decoy
+--   decoy         a field that can't be checked costs the decoy if the limit admits that, and otherwise nothing
 --   alike         an invalid password is refused with the same report for each field
---   alike_rounds  so are a method and rounds that no new hash can have
+--   alike_rounds  a method or rounds that no new hash can have are refused with the same report for each field
 --   alike_long    a password whose new hash is above the policy's limit gets in by no field, and costs nothing
 pub record TreatsFieldsAlike (password field : List ℕ) (number rounds budget : ℕ) (result : ℤ) (report : Report) : Type 0 where
   pub one_hash : IsLoginWork password field number rounds (limit_of number rounds budget (length password)) report.work

@@ -1,5 +1,5 @@
--- The messages for reasons, and the names of schemes, by their numbers. A scheme is a method or another scheme of
--- crypt(5).
+-- The messages for reasons, and the names of schemes, by the numbers of the reasons and schemes. A scheme is one of
+-- mkpasswd's methods or another scheme of crypt(5).
 use Rattle.std.specs.Prelude.{◌≡◌, ◌≢◌, ℕ, ℤ, pos, List, codes, MatchOption}
 use Rattle.crypt_core.specs.Methods.{method_numbered, method_row}
 use Rattle.crypt_core.specs.OtherSchemes.{other_scheme_numbered, other_scheme_row}
@@ -18,8 +18,8 @@ PutsSchemeName number old result new =
     (λ method. PutsWhole (method_row method).name old result new)
 
 -- PutsMessage number old result new: the effect of mkpasswd_message and web_message.
---   known    they write the message for the reason with this number
---   unknown  if no reason has it, they write `unknown reason`
+--   known    if a reason has this number, they write its message
+--   unknown  if no reason has this number, they write `unknown reason`
 pub record PutsMessage (number : ℕ) (old : List ℕ) (result : ℤ) (new : List ℕ) : Type 0 where
   pub known : (reason : Reason) → number ≡ (reason_row reason).0 → PutsWhole (reason_row reason).1 old result new
   pub unknown : ((reason : Reason) → number ≢ (reason_row reason).0) → (new ≡ put (codes "unknown reason") old) × (result ≡ pos 0)

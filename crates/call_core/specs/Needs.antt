@@ -26,8 +26,8 @@ LoginHashesWith password field number rounds budget kept =
     × (Spells field kept ⊎ (IsUncheckable password field budget × (kept ≡ decoy scheme)))
     × (cost kept (length password) ≤ budget)
 
--- IsNeed Hashes need: the memory that a call needs if `Hashes` holds of the setting of its hash. If `Hashes` holds of
--- no setting, the call makes no hash and needs nothing.
+-- IsNeed Hashes need: `need` is the memory that a call needs, where `Hashes` holds of the setting with which the call
+-- hashes. If `Hashes` holds of no setting, the call makes no hash and needs nothing.
 abbrev pub IsNeed : (SettingValue → Type 0) → Need → Type 0
 IsNeed Hashes need =
     ((kept : SettingValue) → Hashes kept → (need.words ≡ words_by kept.scheme) × (need.bytes ≡ bytes_by kept.scheme))

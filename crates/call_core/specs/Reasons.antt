@@ -10,7 +10,7 @@ use Rattle.crypt_core.specs.declared.setting.fault.SettingFault.TheVariants as s
 use Rattle.call_core.specs.declared.reason.Reason.{Reason}
 use Rattle.call_core.specs.declared.reason.Reason.TheVariants.{PasswordTooLong, PasswordZeroByte, SettingTooLong, BadCharacter, UnknownScheme, BadRounds, BadCost, ScryptRange, AboveCeiling, BadSalt, UnknownMethod, SaltLength, SaltCharacter, Rounds, Locked, NoHash, NoScheme, OverBudget, TooFewBytes, NoRandomNumbers, OutOfMemory, WrongPassword, Dead}
 
--- reason_row reason: its number, which is never 0, and its message.
+-- reason_row reason: the number of the reason, which is never 0, and its message.
 abbrev pub reason_row : Reason → ℕ × List ℕ
 reason_row PasswordTooLong = (1, password_fault_text password.TooLong)
 reason_row PasswordZeroByte = (2, password_fault_text password.HasNul)

@@ -1,4 +1,4 @@
--- Whether a new hash would replace a stored one.
+-- Whether a stored hash is outdated, so that a new hash would replace it.
 use Rattle.std.specs.Prelude.{◌≡◌, if◌then◌else◌, ℕ, IsTrue, List}
 use Rattle.prims_core.specs.Work.{no_work}
 use Rattle.crypt_core.specs.MadeSettings.{TakesRounds}
@@ -16,8 +16,8 @@ IsOutdated stored number rounds =
     (kept : SettingValue) × (scheme : Scheme) × Spells stored kept × IsSchemeMade TakesRounds number rounds scheme
     × IsTrue (is_outdated_by kept.scheme scheme)
 
--- Rehashes stored number rounds report: the report of mkpasswd_needs_rehash and web_needs_rehash: no error, and whether
--- the scheme replaces the setting; or the reason why an argument is refused.
+-- Rehashes stored number rounds report: the report of mkpasswd_needs_rehash and web_needs_rehash. It has no error and
+-- says whether the scheme replaces the stored setting; or it has the reason why an argument is refused.
 abbrev pub Rehashes : List ℕ → ℕ → ℕ → Report → Type 0
 Rehashes stored number rounds report =
     OnSetting stored (Refuses report) (λ kept. OnScheme TakesRounds number rounds (Refuses report) (λ scheme.

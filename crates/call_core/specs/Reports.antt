@@ -11,13 +11,14 @@ use Rattle.call_core.specs.declared.reason.Reason.TheVariants.{OutOfMemory}
 use Rattle.call_core.specs.declared.report.Report.{Report}
 
 -- succeeded len most counts: the report of a call that did what its name says: it wrote `len` bytes, the hash costs at
--- most `most`, and `counts` is its work. Only the calls on a policy and an audit report rounds, and only an audit a
--- scheme.
+-- most `most`, and `counts` is its work. It has no rounds and no scheme, which only a few calls add: those on a policy
+-- add rounds, and an audit adds both.
 abbrev pub succeeded : ℕ → ℕ → Work → Report
 succeeded len most counts =
     record { error = 0; outdated = 0; length = len; scheme = 0; rounds = 0; n = 0; r = 0; p = 0; cost = most; work = counts }
 
--- failed reason most counts: the report of a call that failed for this reason.
+-- failed reason most counts: the report of a call that failed for this reason. The hash costs at most `most`, and
+-- `counts` is the work of the call.
 abbrev pub failed : Reason → ℕ → Work → Report
 failed reason most counts = record (succeeded 0 most counts) { error = (reason_row reason).0 }
 
@@ -26,13 +27,14 @@ failed reason most counts = record (succeeded 0 most counts) { error = (reason_r
 abbrev pub refused : Reason → ℕ → Report
 refused reason most = failed reason most no_work
 
--- found outdated most counts: the report of a call that found a stored hash, or whose password matches it. `outdated`
--- is 1 if a new hash by the policy would replace it, otherwise 0. A check without a policy reports 0.
+-- found outdated most counts: the report of a call that found a stored hash, or found that the password matches it.
+-- `outdated` is 1 if a new hash by the policy would replace the stored one, otherwise 0. A check without a policy
+-- reports 0.
 abbrev pub found : ℕ → ℕ → Work → Report
 found outdated most counts = record (succeeded 0 most counts) { outdated = outdated }
 
 -- LacksMemory kept most report: the report if scrypt lacked memory: an allocation failed, or the caller lent too
--- little. Its work is that of the allocations before. No other scheme needs memory.
+-- little. Its work is that of the allocations before the one that failed. No other scheme needs memory.
 abbrev pub LacksMemory : SettingValue → ℕ → Report → Type 0
 LacksMemory kept most report =
     (done : Work) × IsAfterRefusedGrowth no_work kept.scheme done × (report ≡ failed OutOfMemory most done)
@@ -43,14 +45,14 @@ abbrev pub put : List ℕ → List ℕ → List ℕ
 put text [] = []
 put text (b ∷ rest) = let cut = take (length rest) text in cut ++ 0 ∷ drop (length cut) rest
 
--- PutsWhole text old result new: the effect of a call that only writes a string: it writes as much as fits, and returns
--- 1 exactly if that is all of it.
+-- PutsWhole text old result new: the effect of a call that only writes a string: it writes as much of the string as
+-- fits, and returns 1 if that is the whole string, otherwise 0.
 abbrev pub PutsWhole : List ℕ → List ℕ → ℤ → List ℕ → Type 0
 PutsWhole text old result new =
     (new ≡ put text old) × ((result ≡ pos 1) ⊎ (result ≡ pos 0)) × (result ≡ pos 1 ↔ length text < length old)
 
--- token setting: the string that a refusal writes in place of a hash with this setting (crypt(3)). It is never that
--- setting, and spells none.
+-- token setting: the string that a refusal writes in place of a hash with this setting (crypt(3)). The token never
+-- equals the setting, and it spells no setting.
 abbrev pub token : List ℕ → List ℕ
 token setting = if bytes_eq (take 2 setting) (codes "*0") then codes "*1" else codes "*0"
 
@@ -58,17 +60,18 @@ token setting = if bytes_eq (take 2 setting) (codes "*0") then codes "*1" else c
 abbrev pub IsOneOrZero : ℤ → Type 0
 IsOneOrZero result = (result ≡ pos 1) ⊎ (result ≡ pos 0)
 
--- Answers result report: what a call returns that does something, or that asks whether a password matches: 1 exactly if
--- the error is 0.
+-- Answers result report: the result of a call that makes something, or that asks whether a password matches: 1 if the
+-- error is 0, otherwise 0.
 abbrev pub Answers : ℤ → Report → Type 0
 Answers result report = IsOneOrZero result × (result ≡ pos 1 ↔ report.error ≡ 0)
 
--- AnswersOutdated result report: what a call returns that asks whether a stored hash is outdated: 1 exactly if it is.
+-- AnswersOutdated result report: the result of a call that asks whether a stored hash is outdated: 1 if it is,
+-- otherwise 0.
 abbrev pub AnswersOutdated : ℤ → Report → Type 0
 AnswersOutdated result report = IsOneOrZero result × (result ≡ pos 1 ↔ report.outdated ≡ 1)
 
--- AnswersCurrent result report: what a call returns that asks whether a stored hash is current: 1 exactly if the error
--- is 0 and the hash is not outdated.
+-- AnswersCurrent result report: the result of a call that asks whether a stored hash is current: 1 if the error is 0
+-- and the hash is not outdated, otherwise 0.
 abbrev pub AnswersCurrent : ℤ → Report → Type 0
 AnswersCurrent result report = IsOneOrZero result × (result ≡ pos 1 ↔ (report.error ≡ 0) × (report.outdated ≡ 0))
 

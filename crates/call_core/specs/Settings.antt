@@ -16,8 +16,8 @@ Bounds len stored report =
     OnLength len (Refuses report) (OnSetting stored (Refuses report) (λ kept.
     report ≡ succeeded 0 (cost kept len) (work_bound kept len)))
 
--- PutsText text old report new: the call reports the setting and writes its text to `out`, or writes the token if the
--- capacity is too small.
+-- PutsText text old report new: the call writes the text of a setting to `out` and reports its length. If the capacity
+-- is too small, it reports TooFewBytes and writes the token.
 abbrev pub PutsText : List ℕ → List ℕ → Report → List ℕ → Type 0
 PutsText text old report new =
     MatchBool (nat_lt (length text) (length old))

@@ -13,8 +13,9 @@ use crypt_core::standing::Standing;
 
 /// Audits a stored field against the policy that new hashes follow, and returns the report.
 ///
-/// `method` and `rounds` make the scheme of new hashes; rounds of 0 are the recommended ones. A budget of 0 is the
-/// audit's own: a login under the limit of the policy can check every hash within it, at least with the empty password.
+/// `method` and `rounds` make the scheme of new hashes. Rounds of 0 are the recommended ones. A budget of 0 means the
+/// audit's own budget: a login under the limit of the policy can check every hash within it, at least with the empty
+/// password.
 pub fn report_audit(field: &[u8], method: u32, rounds: u32, budget: u64) -> Report
     ensures audits { Audits field.now method rounds budget result }
     ensures current { Passes result → IsCurrent field.now method rounds budget }
@@ -28,7 +29,7 @@ pub fn report_audit(field: &[u8], method: u32, rounds: u32, budget: u64) -> Repo
     }
 }
 
-// Returns the report of a finding.
+// Returns the report of what the audit found in the field.
 fn finding_report(finding: &Finding) -> Report
     ensures report { result ≡ audit_report finding.now }
     ensures idle { result.work ≡ no_work }
@@ -51,7 +52,7 @@ fn finding_report(finding: &Finding) -> Report
     }
 }
 
-// Returns the report of a hash with this standing; `most` is its greatest cost.
+// Returns the report of a hash with this standing. `most` is the greatest cost of the hash.
 fn standing_report(standing: Standing, most: u64) -> Report
     ensures { result ≡ standing_report standing most }
 {
@@ -64,7 +65,7 @@ fn standing_report(standing: Standing, most: u64) -> Report
 }
 
 impl Report {
-    // Returns the report with the number of the scheme and its rounds, or N, r and p for scrypt.
+    // Returns the report with the scheme added: its number, and its rounds, or N, r and p for scrypt.
     fn with_scheme(self, scheme: &Scheme) -> Report
         ensures { result ≡ with_scheme scheme.now self }
     {

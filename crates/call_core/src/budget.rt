@@ -11,7 +11,8 @@ use crypt_core::password::Password;
 use crypt_core::setting::Setting;
 use crypt_core::work::cost;
 
-/// Returns the cost of the hash if the budget allows it, and otherwise the report of the refusal.
+/// Returns the cost of the hash if the budget allows it, and otherwise the report of the refusal, which is
+/// `OverBudget`.
 pub(crate) fn cost_within(
     password: &Password,
     setting: &Setting,
@@ -29,8 +30,8 @@ pub(crate) fn cost_within(
     Ok(most)
 }
 
-/// Returns the cost of the hash if the budget allows it and `room` bytes hold it with a zero byte; otherwise the report
-/// of the refusal. The budget comes first.
+/// Returns the cost of the hash if the budget allows it, and `room` bytes hold the hash and a zero byte. Otherwise the
+/// call returns the report of the refusal. The budget is tested first.
 pub(crate) fn admit(
     password: &Password,
     setting: &Setting,

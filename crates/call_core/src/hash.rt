@@ -22,7 +22,8 @@ use crypt_core::password::Password;
 use crypt_core::setting::Setting;
 use prims_core::meter::Meter;
 
-/// Hashes the password with the setting in `text` and writes the hash to `out`; after a refusal it writes the token.
+/// Hashes the password with the setting in `text` and writes the hash to `out`. After a refusal it writes `*0` or `*1`
+/// instead, which is no hash ([`token`]).
 pub fn put_hash<M: Memory>(
     memory: &mut M,
     password: &[u8],
@@ -59,8 +60,8 @@ pub(crate) fn put_hashed(
     }
 }
 
-// Hashes the password with the setting in `text`, and returns the hash and the report. The hash and a zero byte have to
-// fit into `room` bytes.
+// Hashes the password with the setting in `text`, and returns the hash and the report, or the report of a refusal. A
+// hash is refused if it and a zero byte need more than `room` bytes.
 fn hash_of<M: Memory>(
     memory: &mut M,
     password: &[u8],
@@ -82,8 +83,8 @@ fn hash_of<M: Memory>(
     hash_within(memory, &password, &setting, budget, room, meter)
 }
 
-/// Hashes the password, and returns the hash and the report. The budget has to allow the hash, and then the hash and a
-/// zero byte have to fit into `room` bytes.
+/// Hashes the password, and returns the hash and the report, or the report of a refusal. A hash is refused if it can
+/// cost more than the budget, and then if it and a zero byte need more than `room` bytes.
 pub(crate) fn hash_within<M: Memory>(
     memory: &mut M,
     password: &Password,

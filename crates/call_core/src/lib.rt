@@ -1,10 +1,11 @@
-//! The calls that C (`crypt_c`) and web pages (`crypt_web`) share, on a heap or in lent memory: they read their
-//! arguments, hash, and return a report.
+//! The calls that C (`crypt_c`) and web pages (`crypt_web`) share. They read their arguments, hash, and return a
+//! report. scrypt gets its memory from a heap, or the caller lends it.
 //!
-//! Both of those crates are static libraries, on which no crate can depend, so this library sits below them. A call
-//! that can hash takes a new meter and reports everything that the meter counted. So it does no hashing that it doesn't
-//! report: none above the budget, none for an `out` that is too small, and none after a refusal, except for the decoy
-//! of a login. tests/program/test_sources.py checks that the calls make no other meter.
+//! `crypt_c` and `crypt_web` are static libraries, on which no crate can depend, so the calls that both need are in
+//! this crate. A call that can hash takes a new meter, which counts all its hashing, and reports everything that the
+//! meter counted. So the report shows that the call hashes nothing above the budget, nothing for an `out` that is too
+//! small, and nothing after a refusal, except that a login then makes a decoy hash. tests/program/test_sources.py
+//! checks that the calls make no other meter.
 #![tactic(auto)]
 
 pub mod audit;

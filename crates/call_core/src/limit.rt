@@ -13,13 +13,13 @@ use crate::report::Report;
 use crypt_core::password::PASSWORD_LIMIT;
 use crypt_core::scheme::Scheme;
 
-/// The budget that means the limit of the policy.
+/// A budget of 0 means the limit of the policy, which is about twice the cost of a new hash.
 const TWICE: u64 = 0;
 
 /// The limit on the cost of a login and of a new hash.
 #[derive(Clone, Copy, Debug, PartialEq, Eq)]
 pub enum Limit {
-    /// The limit of the policy whose new hashes have the method and the rounds: [`Scheme::policy_limit`].
+    /// The limit of the policy that the method and the rounds of a call make: [`Scheme::policy_limit`].
     Policy,
     /// The caller's own budget, in bytes digested and mixed.
     Bytes(u64),
@@ -48,8 +48,8 @@ impl Limit {
     }
 
     /// Returns the most that a hash of a password of `password_len` bytes may cost, for a policy whose new hashes have
-    /// this scheme. If the limit is the policy's and a new hash of such a password would cost more, this is 0, which
-    /// admits no hash.
+    /// this scheme. If the limit is the policy's, and a new hash of such a password would cost more, the result is 0,
+    /// which admits no hash.
     ///
     /// Precondition: `password_len` is at most [`PASSWORD_LIMIT`].
     pub(crate) fn allowance(self, scheme: &Scheme, password_len: usize) -> u64
@@ -108,7 +108,7 @@ pub fn report_rounds(password_len: usize, method: u32, rounds: u32, limit: Limit
     }
 }
 
-// Returns the limit of the policy, or 0 if a new hash of a password of this length costs more.
+// Returns the limit of the policy, or 0 if a new hash of a password of this length would cost more than that.
 fn policy_allowance(scheme: &Scheme, password_len: usize) -> u64
     requires { password_len ≤ password_limit }
     ensures { result ≡ limit_by scheme.now password_len }

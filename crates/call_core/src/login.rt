@@ -1,5 +1,5 @@
-//! A login: it checks a password against a stored hash, which may be outdated. If the stored hash can't be checked, it
-//! hashes the password as for a new hash, so that such a name is not faster.
+//! A login: it checks a password against a stored hash, which may be outdated. If the stored hash can't be checked, the
+//! login hashes the password as for a new hash instead, so that its time does not show that.
 ghost use Rattle.std.specs.Prelude.{◌≡◌, ◌≤◌, ◌⊎◌, ◌≢◌, length};
 ghost use Rattle.prims_core.specs.Work.{no_work};
 ghost use Rattle.crypt_core.specs.Needs.{AreEnough};
@@ -27,9 +27,9 @@ use crypt_core::setting::Setting;
 use crypt_core::stored::StoredHash;
 use prims_core::meter::Meter;
 
-/// Checks the password against the stored hash if the limit allows it; otherwise it makes a decoy, a hash like a new
-/// one, and drops it. After a match `outdated` says whether a new hash with the method and the rounds would replace the
-/// stored one.
+/// Checks the password against the stored hash if the limit allows the check. Otherwise the call makes a decoy, which
+/// is a hash like a new one, and drops it. After a match, `outdated` in the report says whether a new hash with the
+/// method and the rounds would replace the stored one.
 pub fn log_in<M: Memory>(
     memory: &mut M,
     password: &[u8],
@@ -84,7 +84,8 @@ pub fn log_in<M: Memory>(
     }
 }
 
-// Returns the reason for a password that doesn't match: `Dead` if no password matches the stored hash.
+// Returns the reason to report if the password doesn't match: `Dead` if no password matches the stored hash, and
+// otherwise `WrongPassword`.
 fn miss_of(stored: &StoredHash<'_>) -> Reason
     ensures miss { IsMiss stored.now.text stored.now.setting result }
 {

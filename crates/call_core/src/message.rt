@@ -1,11 +1,11 @@
-//! The messages for the reasons in a report, by their numbers.
+//! The call that writes the message for a reason, which is given by its number in a report.
 ghost use Rattle.call_core.specs.Names.{PutsMessage};
 
 use crate::reason::Reason;
 use crate::report::{put, put_whole};
 
-/// Writes the message for the reason with this number and a zero byte to `out`, cut to its capacity. If no reason has
-/// the number, the message is `unknown reason`.
+/// Writes the message for the reason with this number to `out`, followed by a zero byte. A message that doesn't fit is
+/// cut. If no reason has the number, the message is `unknown reason`.
 ///
 /// Returns 1, or 0 if the message was cut or no reason has the number.
 pub fn put_message(number: u32, out: &mut [u8]) -> i32

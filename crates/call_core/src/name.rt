@@ -1,12 +1,12 @@
-//! The names of the schemes that an audit reports, by their numbers.
+//! The call that writes the name of a scheme, which is given by its number in the report of an audit.
 ghost use Rattle.call_core.specs.Names.{PutsSchemeName};
 
 use crate::report::{put, put_whole};
 use crypt_core::method::Method;
 use crypt_core::other_scheme::OtherScheme;
 
-/// Writes the crypt(5) name of the scheme with this number and a zero byte to `out`, cut to its capacity. If no scheme
-/// has the number, the name is `unknown scheme`.
+/// Writes the crypt(5) name of the scheme with this number to `out`, followed by a zero byte. A name that doesn't fit
+/// is cut. If no scheme has the number, the name is `unknown scheme`.
 ///
 /// Returns 1, or 0 if the name was cut or no scheme has the number.
 pub fn put_scheme_name(number: u32, out: &mut [u8]) -> i32

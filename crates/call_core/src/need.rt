@@ -10,11 +10,12 @@ use crate::verify::checkable;
 use crypt_core::need::Need;
 use crypt_core::setting::Setting;
 
-/// What a call needs that makes no hash.
+/// The need of a call that makes no hash.
 const NOTHING: Need = Need { words: 0, bytes: 0 };
 
-/// Returns the memory that [`verify`](crate::verify::verify) needs for a password and a stored hash within the budget,
-/// or [`put_hash`](crate::hash::put_hash) for a password and a setting.
+/// Returns the memory that [`verify`](crate::verify::verify) needs for a password and a stored hash, or that
+/// [`put_hash`](crate::hash::put_hash) needs for a password and a setting. If the call would refuse the hash, it needs
+/// nothing.
 pub fn hash_need(password: &[u8], text: &[u8], budget: u64) -> Need
     ensures { IsNeed (HashesWith password.now text.now budget) result }
 {

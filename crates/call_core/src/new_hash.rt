@@ -23,10 +23,12 @@ use crypt_core::memory::Memory;
 use crypt_core::setting::Setting;
 use prims_core::meter::Meter;
 
-/// Hashes the password with a new setting and writes the hash to `out`; after a refusal it writes the token.
+/// Hashes the password with a new setting and writes the hash to `out`. After a refusal it writes `*0` instead, which
+/// is no hash ([`token`]).
 ///
-/// Three random numbers make the salt. Without them the call still checks everything else, and its error is
-/// `NoRandomNumbers` only if nothing but a lack of memory could then refuse the hash.
+/// `numbers` has the three random numbers that make the salt. With any other count of numbers the call still makes all
+/// other checks, and its error is `NoRandomNumbers` only if they pass. It does not find out then whether scrypt would
+/// get its memory.
 pub fn put_new_hash<M: Memory>(
     memory: &mut M,
     password: &[u8],
@@ -54,8 +56,8 @@ pub fn put_new_hash<M: Memory>(
     put_hashed(hashed, token(b""), out)
 }
 
-// Hashes the password with a new setting, and returns the hash and the report. The hash and a zero byte have to fit
-// into `room` bytes.
+// Hashes the password with a new setting, and returns the hash and the report, or the report of a refusal. A hash is
+// refused if it and a zero byte need more than `room` bytes.
 fn new_hash_of<M: Memory>(
     memory: &mut M,
     password: &[u8],

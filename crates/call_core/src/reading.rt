@@ -1,5 +1,5 @@
 //! Reads the arguments of a call: a password, a setting, a method's number and rounds, a given salt, and the hash in a
-//! stored field. Each function returns the value, or the reason why the argument is refused.
+//! stored field. Each function returns the value, or the reason why it refuses the argument.
 ghost use Rattle.std.specs.Prelude.{◌≡◌, ◌≢◌, ◌↔◌, length, IfOk, IfErr, IsOk, IsOkAnd, IsTrue};
 ghost use Rattle.prims_core.specs.Work.{no_work};
 ghost use Rattle.crypt_core.specs.MadeSettings.{TakesRounds};
@@ -29,7 +29,7 @@ use crypt_core::stored::{StoredField, StoredHash};
 ///
 /// # Errors
 ///
-/// The reason why [`Password::new`] refuses it.
+/// The reason why [`Password::new`] refuses the bytes.
 pub(crate) fn read_password(bytes: &[u8]) -> Result<Password, Reason>
     ensures ok { IfOk result (λ password. (password ≡ bytes.now) × IsPassword bytes.now) }
     ensures refused { IfErr result (λ reason. (fault : Fault) × IsPasswordRefused bytes.now fault × (reason ≡ password_reason fault)) }
@@ -42,7 +42,7 @@ pub(crate) fn read_password(bytes: &[u8]) -> Result<Password, Reason>
 ///
 /// # Errors
 ///
-/// The reason why [`Setting::read`] refuses it.
+/// The reason why [`Setting::read`] refuses the text.
 pub(crate) fn read_setting(text: &[u8]) -> Result<Setting, Reason>
     ensures spelled { IfOk result (λ setting. Spells text.now setting) }
     ensures refused { IfErr result (λ reason. (fault : Broken) × IsRefused text.now fault × (reason ≡ setting_reason fault)) }
@@ -51,7 +51,7 @@ pub(crate) fn read_setting(text: &[u8]) -> Result<Setting, Reason>
     Ok(Setting::read(text)?)
 }
 
-// Returns the method with this number; 0 is the recommended one.
+// Returns the method with this number. The number 0 means the recommended method.
 fn chosen_method(number: u32) -> Option<Method>
     ensures { result ≡ chosen_method number }
 {
@@ -116,8 +116,8 @@ pub(crate) fn given_setting(number: u32, rounds: u32, salt: &[u8]) -> Result<Set
     Ok(setting)
 }
 
-// Returns whether this scheme has other rounds than were asked for, because they were clamped. Rounds of 0, the
-// recommended ones, never are.
+// Returns whether the scheme's rounds differ from `rounds`, the number that was asked for, because that was clamped.
+// Rounds of 0 mean the recommended rounds, which are never clamped.
 fn is_clamped(scheme: &Scheme, rounds: u32) -> bool
     ensures { IsTrue result ↔ IsClamped scheme.now rounds }
 {
@@ -133,7 +133,7 @@ pub(crate) struct Request {
     pub(crate) password: Password,
     /// The scheme of new hashes.
     pub(crate) scheme: Scheme,
-    /// The most that a hash of the password may cost.
+    /// The most that a hash of the password may cost, in bytes digested and mixed.
     pub(crate) limit: u64,
 }
 
@@ -142,7 +142,8 @@ pub(crate) struct Request {
 ///
 /// # Errors
 ///
-/// The report of the first refusal: of the password, and then of [`new_scheme_of`].
+/// The report of the first refusal. The password is read first, and then the method and the rounds, by
+/// [`new_scheme_of`].
 pub(crate) fn read_request(
     password: &[u8],
     number: u32,
@@ -172,7 +173,7 @@ pub(crate) fn read_request(
 ///
 /// - `NoHash`: the field is empty.
 /// - `Locked`: the field begins with `!` or `*`, whatever follows.
-/// - The reason for the first rule of a setting that any other field breaks.
+/// - For any other field that is not a stored hash: the reason for the first rule of settings that it breaks.
 pub(crate) fn stored_hash(field: &[u8]) -> Result<StoredHash<'_>, Reason>
     ensures spelled { IfOk result (IsHashOf field.now) }
     ensures refused { IfErr result (IsFieldRefusal field.now) }

@@ -1,5 +1,5 @@
-//! The reasons why a call did not do what its name says, with their numbers and messages. This is the only such list:
-//! tools/reasons checks that `c/mkpasswd.h` has the same one, and prints it for other languages.
+//! The reasons why a call did not do what its name says, with their numbers and messages. tools/reasons checks that
+//! `c/mkpasswd.h` has the same list, and makes the lists of other languages from it.
 ghost use Rattle.std.specs.Prelude.{◌≡◌, IfSome};
 ghost use Rattle.call_core.specs.Reasons.{reason_numbered, reason_row};
 
@@ -16,7 +16,7 @@ pub enum Reason {
     PasswordZeroByte = 2,
     /// The setting has more than 384 bytes.
     SettingTooLong = 3,
-    /// The setting has a byte that no setting has, such as a line end.
+    /// The setting has a byte that no setting may have, such as a line end.
     BadCharacter = 4,
     /// The setting begins with none of `$1$`, `$5$`, `$6$` and `$7$`.
     UnknownScheme = 5,

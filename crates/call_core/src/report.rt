@@ -20,15 +20,15 @@ pub const NO_WORK: Work = Work {
 #[repr(C)]
 #[derive(Clone, Copy, Debug, PartialEq, Eq)]
 pub struct Report {
-    /// 0 if the call did what its name says, otherwise the number of the reason why it did not. A call that asks
-    /// whether a stored hash is outdated reports 0 for both answers, and an audit reports 0 for a current hash and for
-    /// an outdated one.
+    /// 0 if the call did what its name says, otherwise the number of the reason why it did not. An audit and the call
+    /// that asks whether a stored hash is outdated report 0 for a current hash and for an outdated one.
     pub error: u32,
-    /// 1 if a login, an audit or the call that asks for it reports no error and a new hash by the policy would replace
-    /// the stored one, otherwise 0. After a login it is 1 only if the password matches.
+    /// 1 if the stored hash is outdated, so that a new hash by the policy would replace it, otherwise 0. Only a login,
+    /// an audit and the call that asks whether a stored hash is outdated can report 1, and only if the error is 0. So a
+    /// login reports 1 only if the password matches.
     pub outdated: u32,
-    /// The number of bytes written to `out`, without the zero byte, if the error is 0. In the report of a limit, the
-    /// length of the longest password.
+    /// If the error is 0, the number of bytes written to `out`, without the zero byte. In the report of a limit, the
+    /// length of the longest password whose new hash is within the limit.
     pub length: u32,
     /// In the report of an audit, the number of the stored hash's method, or of the other scheme that the field looks
     /// like. Otherwise 0.
@@ -43,10 +43,10 @@ pub struct Report {
     pub r: u32,
     /// scrypt's p in the report of an audit, otherwise 0.
     pub p: u32,
-    /// The greatest cost of a hash with this setting and a password of this length, in bytes digested and mixed, once
-    /// both are known to be valid. An audit takes the longest password. In the report of a limit, the limit.
+    /// The greatest cost of a hash with this setting and a password of this length, in bytes digested and mixed, or 0
+    /// if the call does not compute it. An audit takes the longest password. In the report of a limit, the limit.
     pub cost: u64,
-    /// The work that the call did. In the report of a bound, the greatest work.
+    /// The work that the call did. In the report of a bound, the greatest work of the hash.
     pub work: Work,
 }
 
@@ -89,8 +89,8 @@ impl Report {
         Report::failed(reason, cost, NO_WORK)
     }
 
-    /// Returns the report of a call that found a stored hash, or whose password matches it. A check without a policy
-    /// passes `false`.
+    /// Returns the report of a call that found a stored hash, or found that the password matches it. `is_outdated` is
+    /// `false` in a check without a policy.
     pub fn found(is_outdated: bool, cost: u64, work: Work) -> Report
         ensures { result ≡ found (if is_outdated then 1 else 0) cost work }
     {
@@ -100,7 +100,7 @@ impl Report {
         }
     }
 
-    /// Returns the report of the rounds of a policy, with a length and a cost. The call hashed nothing.
+    /// Returns the report of a call on the rounds of a policy, with a length and a cost. Such a call hashes nothing.
     pub fn of_rounds(rounds: u32, length: u32, cost: u64) -> Report
         ensures { result ≡ record (succeeded length cost no_work) { rounds = rounds } }
     {
@@ -119,7 +119,7 @@ impl From<Reason> for Report {
     }
 }
 
-/// Writes the report of a call and returns what the call returns: 1 if the error is 0, otherwise 0.
+/// Writes `told`, the report of a call, to `report`. Returns 1 if its error is 0, otherwise 0.
 pub fn tell(report: &mut Report, told: Report) -> i32
     ensures told { report.new ≡ told }
     ensures answers { Answers result told }
@@ -127,7 +127,7 @@ pub fn tell(report: &mut Report, told: Report) -> i32
     answer(report, told, told.error == 0)
 }
 
-/// Writes the report of a call and returns 1 if the stored hash is outdated, otherwise 0.
+/// Writes `told`, the report of a call, to `report`. Returns 1 if the stored hash is outdated, otherwise 0.
 pub fn tell_outdated(report: &mut Report, told: Report) -> i32
     ensures told { report.new ≡ told }
     ensures answers { AnswersOutdated result told }
@@ -135,7 +135,7 @@ pub fn tell_outdated(report: &mut Report, told: Report) -> i32
     answer(report, told, told.outdated == 1)
 }
 
-/// Writes the report of a call and returns 1 if the stored hash is current, otherwise 0.
+/// Writes `told`, the report of a call, to `report`. Returns 1 if the stored hash is current, otherwise 0.
 pub fn tell_current(report: &mut Report, told: Report) -> i32
     ensures told { report.new ≡ told }
     ensures answers { AnswersCurrent result told }
@@ -143,7 +143,7 @@ pub fn tell_current(report: &mut Report, told: Report) -> i32
     answer(report, told, told.error == 0 && told.outdated == 0)
 }
 
-// Writes the report of a call and returns 1 for yes and 0 for no.
+// Writes `told`, the report of a call, to `report`. Returns 1 if `is_yes`, otherwise 0.
 fn answer(report: &mut Report, told: Report, is_yes: bool) -> i32
     ensures told { report.new ≡ told }
     ensures yes { result ≡ pos 1 ↔ IsTrue is_yes }
@@ -165,7 +165,8 @@ pub fn token(setting: &[u8]) -> &'static [u8]
     }
 }
 
-/// Writes a string and a zero byte to `out`, cut to the capacity of `out`. An empty `out` stays empty.
+/// Writes a string and a zero byte to `out`. A string that doesn't fit is cut, so that the zero byte fits. If `out` is
+/// empty, nothing is written.
 pub fn put(out: &mut [u8], text: &[u8])
     ensures { out.new ≡ put text.now out.old }
 {

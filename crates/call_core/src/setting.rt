@@ -9,8 +9,8 @@ use crate::reason::Reason;
 use crate::report::{NO_WORK, Report, leave, token};
 use crypt_core::setting::Setting;
 
-/// Writes the setting whose salt three random numbers make to `out`, or the token after a refusal, and returns the
-/// report.
+/// Writes a new setting to `out` and returns the report. The three random numbers make the salt. After a refusal the
+/// call writes `*0` instead, which is no setting ([`token`]).
 pub fn put_setting(method: u32, rounds: u32, numbers: [u64; 3], out: &mut [u8]) -> Report
     ensures puts { PutsSetting method rounds numbers out.old result out.new }
     ensures locked { result.error ≢ 0 → out.new ≡ put (token []) out.old }
@@ -21,7 +21,8 @@ pub fn put_setting(method: u32, rounds: u32, numbers: [u64; 3], out: &mut [u8]) 
     }
 }
 
-/// Writes the setting with the given salt to `out`, or the token after a refusal, and returns the report.
+/// Writes the setting with the given salt to `out` and returns the report. After a refusal it writes `*0` instead,
+/// which is no setting ([`token`]).
 pub fn put_setting_with_salt(method: u32, rounds: u32, salt: &[u8], out: &mut [u8]) -> Report
     ensures puts { PutsGivenSetting method rounds salt.now out.old result out.new }
     ensures locked { result.error ≢ 0 → out.new ≡ put (token []) out.old }
@@ -32,7 +33,7 @@ pub fn put_setting_with_salt(method: u32, rounds: u32, salt: &[u8], out: &mut [u
     }
 }
 
-// Writes the setting to `out`, or the token if it doesn't fit, and returns the report.
+// Writes the setting to `out`, or `*0` if the setting and a zero byte don't fit, and returns the report.
 fn put_text(setting: &Setting, out: &mut [u8]) -> Report
     ensures puts { PutsText (canonical_text setting.now) out.old result out.new }
     ensures locked { result.error ≢ 0 → out.new ≡ put (token []) out.old }

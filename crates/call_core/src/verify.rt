@@ -58,8 +58,8 @@ pub fn verify<M: Memory>(
     }
 }
 
-/// Returns the stored hash in the field and the cost of checking the password against it, if the budget allows that.
-/// Otherwise it returns the report of the first refusal.
+/// Returns the stored hash in the field and the cost of checking the password against it, if the budget allows that
+/// cost. Otherwise it returns the report of the first refusal.
 pub(crate) fn checkable<'a>(
     password: &Password,
     field: &'a [u8],
@@ -78,8 +78,9 @@ pub(crate) fn checkable<'a>(
     Ok((stored, most))
 }
 
-/// Hashes the password, which costs at most `most`, and compares the hash with the stored one. If they are equal, the
-/// report says whether the stored one is outdated (`is_outdated`); otherwise its error is `misses`.
+/// Hashes the password with the setting of the stored hash and compares the two hashes. If they are equal, the report
+/// has no error and says whether the stored hash is outdated (`is_outdated`). Otherwise its error is `misses`. `most`
+/// is the greatest cost of the hash.
 pub(crate) fn compare<M: Memory>(
     memory: &mut M,
     password: &Password,

@@ -1,4 +1,4 @@
-//! Examples of how to call the library, as tests. The expected values come from the standards and from other programs.
+//! Tests that show how to call the crates. The expected values come from the standards and from other programs.
 #![tactic(auto)]
 
 #[cfg(test)]

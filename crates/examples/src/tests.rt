@@ -1,4 +1,4 @@
-//! The examples by topic, from the alphabet up to whole commands, and helpers that they share.
+//! The tests by topic, from the alphabet up to whole commands, and helpers that they share.
 
 mod alphabet;
 mod commands;
@@ -17,7 +17,7 @@ use std::alloc::{AllocError, Global};
 use std::fmt::Debug;
 use std::process::Abort;
 
-// Asserts that a call returned the expected value; `what` names the case.
+// Asserts that a call returned the expected value, `wanted`. `what` names the case in the message of a failure.
 fn want<T: Debug + Drop + PartialEq>(rt: &impl Abort, told: T, wanted: T, what: &str) {
     assert_eq!(rt; told, wanted, "{what}");
 }
@@ -33,7 +33,7 @@ fn counts(meter: &Meter) -> [u128; 5] {
     ]
 }
 
-// Returns `front`, then `letter` `count` times, then `back`.
+// Returns `front`, followed by `count` times `letter`, followed by `back`.
 fn padded(
     alloc: Global,
     front: &[u8],

@@ -1,10 +1,10 @@
--- The counts of a meter after two pieces of work that digest: both are added. `derived_block` and `pbkdf2` count round
--- by round and block by block with it.
+-- The counts of a meter after two calls that digest: the work of both is added. `derived_block` counts round by round
+-- with this lemma, and `pbkdf2` block by block.
 use Rattle.std.proofs.Common.{◌≡◌, ℕ, ◌+◌, ap, ◌∙◌, arith}
 use Rattle.prims_core.specs.Meter.{with_work}
 use Rattle.prims_core.specs.declared.meter.Work.{Work}
 
--- The work d and x, and then e and y, is the work of their sums.
+-- If d digests of x bytes are counted, and then e digests of y bytes, then d + e digests of x + y bytes are counted.
 pub with_work-add : (a b c : Work) (d x e y digests bytes : ℕ) → b ≡ with_work a d x → c ≡ with_work b e y
     → d + e ≡ digests → x + y ≡ bytes → c ≡ with_work a digests bytes
 with_work-add a b c d x e y digests bytes b_is c_is all_digests all_bytes =

@@ -1,6 +1,6 @@
 -- HMAC step by step, for the functions of `hmac`: the block of a long key and of any other key (`block_of`), the block
 -- XOR a pad (`HmacKey::new`), the tag from its two digests (`HmacKey::tag`), and XOR byte by byte (`xor_into`). Each
--- lemma unfolds one definition of the standard, and rewrites its parts to what the code has.
+-- lemma unfolds one definition of the standard, and rewrites its parts to the values that the code computes.
 use Rattle.std.proofs.Common.{◌≡◌, ℕ, ◌-◌, ◌<◌, ◌≤◌, List, [], ◌++◌, length, get_or, bit_xor, replicate, drop, sym, ap, ◌∙◌, append_assoc, arith}
 use Rattle.std.proofs.lemmas.List.{append-nil, drop-replicate}
 use Rattle.std.proofs.lemmas.Bool.{cond_below, cond_above}
@@ -11,7 +11,7 @@ use Rattle.prims_core.specs.Words.{xor_lists}
 use Rattle.kdf_core.specs.Hmac.{hmac_sha256, key_block, padded_key}
 use Rattle.kdf_core.specs.HmacMessages.{PaddedKey, IsKeyOf}
 
--- A tag is the digest of the outer padded key and of the digest of the inner padded key and the text.
+-- A tag is the digest of the outer padded key followed by the digest of the inner padded key and the text.
 pub hmac_sha256-from_digests : (held : PaddedKey) (key a b text tag : List ℕ) → IsKeyOf held key → text ≡ sha256 (held.inner ++ a ++ b)
     → tag ≡ sha256 (held.outer ++ text ++ []) → tag ≡ hmac_sha256 key (a ++ b)
 unfolding hmac_sha256
@@ -24,11 +24,11 @@ hmac_sha256-from_digests held key a b text tag of_key text_is tag_is =
     tag_is ∙ ap sha256 (append-nil (held.outer ++ text)
     ∙ (ap (λ (x : List ℕ). x ++ text) of_key.outer ∙ ap (λ (x : List ℕ). outer ++ x) text_of_definition))
 
--- filled_block kept: these bytes, with zeros up to a block.
+-- filled_block kept: these bytes, followed by zeros up to 64 bytes.
 abbrev filled_block : List ℕ → List ℕ
 filled_block kept = kept ++ replicate (64 - length kept) 0
 
--- The block of a key that is longer than a block: its digest and zeros.
+-- The block of a key of more than 64 bytes is the digest of the key, followed by zeros.
 pub key_block-long : (key kept : List ℕ) → 64 < length key → kept ≡ sha256 key → length kept ≡ 32
     → kept ++ replicate 32 0 ≡ key_block key
 unfolding key_block
@@ -36,7 +36,7 @@ key_block-long key kept key_long kept_is length_kept =
     let zeros_left : 32 ≡ 64 - length kept = omega arith in
     ap (λ n. kept ++ replicate n 0) zeros_left ∙ ap filled_block (kept_is ∙ cond_below 64 (length key) (sha256 key) key key_long)
 
--- The block of any other key: the key and zeros.
+-- The block of a key of at most 64 bytes is the key, followed by zeros.
 pub key_block-short : (key kept zeros : List ℕ) → length key ≤ 64 → kept ≡ key → zeros ≡ replicate 64 0
     → kept ++ drop (length key) zeros ≡ key_block key
 unfolding key_block
@@ -45,7 +45,7 @@ key_block-short key kept zeros key_short kept_is zeros_are =
     ap (drop (length key)) zeros_are ∙ drop-replicate (length key) 64 0 ∙ ap (λ (k : List ℕ). replicate (64 - length k) 0) (sym kept_is) in
     ap (λ (x : List ℕ). kept ++ x) zeros_left ∙ ap filled_block (cond_above 64 (length key) (sha256 key) key kept key_short kept_is)
 
--- The block XOR the pad byte, repeated, is the padded key.
+-- A key's block XOR 64 times the pad byte is the padded key.
 pub padded_key-from_xor : (key block padded : List ℕ) (pad : ℕ) → block ≡ key_block key
     → padded ≡ xor_lists block (replicate 64 pad) → padded ≡ padded_key key pad
 unfolding padded_key

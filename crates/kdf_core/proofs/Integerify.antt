@@ -1,6 +1,6 @@
--- Integerify (X) mod N, for `row_number`, which reads a single word. N is 2 ^ k with k at most 32, and the last block's
--- number is its first word plus a multiple of 2 ^ 32, so modulo N only that word counts. Diagonal order keeps the first
--- word of a block in its place.
+-- Integerify (X) mod N, for `row_number`, which reads a single word. N is 2 ^ k with k at most 32. Integerify (X) is
+-- the first word of the last block plus a multiple of 2 ^ 32, so modulo N only that word counts. In diagonal order the
+-- first word of a block is first too.
 use Rattle.std.proofs.Common.{◌≡◌, ℕ, suc, ◌+◌, ◌-◌, ◌*◌, ◌^◌, ◌%◌, ◌<◌, ◌≤◌, List, length, get_or, take, drop, sym, ap, ◌∙◌, arith, ◌/◌}
 use Rattle.std.proofs.lemmas.List.{get_or-drop, get_or-take}
 use Rattle.std.proofs.lemmas.Nat.{pow-add}
@@ -20,14 +20,14 @@ integerify-mod words k one_block k_le =
     let at = length words - 16 in
     let inside : at < length words = omega arith in
     let word = get_or words at 0 in
-    -- The number is the first word of the last block modulo 2 ^ 32, and a multiple of 2 ^ 32.
+    -- Integerify (X) is the first word of the last block modulo 2 ^ 32, plus a multiple of 2 ^ 32.
     let split = little_number-first_word 60 word (drop (suc at) words) in
     let above : ℕ = split.0 in
     let bits_split : 32 ≡ k + (32 - k) = omega arith in
     let pow_split : 2 ^ 32 ≡ 2 ^ k * 2 ^ (32 - k) = ap (λ e. 2 ^ e) bits_split ∙ pow-add 2 k (32 - k) in
     let multiple_of_pow : (n : ℕ) → 2 ^ 32 * n ≡ 2 ^ k * (2 ^ (32 - k) * n) =
     λ n. ap (λ q. q * n) pow_split ∙ mul_assoc (2 ^ k) (2 ^ (32 - k)) n in
-    -- A multiple of 2 ^ 32 changes nothing modulo 2 ^ k.
+    -- Adding a multiple of 2 ^ 32 changes nothing modulo 2 ^ k.
     let multiple_vanishes : (n m : ℕ) → (n + 2 ^ 32 * m) % 2 ^ k ≡ n % 2 ^ k =
     λ n m. ap (λ q. (n + q) % 2 ^ k) (multiple_of_pow m) ∙ add-mul-mod_self_left n (2 ^ k) (2 ^ (32 - k) * m) in
     let word_split : word ≡ word % 2 ^ 32 + 2 ^ 32 * (word / 2 ^ 32) = omega arith in

@@ -1,7 +1,7 @@
--- How many messages HMAC, PBKDF2 and scrypt digest, and how many bytes these have in all: the clause `specified` of
--- `scrypt` and `scrypt_lent`, which ties the closed form of the work to the messages of the standard. It adds up the
--- key, the tags of a block, the blocks of a derivation, and both derivations. The lengths that this needs are those of
--- digests, padded keys and derived bytes.
+-- How many messages HMAC, PBKDF2 and scrypt digest, and how many bytes these have in all. This proves the clause
+-- `specified` of `scrypt` and `scrypt_lent`, which says that the closed form of the work counts the messages of the
+-- standard. The lemmas add up the messages of the key, of the tags of a block, of the blocks of a derivation, and of
+-- both derivations. For that they need the lengths of digests, padded keys and derived bytes.
 use Rattle.std.proofs.Common.{◌≡◌, ℕ, zero, suc, true, false, ◌+◌, ◌-◌, ◌*◌, ◌≤◌, List, [], ◌∷◌, ◌++◌, length, replicate, nat_lt, if◌then◌else◌, inl, inr, arith, refl, ap, ◌∙◌}
 use Rattle.std.specs.Int.{div_ceil}
 use Rattle.std.specs.List.{flat_map, range_with_len}
@@ -27,14 +27,15 @@ use Rattle.kdf_core.proofs.MixedLengths.{length-flat_map_same, length-mixed_part
 use Rattle.kdf_core.proofs.Pbkdf2Lemmas.{block-one}
 use Rattle.kdf_core.proofs.ScryptResult.{scrypt_work-digests, scrypt_work-bytes}
 
--- The messages of one list, and then those of another: numbers and bytes are added.
+-- For two lists of messages, joined, the numbers of messages and of bytes are added.
 HaveCountAndSum-append : (xs ys : List (List ℕ)) (d b e c : ℕ) → HaveCountAndSum xs d b → HaveCountAndSum ys e c → HaveCountAndSum (xs ++ ys) (d + e) (b + c)
 HaveCountAndSum-append xs ys d b e c xs_counts ys_counts = record {
   count = length-append xs ys ∙ omega (arith, xs_counts.count, ys_counts.count);
   sum = sum_by-append length xs ys ∙ omega (arith, xs_counts.sum, ys_counts.sum);
 }
 
--- If each of `count` numbers has the same number of messages and of bytes, all of them have `count` times as many.
+-- If `messages` gives d messages of b bytes in all for each number, it gives `count * d` messages of `count * b` bytes
+-- in all for `count` numbers.
 HaveCountAndSum-flat_map : (messages : ℕ → List (List ℕ)) (d b from count : ℕ) → ((k : ℕ) → from ≤ k → HaveCountAndSum (messages k) d b)
     → HaveCountAndSum (flat_map messages (range_with_len from count)) (count * d) (count * b)
 HaveCountAndSum-flat_map messages d b from zero each_counts = record { count = omega arith; sum = omega arith }
@@ -48,14 +49,14 @@ HaveCountAndSum-flat_map messages d b from (suc count) each_counts =
 length-sha256 : (message : List ℕ) → length (sha256 message) ≡ 32
 length-sha256 message = sha256_laws.length_digest-law message
 
--- What is kept of a key, itself or its digest, has at most 64 bytes.
+-- A key of at most 64 bytes, and the digest of a longer key, have at most 64 bytes.
 length-kept_key_le : (key : List ℕ) → length (if nat_lt 64 (length key) then sha256 key else key) ≤ 64
 length-kept_key_le key = elim (cases_lt 64 (length key)) [
   | inl long ↦ omega (arith, ap length (cond_below 64 (length key) (sha256 key) key long), length-sha256 key)
   | inr short ↦ omega (arith, ap length (cond_above 64 (length key) (sha256 key) key key short refl))
 ]
 
--- So a padded key has exactly 64.
+-- A padded key has exactly 64 bytes.
 length-padded_key : (key : List ℕ) (pad : ℕ) → length (padded_key key pad) ≡ 64
 unfolding padded_key key_block xor_lists
 length-padded_key key pad =
@@ -64,7 +65,7 @@ length-padded_key key pad =
     length-append kept (replicate (64 - length kept) 0) ∙ omega (arith, length-kept_key_le key, length-replicate {A = ℕ} (64 - length kept) 0) in
     length-zip2 _ (kept ++ replicate (64 - length kept) 0) (replicate 64 pad) length_block ∙ length_block
 
--- A key has one message if it is longer than a block, and otherwise none.
+-- Preparing a key digests one message if the key is longer than a block, and otherwise none.
 HaveCountAndSum-key_messages : (key : List ℕ) → HaveCountAndSum (key_messages key) (key_digests (length key)) (key_bytes (length key))
 HaveCountAndSum-key_messages key =
     elim (nat_lt 64 (length key))
@@ -73,7 +74,7 @@ HaveCountAndSum-key_messages key =
       | false ↦ record { count = refl; sum = omega arith }
     ]
 
--- A tag has two messages.
+-- A tag takes two messages, of `tag_bytes` bytes in all.
 HaveCountAndSum-tag_messages : (key text : List ℕ) → HaveCountAndSum (tag_messages key text) 2 (tag_bytes (length text))
 HaveCountAndSum-tag_messages key text =
     let inner = padded_key key 0x36 ++ text in
@@ -89,7 +90,8 @@ HaveCountAndSum-tag_messages key text =
       );
     }
 
--- The text of a block's first tag is the salt and the block's number, and that of each later one is a tag.
+-- The text of a block's first tag, U_1, is the salt and the block's number. The text of each later tag is the tag
+-- before it, which has 32 bytes.
 length-chain_zero : (password salt : List ℕ) (i : ℕ) → length (chain password salt i 0) ≡ length salt + 4
 unfolding chain
 length-chain_zero password salt i = length-append salt (big_bytes 4 i)
@@ -99,7 +101,7 @@ unfolding chain hmac_sha256
 length-chain password salt i zero some = absurd (omega arith)
 length-chain password salt i (suc j) some = length-sha256 _
 
--- A block's messages are those of its first tag, and those of the others, which have the same length.
+-- A block's messages are those of its first tag and those of its later tags, which all have the same number of bytes.
 HaveCountAndSum-block_messages : (password salt : List ℕ) (rounds i : ℕ) → 1 ≤ rounds
     → HaveCountAndSum (block_messages password salt rounds i) (2 * rounds) (block_bytes (length salt) rounds)
 unfolding block_messages
@@ -107,7 +109,7 @@ HaveCountAndSum-block_messages password salt zero i one_round = absurd (omega ar
 HaveCountAndSum-block_messages password salt (suc more) i one_round =
     let u = chain password salt i in
     let messages = λ (j : ℕ). tag_messages password (u j) in
-    -- Each tag but the first is of a text of 32 bytes, the tag before it.
+    -- The text of each tag but the first is the tag before it, which has 32 bytes.
     let tag_counts : (j : ℕ) → 1 ≤ j → HaveCountAndSum (messages j) 2 (tag_bytes 32) =
     λ j above. record {
       count = (HaveCountAndSum-tag_messages password (u j)).count;
@@ -121,7 +123,7 @@ HaveCountAndSum-block_messages password salt (suc more) i one_round =
       sum = all_counts.sum ∙ omega (arith, length-chain_zero password salt i);
     }
 
--- Each block of a derivation has the same number of messages and of bytes.
+-- The messages of PBKDF2 have the number and the bytes of the closed forms, since each block has as many as any other.
 HaveCountAndSum-pbkdf2_messages : (password salt : List ℕ) (rounds count : ℕ) → 1 ≤ rounds
     → HaveCountAndSum (pbkdf2_messages password salt rounds count) (pbkdf2_digests rounds count) (pbkdf2_bytes (length salt) rounds count)
 unfolding pbkdf2_messages
@@ -131,7 +133,7 @@ HaveCountAndSum-pbkdf2_messages password salt rounds count one_round =
     (λ i above. HaveCountAndSum-block_messages password salt rounds i one_round) in
     record { count = all_counts.count ∙ omega arith; sum = all_counts.sum }
 
--- PBKDF2 derives as many bytes as are asked for.
+-- PBKDF2 with one round derives as many bytes as are asked for.
 length-pbkdf2_sha256 : (password salt : List ℕ) (count : ℕ) → length (pbkdf2_sha256 password salt 1 count) ≡ count
 unfolding pbkdf2_sha256
 length-pbkdf2_sha256 password salt count =
@@ -144,8 +146,8 @@ length-pbkdf2_sha256 password salt count =
     ∙ ap (λ n. n * 32) (length-range_with_len 1 blocks) in
     length-take-le count derived (omega (arith, length_derived, (div_ceil_times count 32 (omega arith)).0))
 
--- scrypt's messages: the password's, those of the derivation of the parts, and those of the result, whose salt is all
--- parts.
+-- The messages of scrypt have the number and the bytes of `scrypt_work`. They are those of the password as a key, those
+-- of the derivation of the parts, and those of the derivation of the result, whose salt is all parts.
 pub HaveCountAndSum-scrypt_messages : (password salt : List ℕ) (params : ScryptParams) (count : ℕ)
     → HaveCountAndSum (scrypt_messages password salt params count) (scrypt_work params (length password) (length salt) count).digests
     (scrypt_work params (length password) (length salt) count).bytes
@@ -154,14 +156,14 @@ HaveCountAndSum-scrypt_messages password salt params count =
     let size = parts_bytes params in
     let derived = pbkdf2_sha256 password salt 1 size in
     let mixed = mixed_parts (row_count params) (part_bytes params) derived in
-    -- Both PBKDF2 and ROMix give as many bytes as all parts have.
+    -- The bytes that PBKDF2 derives, and those after ROMix, are as many as all parts have.
     let derived_length : length derived ≡ size = length-pbkdf2_sha256 password salt size in
     let mixed_length : length mixed ≡ size =
     length-mixed_parts (row_count params) (part_bytes params) params.r params.p derived (omega arith) derived_length ∙ derived_length in
     let key_counts = HaveCountAndSum-key_messages password in
     let first_counts = HaveCountAndSum-pbkdf2_messages password salt 1 size (omega arith) in
     let last_counts = HaveCountAndSum-pbkdf2_messages password mixed 1 count (omega arith) in
-    -- The three lists of messages, added up.
+    -- The counts of the three lists of messages are added up.
     let all_counts = HaveCountAndSum-append (key_messages password ++ pbkdf2_messages password salt 1 size) (pbkdf2_messages password mixed 1 count) _ _ _ _
     (HaveCountAndSum-append (key_messages password) (pbkdf2_messages password salt 1 size) _ _ _ _ key_counts first_counts) last_counts in
     record {

@@ -1,7 +1,7 @@
--- Block mixing, ROMix and the mixing of all parts keep the length of their input, from Salsa20/8 upwards.
--- `MessageCounts` needs it: the mixed parts are the salt of the last derivation, so their length decides how many bytes
--- it digests. Each step keeps the shape of its input: a matrix of four rows of four words, blocks of sixteen words,
--- parts of 32r words.
+-- Block mixing, ROMix and the mixing of all parts keep the length of their input. `MessageCounts` needs this: the mixed
+-- parts are the salt of the last derivation, so their length decides how many bytes it digests. The lemmas go from
+-- Salsa20/8 to the parts, and each step keeps the shape of its input: a matrix of four rows of four words, blocks of
+-- sixteen words, parts of 32r words.
 use Rattle.std.proofs.Common.{◌≡◌, ℕ, zero, suc, ◌+◌, ◌-◌, ◌*◌, ◌/◌, ◌%◌, ◌<◌, ◌≤◌, List, [], ◌∷◌, ◌++◌, length, get_or, take, drop, map, refl, sym, ap, ◌∙◌, arith}
 use Rattle.std.specs.Prelude.{All, slice_index}
 use Rattle.std.specs.Fn.{iterate}
@@ -18,11 +18,11 @@ use Rattle.prims_core.specs.Words.{little_bytes, xor_lists, chunks_exact, words_
 use Rattle.kdf_core.specs.Scrypt.{integerify, mixed_back, romix, mixed_part}
 use Rattle.kdf_core.specs.ScryptMessages.{mixed_parts}
 
--- HaveSize size pieces: each of the pieces has this many items.
+-- HaveSize size pieces: each of the pieces has `size` items.
 abbrev HaveSize : ℕ → List (List ℕ) → Type 0
 HaveSize size = All (λ piece. length piece ≡ size)
 
--- Lists of one length, joined.
+-- If `f` makes a list of `size` items of each x, the lists joined have `size` items for each x.
 pub length-flat_map_same : {X : Type 0} (f : X → List ℕ) (size : ℕ) (xs : List X) → All (λ x. length (f x) ≡ size) xs
     → length (flat_map f xs) ≡ length xs * size
 length-flat_map_same f size [] same_length = omega arith
@@ -35,12 +35,12 @@ length-flat_map_same {X = X} f size (x ∷ xs) same_length =
 length-concat : (size : ℕ) (pieces : List (List ℕ)) → HaveSize size pieces → length (concat pieces) ≡ length pieces * size
 length-concat size pieces same_size = ap length (concat_is pieces) ∙ length-flat_map_same (λ (piece : List ℕ). piece) size pieces same_size
 
--- What one step keeps, any number of steps keeps.
+-- A property that one step keeps is kept by any number of steps.
 iterate-keeps : {A : Type 0} (P : A → Type 0) (step : A → A) → ((x : A) → P x → P (step x)) → (n : ℕ) (x : A) → P x → P (iterate step n x)
 iterate-keeps P step keeps zero x holds = holds
 iterate-keeps P step keeps (suc n) x holds = iterate-keeps P step keeps n (step x) (keeps x holds)
 
--- A list is cut into as many pieces as fit into it, each of the given size.
+-- `chunks_exact` cuts a list into as many pieces of the given size as the list has room for.
 length-chunks_exact : (items : List ℕ) (size : ℕ) → length (chunks_exact items size) ≡ length items / size
 unfolding chunks_exact
 length-chunks_exact items size = length-map-range_with_len (λ i. take size (drop (size * i) items)) 0 (length items / size)
@@ -57,7 +57,7 @@ HaveSize-chunks_exact items size =
     let room : size * (i + 1) ≤ size * count = mul-le-mul_left size next in
     length-take-le size (drop (size * i) items) (omega (arith, room, mul-div-le (length items) size, length-drop (size * i) items)))
 
--- The matrix that Salsa20/8 works on: four rows of four words. Each round keeps this shape.
+-- IsMatrix rows: the matrix that Salsa20/8 works on, four rows of four words. Each round keeps this shape.
 
 record IsMatrix (rows : List (List ℕ)) : Type 0 where
   four : length rows ≡ 4
@@ -107,11 +107,11 @@ IsMatrix-double_round rows matrix =
     IsMatrix-row_round (column_round rows)
     (IsMatrix-transpose (row_round (transpose rows)) (IsMatrix-row_round (transpose rows) (IsMatrix-transpose rows matrix)))
 
--- So Salsa20/8 of sixteen words has sixteen words.
+-- Salsa20/8 of sixteen words has sixteen words.
 length-salsa20_8 : (words : List ℕ) → length words ≡ 16 → length (salsa20_8 words) ≡ 16
 unfolding salsa20_8
 length-salsa20_8 words length_words =
-    -- Sixteen words, cut into rows, are a matrix, and the rounds keep it one.
+    -- Sixteen words, cut into rows of four, are a matrix, and the rounds make a matrix of it again.
     let rows_matrix : IsMatrix (chunks_exact words 4) =
     record { four = length-chunks_exact words 4 ∙ omega arith; each = HaveSize-chunks_exact words 4 } in
     let rounds = iterate double_round 4 (chunks_exact words 4) in
@@ -119,7 +119,7 @@ length-salsa20_8 words length_words =
     let length_rounds : length (concat rounds) ≡ 16 = length-concat 4 rounds rounds_matrix.each ∙ ap (λ n. n * 4) rounds_matrix.four in
     length-zip2 sum_of_words words (concat rounds) (length_words ∙ sym length_rounds) ∙ length_words
 
--- The blocks that are mixed: each X has sixteen words, so the results have as many words as the blocks.
+-- In block mixing, X always has sixteen words, so the results have as many words as the blocks.
 
 length-mixed_block : (x block : List ℕ) → length x ≡ 16 → length block ≡ 16 → length (salsa20_8 (xor_lists x block)) ≡ 16
 unfolding xor_lists
@@ -150,7 +150,7 @@ length-block_mix words r length_words =
     λ k d inside. omega (arith, length-range_with_len 0 n, get_or-range_with_len 0 n k d (omega (arith, length-range_with_len 0 n))) in
     let length_result : (i : ℕ) → i < 2 * n → length (y i) ≡ 16 =
     λ i inside. length-x_after n words (i + 1) (omega arith) (omega arith) (omega arith) in
-    -- So the results with even numbers and those with odd numbers are 2n pieces of sixteen words.
+    -- The results with even numbers and those with odd numbers are 2n pieces of sixteen words.
     let results_size : HaveSize 16 (evens ++ odds) = All-append size evens odds
     (All-map size (λ i. y (2 * i)) (range_with_len 0 n)
     (λ k d inside. let below = number_below k d inside in length_result (2 * get_or (range_with_len 0 n) k d) (omega arith)))
@@ -165,7 +165,7 @@ length-block_mix words r length_words =
       length-map-range_with_len (λ i. y (2 * i + 1)) 0 n,
     )
 
--- The parts under ROMix: each step of its loops keeps the length of a part.
+-- Each step of ROMix's two loops keeps the length of a part.
 
 length-mixed_back : (n : ℕ) (start : List ℕ) (r : ℕ) → length start ≡ 32 * r
     → (words : List ℕ) → length words ≡ 32 * r → length (mixed_back n start words) ≡ 32 * r
@@ -192,7 +192,7 @@ length-mixed_part n bytes r length_bytes =
     length-flat_map_same (little_bytes 4) 4 (romix n (words_of bytes)) (λ k d inside. refl)
     ∙ omega (arith, length-romix n (words_of bytes) r length_words)
 
--- All parts, each of 2r blocks of 64 bytes.
+-- Replacing each part, of 2r blocks of 64 bytes, by its ROMix keeps the length of all parts.
 pub length-mixed_parts : (n size r count : ℕ) (bytes : List ℕ) → size ≡ 128 * r → length bytes ≡ size * count
     → length (mixed_parts n size bytes) ≡ length bytes
 unfolding mixed_parts

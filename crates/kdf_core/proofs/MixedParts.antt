@@ -1,6 +1,6 @@
 -- The loop of `mix_parts`, which replaces the parts by their ROMix one by one. Its invariant says what the bytes before
 -- part i are (`take`) and that those from part i on are unchanged (`drop`). `take-put_mid_part` and `drop-put_mid_part`
--- are one iteration, and `mixed_parts-from_first_parts` is the clause at the end.
+-- are one iteration of the loop, and `mixed_parts-from_first_parts` is the clause of `mix_parts` at its end.
 use Rattle.std.proofs.Common.{◌≡◌, ℕ, ◌+◌, ◌*◌, ◌<◌, ◌≤◌, List, [], ◌∷◌, ◌++◌, length, take, drop, sym, ap, ◌∙◌, arith, ◌/◌}
 use Rattle.std.specs.List.{flat_map, range_with_len}
 use Rattle.std.proofs.lemmas.Grind.{flat_map-append}
@@ -15,22 +15,22 @@ use Rattle.kdf_core.proofs.Pbkdf2Lemmas.{range_with_len-add_one}
 use Rattle.kdf_core.specs.Scrypt.{mixed_part}
 use Rattle.kdf_core.specs.ScryptMessages.{mixed_parts}
 
--- Before the first iteration no mixing is counted.
+-- Counting n times 0 mixings, as before the first iteration, leaves the meter unchanged.
 pub mixes-add_zero : (m : Work) (n : ℕ) → m ≡ record m { mixes = m.mixes + n * 0 }
 mixes-add_zero m n = let none : m.mixes ≡ m.mixes + n * 0 = omega arith in ap (λ k. record m { mixes = k }) none
 
--- first_parts n size bytes count: the first count parts, of size bytes each, with each replaced by its ROMix with n
+-- first_parts n size bytes count: the first `count` parts, of `size` bytes each, with each replaced by its ROMix with n
 -- rows.
 unfoldable pub first_parts : ℕ → ℕ → List ℕ → ℕ → List ℕ
 first_parts n size bytes count =
     flat_map (λ i. mixed_part n (take size (drop (size * i) bytes))) (range_with_len 0 count)
 
--- Before the first iteration no part is done.
+-- Before the first iteration, the replaced parts are an empty list, as the bytes before part 0 are.
 pub first_parts-zero : (n size : ℕ) (bytes : List ℕ) → take (size * 0) bytes ≡ first_parts n size bytes 0
 unfolding first_parts
 first_parts-zero n size bytes = let none : size * 0 ≡ 0 = omega arith in ap (λ m. take m bytes) none
 
--- The first i + 1 parts are the first i, followed by the ROMix of part i.
+-- The first i + 1 replaced parts are the first i replaced parts, followed by the ROMix of part i.
 first_parts-add_one : (n size : ℕ) (bytes : List ℕ) (i : ℕ)
     → first_parts n size bytes (i + 1) ≡ first_parts n size bytes i ++ mixed_part n (take size (drop (size * i) bytes))
 unfolding first_parts
@@ -42,7 +42,7 @@ first_parts-add_one n size bytes i =
     ∙ (ap (λ k. flat_map each (range_with_len 0 i) ++ (each k ++ [])) here
     ∙ ap (λ (b : List ℕ). flat_map each (range_with_len 0 i) ++ b) (append-nil (each i))))
 
--- After the ROMix of part i is written over it, i + 1 parts are done.
+-- After the ROMix of part i is written over part i, the first i + 1 parts are replaced.
 pub take-put_mid_part : (n size i k : ℕ) (start old part : List ℕ) → size * i + size ≤ length old → k ≡ size
     → take (size * i) old ≡ first_parts n size start i → drop (size * i) old ≡ drop (size * i) start
     → part ≡ mixed_part n (take k (drop (size * i) old)) → length part ≡ size
@@ -52,7 +52,7 @@ take-put_mid_part n size i k start old part part_fits width_is done to_come part
     let next_start : size * (i + 1) ≡ at + size = omega arith in
     let part_end : at + size ≡ at + length part = omega arith in
     let within : at ≤ length old = omega arith in
-    -- Part i is still the one from the start, so its ROMix is the one wanted.
+    -- Part i is still as at the start, so its ROMix is the one that `first_parts` has.
     let part_read : take k (drop at old) ≡ take size (drop at start) = ap (λ m. take m (drop at old)) width_is ∙ ap (take size) to_come in
     ap (λ m. take m (put_mid at k old part)) next_start
     ∙ (take-put_mid at k old part (at + size) part_end within
@@ -60,7 +60,7 @@ take-put_mid_part n size i k start old part part_fits width_is done to_come part
     ∙ (ap (λ (b : List ℕ). first_parts n size start i ++ b) (part_is ∙ ap (mixed_part n) part_read)
     ∙ sym (first_parts-add_one n size start i))))
 
--- The parts after it are still as at the start.
+-- After the ROMix of part i is written over part i, the parts after it are still as at the start.
 pub drop-put_mid_part : (size i k : ℕ) (start old part : List ℕ) → size * i + size ≤ length old → k ≡ size
     → drop (size * i) old ≡ drop (size * i) start → length part ≡ size
     → drop (size * (i + 1)) (put_mid (size * i) k old part) ≡ drop (size * (i + 1)) start
@@ -76,7 +76,7 @@ drop-put_mid_part size i k start old part part_fits width_is to_come length_part
     ∙ (ap (drop size) to_come
     ∙ (drop-drop size at start ∙ ap (λ m. drop m start) (sym next_start)))))
 
--- With all parts done, the bytes are those of `mixed_parts`.
+-- When all parts are replaced, the bytes are those of `mixed_parts`.
 pub mixed_parts-from_first_parts : (n size count : ℕ) (start old : List ℕ) → 0 < size → length start ≡ size * count → length old ≡ length start
     → take (size * count) old ≡ first_parts n size start count → old ≡ mixed_parts n size start
 unfolding mixed_parts chunks_exact first_parts

@@ -1,6 +1,6 @@
--- Bounds on scrypt's numbers that follow from the ceiling on N * r * p, so that nothing overflows and all memory fits:
--- the clauses `bounded` of `params`, the preconditions in `romix`, `scrypt` and `lent`, and the overflow checks in
--- `scrypt_work`. Each factor of the product is at least 1, so a product of some of them is within the ceiling as well.
+-- Bounds on scrypt's numbers that follow from the ceiling on N * r * p, so that nothing overflows and all memory fits.
+-- They serve the clauses `bounded` of `params`, the preconditions in `romix`, `scrypt` and `lent`, and the overflow
+-- checks in `scrypt_work`. N, r and p are each at least 1, so a product of some of them is within the ceiling as well.
 use Rattle.std.proofs.Common.{◌≡◌, ℕ, ◌+◌, ◌-◌, ◌*◌, ◌/◌, ◌^◌, ◌<◌, ◌≤◌, ap, ◌∙◌, true, false, nat_lt, if◌then◌else◌, arith}
 use Rattle.std.proofs.Math.Nat.{le-mul_of_pos_right, mul-le-mul_left, mul-le-mul_right, lt_of_not-le}
 use Rattle.std.proofs.Math.Pow.{pow_mono}
@@ -43,7 +43,7 @@ IsBounded-from_IsAccepted params accepted =
       mixes = omega arith;
     }
 
--- N is a power of two, from 2 to 2 ^ 32. So it is even, and not 0.
+-- A number of rows that is a power of two from 2 to 2 ^ 32 is even, and not 0.
 pub IsPower-even : (rows k : ℕ) → IsPower rows k → 2 * (rows / 2) ≡ rows
 IsPower-even rows k power =
     let k_split : k ≡ 1 + (k - 1) = omega (arith, power.above_one) in
@@ -53,14 +53,14 @@ IsPower-even rows k power =
 pub IsPower-pos : (rows k : ℕ) → IsPower rows k → 0 < rows
 IsPower-pos rows k power = omega (arith, power.power, pow_pos k)
 
--- The bytes of all parts, as the code computes them, are those of the definition.
+-- The code computes the number of bytes of all parts that the definition has.
 pub parts_bytes-product : (params : ScryptParams) (r p : ℕ) → r ≡ params.r → p ≡ params.p → 128 * r * p ≡ parts_bytes params
 parts_bytes-product params r p r_is p_is = ap (λ n. 128 * n * p) r_is ∙ ap (λ n. 128 * params.r * n) p_is
 
 pub parts_bytes-le : (params : ScryptParams) → IsAccepted params → parts_bytes params ≤ 2 ^ 29
 parts_bytes-le params accepted = omega (arith, (IsBounded-from_IsAccepted params accepted).parts)
 
--- The parts are 4rp blocks of 32 bytes, as PBKDF2 derives them.
+-- PBKDF2 derives the parts as 4rp blocks of 32 bytes.
 pub div_ceil-parts_bytes : (params : ScryptParams) → div_ceil (parts_bytes params) 32 ≡ 4 * (params.r * params.p)
 div_ceil-parts_bytes params =
     let product : parts_bytes params ≡ 32 * (4 * (params.r * params.p)) = omega arith in
@@ -70,7 +70,7 @@ pub key_bytes-le : (length : ℕ) → key_bytes length ≤ length
 key_bytes-le length =
     elim (nat_lt 64 length) as (λ b. (if b then 1 else 0) * length ≤ length) [ true ↦ omega arith | false ↦ omega arith ]
 
--- The bytes that scrypt digests stay far below 2 ^ 128.
+-- If a meter has counted at most 2 ^ 120 bytes, adding the bytes of the key and of two derivations stays below 2 ^ 128.
 pub digested_bytes-lt : (before key blocks each more last : ℕ) → before ≤ 2 ^ 120 → key < 2 ^ 64 → blocks ≤ 2 ^ 24 → each ≤ 2 ^ 65
     → more ≤ 2 ^ 33 → last ≤ 2 ^ 31 → before + key + blocks * each + more * last < 2 ^ 128
 digested_bytes-lt before key blocks each more last before_le key_lt blocks_le each_le more_le last_le =
@@ -78,12 +78,12 @@ digested_bytes-lt before key blocks each more last before_le key_lt blocks_le ea
     let answer : more * last ≤ 2 ^ 33 * last = mul-le-mul_right last more_le in
     omega arith
 
--- The bytes of the table, as the code computes them, are those of the definition.
+-- The code computes the number of bytes of the table that the definition has.
 pub table_bytes-product : (params : ScryptParams) (n r : ℕ) → n ≡ row_count params → r ≡ params.r → 4 * (n * (32 * r)) ≡ table_bytes params
 table_bytes-product params n r n_is r_is =
     ap (λ k. 4 * (k * (32 * r))) n_is ∙ (ap (λ k. 4 * (row_count params * (32 * k))) r_is ∙ omega arith)
 
--- So a meter with counts of at most 2 ^ 120 can count all bytes of scrypt without overflow.
+-- A meter with at most 2 ^ 120 bytes can count all bytes that scrypt digests without overflow.
 pub scrypt_bytes-lt : (before password_length salt_length count first last : ℕ) (params : ScryptParams) → IsAccepted params → before ≤ 2 ^ 120
     → password_length < 2 ^ 64 → salt_length < 2 ^ 64 → count ≤ 32 * (2 ^ 32 - 1) → first ≡ parts_bytes params → last ≡ parts_bytes params
     → before + key_bytes password_length + pbkdf2_bytes salt_length 1 first + pbkdf2_bytes last 1 count < 2 ^ 128
@@ -92,7 +92,7 @@ scrypt_bytes-lt before password_length salt_length count first last params accep
     digested_bytes-lt before (key_bytes password_length) (div_ceil first 32) (block_bytes salt_length 1) (div_ceil count 32) (block_bytes last 1) before_le
     (omega (arith, key_bytes-le password_length)) (omega arith) (omega arith) (omega arith) (omega arith)
 
--- `scrypt_work`: with lengths of at most 2 ^ 32, the bytes fit into 64 bits.
+-- In `scrypt_work`, whose lengths are at most 2 ^ 32, the number of digested bytes fits into 64 bits.
 pub known_work_bytes-lt : (key parts tag blocks last : ℕ) → key ≤ 2 ^ 32 → parts ≤ 2 ^ 22 → tag ≤ 2 ^ 33 → blocks ≤ 2 ^ 27 → last ≤ 2 ^ 30
     → key + 4 * parts * tag + blocks * last < 2 ^ 64
 known_work_bytes-lt key parts tag blocks last key_le parts_le tag_le blocks_le last_le =

@@ -1,7 +1,7 @@
--- The clauses of `derive` and `scrypt` from those of the calls in them. `scrypt-from_derivations` composes the two
--- derivations and the mixing between them to the value of the definition. `scrypt_work-digests` and `scrypt_work-bytes`
--- add the work of the three steps to the closed form, and `meter-after_two_growths` is the meter where the third
--- allocation fails.
+-- The clauses of `derive` and `scrypt`, from the clauses of the calls in them. `scrypt-from_derivations` composes the
+-- two derivations and the mixing between them to the value of the definition. `scrypt_work-digests` and
+-- `scrypt_work-bytes` say that the work of these three steps is that of the closed form. `meter-after_two_growths`
+-- gives the meter after the third allocation fails.
 use Rattle.std.proofs.Common.{◌≡◌, ℕ, ◌+◌, ◌*◌, List, length, ap, ◌∙◌, arith}
 use Rattle.std.specs.Int.{div_ceil}
 use Rattle.prims_core.specs.Meter.{with_work}
@@ -29,13 +29,14 @@ scrypt-from_derivations password salt params count n parts halves derived mixed 
     (mixed_is ∙ (ap (λ k. mixed_parts k (2 * length halves) derived) n_is
     ∙ (ap (λ k. mixed_parts (row_count params) k derived) size ∙ ap (mixed_parts (row_count params) (part_bytes params)) derived_of_params)))
 
--- The mixing counts no bytes, so those before the last derivation are those of the key and of the first derivation.
+-- Mixing digests nothing, so the bytes counted before the last derivation are those of the key and of the first
+-- derivation.
 pub bytes-before_last_derivation : (m0 m1 m2 m3 : Work) (key_d key_b first_d first_b mixes : ℕ) → m1 ≡ with_work m0 key_d key_b
     → m2 ≡ with_work m1 first_d first_b → m3 ≡ record m2 { mixes = m2.mixes + mixes } → m3.bytes ≡ m0.bytes + key_b + first_b
 bytes-before_last_derivation m0 m1 m2 m3 key_d key_b first_d first_b mixes m1_is m2_is m3_is =
     omega (arith, ap (λ (m : Work). m.bytes) m1_is, ap (λ (m : Work). m.bytes) m2_is, ap (λ (m : Work). m.bytes) m3_is)
 
--- The digests of the key and of both derivations are those of the closed form, and so are the bytes.
+-- The key and both derivations take as many digests as the closed form says, and as many bytes.
 pub scrypt_work-digests : (params : ScryptParams) (password_length salt_length count first : ℕ) → first ≡ parts_bytes params
     → key_digests password_length + pbkdf2_digests 1 first + pbkdf2_digests 1 count ≡ (scrypt_work params password_length salt_length count).digests
 scrypt_work-digests params password_length salt_length count first first_is =
@@ -54,7 +55,7 @@ scrypt_work-bytes params password_length salt_length count first last first_is l
     ap (λ n. key_bytes password_length + n + pbkdf2_bytes last 1 count) derived
     ∙ ap (λ n. key_bytes password_length + 4 * (params.r * params.p) * tag_bytes (salt_length + 4) + n) answer
 
--- The counts where the table and the parts are allocated, and the halves are not.
+-- The counts of a meter after the table and the parts were allocated and the allocation of the halves failed.
 pub meter-after_two_growths : (m0 m1 m2 m3 : Work) (t s table parts : ℕ) → m1 ≡ record m0 { table = m0.table + t }
     → m2 ≡ record m1 { scratch = m1.scratch + s } → m3 ≡ m2 → t ≡ table → s ≡ parts
     → m3 ≡ record m0 { table = m0.table + table; scratch = m0.scratch + parts }

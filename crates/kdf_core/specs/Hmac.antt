@@ -26,7 +26,8 @@ padded_key key pad = xor_lists (key_block key) (replicate sha256_block pad)
 unfoldable pub hmac_sha256 : List ℕ → List ℕ → List ℕ
 hmac_sha256 key text = sha256 (padded_key key 0x5c ++ sha256 (padded_key key 0x36 ++ text))
 
--- key_digests key_length: the number of digests for a key of this length: one if it is longer than a block.
+-- key_digests key_length: the number of digests that it takes to prepare a key of this length: one if the key is longer
+-- than a block, and otherwise none.
 abbrev pub key_digests : ℕ → ℕ
 key_digests key_length = if nat_lt sha256_block key_length then 1 else 0
 

@@ -3,17 +3,18 @@ use Rattle.std.specs.Prelude.{◌≡◌, ℕ, ◌*◌, List, [], ◌∷◌, ◌+
 use Rattle.prims_core.specs.Digests.{sha256}
 use Rattle.kdf_core.specs.Hmac.{sha256_block, padded_key, key_digests}
 
--- A prepared key: its block XOR the inner pad, and its block XOR the outer pad.
+-- A prepared key: the key, padded to a block, XOR the inner pad, and the same XOR the outer pad.
 pub record PaddedKey : Type 0 where
   pub inner : List ℕ
   pub outer : List ℕ
 
--- IsKeyOf held key: held is this key, of any length, prepared for tags.
+-- IsKeyOf held key: `held` is the key `key`, of any length, prepared for tags.
 pub record IsKeyOf (held : PaddedKey) (key : List ℕ) : Type 0 where
   pub inner : held.inner ≡ padded_key key 0x36
   pub outer : held.outer ≡ padded_key key 0x5c
 
--- key_messages key: what preparing a key digests: the key itself if it is longer than a block, and nothing otherwise.
+-- key_messages key: the messages that are digested to prepare a key: the key itself if it is longer than a block, and
+-- otherwise none.
 abbrev pub key_messages : List ℕ → List (List ℕ)
 key_messages key = if nat_lt sha256_block (length key) then key ∷ [] else []
 

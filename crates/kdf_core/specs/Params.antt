@@ -1,4 +1,4 @@
--- The three numbers of scrypt (RFC 7914, section 2), and which of them mkpasswd accepts.
+-- The parameters of scrypt (RFC 7914, section 2), and which of them mkpasswd accepts.
 use Rattle.std.specs.Prelude.{ℕ, ◌<◌, ◌≤◌, ◌*◌, ◌^◌}
 
 -- The parameters of scrypt: the CPU/memory cost N = 2 ^ log_n, the block size r, and the parallelization p.
@@ -11,7 +11,7 @@ pub record ScryptParams : Type 0 where
 abbrev pub scrypt_params : ℕ → ℕ → ℕ → ScryptParams
 scrypt_params log_n r p = record { log_n = log_n; r = r; p = p }
 
--- row_count params: N, which is the number of rows of a table.
+-- row_count params: N, which is the number of rows of scrypt's table.
 abbrev pub row_count : ScryptParams → ℕ
 row_count params = 2 ^ params.log_n
 
@@ -20,11 +20,11 @@ row_count params = 2 ^ params.log_n
 abbrev pub IsInRange : ScryptParams → Type 0
 IsInRange params = (0 < params.log_n) × (params.log_n < 16 * params.r) × (0 < params.r) × (0 < params.p)
 
--- product params: N * r * p. scrypt's time grows with it, and it bounds scrypt's memory.
+-- product params: N * r * p. scrypt's time grows with this product, and its memory is bounded by it.
 abbrev pub product : ScryptParams → ℕ
 product params = row_count params * params.r * params.p
 
--- IsWithinCeiling params: the product is at most the ceiling, 2 ^ 23.
+-- IsWithinCeiling params: the product N * r * p is at most the ceiling, 2 ^ 23.
 abbrev pub IsWithinCeiling : ScryptParams → Type 0
 IsWithinCeiling params = product params ≤ 8388608
 
@@ -32,7 +32,8 @@ IsWithinCeiling params = product params ≤ 8388608
 abbrev pub IsAccepted : ScryptParams → Type 0
 IsAccepted params = IsInRange params × IsWithinCeiling params
 
--- IsBounded params: the numbers are accepted. Bounds on log2 N, on N, on r, and on the products of two numbers follow.
+-- IsBounded params: the parameters are accepted. The other fields are bounds that follow, on log2 N, on N, on r, and on
+-- products of two of the numbers.
 pub record IsBounded (params : ScryptParams) : Type 0 where
   pub accepted : IsAccepted params
   pub log : params.log_n ≤ 22

@@ -12,20 +12,22 @@ unfoldable pub block_messages : List ℕ → List ℕ → ℕ → ℕ → List (
 block_messages password salt rounds i =
     flat_map (λ j. tag_messages password (chain password salt i j)) (range_with_len 0 rounds)
 
--- pbkdf2_messages password salt rounds count: the messages for count bytes, which are those of T_1, T_2, ..
+-- pbkdf2_messages password salt rounds count: the messages for a result of `count` bytes, which are those of the blocks
+-- T_1, T_2, ..
 unfoldable pub pbkdf2_messages : List ℕ → List ℕ → ℕ → ℕ → List (List ℕ)
 pbkdf2_messages password salt rounds count =
     flat_map (block_messages password salt rounds) (range_with_len 1 (div_ceil count sha256_length))
 
--- block_bytes salt_length rounds: the number of bytes of one block's messages: those of the tag of S || INT (i), and
--- those of the other tags.
+-- block_bytes salt_length rounds: the number of bytes of one block's messages: the bytes for the tag of S || INT (i),
+-- and the bytes for each later tag.
 abbrev pub block_bytes : ℕ → ℕ → ℕ
 block_bytes salt_length rounds = tag_bytes (salt_length + 4) + tag_bytes sha256_length * (rounds - 1)
 
--- pbkdf2_digests rounds count: the number of messages for count bytes: two for each tag.
+-- pbkdf2_digests rounds count: the number of messages for a result of `count` bytes: two for each tag.
 abbrev pub pbkdf2_digests : ℕ → ℕ → ℕ
 pbkdf2_digests rounds count = 2 * rounds * div_ceil count sha256_length
 
--- pbkdf2_bytes salt_length rounds count: the number of bytes of the messages for count bytes: the same for each block.
+-- pbkdf2_bytes salt_length rounds count: the number of bytes of the messages for a result of `count` bytes. Each block
+-- has the same number.
 abbrev pub pbkdf2_bytes : ℕ → ℕ → ℕ → ℕ
 pbkdf2_bytes salt_length rounds count = div_ceil count sha256_length * block_bytes salt_length rounds

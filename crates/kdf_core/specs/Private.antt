@@ -1,2 +1,2 @@
--- Definitions that only the contracts of scrypt's private steps use. Readers of the public contracts need none of them.
+-- Definitions that only the contracts of private functions cite. To read the public contracts you need none of them.
 pub mod Mixing

@@ -13,11 +13,12 @@ unfoldable pub integerify : List ℕ → ℕ
 integerify words = little_number 64 (bytes_of_words (drop (length words - 16) words))
 
 -- mixed_back n start words: BlockMix (X xor V[j]), one step of ROMix's second loop (section 5, step 3). X is `words`, j
--- is Integerify (X) mod N, and V[j] is B after j mixings (step 2).
+-- is Integerify (X) mod N, N is n, and V[j] is B after j mixings (step 2), where B is `start`.
 unfoldable pub mixed_back : ℕ → List ℕ → List ℕ → List ℕ
 mixed_back n start words = block_mix (xor_lists words (iterate block_mix (integerify words % n) start))
 
--- romix n start: ROMix (B) with N rows: N such steps, starting with B after N mixings (section 5).
+-- romix n start: ROMix (B) with N rows, where B is `start` and N is n: N steps of the second loop, starting with B
+-- after N mixings (section 5).
 unfoldable pub romix : ℕ → List ℕ → List ℕ
 romix n start = iterate (mixed_back n start) n (iterate block_mix n start)
 
@@ -29,7 +30,7 @@ part_bytes params = 128 * params.r
 abbrev pub parts_bytes : ScryptParams → ℕ
 parts_bytes params = part_bytes params * params.p
 
--- mixed_part n bytes: ROMix with n rows of a part. The part and the result are bytes.
+-- mixed_part n bytes: the ROMix of a part, with n rows. The part and the result are bytes.
 unfoldable pub mixed_part : ℕ → List ℕ → List ℕ
 mixed_part n bytes = bytes_of_words (romix n (words_of bytes))
 

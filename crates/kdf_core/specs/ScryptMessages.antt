@@ -11,7 +11,7 @@ use Rattle.kdf_core.specs.Pbkdf2Messages.{pbkdf2_messages}
 use Rattle.kdf_core.specs.Scrypt.{mixed_part, part_bytes, parts_bytes}
 use Rattle.kdf_core.specs.ScryptWork.{scrypt_work}
 
--- mixed_parts n size bytes: the parts, of size bytes each, with each replaced by its ROMix with N rows (step 2).
+-- mixed_parts n size bytes: the parts, of `size` bytes each, with each replaced by its ROMix with n rows (step 2).
 unfoldable pub mixed_parts : ℕ → ℕ → List ℕ → List ℕ
 mixed_parts n size bytes = flat_map (mixed_part n) (chunks_exact bytes size)
 
@@ -23,7 +23,8 @@ scrypt_messages password salt params count =
     key_messages password ++ pbkdf2_messages password salt 1 (parts_bytes params)
     ++ pbkdf2_messages password (mixed_parts (row_count params) (part_bytes params) derived) 1 count
 
--- with_scrypt counts params password_length salt_length count: the counts of a meter after scrypt.
+-- with_scrypt counts params password_length salt_length count: the counts of a meter after scrypt, where `counts` are
+-- those before.
 abbrev pub with_scrypt : Work → ScryptParams → ℕ → ℕ → ℕ → Work
 with_scrypt counts params password_length salt_length count =
     raised_by counts (scrypt_work params password_length salt_length count)

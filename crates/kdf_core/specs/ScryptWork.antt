@@ -11,13 +11,13 @@ abbrev pub table_bytes : ScryptParams → ℕ
 table_bytes params = row_count params * part_bytes params
 
 -- scrypt_work params password_length salt_length count: all five counts, for a password and a salt of these lengths and
--- a result of count bytes.
+-- a result of `count` bytes.
 --   digests  two for each 32-byte tag, of all parts and of the result; one more for a password longer than a block
---   bytes    that password, and the `tag_bytes` of each tag. The text of a tag is a salt and a block's number in 4
---            bytes; for the result, the salt is all parts
---   mixes    for each part, N to fill the rows and N to mix with them
---   table    the N rows
---   scratch  all parts, and two halves in which a part is mixed
+--   bytes    such a password, and the `tag_bytes` of each tag. The text of a tag is a salt and a block's number in 4
+--            bytes; for the tags of the result, the salt is all parts
+--   mixes    for each part, N to fill the rows of the table and N to mix the part with them
+--   table    the bytes of the N rows
+--   scratch  the bytes of all parts, and of the two halves in which a part is mixed
 abbrev pub scrypt_work : ScryptParams → ℕ → ℕ → ℕ → Work
 scrypt_work params password_length salt_length count = record {
   digests = 8 * (params.r * params.p) + 2 * div_ceil count sha256_length + key_digests password_length;
@@ -28,12 +28,12 @@ scrypt_work params password_length salt_length count = record {
   scratch = parts_bytes params + 2 * part_bytes params;
 }
 
--- mixed_bytes params: the number of bytes that are mixed, which is one part in each mixing.
+-- mixed_bytes params: the number of bytes that scrypt mixes. Each mixing mixes as many bytes as a part has.
 abbrev pub mixed_bytes : ScryptParams → ℕ
 mixed_bytes params = 2 * row_count params * params.p * part_bytes params
 
--- IsAfterRefusal before params after: these are the counts after scrypt failed to allocate the table, the parts or the
--- halves. They include the allocations before the one that failed.
+-- IsAfterRefusal before params after: `after` are the counts after scrypt failed to allocate the table, the parts or
+-- the halves. They include the allocations before the one that failed.
 abbrev pub IsAfterRefusal : Work → ScryptParams → Work → Type 0
 IsAfterRefusal before params after =
     (after ≡ before)

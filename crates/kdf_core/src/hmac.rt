@@ -1,7 +1,7 @@
 //! HMAC over SHA-256 (RFC 2104).
 //!
-//! A key is prepared once and serves any number of tags: [`HmacKey`] holds its block XOR the inner pad, and its block
-//! XOR the outer pad. Nothing here allocates.
+//! A key is prepared once and serves any number of tags. [`HmacKey`] holds two blocks: the key, padded to a block, XOR
+//! the inner pad, and the same XOR the outer pad. Nothing here allocates.
 
 ghost use Rattle.std.specs.Prelude.{◌≡◌, ℕ, ◌+◌, ◌^◌, ◌<◌, List, ◌++◌, length, replicate};
 ghost use Rattle.prims_core.specs.Digests.{sha256};
@@ -20,13 +20,13 @@ pub(crate) const SHA256_BLOCK: usize = 64;
 /// The number of bytes of a SHA-256 digest.
 pub(crate) const SHA256_LENGTH: usize = 32;
 
-// The byte of the inner pad.
+// The byte that the inner pad repeats.
 const IPAD: u8 = 0x36;
 
-// The byte of the outer pad.
+// The byte that the outer pad repeats.
 const OPAD: u8 = 0x5c;
 
-/// A key of HMAC-SHA-256, prepared for tags. Contracts relate it to the original key with `IsKeyOf`.
+/// A key of HMAC-SHA-256, prepared for tags. In contracts, `IsKeyOf` relates it to the original key.
 #[derive(Drop)]
 pub struct HmacKey {
     inner: [u8; 64],
@@ -44,8 +44,8 @@ impl Model for HmacKey {
 impl HmacKey {
     /// Prepares a key of any length for tags (RFC 2104, section 2).
     ///
-    /// A key of more than 64 bytes is digested once; any other key takes no digest. Precondition: the meter can count
-    /// that without overflow.
+    /// A key of more than 64 bytes is digested once, and any other key is not digested. Precondition: the meter can
+    /// count the digest and its bytes without overflow.
     pub fn new(key: &[u8], meter: &mut Meter) -> HmacKey
         requires digests_room { meter.old.digests + key_digests (length key.now) < 2 ^ 128 }
         requires bytes_room { meter.old.bytes + key_bytes (length key.now) < 2 ^ 128 }
@@ -62,7 +62,7 @@ impl HmacKey {
     /// Returns the tag of the message `a || b`, without copying the two together (RFC 2104, section 2).
     ///
     /// A tag takes two digests, which together digest 160 bytes more than `a` and `b` have. Precondition: the meter can
-    /// count that without overflow.
+    /// count these digests and bytes without overflow.
     pub fn tag(&self, a: &[u8], b: &[u8], meter: &mut Meter) -> [u8; 32]
         requires digests_room { meter.old.digests + 2 < 2 ^ 128 }
         requires bytes_room { meter.old.bytes + tag_bytes (length a.now + length b.now) < 2 ^ 128 }
@@ -93,7 +93,7 @@ fn block_of(key: &[u8], meter: &mut Meter) -> [u8; 64]
     block
 }
 
-// Returns the block XOR the pad, which is this byte repeated.
+// Returns the block after each of its bytes is XORed with `pad`.
 fn padded(block: &[u8; 64], pad: u8) -> [u8; 64]
     ensures { result ≡ xor_lists block.now (replicate 64 pad) }
 {
@@ -102,7 +102,7 @@ fn padded(block: &[u8; 64], pad: u8) -> [u8; 64]
     padded
 }
 
-/// XORs `bytes` into `sum`, byte by byte. Precondition: both have the same length.
+/// XORs `bytes` into `sum`, byte by byte. Precondition: `sum` and `bytes` have the same length.
 pub(crate) fn xor_into(sum: &mut [u8], bytes: &[u8])
     requires { length sum.old ≡ length bytes.now }
     ensures { sum.new ≡ xor_lists sum.old bytes.now }
@@ -112,7 +112,7 @@ pub(crate) fn xor_into(sum: &mut [u8], bytes: &[u8])
     }
 }
 
-// Returns the SHA-256 digest of the three pieces, taken as one message.
+// Returns the SHA-256 digest of the message `first || second || third`.
 fn sha256_of(first: &[u8], second: &[u8], third: &[u8], meter: &mut Meter) -> [u8; 32]
     requires digests_room { meter.old.digests + 1 < 2 ^ 128 }
     requires bytes_room { meter.old.bytes + (length first.now + length second.now + length third.now) < 2 ^ 128 }

@@ -15,19 +15,19 @@ use prims_core::rows::LentRows;
 use prims_core::scratch::{lent_bytes, lent_words};
 use thiserror::Error;
 
-/// Why the lent memory is too small: the first of these errors that applies.
+/// Why the lent memory is too small. If both errors apply, `Words` is reported.
 #[derive(Clone, Copy, Debug, PartialEq, Eq, Drop, Error)]
 pub enum LentFault {
-    /// There are fewer words than [`needed_words`].
+    /// Fewer words are lent than [`needed_words`] returns.
     #[error("too few words are lent")]
     Words,
-    /// There are fewer bytes than [`needed_bytes`].
+    /// Fewer bytes are lent than [`needed_bytes`] returns.
     #[error("too few bytes are lent")]
     Bytes,
 }
 
-/// Returns the number of words that [`scrypt_lent`] needs, which is `32 * r * (N + 2)`: the table of N rows, and two
-/// halves as long as a row. It is at most 2^29.
+/// Returns the number of words that [`scrypt_lent`] needs, which is `32 * r * (N + 2)`: N rows of the table, and two
+/// halves, each as long as a row. The number is at most 2^29.
 pub fn needed_words(params: &Params) -> usize
     ensures words { result ≡ needed_words params.now }
     ensures below { result ≤ 2 ^ 29 }
@@ -36,7 +36,7 @@ pub fn needed_words(params: &Params) -> usize
     UNIT_WORDS * params.r() as usize * (params.row_count() as usize + 2)
 }
 
-/// Returns the number of bytes that [`scrypt_lent`] needs, which is `128 * r * p`: all parts. It is at most 2^29.
+/// Returns the number of bytes that [`scrypt_lent`] needs, which is `128 * r * p`: p parts. The number is at most 2^29.
 pub fn needed_bytes(params: &Params) -> usize
     ensures bytes { result ≡ needed_bytes params.now }
     ensures below { result ≤ 2 ^ 29 }
@@ -50,14 +50,15 @@ pub fn needed_bytes(params: &Params) -> usize
 /// Preconditions: `out` has at most `32 * (2^32 - 1)` bytes, and each count of the meter is at most 2^120.
 ///
 /// The lent memory may hold anything before the call, and what it holds afterwards is unspecified. The meter counts the
-/// same as for [`scrypt`](crate::scrypt::scrypt): the lent memory that is used counts as if it were allocated.
+/// same as for [`scrypt`](crate::scrypt::scrypt): the part of the lent memory that is used counts as if it were
+/// allocated.
 ///
 /// # Errors
 ///
-/// The first of these that applies. `out` and the meter are then unchanged.
+/// Returns the first of these errors that applies. `out` and the meter are then unchanged.
 ///
-/// - `Words`: fewer than [`needed_words`] words are lent.
-/// - `Bytes`: fewer than [`needed_bytes`] bytes are lent.
+/// - `Words`: fewer words are lent than [`needed_words`] returns.
+/// - `Bytes`: fewer bytes are lent than [`needed_bytes`] returns.
 pub fn scrypt_lent(
     words: &mut [u32],
     bytes: &mut [u8],

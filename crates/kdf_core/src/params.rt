@@ -1,6 +1,7 @@
 //! The parameters of scrypt: N, r and p of RFC 7914, section 2, with a ceiling on their product.
 //!
-//! The invariant of [`Params`] says that they are in range and within the ceiling, so scrypt's memory is bounded.
+//! The invariant of [`Params`] says that the numbers are in range and their product is within the ceiling, so scrypt's
+//! memory is bounded.
 
 ghost use Rattle.std.specs.Prelude.{◌≡◌, ◌↔◌, ◌≤◌, IfOk, IsOk, IsTrue};
 ghost use Rattle.kdf_core.specs.Params.{scrypt_params, product, row_count, IsInRange, IsWithinCeiling, IsAccepted, IsBounded};
@@ -8,10 +9,10 @@ ghost use Rattle.kdf_core.specs.Params.{scrypt_params, product, row_count, IsInR
 use std::marker::Model;
 use thiserror::Error;
 
-// The ceiling on `N * r * p`, which is 2^23. It keeps a table of `128 * N * r` bytes within 2^30 bytes.
+// The ceiling on `N * r * p`, which is 2^23. It keeps scrypt's table of `128 * N * r` bytes within 2^30 bytes.
 const CEILING: u64 = 8_388_608;
 
-/// Why three numbers are not parameters of scrypt: the first of these errors that applies.
+/// Why log2 N, r and p are not parameters of scrypt. If both errors apply, `Range` is reported.
 #[derive(Clone, Copy, Debug, PartialEq, Eq, Drop, Error)]
 #[error("{}", self.text())]
 pub enum ParamFault {
@@ -60,7 +61,7 @@ impl Params {
     ///
     /// # Errors
     ///
-    /// The first of these that applies.
+    /// Returns the first of these errors that applies.
     ///
     /// - `Range`: `log_n`, `r` or `p` is 0, or `log_n` is `16 * r` or more.
     /// - `AboveCeiling`: `N * r * p` is above 8388608.
@@ -89,7 +90,7 @@ impl Params {
         self.log_n
     }
 
-    /// Returns N, the number of rows of the table: a power of two of at most 2^22.
+    /// Returns N, the number of rows of scrypt's table. It is a power of two and at most 2^22.
     pub fn row_count(&self) -> u32
         ensures number { result ≡ row_count self.now }
         ensures bounded { IsBounded self.now }
@@ -97,7 +98,7 @@ impl Params {
         1 << self.log_n()
     }
 
-    /// Returns the block size r, in units of 128 bytes.
+    /// Returns the block size r. A row of the table and a part have `128 * r` bytes.
     pub fn r(&self) -> u32
         ensures number { result ≡ self.now.r }
         ensures accepted { IsAccepted self.now }
@@ -105,7 +106,7 @@ impl Params {
         self.r
     }
 
-    /// Returns the parallelization p, which is the number of parts.
+    /// Returns the parallelization p, which is the number of parts that are mixed.
     pub fn p(&self) -> u32
         ensures number { result ≡ self.now.p }
         ensures accepted { IsAccepted self.now }
@@ -113,7 +114,8 @@ impl Params {
         self.p
     }
 
-    /// Returns the product `N * r * p`, at most 2^23. scrypt's time grows with it, and it bounds scrypt's memory.
+    /// Returns the product `N * r * p`, which is at most 2^23. scrypt's time grows with this product, and its memory is
+    /// bounded by it.
     pub fn product(&self) -> u32
         ensures product { result ≡ product self.now }
         ensures within { result ≤ 8388608 }
@@ -122,19 +124,19 @@ impl Params {
     }
 }
 
-// Returns whether none of the three is 0 and log2 N is below 16 r.
+// Returns whether log2 N, r and p are all above 0 and log2 N is below 16r.
 fn is_in_range(log_n: u8, r: u32, p: u32) -> bool
     ensures { IsTrue result ↔ IsInRange (scrypt_params log_n r p) }
 {
     log_n > 0 && r > 0 && p > 0 && u64::from(log_n) < 16 * u64::from(r)
 }
 
-// Returns whether `2^log_n * r * p` is at most 2^23. The product of any `r` and `p` fits into 64 bits and is compared
-// with the ceiling divided by N, so nothing overflows.
+// Returns whether `2^log_n * r * p` is at most 2^23. Instead of this product, which could overflow, `r * p` is
+// computed, which fits into 64 bits, and compared with the ceiling divided by N.
 fn is_within_ceiling(log_n: u8, r: u32, p: u32) -> bool
     requires in_range { IsInRange (scrypt_params log_n r p) }
     ensures { IsTrue result ↔ IsWithinCeiling (scrypt_params log_n r p) }
 {
-    // From N = 2^24 on, N alone is above the ceiling.
+    // If N is 2^24 or more, N alone is above the ceiling.
     log_n < 24 && u64::from(r) * u64::from(p) <= CEILING >> log_n
 }

@@ -1,6 +1,6 @@
 //! PBKDF2 over HMAC-SHA-256 (RFC 8018, section 5.2).
 //!
-//! Each block is computed in an array and copied to its place, so nothing here allocates.
+//! Each block of the result is computed in an array and then copied to its place in `out`, so nothing here allocates.
 
 ghost use Rattle.std.specs.Prelude.{◌≡◌, ℕ, ◌+◌, ◌-◌, ◌*◌, ◌^◌, ◌<◌, ◌≤◌, List, ◌++◌, length, take};
 ghost use Rattle.prims_core.specs.Meter.{with_work};
@@ -14,8 +14,9 @@ use prims_core::words::number_be;
 
 /// Fills `out` with the bytes that PBKDF2 derives from a password and a salt (RFC 8018, section 5.2).
 ///
-/// `key` is prepared from the password. For q blocks of 32 bytes in `out`, the last of which may be short, c rounds and
-/// a salt of s bytes, the call takes `2cq` digests of `q(164 + s) + 192q(c - 1)` bytes in all.
+/// `key` is prepared from the password. Let `out` have q blocks of 32 bytes, the last of which may be short, and let c
+/// be the rounds and s the length of the salt in bytes. Then the call takes `2cq` digests of `q(164 + s) + 192q(c - 1)`
+/// bytes in all.
 ///
 /// Preconditions:
 ///
@@ -64,7 +65,7 @@ fn derived_block(
     sum
 }
 
-// Copies the block to `out` from `start` on, or as much of it as fits.
+// Copies the block to `out` from `start` on. If the block doesn't fit, it is cut.
 fn put_block(out: &mut [u8], start: usize, block: &[u8; 32])
     requires { start < length out.old }
     ensures { take (start + 32) out.new ≡ take start out.old ++ take (length out.old - start) block.now }

@@ -1,8 +1,8 @@
-//! scryptROMix (RFC 7914, section 5), of one part after another in the same memory.
+//! scryptROMix (RFC 7914, section 5). It is applied to one part after another, in the same memory.
 //!
-//! A part is one of the p blocks `B[i]` of section 6, of 128r bytes. It is mixed in two halves of scratch memory, each
-//! as long as a part: a step reads one half and writes the other. Blocks of 64 bytes are in diagonal order there, as
-//! the mixing works on them.
+//! A part is one of the p blocks `B[i]` of section 6 and has 128r bytes. It is mixed in two halves of scratch memory,
+//! each as long as a part: each step reads one half and writes the other. In the halves, the words of each 64-byte
+//! block are in diagonal order, because the mixing works on them in that order.
 
 ghost use Rattle.std.specs.Prelude.{◌≡◌, ℕ, ◌+◌, ◌-◌, ◌*◌, ◌/◌, ◌^◌, ◌%◌, ◌<◌, ◌≤◌, List, length};
 ghost use Rattle.std.specs.Fn.{iterate};
@@ -22,8 +22,8 @@ use prims_core::words::{load_words, store_words};
 // The number of words of a 64-byte block.
 const BLOCK_WORDS: usize = UNIT_WORDS / 2;
 
-/// Replaces each of `count` parts by its ROMix with N rows (RFC 7914, section 6, step 2), and counts the 2N mixings of
-/// each.
+/// Replaces each of `count` parts by its ROMix with N rows (RFC 7914, section 6, step 2). The meter counts 2N mixings
+/// for each part.
 ///
 /// Preconditions:
 ///
@@ -86,8 +86,8 @@ fn mix_part<M: Rows>(
     store_words(x, part);
 }
 
-// Does the N steps of ROMix's second loop (step 3), starting with `x`. They write to `y` and to `x` in turn, so no
-// block is copied. N is even, so the last step writes to `x`.
+// Does the N steps of ROMix's second loop (step 3), starting with `x`. The first step writes to `y`, the second to `x`,
+// and so on, so no block is copied. N is even, so the result is in `x`.
 fn mix_with_rows(table: &[u32], row_count: usize, x: &mut [u32], y: &mut [u32], meter: &mut Meter)
     requires power { (k : ℕ) × IsPower row_count k }
     requires halves { (r : ℕ) × AreHalves r x.old y.old }
@@ -117,8 +117,8 @@ fn mix_back(table: &[u32], row_count: usize, x: &[u32], y: &mut [u32], meter: &m
     mix_xor_diagonals(x, &table[start..start + x.len()], y, meter);
 }
 
-// Returns j, the number of the row that a step uses: Integerify (X) mod N. Since N is a power of two of at most 2^32,
-// it depends only on the first word of the last block, which comes first in diagonal order too.
+// Returns j, the number of the row that a step of ROMix's second loop uses: Integerify (X) mod N. N is a power of two
+// of at most 2^32, so j depends only on the first word of the last block, which is first in diagonal order too.
 fn row_number(words: &[u32], row_count: usize) -> usize
     requires power { (k : ℕ) × IsPower row_count k }
     requires some_block { (r : ℕ) × (1 ≤ r) × (length words.now ≡ part_words r) }

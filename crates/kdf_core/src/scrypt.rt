@@ -1,8 +1,8 @@
 //! scrypt (RFC 7914), over PBKDF2 and ROMix.
 //!
-//! All memory is allocated before any work: one table, which all parts use in turn; the p parts (`B[i]`), as bytes; and
-//! two halves, as words, each as long as a part. [`scrypt_lent`](crate::lent::scrypt_lent) takes this memory from its
-//! caller instead.
+//! All memory is allocated before any work: one table, which all parts use one after another; the p parts (`B[i]`), as
+//! bytes; and two halves, as words, each as long as a part. [`scrypt_lent`](crate::lent::scrypt_lent) takes this memory
+//! from its caller instead.
 
 ghost use Rattle.std.specs.Prelude.{◌≡◌, ◌*◌, ◌-◌, ◌^◌, ◌≤◌, length, OnOk, OnErr};
 ghost use Rattle.prims_core.specs.Meter.{HaveCountAndSum, HasDigestRoom, HasRoom};
@@ -22,10 +22,10 @@ use prims_core::scratch::{ByteScratch, WordScratch};
 use prims_core::table::Table;
 use std::alloc::{AllocError, Global};
 
-/// The number of bytes of two 64-byte blocks. r is a number of these units.
+/// The number of bytes of a unit, which is two 64-byte blocks. A part and a row of the table have r units.
 pub(crate) const UNIT_BYTES: usize = 128;
 
-/// The number of words of two blocks, of 4 bytes each.
+/// The number of 4-byte words of a unit.
 pub(crate) const UNIT_WORDS: usize = UNIT_BYTES / 4;
 
 /// Fills `out` with bytes derived from a password and a salt (RFC 7914, section 6).
@@ -40,8 +40,8 @@ pub(crate) const UNIT_WORDS: usize = UNIT_BYTES / 4;
 ///
 /// # Errors
 ///
-/// [`AllocError`] if an allocation fails. `out` is then unchanged, and the meter has counted the allocations
-/// before that one and nothing else.
+/// [`AllocError`] if an allocation fails. `out` is then unchanged, and the meter has counted only the allocations
+/// before the one that failed.
 pub fn scrypt(
     alloc: Global,
     password: &[u8],
@@ -80,7 +80,7 @@ pub fn scrypt(
     Ok(())
 }
 
-/// Does the work of scrypt (RFC 7914, section 6) in memory that the meter has counted already.
+/// Fills `out` as scrypt does (RFC 7914, section 6), in memory that the meter has counted already.
 ///
 /// Preconditions:
 ///

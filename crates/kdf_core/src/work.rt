@@ -1,4 +1,5 @@
-//! The work of scrypt, computed before hashing: a closed form of what its meter counts, and the number of mixed bytes.
+//! The work of scrypt, computed before hashing: the counts by which scrypt raises its meter, as a closed form, and the
+//! number of bytes that it mixes.
 
 ghost use Rattle.std.specs.Prelude.{◌≡◌, ◌+◌, ◌^◌, ◌≤◌};
 ghost use Rattle.kdf_core.specs.Hmac.{tag_bytes};
@@ -12,9 +13,10 @@ use prims_core::meter::Work;
 
 /// Returns the work of scrypt for a password, a salt and a result of these lengths in bytes (RFC 7914, section 6).
 ///
-/// [`scrypt`](crate::scrypt::scrypt) raises its meter by exactly this. The call neither derives nor allocates anything.
+/// [`scrypt`](crate::scrypt::scrypt) raises its meter by exactly this work. This call itself neither derives nor
+/// allocates anything.
 ///
-/// Precondition: each length is at most 2^32. This keeps the digested bytes far below 2^64.
+/// Precondition: each length is at most 2^32. So the number of digested bytes is far below 2^64.
 pub fn scrypt_work(params: &Params, password_len: u64, salt_len: u64, out_len: u64) -> Work
     requires password { password_len ≤ 2 ^ 32 }
     requires salt { salt_len ≤ 2 ^ 32 }
@@ -40,9 +42,9 @@ pub fn scrypt_work(params: &Params, password_len: u64, salt_len: u64, out_len: u
     }
 }
 
-/// Returns the number of bytes that scrypt mixes, at most 2^31.
+/// Returns the number of bytes that scrypt mixes, which is at most 2^31.
 ///
-/// Each of the 2Np mixings mixes 128r bytes, so this is 256 times the product `N * r * p`.
+/// Each of the 2Np mixings mixes 128r bytes, so the number is 256 times the product `N * r * p`.
 pub fn mixed_bytes(params: &Params) -> u64
     ensures bytes { result ≡ mixed_bytes params.now }
     ensures below { result ≤ 2 ^ 31 }
@@ -50,8 +52,8 @@ pub fn mixed_bytes(params: &Params) -> u64
     2 * UNIT_BYTES as u64 * u64::from(params.product())
 }
 
-// Returns the number of bytes digested for the tag of a salt and a block's number: two padded keys, the inner digest,
-// the salt, and the 4 bytes of the number.
+// Returns the number of bytes digested for the tag of a salt of `salt` bytes and a block's number: two padded keys, the
+// inner digest, the salt, and the 4 bytes of the number.
 fn salted_tag_bytes(salt: u64) -> u64
     requires { salt ≤ 2 ^ 32 }
     ensures { result ≡ tag_bytes (salt + 4) }

@@ -1,7 +1,7 @@
 -- The characters of crypt's alphabet, for `value_of`, `read_30` and the packing of digests in crypt_core: the character
--- of each value below 64, that no two values have the same one, and which bytes are not in the alphabet. The three
--- ranges of characters are found by computing all their values with `true_below-from_list_all`. The other facts are
--- arithmetic on the three cases of `character_of-ranges`.
+-- of each value below 64, that no two values have the same character, and which bytes are not in the alphabet. The
+-- three ranges of characters are found by computing all their values with `true_below-from_list_all`. The other facts
+-- follow by arithmetic from the three cases of `character_of-ranges`.
 use Rattle.std.proofs.Common.{◌≡◌, ℕ, ◌+◌, ◌-◌, ◌<◌, ◌≤◌, Bool, true, ◌⊎◌, inl, inr, eqb, length, get_or, refl, sym, ◌∙◌, ap, subst, arith}
 use Rattle.std.specs.Prelude.{Contains}
 use Rattle.std.specs.List.{list_all, range_with_len}
@@ -11,7 +11,7 @@ use Rattle.std.proofs.lemmas.Bool.{eqb-true, cases_lt}
 use Rattle.std.proofs.lemmas.Grind.{get_or_default_zero}
 use Rattle.prims_core.specs.Alphabet.{alphabet, character_of}
 
--- A test that computes to true for all numbers below n at once is true for each of them.
+-- If `list_all` says that a test is true for all numbers below n, the test is true for each number below n.
 pub true_below-from_list_all : (p : ℕ → Bool) (n : ℕ) → list_all p (range_with_len 0 n) ≡ true
     → (v : ℕ) → v < n → p v ≡ true
 true_below-from_list_all p n all v below =
@@ -25,7 +25,7 @@ pub length-alphabet : length alphabet ≡ 64
 unfolding alphabet
 length-alphabet = refl
 
--- The three ranges of characters, as their bytes: `.` to `9`, then `A` to `Z`, then `a` to `z`.
+-- The bytes of the three ranges of characters: `.` to `9`, then `A` to `Z`, then `a` to `z`.
 pub character_of-dot_to_nine : (v : ℕ) → v < 12 → character_of v ≡ v + 46
 unfolding alphabet
 character_of-dot_to_nine v below =
@@ -41,7 +41,7 @@ unfolding alphabet
 character_of-lower_case v below =
     eqb-true _ _ (true_below-from_list_all (λ w. eqb (character_of (w + 38)) (w + 97)) 26 refl v below)
 
--- Each value below 64 is in one of the three ranges, and its byte follows from that.
+-- Each value below 64 is in one of the three ranges, and its character is the value plus a number that the range gives.
 pub character_of-ranges : (v : ℕ) → v < 64
     → ((v < 12) × (character_of v ≡ v + 46))
     ⊎ (((12 ≤ v) × (v < 38) × (character_of v ≡ v + 53)) ⊎ ((38 ≤ v) × (character_of v ≡ v + 59)))
@@ -75,14 +75,14 @@ pub character_of-injective : (v w : ℕ) → v < 64 → w < 64 → character_of 
 character_of-injective v w vs ws same =
     omega (arith, character_of-ranges v vs, character_of-ranges w ws)
 
--- IsOutside c: the byte is outside the three ranges. So it is the character of no value.
+-- IsOutside c: the byte c is outside the three ranges of characters. Such a byte is the character of no value.
 abbrev pub IsOutside : ℕ → Type 0
 IsOutside c = (c < 46) ⊎ (((57 < c) × (c < 65)) ⊎ (((90 < c) × (c < 97)) ⊎ (122 < c)))
 
 pub character_of-not_outside : (c : ℕ) → IsOutside c → (v : ℕ) → v < 64 → character_of v ≡ c → ⊥
 character_of-not_outside c outside v below spells_c = omega (arith, outside, character_of-ranges v below)
 
--- So the alphabet doesn't contain it.
+-- The alphabet doesn't contain a byte outside the three ranges.
 pub Contains-not_outside : (c : ℕ) → IsOutside c → Contains alphabet c → ⊥
 Contains-not_outside c outside contained =
     let found : (v : ℕ) × (v < 64) × (character_of v ≡ c) = value-from_Contains c contained in

@@ -1,7 +1,7 @@
 -- Lists of blocks of sixteen words, for `to_diagonals`, `from_diagonals`, `block_on_diagonals` and the mixing of
--- blocks. `in_rows` rearranges each block on its own, so block i of the result is block i rearranged (induction over
--- the blocks). Two lists with the same blocks are equal. Writing a block over another one changes that block alone,
--- which is the step of each loop over blocks.
+-- blocks. `in_rows` rearranges each block on its own, so block i of the result is block i rearranged. Two lists with
+-- the same blocks are equal. Writing a block over another one changes that block alone, which is the step of each loop
+-- over blocks.
 use Rattle.std.proofs.Common.{◌≡◌, ℕ, zero, suc, ◌+◌, ◌-◌, ◌*◌, ◌/◌, ◌<◌, ◌≤◌, ◌⊎◌, inl, inr, List, [], ◌∷◌, ◌++◌, length, take, drop, get_or, refl, sym, ◌∙◌, ap, subst, arith}
 use borrow.Rule.Slice.PartMut.{put_mid}
 use Rattle.std.specs.List.{flat_map}
@@ -18,7 +18,8 @@ pub length-block_in_rows : (block : List ℕ) → length (block_in_rows block) �
 unfolding block_in_rows
 length-block_in_rows block = refl
 
--- A list of pieces, each replaced by a piece of this size, and joined: its length, and each piece of it.
+-- If each piece of a list is replaced by a piece of `size` items and the pieces are joined, the length is `size` times
+-- the number of pieces, and piece i is the one that replaces piece i.
 length-flat_map : (f : List ℕ → List ℕ) (size : ℕ) → ((piece : List ℕ) → length (f piece) ≡ size) → (pieces : List (List ℕ))
     → length (flat_map f pieces) ≡ size * length pieces
 length-flat_map f size each [] = omega arith
@@ -61,7 +62,7 @@ equal-from_same_blocks n xs ys length_xs length_ys same_at =
     get_or-chunks_exact ys 16 n i (omega arith) length_ys (omega arith) ∙ sym (same_at i (omega arith)))
     ∙ concat-chunks_exact ys 16 n (omega arith) length_ys
 
--- A list after a block is written over block i: block i is the written one, and each other block k is as before.
+-- After a block is written over block i of a list, block i is the written one, and each other block k is as before.
 pub block_at-put_mid_same : (i width : ℕ) (out x : List ℕ) → 16 * i + 16 ≤ length out → length x ≡ 16
     → block_at i (put_mid (16 * i) width out x) ≡ x
 block_at-put_mid_same i width out x inside length_x =
@@ -77,8 +78,8 @@ block_at-put_mid_other i width k out x inside width_is length_x (inl below) =
 block_at-put_mid_other i width k out x inside width_is length_x (inr above) =
     ap (take 16) (drop-put_mid (16 * i) width out x (16 * k) (omega arith) (omega arith) (omega arith))
 
--- The loops of `to_diagonals` and `from_diagonals`, one step on: blocks before i have property P and the others are
--- those of `start`. After a block with P is written over block i, the same holds of i + 1.
+-- One iteration of the loops of `to_diagonals` and `from_diagonals`. If the blocks before i have property P and the
+-- others are those of `start`, then after a block with P is written over block i, the same holds of i + 1.
 pub rearranged_blocks-put_mid : (n i width : ℕ) (P : ℕ → List ℕ → Type 0) (start words block : List ℕ) → length words ≡ 16 * n → i < n
     → width ≡ 16 → length block ≡ 16 → P i block
     → ((k : ℕ) → k < i → P k (block_at k words)) → ((k : ℕ) → i ≤ k → block_at k words ≡ block_at k start)

@@ -1,6 +1,6 @@
--- A list cut into pieces of one size by `chunks_exact`: their number, each piece, and that joining them gives the list
--- back, if its length is a multiple of the size. `load_words`, `salsa8_of` and the mixing of blocks need it.
--- `concat-from_pieces` shows the last part, by induction over the pieces.
+-- A list cut into pieces of one size by `chunks_exact`: how many pieces there are, what each piece is, and that joining
+-- them gives the list back if its length is a multiple of the size. `load_words`, `salsa8_of` and the mixing of blocks
+-- need these facts.
 use Rattle.std.proofs.Common.{◌≡◌, ℕ, suc, ◌+◌, ◌*◌, ◌/◌, ◌<◌, List, [], ◌∷◌, ◌++◌, length, take, drop, get_or, sym, ◌∙◌, ap, ap₂, arith}
 use Rattle.std.specs.List.{concat}
 use Rattle.std.proofs.Math.Nat.{mul-div_cancel_left}
@@ -15,7 +15,7 @@ length-chunks_exact items size count some whole =
     length-map-range_with_len (λ i. take size (drop (size * i) items)) 0 (length items / size)
     ∙ ap (λ (n : ℕ). n / size) whole ∙ mul-div_cancel_left count some
 
--- Piece i is the size items from place size * i on.
+-- Piece i is the `size` items of the list from place size * i on.
 pub get_or-chunks_exact : (items : List ℕ) (size count i : ℕ) → 0 < size → length items ≡ size * count → i < count
     → get_or (chunks_exact items size) i [] ≡ take size (drop (size * i) items)
 unfolding chunks_exact
@@ -24,7 +24,7 @@ get_or-chunks_exact items size count i some whole inside =
     ap (λ (n : ℕ). n / size) whole ∙ mul-div_cancel_left count some in
     get_or-map-range_with_len (λ i. take size (drop (size * i) items)) 0 (length items / size) i i [] (omega arith) (omega arith)
 
--- A list that consists of these pieces, one after another, is the pieces joined.
+-- A list that has these pieces one after another is the pieces joined. The proof goes by induction over the pieces.
 pub concat-from_pieces : (size : ℕ) (pieces : List (List ℕ)) (items : List ℕ) → length items ≡ size * length pieces
     → ((i : ℕ) → i < length pieces → get_or pieces i [] ≡ take size (drop (size * i) items))
     → items ≡ concat pieces
@@ -39,7 +39,8 @@ concat-from_pieces size (piece ∷ pieces) items whole piece_at =
     rw (drop-drop, ← next_start) next_piece) in
     sym (take-append-drop size items) ∙ ap₂ ◌++◌ (sym first_piece) other_pieces
 
--- A list that is cut into pieces, and joined again, is the same list.
+-- Cutting a list into pieces of `size` items and joining them gives the list back, if its length is a multiple of
+-- `size`.
 pub concat-chunks_exact : (items : List ℕ) (size count : ℕ) → 0 < size → length items ≡ size * count
     → concat (chunks_exact items size) ≡ items
 concat-chunks_exact items size count some whole =

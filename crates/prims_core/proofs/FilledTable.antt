@@ -1,7 +1,7 @@
--- The rows that `fill_by_mixing` has filled so far: row i holds the start after i mixings, for each row there is
--- (`HasMixings`). The loop adds two rows at a time, by `HasMixings-append_two`. Once all rows are there,
--- `HoldsMixings-from_HasMixings` is the clause `rows`. `mix_with_rows` and `mix_parts` of kdf_core use the lemmas on
--- iterations and on counted mixings.
+-- The rows that `fill_by_mixing` has filled so far: each row i of them holds the start after i mixings (`HasMixings`).
+-- The loop adds two rows at a time, by `HasMixings-append_two`. Once all rows are filled,
+-- `HoldsMixings-from_HasMixings` gives the clause `rows`. `mix_with_rows` and `mix_parts` of kdf_core also use the
+-- lemmas on iterations and on counted mixings.
 use Rattle.std.proofs.Common.{◌≡◌, ℕ, zero, suc, ◌+◌, ◌*◌, ◌/◌, ◌<◌, ◌≤◌, List, [], ◌++◌, length, take, drop, refl, sym, ◌∙◌, ap, arith, below_more, length-append, length-drop}
 use Rattle.std.specs.Fn.{iterate}
 use Rattle.std.proofs.Math.Nat.{mul-le-mul_left}
@@ -13,14 +13,15 @@ use Rattle.prims_core.specs.Memory.{rows_of, HoldsMixings}
 use Rattle.prims_core.specs.declared.meter.Work.{Work}
 use Rattle.prims_core.proofs.TableFacts.{get_or-rows_of}
 
--- n + 1 applications are one application after n.
+-- Applying h n + 1 times is applying it n times and then once more.
 pub iterate-add_one : (h : List ℕ → List ℕ) (n : ℕ) (x : List ℕ) → iterate h (n + 1) x ≡ h (iterate h n x)
 iterate-add_one h zero x = refl
 iterate-add_one h (suc n) x =
     let next : suc n + 1 ≡ suc (n + 1) = omega arith in
     ap (λ k. iterate h k x) next ∙ iterate-add_one h n (h x)
 
--- The same for two more applications, where the values between them are given by equations.
+-- Applying h 2n times and then twice more is applying it 2(n + 1) times. The values between the applications are given
+-- by equations.
 pub iterate-add_two : (h : List ℕ → List ℕ) (n : ℕ) (x a b c : List ℕ) → a ≡ iterate h (2 * n) x → b ≡ h a → c ≡ h b
     → c ≡ iterate h (2 * (n + 1)) x
 iterate-add_two h n x a b c a_is b_is c_is =
@@ -28,24 +29,25 @@ iterate-add_two h n x a b c a_is b_is c_is =
     let b_iterated : b ≡ iterate h (2 * n + 1) x = b_is ∙ (ap h a_is ∙ sym (iterate-add_one h (2 * n) x)) in
     c_is ∙ (ap h b_iterated ∙ (sym (iterate-add_one h (2 * n + 1) x) ∙ ap (λ k. iterate h k x) count_is))
 
--- A meter that counts m mixings and then n has counted their sum.
+-- A meter that counts m mixings and then n mixings has counted m + n mixings.
 pub mixes-add : (a b c : Work) (m n all : ℕ) → b ≡ record a { mixes = a.mixes + m } → c ≡ record b { mixes = b.mixes + n } → m + n ≡ all
     → c ≡ record a { mixes = a.mixes + all }
 mixes-add a b c m n all b_is c_is sum_is =
     let counted : a.mixes + m + n ≡ a.mixes + all = omega arith in
     c_is ∙ (ap (λ (x : Work). record x { mixes = x.mixes + n }) b_is ∙ ap (λ k. record a { mixes = k }) counted)
 
--- HasMixings items w count start: the list is this number of rows of w words, and row i, which is in diagonal order,
+-- HasMixings items w count start: the list consists of `count` rows of w words, and row i, which is in diagonal order,
 -- holds `start` after i mixings.
 pub record HasMixings (items : List ℕ) (w count : ℕ) (start : List ℕ) : Type 0 where
   pub long : length items ≡ count * w
   pub held : (i : ℕ) → i < count → in_rows (take w (drop (i * w) items)) ≡ iterate block_mix i start
 
--- An empty list has no rows.
+-- `HasMixings` holds of an empty list and no rows.
 pub HasMixings-nil : (w : ℕ) (start : List ℕ) → HasMixings [] w 0 start
 HasMixings-nil w start = record { long = omega arith; held = λ i none. absurd (omega arith) }
 
--- Appending `start` after `count` mixings adds a row.
+-- If `HasMixings` holds of `count` rows, and `start` mixed `count` times is appended as a row, it holds of `count` + 1
+-- rows.
 pub HasMixings-append : (items row start : List ℕ) (w count : ℕ) → HasMixings items w count start → length row ≡ w
     → in_rows row ≡ iterate block_mix count start → HasMixings (items ++ row) w (count + 1) start
 HasMixings-append items row start w count before length_row row_mixed =
@@ -61,8 +63,8 @@ HasMixings-append items row start w count before length_row row_mixed =
           (ap in_rows (ap (take w) (drop_at items row (count * w) before.long) ∙ take_all w row (omega (arith, length_row))) ∙ row_mixed);
     }
 
--- The same for two rows, x and then y, where y is x mixed once more. This is one iteration of the loop of
--- `fill_by_mixing`.
+-- If `HasMixings` holds of 2i rows, and two rows are appended, x, which is the start mixed 2i times, and y, which is x
+-- mixed once more, then it holds of 2(i + 1) rows. This is one iteration of the loop of `fill_by_mixing`.
 pub HasMixings-append_two : (items once twice x y start : List ℕ) (w i : ℕ) → HasMixings items w (2 * i) start → length x ≡ w → length y ≡ w
     → in_rows x ≡ iterate block_mix (2 * i) start → in_rows y ≡ block_mix (in_rows x) → once ≡ items ++ x → twice ≡ once ++ y
     → HasMixings twice w (2 * (i + 1)) start
@@ -72,12 +74,12 @@ HasMixings-append_two items once twice x y start w i before length_x length_y x_
     rw (twice_is, ← count_is) (HasMixings-append once y start w (2 * i + 1) with_x length_y
     (y_mixed ∙ (ap block_mix x_mixed ∙ sym (iterate-add_one block_mix (2 * i) start))))
 
--- After i iterations, of two rows each, the memory for n rows still holds two more if i is below n / 2.
+-- After i iterations, of two rows of w words each, memory for n rows has space for two more rows if i is below n / 2.
 pub two_more_rows-fit : (n w i : ℕ) → i < n / 2 → 2 * i * w + w + w ≤ n * w
 two_more_rows-fit n w i inside =
     let more : 2 * i + 2 ≤ n = omega arith in
     omega (arith, mul-le-mul_left w more)
 
--- A list with all its rows is a table that holds the mixings.
+-- If `HasMixings` holds of a list with n rows, then `HoldsMixings` holds of these rows as a table.
 pub HoldsMixings-from_HasMixings : (n w : ℕ) (items start : List ℕ) → HasMixings items w n start → HoldsMixings (rows_of n w items) n start
 HoldsMixings-from_HasMixings n w items start filled = λ i inside. ap in_rows (get_or-rows_of n w items i [] inside) ∙ filled.held i inside

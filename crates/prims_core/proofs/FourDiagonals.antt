@@ -1,6 +1,7 @@
--- A block of sixteen words as four diagonals, for `Diagonals`: loading it from row or diagonal order, storing it in
--- either order, and applying an operator to it lane by lane. Lists of a known length are split into their items, by
--- `four_items-written_out` and `sixteen_words-written_out`, and then both sides compute to the same words.
+-- A block of sixteen words as four diagonals, for `Diagonals`: loading a block that is in row order or in diagonal
+-- order, storing it in either order, and applying an operator to it lane by lane. Lists of a known length are split
+-- into their items, by `four_items-written_out` and `sixteen_words-written_out`; then both sides of an equation compute
+-- to the same words.
 use Rattle.std.proofs.Common.{◌≡◌, ℕ, ◌+◌, ◌<◌, ◌≤◌, List, [], ◌∷◌, ◌++◌, length, take, drop, get_or, slice_index, refl, sym, ◌∙◌, ap, subst, arith}
 use Rattle.std.specs.List.{concat}
 use Rattle.std.specs.Simd.Lanes.{zip2, pick_l}
@@ -11,7 +12,7 @@ use Rattle.prims_core.specs.Private.Diagonals.{HaveFourWords, words_on}
 use Rattle.prims_core.specs.Words.{chunks_exact}
 use Rattle.prims_core.proofs.ChunkFacts.{concat-chunks_exact}
 
--- To show a property of a list of four items, it suffices to show it of its items written out.
+-- To prove a property of a list of four items, it suffices to prove it of the list with its items written out.
 pub four_items-written_out : (P : List ℕ → Type 0) → (xs : List ℕ) → length xs ≡ 4
     → P (slice_index xs 0 ∷ slice_index xs 1 ∷ slice_index xs 2 ∷ slice_index xs 3 ∷ []) → P xs
 four_items-written_out P (w ∷ x ∷ y ∷ z ∷ []) four p = p
@@ -21,7 +22,7 @@ four_items-written_out P (w ∷ x ∷ []) four p = absurd (omega arith)
 four_items-written_out P (w ∷ x ∷ y ∷ []) four p = absurd (omega arith)
 four_items-written_out P (w ∷ x ∷ y ∷ z ∷ v ∷ xs) four p = absurd (omega arith)
 
--- The four items from place i on.
+-- The four items of a list from place i on, written out.
 take_four-drop : (xs : List ℕ) (i : ℕ) → i + 4 ≤ length xs
     → take 4 (drop i xs) ≡ get_or xs i 0 ∷ get_or xs (i + 1) 0 ∷ get_or xs (i + 2) 0 ∷ get_or xs (i + 3) 0 ∷ []
 take_four-drop xs i inside =
@@ -33,7 +34,7 @@ take_four-drop xs i inside =
     let fourth = drop_more xs (i + 3) 0 (omega arith) in
     rw (first, second, two, third, three, fourth) refl
 
--- Sixteen words cut into rows of four.
+-- Sixteen words cut into rows of four, written out.
 chunks_exact-four_of_sixteen : (xs : List ℕ) → length xs ≡ 16
     → chunks_exact xs 4
     ≡ (get_or xs 0 0 ∷ get_or xs 1 0 ∷ get_or xs 2 0 ∷ get_or xs 3 0 ∷ [])
@@ -45,7 +46,7 @@ unfolding chunks_exact
 chunks_exact-four_of_sixteen xs sixteen =
     rw (sixteen, take_four-drop xs 0 (omega arith), take_four-drop xs 4 (omega arith), take_four-drop xs 8 (omega arith), take_four-drop xs 12 (omega arith)) refl
 
--- A list of sixteen words is its words written out.
+-- A list of sixteen words equals the list with its words written out.
 sixteen_words-written_out : (xs : List ℕ) → length xs ≡ 16
     → (slice_index xs 0 ∷ slice_index xs 1 ∷ slice_index xs 2 ∷ slice_index xs 3
     ∷ slice_index xs 4 ∷ slice_index xs 5 ∷ slice_index xs 6 ∷ slice_index xs 7
@@ -53,7 +54,7 @@ sixteen_words-written_out : (xs : List ℕ) → length xs ≡ 16
     ∷ slice_index xs 12 ∷ slice_index xs 13 ∷ slice_index xs 14 ∷ slice_index xs 15 ∷ []) ≡ xs
 sixteen_words-written_out xs long = sym (ap concat (chunks_exact-four_of_sixteen xs long)) ∙ concat-chunks_exact xs 4 4 (omega arith) (omega arith)
 
--- `of`: picking the diagonals of a block in row order gives the block.
+-- `Diagonals::of`: the diagonals that it picks of a block in row order make up that block.
 pub words_on-loaded_from_rows : (xs : List ℕ) → length xs ≡ 16
     → words_on (pick_l 0 (xs ++ xs) (0 ∷ 5 ∷ 10 ∷ 15 ∷ [])) (pick_l 0 (xs ++ xs) (4 ∷ 9 ∷ 14 ∷ 3 ∷ []))
     (pick_l 0 (xs ++ xs) (8 ∷ 13 ∷ 2 ∷ 7 ∷ [])) (pick_l 0 (xs ++ xs) (12 ∷ 1 ∷ 6 ∷ 11 ∷ [])) ≡ xs
@@ -61,7 +62,7 @@ words_on-loaded_from_rows xs long =
     subst (λ (ys : List ℕ). words_on (pick_l 0 (ys ++ ys) (0 ∷ 5 ∷ 10 ∷ 15 ∷ [])) (pick_l 0 (ys ++ ys) (4 ∷ 9 ∷ 14 ∷ 3 ∷ []))
     (pick_l 0 (ys ++ ys) (8 ∷ 13 ∷ 2 ∷ 7 ∷ [])) (pick_l 0 (ys ++ ys) (12 ∷ 1 ∷ 6 ∷ 11 ∷ [])) ≡ ys) (sixteen_words-written_out xs long) refl
 
--- `store`: the shuffles of the diagonals, joined two by two, give the block in row order.
+-- `Diagonals::store`: shuffling the diagonals, which are joined two by two, gives the block in row order.
 pub words_on-stored_in_rows : (a b c d : List ℕ) → length a ≡ 4 → length c ≡ 4
     → (slice_index (a ++ b) 0 ∷ slice_index (c ++ d) 5 ∷ slice_index (c ++ d) 2 ∷ slice_index (a ++ b) 7
     ∷ slice_index (a ++ b) 4 ∷ slice_index (a ++ b) 1 ∷ slice_index (c ++ d) 6 ∷ slice_index (c ++ d) 3
@@ -80,7 +81,7 @@ words_on-stored_in_rows a b c d four_a four_c =
     ∷ slice_index (c ++ d) 4 ∷ slice_index (c ++ d) 1 ∷ slice_index b 2 ∷ slice_index a 3 ∷ [])
     ≡ words_on a b c d) c four_c refl)
 
--- `of_diagonals`: picking the diagonals of a block in diagonal order gives that block in row order.
+-- `Diagonals::of_diagonals`: the diagonals that it picks of a block in diagonal order make up that block in row order.
 pub words_on-loaded_from_diagonals : (xs : List ℕ) → length xs ≡ 16
     → words_on (pick_l 0 (xs ++ xs) (0 ∷ 1 ∷ 2 ∷ 3 ∷ [])) (pick_l 0 (xs ++ xs) (4 ∷ 5 ∷ 6 ∷ 7 ∷ []))
     (pick_l 0 (xs ++ xs) (8 ∷ 9 ∷ 10 ∷ 11 ∷ [])) (pick_l 0 (xs ++ xs) (12 ∷ 13 ∷ 14 ∷ 15 ∷ [])) ≡ block_in_rows xs
@@ -90,7 +91,8 @@ words_on-loaded_from_diagonals xs long =
     (pick_l 0 (ys ++ ys) (8 ∷ 9 ∷ 10 ∷ 11 ∷ [])) (pick_l 0 (ys ++ ys) (12 ∷ 13 ∷ 14 ∷ 15 ∷ [])) ≡ block_in_rows ys)
     (sixteen_words-written_out xs long) refl
 
--- `store_diagonals`: the shuffles of the diagonals, joined two by two, give the block in diagonal order.
+-- `Diagonals::store_diagonals`: shuffling the diagonals, which are joined two by two, gives the block in diagonal
+-- order.
 pub words_on-stored_by_diagonals : (a b c d : List ℕ) → length a ≡ 4 → length c ≡ 4
     → block_in_rows (slice_index (a ++ b) 0 ∷ slice_index (a ++ b) 1 ∷ slice_index (a ++ b) 2 ∷ slice_index (a ++ b) 3
     ∷ slice_index (a ++ b) 4 ∷ slice_index (a ++ b) 5 ∷ slice_index (a ++ b) 6 ∷ slice_index (a ++ b) 7
@@ -108,7 +110,7 @@ HaveFourWords-zip2 f a b c d a' b' c' d' fours fours' =
     λ xs ys four_xs four_ys. length-zip2 f xs ys (four_xs ∙ sym four_ys) ∙ four_xs in
     (lanes a a' fours.0 fours'.0, lanes b b' fours.1 fours'.1, lanes c c' fours.2 fours'.2, lanes d d' fours.3 fours'.3)
 
--- Applying an operator to the diagonals applies it to the words of the block.
+-- Applying an operator to the diagonals of two blocks applies it to the words of the blocks.
 pub words_on-zip2 : (f : ℕ → ℕ → ℕ) (a b c d a' b' c' d' : List ℕ) → HaveFourWords a b c d → HaveFourWords a' b' c' d'
     → words_on (zip2 f a a') (zip2 f b b') (zip2 f c c') (zip2 f d d') ≡ zip2 f (words_on a b c d) (words_on a' b' c' d')
 words_on-zip2 f a b c d a' b' c' d' fours fours' =

@@ -1,7 +1,7 @@
--- scryptBlockMix while it goes on, for `put_result`, `mix_blocks` and `mix_and_append`: X from block to block, and the
--- results that are in their places so far. `ArePlaced-put_mid` adds a result: its place is free, because no two results
--- have the same place. Once all 2r are there, `in_rows-from_ArePlaced` shows that they are the results with even
--- numbers followed by those with odd numbers.
+-- The loop of scryptBlockMix, for `put_result`, `mix_blocks` and `mix_and_append`: X from block to block, and the
+-- results that are in their places so far. `ArePlaced-put_mid` adds a result; no two results have the same place, so it
+-- overwrites none. When all 2r results are in their places, `in_rows-from_ArePlaced` shows that the output is the
+-- results with even numbers followed by those with odd numbers.
 use Rattle.std.proofs.Common.{◌≡◌, ℕ, ◌+◌, ◌-◌, ◌*◌, ◌/◌, ◌%◌, ◌<◌, ◌⊎◌, inl, inr, List, [], ◌++◌, length, take, map, refl, sym, ◌∙◌, ap, add-one, arith}
 use borrow.Rule.Slice.PartMut.{put_mid}
 use Rattle.std.specs.List.{concat, range_with_len}
@@ -15,7 +15,7 @@ use Rattle.prims_core.specs.Diagonals.{block_in_rows, in_rows}
 use Rattle.prims_core.proofs.ChunkFacts.{concat-from_pieces}
 use Rattle.prims_core.proofs.BlockFacts.{block_at-in_rows, length-in_rows, block_at-put_mid_same, block_at-put_mid_other}
 
--- X before the first block, and after one more block.
+-- X before the first block is the last block; X after one more block is Salsa20/8 of X XOR that block.
 pub x_after-zero : (r : ℕ) (words : List ℕ) → x_after r words 0 ≡ block_at (2 * r - 1) words
 unfolding x_after
 x_after-zero r words = refl
@@ -24,7 +24,7 @@ pub x_after-add_one : (r : ℕ) (words : List ℕ) (i : ℕ) → x_after r words
 unfolding x_after
 x_after-add_one r words i = rw add-one refl
 
--- The place of result i is i / 2 if i is even, and r places later if i is odd.
+-- The place of result i is i / 2, rounded down, if i is even, and r places later if i is odd.
 pub place_of-even_or_odd : (r i : ℕ)
     → ((i % 2 ≡ 0) × (place_of r i ≡ i / 2)) ⊎ ((i % 2 ≡ 1) × (place_of r i ≡ i / 2 + r))
 place_of-even_or_odd r i = elim (cases_lt (i % 2) 1) [
@@ -32,13 +32,13 @@ place_of-even_or_odd r i = elim (cases_lt (i % 2) 1) [
   | inr odd ↦ let is : i % 2 ≡ 1 = omega arith in inr (is, rw is (omega arith))
 ]
 
--- Results 0 to i - 1 are in their places; after result i is written to its place, so are results 0 to i.
+-- If results 0 to i - 1 are in their places, then after result i is written to its place, results 0 to i are.
 pub ArePlaced-put_mid : (r i width : ℕ) (y : ℕ → List ℕ) (out x : List ℕ) → length out ≡ 32 * r
     → i < 2 * r → width ≡ 16 → length x ≡ 16 → block_in_rows x ≡ y i → ArePlaced y r i out
     → ArePlaced y r (i + 1) (put_mid (16 * place_of r i) width out x)
 ArePlaced-put_mid r i width y out x length_out inside width_is length_x x_is_result placed = λ k so_far.
     let place : ℕ = place_of r i in
-    -- A result k other than i has another place, so writing result i leaves it.
+    -- A result k other than i has another place, so writing result i does not change it.
     let other : ℕ = place_of r k in
     let fits : place < 2 * r = omega (arith, place_of-even_or_odd r i) in
     elim (cases_lt k i) [
@@ -53,7 +53,8 @@ ArePlaced-put_mid r i width y out x length_out inside width_is length_x x_is_res
           rw k_is_i (ap block_in_rows (block_at-put_mid_same place width out x (omega arith) length_x) ∙ x_is_result)
     ]
 
--- With all results in their places, the list is the even results and then the odd ones.
+-- When all 2r results are in their places, the list is the results with even numbers followed by those with odd
+-- numbers.
 pub in_rows-from_ArePlaced : (r : ℕ) (y : ℕ → List ℕ) (out : List ℕ) → length out ≡ 32 * r → ArePlaced y r (2 * r) out
     → in_rows out ≡ concat (map (λ i. y (2 * i)) (range_with_len 0 r) ++ map (λ i. y (2 * i + 1)) (range_with_len 0 r))
 in_rows-from_ArePlaced r y out length_out placed =
@@ -62,10 +63,10 @@ in_rows-from_ArePlaced r y out length_out placed =
     let length_evens : length evens ≡ r = length-map-range_with_len (λ i. y (2 * i)) 0 r in
     let length_odds : length odds ≡ r = length-map-range_with_len (λ i. y (2 * i + 1)) 0 r in
     let length_both : length (evens ++ odds) ≡ 2 * r = omega (arith, length-append evens odds) in
-    -- Block p of `out` in row order is block p of `in_rows out`.
+    -- Block p of `out`, rearranged to row order, is block p of `in_rows out`.
     let same_block : (p : ℕ) → p < 2 * r → block_in_rows (block_at p out) ≡ block_at p (in_rows out) =
     λ p inside. sym (block_at-in_rows out p (omega arith)) in
-    -- Before place r, block p is result 2p; from there on it is result 2q + 1, where q is p - r.
+    -- If p is below r, block p is result 2p. Otherwise it is result 2q + 1, where q is p - r.
     concat-from_pieces 16 (evens ++ odds) (in_rows out) (omega (arith, length-in_rows out)) (λ p inside.
     elim (cases_lt p r) [
       | inl front ↦

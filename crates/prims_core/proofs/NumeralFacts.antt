@@ -1,7 +1,7 @@
 -- Numbers and their numerals, for `put_group` and `read_30`: each number below 64 ^ n has exactly one numeral of n
--- characters. `put_group` writes one from its first character on, and `read_30` reads one from its last character on;
--- the lemmas `.._written` and `.._read` are the first, middle and last steps of their loops. `numerals-injective`, by
--- induction over n, makes what `read_30` returns the only such number.
+-- characters. `put_group` writes a numeral from its first character on, and `read_30` reads one from its last character
+-- on. The lemmas whose names end in `_written` and `_read` are the first, middle and last steps of their loops. By
+-- `numerals-injective`, the number that `read_30` returns is the only one with that numeral.
 use Rattle.std.proofs.Common.{◌≡◌, ℕ, zero, suc, ◌+◌, ◌-◌, ◌*◌, ◌/◌, ◌%◌, ◌^◌, ◌<◌, ◌≤◌, List, [], ◌∷◌, ◌++◌, length, get_or, refl, sym, ◌∙◌, ap, subst, add-one, append_assoc, append-nil, length-append, arith}
 use Rattle.std.specs.Prelude.{Contains, All}
 use Rattle.std.proofs.Math.Nat.{pow-suc}
@@ -10,7 +10,7 @@ use Rattle.std.proofs.lemmas.Nat.{mod-mul-add, div-mul-add}
 use Rattle.prims_core.specs.Alphabet.{alphabet, character_of, numerals}
 use Rattle.prims_core.proofs.AlphabetFacts.{Contains-character_of, character_of-injective}
 
--- A numeral is the character of the lowest six bits, and then the numeral of the rest.
+-- A numeral of n characters is the character of the lowest six bits, followed by the numeral of the other bits.
 pub numerals-add_one : (n m value : ℕ) → n ≡ m + 1
     → numerals n value ≡ character_of (value % 64) ∷ numerals m (value / 64)
 unfolding numerals
@@ -25,7 +25,8 @@ unfolding numerals
 length-numerals zero value = refl
 length-numerals (suc n) value = ap suc (length-numerals n (value / 64))
 
--- `put_group`, one character on: what is written and what is left are still the whole numeral.
+-- One iteration of `put_group`: the characters written, followed by the numeral of the rest, are still the whole
+-- numeral.
 pub numerals-character_written : (out more whole : List ℕ) (character chars count rest : ℕ)
     → more ≡ out ++ character ∷ [] → character ≡ character_of (rest % 64) → count < chars
     → out ++ numerals (chars - count) rest ≡ whole
@@ -35,7 +36,7 @@ numerals-character_written out more whole character chars count rest more_is cha
     rw character_is (numerals-add_one (chars - count) (chars - (count + 1)) rest (omega arith)) in
     rw (more_is, append_assoc) (ap (λ (xs : List ℕ). out ++ xs) (sym numeral_split) ∙ so_far)
 
--- With all characters written, what is written is the whole numeral.
+-- The end of `put_group`: when all characters are written, they are the whole numeral.
 pub numerals-all_written : (out whole : List ℕ) (chars count rest : ℕ) → chars ≤ count
     → out ++ numerals (chars - count) rest ≡ whole → out ≡ whole
 numerals-all_written out whole chars count rest none so_far =
@@ -44,14 +45,14 @@ numerals-all_written out whole chars count rest none so_far =
     subst (λ (xs : List ℕ). out ++ xs ≡ whole) (ap (λ (n : ℕ). numerals n rest) none_left ∙ numerals-zero rest) so_far in
     sym (append-nil out) ∙ last
 
--- Putting the value v below a number puts its character in front of the numeral.
+-- The numeral of number * 64 + v, with v below 64, is the character of v followed by the numeral of the number.
 pub numerals-mul-add : (n number v c : ℕ) → v < 64 → character_of v ≡ c
     → numerals (n + 1) (number * 64 + v) ≡ c ∷ numerals n number
 numerals-mul-add n number v c below spells_c =
     rw (numerals-add_one (n + 1) n (number * 64 + v) refl, mod-mul-add number 64 v below, div-mul-add number 64 v below)
     (ap (λ (d : ℕ). d ∷ numerals n number) spells_c)
 
--- Such a number stays below the next power of 64.
+-- If a number is below 64 ^ n and v is below 64, number * 64 + v is below 64 ^ (n + 1).
 pub mul-add-lt_pow : (n number v : ℕ) → number < 64 ^ n → v < 64 → number * 64 + v < 64 ^ (n + 1)
 mul-add-lt_pow n number v small below =
     let power : 64 ^ (n + 1) ≡ 64 ^ n * 64 = rw add-one (pow-suc 64 n) in
@@ -70,7 +71,7 @@ All-numerals n value digits is i d inside =
     subst (λ (xs : List ℕ). Contains alphabet (get_or xs i d)) is
     (Contains-numerals n value i d (omega (arith, ap length is, length-numerals n value)))
 
--- No two numbers below 64 ^ n have the same numeral of n characters.
+-- No two numbers below 64 ^ n have the same numeral of n characters. The proof goes by induction over n.
 pub numerals-injective : (n a b : ℕ) → a < 64 ^ n → b < 64 ^ n → numerals n a ≡ numerals n b → a ≡ b
 unfolding numerals
 numerals-injective zero a b small_a small_b same = omega arith
@@ -82,7 +83,7 @@ numerals-injective (suc n) a b small_a small_b same =
     let same_quotient : a / 64 ≡ b / 64 = numerals-injective n (a / 64) (b / 64) (omega arith) (omega arith) same_rest in
     omega arith
 
--- A list that has a character outside the alphabet is not all in the alphabet.
+-- If a list has a character c that is not in the alphabet, not all its characters are in the alphabet.
 pub not_All-with_outside : (front back digits : List ℕ) (c : ℕ) → (front ++ c ∷ []) ++ back ≡ digits
     → (Contains alphabet c → ⊥) → All (Contains alphabet) digits → ⊥
 not_All-with_outside front back digits c digits_are c_outside all =
@@ -93,7 +94,8 @@ not_All-with_outside front back digits c digits_are c_outside all =
     omega (arith, simp length-append at (ap length digits_are)) in
     c_outside (subst (Contains alphabet) digit_is_c (all (length front) 0 inside))
 
--- `read_30`, from the last digit to the first: before any digit is read, after one more, and at the end.
+-- `read_30` reads from the last digit to the first. The lemmas are its loop before any digit is read, after one more
+-- digit, and at the end.
 pub numerals-none_read : (rest digits : List ℕ) → rest ≡ digits → rest ++ numerals 0 0 ≡ digits
 numerals-none_read rest digits rest_is = rw numerals-zero (append-nil rest ∙ rest_is)
 

@@ -1,6 +1,6 @@
 -- The additions and rotations of Salsa20/8 on vectors of four lanes, for `xor_rotated_sum` and `row_round`.
--- `xor_halves-rotate_left` shows for one word that XORing in the two shifted halves of a rotation, one after the other,
--- XORs in the rotated word: the halves have no bit in common. `rotated_sum-in_lanes` says it of each lane.
+-- `xor_halves-rotate_left` shows for one word: XORing in the two shifted halves of a rotation, one after the other,
+-- XORs in the rotated word, because the halves have no bit in common. `rotated_sum-in_lanes` shows it for each lane.
 use Rattle.std.proofs.Common.{◌≡◌, ℕ, zero, suc, ◌+◌, ◌-◌, ◌*◌, ◌/◌, ◌%◌, ◌^◌, ◌<◌, List, [], ◌∷◌, ◌++◌, length, slice_index, bit_xor, refl, sym, ◌∙◌, ap, pow-add, pow_pos, arith}
 use Rattle.std.specs.Int.{w32, rotate_left}
 use Rattle.std.specs.Int.Bits.{xor_assoc, xor_shifted}
@@ -11,7 +11,7 @@ use Rattle.std.proofs.lemmas.List.{get_or_append_left}
 use Rattle.prims_core.specs.Salsa.{sum_of_words, rotated_sum}
 use Rattle.prims_core.proofs.FourDiagonals.{four_items-written_out}
 
--- To show a property of each lane, it suffices to show it of lanes 0 to 3.
+-- To prove a property of each lane below 4, it suffices to prove it of the lanes 0, 1, 2 and 3.
 cases_lt_four : (P : ℕ → Type 0) → P 0 → P 1 → P 2 → P 3 → (j : ℕ) → j < 4 → P j
 cases_lt_four P p0 p1 p2 p3 zero inside = p0
 cases_lt_four P p0 p1 p2 p3 (suc zero) inside = p1
@@ -19,7 +19,8 @@ cases_lt_four P p0 p1 p2 p3 (suc (suc zero)) inside = p2
 cases_lt_four P p0 p1 p2 p3 (suc (suc (suc zero))) inside = p3
 cases_lt_four P p0 p1 p2 p3 (suc (suc (suc (suc n)))) inside = absurd (omega arith)
 
--- The first four lanes of a vector joined to itself are its own. A rotation of lanes picks from such a list.
+-- The first four items of a vector of four lanes joined to itself are the lanes of the vector, and so are the next
+-- four. A rotation of lanes picks its items from such a list.
 pub slice_index-append_self : (xs : List ℕ) → length xs ≡ 4
     → (slice_index (xs ++ xs) 0 ≡ slice_index xs 0) × (slice_index (xs ++ xs) 1 ≡ slice_index xs 1)
     × (slice_index (xs ++ xs) 2 ≡ slice_index xs 2) × (slice_index (xs ++ xs) 3 ≡ slice_index xs 3)
@@ -28,7 +29,8 @@ slice_index-append_self xs four =
     λ k inside. get_or_append_left xs xs 0 k (omega arith) in
     (lane 0 (omega arith), lane 1 (omega arith), lane 2 (omega arith), lane 3 (omega arith))
 
--- The halves of x that a rotation by `bits` shifts up and down, XORed into a word one after the other.
+-- XORing the two halves of x that a rotation by `bits` shifts up and down into a word, one after the other, is XORing
+-- the rotated x into it.
 xor_halves-rotate_left : (bits : ℕ) → 0 < bits → bits < 32 → (word x : ℕ) → x < 2 ^ 32
     → bit_xor (bit_xor word (x * 2 ^ bits % 2 ^ 32)) (x / 2 ^ (32 - bits)) ≡ bit_xor word (rotate_left w32 x bits)
 xor_halves-rotate_left bits some few word x fits =
@@ -36,7 +38,7 @@ xor_halves-rotate_left bits some few word x fits =
     let down_add_bits : down + bits ≡ 32 = omega arith in
     let pow_split : 2 ^ 32 ≡ 2 ^ bits * 2 ^ down = omega (ap (λ (n : ℕ). 2 ^ n) (sym down_add_bits) ∙ pow-add 2 down bits, arith) in
     let up = x * 2 ^ bits / 2 ^ bits % 2 ^ down in
-    -- The half shifted up is a multiple of 2 ^ bits, and the half shifted down is below it.
+    -- The half shifted up is a multiple of 2 ^ bits, and the half shifted down is below 2 ^ bits.
     let up_multiple : x * 2 ^ bits % 2 ^ 32 ≡ up * 2 ^ bits =
     omega (ap (λ (n : ℕ). x * 2 ^ bits % 2 ^ n) (sym down_add_bits) ∙ mod-pow-add (x * 2 ^ bits) down bits, mul-mod_left x (2 ^ bits), arith) in
     let down_below : x / 2 ^ down < 2 ^ bits = (div-lt_iff_lt-mul (pow_pos down)).1 (omega arith) in

@@ -1,7 +1,7 @@
 -- The rows of a table in one list of words, for `Table` and, in kdf_core, `mix_back`: where row i starts and ends, what
--- reading it gives, and what writing it leaves. A list shorter than the table counts as followed by zeros (`padded`).
--- So a missing row reads as zeros, and appending zeros leaves the table as it is. `rows_of-written`, by induction over
--- the rows, is the heart of `set_row`: it replaces one row and keeps the others.
+-- reading it gives, and what writing it changes. A list that is shorter than the table counts as followed by zeros
+-- (`padded`). So a row after its end reads as zeros, and appending zeros leaves the table as it is. For `set_row`,
+-- `rows_of-written` shows that writing a row replaces it and keeps the others.
 use Rattle.std.proofs.Common.{◌≡◌, ℕ, zero, suc, ◌+◌, ◌-◌, ◌*◌, ◌<◌, ◌≤◌, List, [], ◌∷◌, ◌++◌, length, get_or, set, take, drop, replicate, refl, sym, ◌∙◌, ap, arith, length-take, length-drop, length-append, length-take-le, append_assoc, zero-add}
 use Rattle.std.proofs.Math.Nat.{suc-mul, zero-mul}
 use Rattle.std.proofs.Math.Seq.{take-add, drop-append-add}
@@ -15,7 +15,7 @@ unfolding rows_of
 length-rows_of zero w xs = refl
 length-rows_of (suc n) w xs = ap suc (length-rows_of n w (drop w xs))
 
--- Row i is the w words from place i * w on.
+-- Row i of a table of rows of w words is the w words of the list from place i * w on.
 pub get_or-rows_of : (n w : ℕ) (xs : List ℕ) (i : ℕ) (d : List ℕ) → i < n
     → get_or (rows_of n w xs) i d ≡ take w (drop (i * w) xs)
 unfolding rows_of
@@ -25,11 +25,11 @@ get_or-rows_of (suc n) w xs (suc i) d inside =
     get_or-rows_of n w (drop w xs) i d (omega arith)
     ∙ ap (take w) (drop-drop (i * w) w xs ∙ ap (λ (k : ℕ). drop k xs) (omega (arith, suc-mul i w)))
 
--- From here on, a table is given by an equation: it is the rows of this list.
+-- A table that equals `rows_of n w` of a list has n rows. The lemmas below give their table by such an equation too.
 pub length-table : (n w : ℕ) (xs : List ℕ) (table : List (List ℕ)) → rows_of n w xs ≡ table → length table ≡ n
 length-table n w xs table table_is = sym (ap length table_is) ∙ length-rows_of n w xs
 
--- A valid row number is below n, and the row ends within the list.
+-- A number below the length of a table of n rows is below n, and the row with this number ends within the list.
 pub row_number-lt : (n w : ℕ) (xs : List ℕ) (table : List (List ℕ)) (i : ℕ) → rows_of n w xs ≡ table
     → i < length table → i < n
 row_number-lt n w xs table i table_is inside = omega (arith, ap length table_is, length-rows_of n w xs)
@@ -40,7 +40,7 @@ row_ends_within n w xs table i table_is inside =
     let row_below : i < n = row_number-lt n w xs table i table_is inside in
     grind (arith, rows)
 
--- Reading w words at i * w gives row i, which has w words.
+-- Reading w words from place i * w on gives row i, which has w words.
 pub take_drop-row : (n w : ℕ) (xs : List ℕ) (table : List (List ℕ)) (i : ℕ) → rows_of n w xs ≡ table
     → i < length table → take w (drop (i * w) xs) ≡ get_or table i []
 take_drop-row n w xs table i table_is inside =
@@ -53,17 +53,18 @@ length-row n w xs table i table_is inside whole =
     ap length (sym (take_drop-row n w xs table i table_is inside))
     ∙ length-take-le w (drop (i * w) xs) (omega (arith, length-drop (i * w) xs, row_ends_within n w xs table i table_is inside))
 
--- Padding fills a list up to the size.
+-- A list of at most `size` items has `size` items after padding.
 pub length-padded : (size : ℕ) (xs : List ℕ) → length xs ≤ size → length (padded size xs) ≡ size
 length-padded size xs inside = simp (length-append, length-replicate) (omega (arith, inside))
 
--- A row that `set_row` accepts has w words.
+-- A row that is as long as row i of a table of rows of w words, as `set_row` requires, has w words.
 pub length-accepted_row : (n w : ℕ) (xs row : List ℕ) (table : List (List ℕ)) (i : ℕ) → rows_of n w (padded (n * w) xs) ≡ table
     → i < length table → length xs ≤ n * w → length row ≡ length (get_or table i []) → length row ≡ w
 length-accepted_row n w xs row table i table_is inside within same_length =
     same_length ∙ length-row n w (padded (n * w) xs) table i table_is inside (omega (arith, length-padded (n * w) xs within))
 
--- A table with this shape has no more words than the padded list. `into_words` needs it.
+-- If a table has the shape of `rows` rows of `words` words, these are no more words than the padded list has.
+-- `into_words` needs this.
 pub HasShape-le : (n w rows words : ℕ) (xs : List ℕ) (table : List (List ℕ)) → rows_of n w (padded (n * w) xs) ≡ table
     → length xs ≤ n * w → HasShape table rows words → rows * words ≤ n * w
 HasShape-le n w zero words xs table table_is within shape = omega (arith, zero-mul words)
@@ -75,7 +76,7 @@ HasShape-le n w (suc rows) words xs table table_is within shape =
     ∙ length-row n w (padded (n * w) xs) table 0 table_is some_row (omega (arith, length-padded (n * w) xs within)) in
     rw (rows_are_n, words_are_w) (omega arith)
 
--- Zeros, cut into rows, are rows of zeros.
+-- A list of zeros, cut into rows, is rows of zeros.
 pub rows_of-replicate : (n w : ℕ) → rows_of n w (replicate (n * w) 0) ≡ replicate n (replicate w 0)
 unfolding rows_of
 rows_of-replicate zero w = refl
@@ -88,7 +89,8 @@ rows_of-replicate (suc n) w =
     drop-replicate w (n * w + w) zero ∙ ap (λ (k : ℕ). replicate k zero) rest_size in
     rw (size_split, first_row, other_rows, rows_of-replicate n w) refl
 
--- Writing a row of w words at i * w replaces row i, and keeps the others.
+-- Writing a row of w words at place i * w replaces row i and keeps the others. The proof goes by induction over the
+-- rows.
 pub rows_of-written : (n w i : ℕ) (xs row : List ℕ) → i < n → length row ≡ w → n * w ≤ length xs
     → rows_of n w (take (i * w) xs ++ (row ++ drop (i * w + w) xs)) ≡ set (rows_of n w xs) i row
 unfolding rows_of
@@ -99,7 +101,8 @@ rows_of-written (suc n) w (suc i) xs row inside length_row whole =
     let row_start : suc i * w ≡ w + i * w = omega (arith, suc-mul i w) in
     let length_first : length (take w xs) ≡ w = length-take-le w xs (omega (arith, suc-mul n w)) in
     let others : List ℕ = drop w xs in
-    -- The first row is untouched, and the rest is the list of the other rows with row i of them written over.
+    -- The first row is kept. The rest of the list is the list of the other rows, in which the row is written over row
+    -- i.
     let first_kept : take (suc i * w) xs ++ (row ++ drop (suc i * w + w) xs)
     ≡ take w xs ++ (take (i * w) others ++ (row ++ drop (i * w + w) others)) =
     rw (row_start, take-add w (i * w) xs, append_assoc, drop-drop (i * w + w) w xs)
@@ -113,7 +116,7 @@ rows_of-written (suc n) w (suc i) xs row inside length_row whole =
     )
     (ap (λ (xss : List (List ℕ)). take w xs ∷ xss) others_written)
 
--- Appending zeros doesn't change what the padded list is, so the table stays the same.
+-- Appending zeros to a list doesn't change the padded list, so the table stays the same.
 pub padded-append_zeros : (size len : ℕ) (xs : List ℕ) → len ≤ size
     → padded size (xs ++ replicate (len - length xs) 0) ≡ padded size xs
 padded-append_zeros size len xs inside =
@@ -131,7 +134,7 @@ pub rows_of-append_zeros : (n w end : ℕ) (xs ys : List ℕ) (table : List (Lis
 rows_of-append_zeros n w end xs ys table table_is inside ys_filled =
     ap (λ (list : List ℕ). rows_of n w (padded (n * w) list)) ys_filled ∙ ap (rows_of n w) (padded-append_zeros (n * w) end xs inside) ∙ table_is
 
--- Writing over a part of the list, and then padding it, is the same as writing over that part of the padded list.
+-- Writing over a part of a list and then padding the list is the same as writing over that part of the padded list.
 pub padded-put_mid : (size start count : ℕ) (xs row : List ℕ) → start + count ≤ length xs → length row ≡ count
     → padded size (put_mid start count xs row) ≡ put_mid start count (padded size xs) row
 padded-put_mid size start count xs row inside length_row =
@@ -148,7 +151,7 @@ padded-put_mid size start count xs row inside length_row =
     )
     refl
 
--- `row` reads a row that is in the list from the list. Any row after the end of the list is zeros.
+-- A row that ends within the list is read from the list. A row that starts after the end of the list is zeros.
 pub take_drop-padded_row : (n w : ℕ) (xs : List ℕ) (table : List (List ℕ)) (i : ℕ) → rows_of n w (padded (n * w) xs) ≡ table
     → i < length table → i * w + w ≤ length xs → take w (drop (i * w) xs) ≡ get_or table i []
 take_drop-padded_row n w xs table i table_is inside row_within =
@@ -188,7 +191,7 @@ multiple-extended_to_row (suc n) w size (suc i) size_is =
     multiple-extended_to_row n w (size - w) i (omega (arith, size_is, suc-mul n w)) in
     (suc (rest_extended.0), omega (arith, rest_extended.1, size_is, suc-mul i w, suc-mul n w, suc-mul (rest_extended.0) w))
 
--- So the layout of a table holds after `set_row` has extended its list.
+-- After `set_row` has extended a table's list to the end of a row, `IsLaidOut` still holds.
 pub IsLaidOut-extended : (n w size room i size' room' : ℕ) → IsLaidOut n w size room → i * w + w ≤ n * w
     → size' ≡ size + (i * w + w - size) → room ≤ room' → IsLaidOut n w size' room'
 IsLaidOut-extended n w size room i size' room' laid row_ends size_is room_le =
@@ -199,7 +202,8 @@ IsLaidOut-extended n w size room i size' room' laid row_ends size_is room_le =
       short = λ (less : size' < n * w). laid.short (omega (arith, less, size_is));
     }
 
--- The clause of `set_row`: the list after the write, as the vector holds it, is the table with row i replaced.
+-- The clause of `set_row`: after the row is written to the vector's list, the rows of the padded list are the table
+-- with row i replaced.
 pub rows_of-padded_put_mid : (n w : ℕ) (xs : List ℕ) (table : List (List ℕ)) (i size items : ℕ) (row : List ℕ)
     → rows_of n w (padded (n * w) xs) ≡ table → i < length table → i * w + w ≤ length xs → length xs ≤ n * w → items ≡ length xs
     → length row ≡ w → size ≡ w

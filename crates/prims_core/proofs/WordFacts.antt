@@ -1,7 +1,7 @@
--- Words as bytes and under XOR. `words_of-from_places` serves `load_words`: words that are each the number of their
--- four bytes are `words_of` the bytes. `little_number-first_word` serves Integerify in kdf_core: of a number given by
--- words, the first word decides the lowest 32 bits. The lemmas on `xor_lists` serve `mix_xor_diagonals`: a part of the
--- XOR of two lists is the XOR of their parts.
+-- Words as bytes, and the XOR of lists of words. `words_of-from_places` serves `load_words`: words that are each the
+-- number of their four bytes are `words_of` the bytes. `little_number-first_word` serves Integerify in kdf_core: in a
+-- number whose bytes are those of words, the first word decides the lowest 32 bits. The lemmas on `xor_lists` serve
+-- `mix_xor_diagonals`: a part of the XOR of two lists is the XOR of their parts.
 use Rattle.std.proofs.Common.{◌≡◌, ℕ, zero, suc, ◌+◌, ◌*◌, ◌%◌, ◌^◌, ◌<◌, ◌≤◌, List, [], ◌∷◌, ◌++◌, length, take, drop, get_or, map, bit_xor, flat_map, refl, sym, ◌∙◌, ap, arith}
 use Rattle.std.proofs.lemmas.Grind.{same_number_lists}
 use Rattle.std.proofs.lemmas.List.{get_or-map, get_or-take, length-map}
@@ -11,7 +11,7 @@ use Rattle.byteorder.specs.Endian.{little_from}
 use Rattle.prims_core.specs.Words.{bytes_of_words, chunks_exact, little_bytes, little_number, words_of, xor_lists}
 use Rattle.prims_core.proofs.ChunkFacts.{length-chunks_exact, get_or-chunks_exact}
 
--- The number of four bytes depends on no further byte.
+-- The number that the first four bytes of a list encode does not depend on the bytes after them.
 little_number-take_four : (bytes : List ℕ) → little_number 4 (take 4 bytes) ≡ little_number 4 bytes
 little_number-take_four bytes =
     rw (
@@ -21,7 +21,7 @@ little_number-take_four bytes =
       get_or-take 4 bytes 3 0 (omega arith),
     ) refl
 
--- Words that are each read from their own four bytes are the words of the bytes.
+-- If word k is the number of the four bytes from place 4k on, for each k, the words are `words_of` the bytes.
 pub words_of-from_places : (bytes words : List ℕ) → length bytes ≡ 4 * length words
     → ((k : ℕ) → k < length words → get_or words k 0 ≡ little_number 4 (drop (4 * k) bytes))
     → words ≡ words_of bytes
@@ -36,7 +36,7 @@ words_of-from_places bytes words length_bytes word_at =
     ∙ ap (little_number 4) (get_or-chunks_exact bytes 4 (length words) k (omega arith) length_bytes inside)
     ∙ little_number-take_four (drop (4 * k) bytes)))
 
--- A number given by words is its first word modulo 2 ^ 32, plus a multiple of 2 ^ 32.
+-- The number that the bytes of a list of words encode is the first word modulo 2 ^ 32, plus a multiple of 2 ^ 32.
 pub little_number-first_word : (count word : ℕ) (words : List ℕ)
     → (above : ℕ) × (little_number (count + 4) (bytes_of_words (word ∷ words)) ≡ word % 2 ^ 32 + 2 ^ 32 * above)
 unfolding bytes_of_words
@@ -45,7 +45,8 @@ little_number-first_word count word words =
     let count_is : count + 4 ≡ suc (suc (suc (suc count))) = omega arith in
     (little_from 4 count bytes, rw count_is (omega arith))
 
--- A part of what an operator makes of two lists is what it makes of those parts of the lists.
+-- Taking the first n items of two lists before or after an operator is applied to them, item by item, gives the same
+-- list, and so does dropping the first n items.
 take-zip2 : (f : ℕ → ℕ → ℕ) (n : ℕ) (xs ys : List ℕ) → take n (zip2 f xs ys) ≡ zip2 f (take n xs) (take n ys)
 take-zip2 f zero xs ys = refl
 take-zip2 f (suc n) [] ys = refl
@@ -72,7 +73,7 @@ pub length-xor_lists : (xs ys : List ℕ) → length ys ≡ length xs → length
 unfolding xor_lists
 length-xor_lists xs ys same = length-zip2 bit_xor xs ys (sym same)
 
--- The XOR of two lists is no longer than either.
+-- The XOR of two lists is no longer than either of them.
 pub length-xor_lists_le : (xs ys : List ℕ) → (length (xor_lists xs ys) ≤ length xs) × (length (xor_lists xs ys) ≤ length ys)
 unfolding xor_lists
 length-xor_lists_le [] ys = (omega arith, omega arith)

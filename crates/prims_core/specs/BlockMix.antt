@@ -14,8 +14,8 @@ unfoldable pub x_after : ℕ → List ℕ → ℕ → List ℕ
 x_after r words zero = block_at (2 * r - 1) words
 x_after r words (suc i) = salsa20_8 (xor_lists (x_after r words i) (block_at i words))
 
--- block_mix words: the r results with even numbers, Y[0], Y[2], .., and then the r with odd numbers, Y[1], Y[3], ..
--- (step 3). Y[i] is X after the blocks up to and including B[i] are mixed.
+-- block_mix words: the r results with even numbers, Y[0], Y[2], .., followed by the r results with odd numbers, Y[1],
+-- Y[3], .. (step 3). Y[i] is X after the blocks up to and including B[i] are mixed.
 unfoldable pub block_mix : List ℕ → List ℕ
 block_mix words =
     let r = length words / 32 in

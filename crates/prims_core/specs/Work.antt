@@ -1,4 +1,4 @@
--- Work, in five counts: the work of one hash, or all that a meter has counted.
+-- Work, in five counts. It is the work of one hash, or all that a meter has counted.
 use Rattle.std.specs.Prelude.{ℕ, ◌+◌, ◌-◌, ◌≤◌, ◌<◌}
 use Rattle.prims_core.specs.declared.meter.Work.{Work}
 
@@ -6,7 +6,7 @@ use Rattle.prims_core.specs.declared.meter.Work.{Work}
 abbrev pub no_work : Work
 no_work = record { digests = 0; bytes = 0; mixes = 0; table = 0; scratch = 0 }
 
--- raised_by counts work: the counts after this much more work. Each count is the sum of both.
+-- raised_by counts work: the counts after this much more work. Each count is raised by the same count of `work`.
 abbrev pub raised_by : Work → Work → Work
 raised_by counts work = record {
   digests = counts.digests + work.digests;
@@ -27,7 +27,7 @@ work_between before after = record {
   scratch = after.scratch - before.scratch;
 }
 
--- IsWithin work most: no count is above the same count of `most`.
+-- IsWithin work most: no count of `work` is above the same count of `most`.
 pub record IsWithin (work most : Work) : Type 0 where
   pub digests : work.digests ≤ most.digests
   pub bytes : work.bytes ≤ most.bytes
@@ -35,7 +35,7 @@ pub record IsWithin (work most : Work) : Type 0 where
   pub table : work.table ≤ most.table
   pub scratch : work.scratch ≤ most.scratch
 
--- IsAtMost work limit: no count is above the limit.
+-- IsAtMost work limit: no count of `work` is above the limit.
 pub record IsAtMost (work : Work) (limit : ℕ) : Type 0 where
   pub digests : work.digests ≤ limit
   pub bytes : work.bytes ≤ limit
@@ -43,7 +43,7 @@ pub record IsAtMost (work : Work) (limit : ℕ) : Type 0 where
   pub table : work.table ≤ limit
   pub scratch : work.scratch ≤ limit
 
--- IsBelow work limit: each count is below the limit.
+-- IsBelow work limit: each count of `work` is below the limit.
 pub record IsBelow (work : Work) (limit : ℕ) : Type 0 where
   pub digests : work.digests < limit
   pub bytes : work.bytes < limit

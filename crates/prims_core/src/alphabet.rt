@@ -1,6 +1,7 @@
 //! The alphabet of crypt(5) and its base-64 numerals.
 //!
-//! A character encodes six bits, as a value from 0 to 63. Numbers are written lowest six bits first, so `/...` is 1.
+//! A character encodes six bits, as a value from 0 to 63. The first character of a number has its lowest six bits, so
+//! `/...` is 1.
 
 ghost use Rattle.std.specs.Prelude.{◌≡◌, ℕ, ◌+◌, ◌^◌, ◌<◌, ◌≤◌, ◌++◌, ◌↔◌, length, All, Contains, IfSome, Some, IsSome};
 ghost use Rattle.arrayvec.specs.ArrayVec.{array_vec_len};
@@ -8,7 +9,7 @@ ghost use Rattle.prims_core.specs.Alphabet.{alphabet, character_of, numerals};
 
 use arrayvec::ArrayVec;
 
-// The characters, in order of their values.
+// The 64 characters, in the order of their values.
 const CHARACTERS: [u8; 64] = *b"./0123456789ABCDEFGHIJKLMNOPQRSTUVWXYZabcdefghijklmnopqrstuvwxyz";
 
 /// Returns the character for a value. Precondition: the value is below 64.
@@ -21,14 +22,14 @@ pub fn char_of(value: u8) -> u8
 
 /// Returns the value of a character, from 0 to 63, or `None` for a byte outside the alphabet.
 ///
-/// It is the inverse of [`char_of`].
+/// This is the inverse of [`char_of`].
 pub fn value_of(character: u8) -> Option<u8>
     ensures accepts { IsSome result ↔ Contains alphabet character }
     ensures value { IfSome result (λ v. (v < 64) × (character_of v ≡ character)) }
     ensures inverse { (v : ℕ) → v < 64 → character_of v ≡ character → result ≡ Some v }
 {
     match character {
-        // In ASCII, `.` and `/` directly precede the digits.
+        // In ASCII, `.` and `/` come directly before the digits.
         b'.'..=b'9' => Some(character - b'.'),
         b'A'..=b'Z' => Some(character - b'A' + 12),
         b'a'..=b'z' => Some(character - b'a' + 38),
@@ -42,7 +43,7 @@ pub fn value_of(character: u8) -> Option<u8>
 ///
 /// - `chars` is 1 to 5.
 /// - `value` has at most `6 * chars` bits.
-/// - `out` has capacity for the characters, within its 160 bytes.
+/// - `out`, which holds at most 160 bytes, has capacity left for the characters.
 pub fn put_group(out: &mut ArrayVec<u8, 160>, value: u32, chars: usize)
     requires some { 1 ≤ chars }
     requires few { chars ≤ 5 }
@@ -58,7 +59,7 @@ pub fn put_group(out: &mut ArrayVec<u8, 160>, value: u32, chars: usize)
     }
 }
 
-/// Returns the number that five characters encode, lowest six bits first. It is below 2^30.
+/// Returns the number that five characters encode, lowest six bits first. The number is below 2^30.
 ///
 /// Returns `None` for a slice of another length, or with a byte outside the alphabet.
 pub fn read_30(digits: &[u8]) -> Option<u32>

@@ -1,4 +1,4 @@
-//! Digests whose work a meter counts, behind one trait.
+//! Digests whose work a meter counts. All digest functions have the trait [`Counted`].
 //!
 //! The caller feeds a message piece by piece and finishes the digest once. Feeding a piece adds its length
 //! to the meter's bytes, and finishing adds one to its digests.
@@ -16,9 +16,10 @@ pub use counted_md5::CountedMd5;
 pub use counted_sha256::CountedSha256;
 pub use counted_sha512::CountedSha512;
 
-/// A digest function whose work a meter counts.
+/// A running digest of a message, whose work a meter counts.
 ///
-/// The message is all pieces joined in order, so the digest does not depend on where the message is cut.
+/// The message is all pieces that were fed, joined in order, so the digest does not depend on where the message is cut
+/// into pieces.
 pub trait Counted: Drop {
     // `holds running message`: the pieces fed so far, joined, are this message.
     ghost holds: { Self → List ℕ → Type 0 };
@@ -37,7 +38,7 @@ pub trait Counted: Drop {
 
     /// Appends `piece` to the message, and adds its length to the meter's bytes.
     ///
-    /// Precondition: the meter can count it without overflow.
+    /// Precondition: the meter can count these bytes without overflow.
     fn feed(&mut self, meter: &mut Meter, piece: &[u8])
         requires { meter.old.bytes + length piece.now < 2 ^ 128 }
         ensures message { (m : List ℕ) → holds self.old m → holds self.new (m ++ piece.now) }
@@ -45,7 +46,7 @@ pub trait Counted: Drop {
 
     /// Returns the digest of the message, and adds one to the meter's digests.
     ///
-    /// Precondition: the meter can count it without overflow.
+    /// Precondition: the meter can count one more digest without overflow.
     fn finish(self, meter: &mut Meter) -> ArrayVec<u8, 64>
         requires { meter.old.digests + 1 < 2 ^ 128 }
         ensures digest { (m : List ℕ) → holds self m → result.items ≡ digest m }
@@ -55,7 +56,7 @@ pub trait Counted: Drop {
     /// Writes the digest of the message to `out`, and adds one to the meter's digests. The default calls
     /// [`Counted::finish`] and copies the digest.
     ///
-    /// Preconditions: `out` is as long as a digest, and the meter can count one more without overflow.
+    /// Preconditions: `out` is as long as a digest, and the meter can count one more digest without overflow.
     fn finish_into(self, meter: &mut Meter, out: &mut [u8])
     where
         Self: Sized,
@@ -72,7 +73,7 @@ pub trait Counted: Drop {
 
     ghost at_most_64: { LEN ≤ 64 };
 
-    // Every digest is LEN numbers long, and each of them is a byte.
+    // Every digest consists of LEN numbers, and each of these is a byte.
     ghost length_digest: { (m : List ℕ) → length (digest m) ≡ LEN };
 
     ghost digest_bytes: { (m : List ℕ) → All (λ b. b < 256) (digest m) };

@@ -1,12 +1,12 @@
 //! A block of sixteen words in SIMD lanes, as the rounds of Salsa20/8 work on it.
 //!
-//! The words form a matrix of four rows of four. The quarter round of a column starts at the column's word on
-//! the main diagonal and goes down. So the first words of all four columns are the main diagonal, the second
-//! words are the diagonal below it, and so on. With one vector for each diagonal, a single quarter round of
-//! vectors does all four columns.
+//! The words form a matrix of four rows of four. The quarter round of a column starts at the column's word on the main
+//! diagonal and goes down. So the first words of the four quarter rounds are the main diagonal, their second words are
+//! the diagonal below it, and so on. With one vector for each diagonal, a single quarter round of vectors does all four
+//! columns.
 //!
-//! In memory a block's words are either in row order, as in the standard, or in diagonal order, which is the
-//! order of the vectors.
+//! In memory a block's words are in one of two orders: in row order, as in the standard, or in diagonal order, which is
+//! the order of the four vectors.
 
 ghost use Rattle.std.specs.Prelude.{◌≡◌, length};
 ghost use Rattle.std.specs.Simd.Lanes.{zip2};
@@ -17,7 +17,7 @@ ghost use Rattle.prims_core.specs.Salsa.{sum_of_words};
 use std::marker::Model;
 use std::simd::prelude::*;
 
-/// The sixteen words of a block. Contracts see them as a list, in row order.
+/// The sixteen words of a block. Contracts see them as a list in row order.
 #[derive(Drop)]
 pub(crate) struct Diagonals {
     /// The words 0, 5, 10 and 15.

@@ -1,6 +1,6 @@
 //! The meter: five counts of the work done.
 //!
-//! Only calls that do work raise a count, so the counts after a run are exactly the work done through the meter. With a
+//! Only calls that do work raise a count, so the counts are exactly the work that was done with the meter. With a
 //! [`Reading`] from before a call, [`Meter::work_since`] returns the [`Work`] of that call.
 
 ghost use Rattle.std.specs.Prelude.{◌≡◌, ◌+◌, ◌^◌, ◌<◌};
@@ -9,8 +9,8 @@ ghost use Rattle.prims_core.specs.declared.meter.Work.{Work as Counts};
 
 use std::marker::Model;
 
-/// The work of a hash: what it adds to each of a meter's five counts. It has the layout of a C struct. Contracts also
-/// see a [`Meter`] and a [`Reading`] as this record, with counts of up to 128 bits.
+/// The work of a hash: by how much it raises each of a meter's five counts. The record has the layout of a C struct.
+/// Contracts also see a [`Meter`] and a [`Reading`] as this record, with counts of up to 128 bits.
 #[repr(C)]
 #[derive(Clone, Copy, Debug, PartialEq, Eq)]
 pub struct Work {
@@ -20,14 +20,14 @@ pub struct Work {
     pub bytes: u64,
     /// Block mixings, which only scrypt does. Each mixes 2r blocks of 64 bytes, so it takes longer as r grows.
     pub mixes: u64,
-    /// Bytes of scrypt's table.
+    /// Bytes of memory for scrypt's table.
     pub table: u64,
     /// Bytes of scrypt's scratch memory.
     pub scratch: u64,
 }
 
 /// The totals of the work done so far: digests, digested bytes, scrypt's mixings of 2r blocks each, and the bytes of
-/// scrypt's tables and scratch memory. Contracts see it as the record [`Work`].
+/// scrypt's tables and scratch memory. Contracts see a meter as the record [`Work`].
 #[derive(Debug, Drop)]
 pub struct Meter {
     digests: u128,
@@ -45,8 +45,8 @@ impl Model for Meter {
     ghost view = { λ m. record { digests = m.digests; bytes = m.bytes; mixes = m.mixes; table = m.table; scratch = m.scratch } };
 }
 
-/// A snapshot of a meter's counts, from which [`Meter::work_since`] computes the work done since. No call turns it back
-/// into a meter. Contracts see it as the record [`Work`].
+/// A snapshot of a meter's counts, from which [`Meter::work_since`] computes the work done since. A snapshot can't
+/// become a meter again. Contracts see it as the record [`Work`].
 #[derive(Clone, Copy, Debug)]
 pub struct Reading {
     digests: u128,

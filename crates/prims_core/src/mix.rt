@@ -1,14 +1,14 @@
 //! scryptBlockMix (RFC 7914, section 4), which mixes blocks of 64 bytes one after another.
 //!
-//! A block is sixteen words. Each block is mixed with the result before it, and the first block with the last
-//! block. The results with even numbers come before those with odd numbers. ROMix (section 5) also mixes the XOR
-//! of blocks and a row of its table; [`mix_xor_diagonals`] does both in one pass.
+//! A block is sixteen words. Each block is mixed with the result of the block before it, and the first block with the
+//! last block. In the output, the results with even numbers come before those with odd numbers. ROMix (section 5) also
+//! mixes the XOR of its blocks and a row of its table; [`mix_xor_diagonals`] does the XOR and the mixing in one pass.
 //!
-//! Throughout ROMix a block's words are in diagonal order, as Salsa20/8 in lanes works on them:
-//! words 0, 5, 10, 15, then 4, 9, 14, 3, then 8, 13, 2, 7, then 12, 1, 6, 11. So no mixing has to rearrange
-//! words: [`to_diagonals`] converts the blocks once before ROMix, and [`from_diagonals`] once after it. ROMix's first
-//! loop copies blocks to the table while it mixes them ([`fill_by_mixing`](crate::rows::fill_by_mixing)), since copying
-//! a whole row before mixing it makes the processor wait for memory.
+//! Throughout ROMix a block's words are in diagonal order, as Salsa20/8 in lanes works on them: words 0, 5, 10, 15,
+//! then 4, 9, 14, 3, then 8, 13, 2, 7, then 12, 1, 6, 11. So no mixing has to rearrange words. [`to_diagonals`]
+//! rearranges the blocks once before ROMix, and [`from_diagonals`] once after it. ROMix's first loop copies blocks to
+//! the table while it mixes them ([`fill_by_mixing`](crate::rows::fill_by_mixing)), since copying a whole row before
+//! mixing it makes the processor wait for memory.
 
 ghost use Rattle.std.specs.Prelude.{◌≡◌, ℕ, ◌+◌, ◌*◌, ◌%◌, ◌^◌, ◌<◌, ◌≤◌, List, ◌++◌, length};
 ghost use Rattle.prims_core.specs.BlockMix.{block_at, block_mix};
@@ -44,7 +44,7 @@ pub fn block_mix(src: &[u32], dst: &mut [u32], meter: &mut Meter)
 ///
 /// Preconditions: `src` and `dst` have 32r words each, for the same r of at least 1, `rows` has memory for 32r more
 /// words, and the meter can count the mixing without overflow.
-// It is inlined so that the length of `rows` stays in a register.
+// The function is inlined so that the length of `rows` stays in a register.
 #[inline(always)]
 pub(crate) fn mix_and_append<R: Rows>(src: &[u32], dst: &mut [u32], rows: &mut R, meter: &mut Meter)
     requires blocks { (r : ℕ) × (1 ≤ r) × (length src.now ≡ 32 * r) × (length dst.old ≡ 32 * r) }
@@ -65,11 +65,11 @@ pub(crate) fn mix_and_append<R: Rows>(src: &[u32], dst: &mut [u32], rows: &mut R
     meter.count_mix();
 }
 
-/// Mixes the XOR of `src` and `row`, of 2r blocks each, into `dst`, as the second loop of scryptROMix does (RFC 7914,
-/// section 5, step 3), and counts one mixing. All blocks are in diagonal order.
+/// Mixes the 2r blocks of `src` XOR `row` into `dst`, as the second loop of scryptROMix does (RFC 7914, section 5, step
+/// 3), and counts one mixing. All blocks are in diagonal order.
 ///
-/// Preconditions: all three have 32r words, for the same r of at least 1, and the meter can count the mixing without
-/// overflow.
+/// Preconditions: `src`, `row` and `dst` have 32r words each, for the same r of at least 1, and the meter can count the
+/// mixing without overflow.
 pub fn mix_xor_diagonals(src: &[u32], row: &[u32], dst: &mut [u32], meter: &mut Meter)
     requires blocks { (r : ℕ) × (1 ≤ r) × (length src.now ≡ 32 * r) × (length row.now ≡ 32 * r)
         × (length dst.old ≡ 32 * r) }
@@ -113,7 +113,7 @@ pub fn from_diagonals(words: &mut [u32])
     }
 }
 
-// A source of blocks: stored blocks, or the XOR of two lists of them.
+// A source of blocks: stored blocks, or the XOR of two lists of stored blocks.
 trait Blocks {
     // The words of all blocks, in row order.
     ghost words: { Self → List ℕ };
@@ -185,7 +185,8 @@ fn mix_blocks<B: Blocks>(src: &B, dst: &mut [u32], r: usize)
     }
 }
 
-// Writes result `i` of 2r to its place: results with even numbers come before those with odd numbers (step 3).
+// Writes result `i` of 2r to its place in `dst`, where results with even numbers come before those with odd numbers
+// (step 3).
 #[inline(always)]
 fn put_result(x: &Diagonals, dst: &mut [u32], i: usize, r: usize)
     requires { (i < 2 * r) × (length dst.old ≡ 32 * r) }
@@ -195,7 +196,8 @@ fn put_result(x: &Diagonals, dst: &mut [u32], i: usize, r: usize)
     x.store_diagonals(&mut dst[place..place + BLOCK_WORDS]);
 }
 
-// Returns the next X, from the X before it and a block (step 2). X stays in lanes from one block to the next.
+// Returns the next X, which is Salsa20/8 of the X before it XOR a block (step 2). X stays in lanes from one block to
+// the next.
 #[inline(always)]
 fn mixed_block(x: &Diagonals, block: &Diagonals) -> Diagonals
     ensures { result ≡ mixed_block x.now block.now }

@@ -1,7 +1,7 @@
 //! The memory for the rows of scrypt's table (the V of RFC 7914, section 5), and the loop that fills it.
 //!
-//! The memory is a vector with enough capacity, or words that a caller lends. Blocks are appended to it, so it needs no
-//! initialization, which would take as long as wiping it.
+//! The memory is a vector with enough capacity, or words that a caller lends. Blocks are appended to it, so the memory
+//! needs no initialization, which would take as long as wiping it.
 
 ghost use Rattle.std.specs.Prelude.{◌≡◌, ℕ, ◌+◌, ◌*◌, ◌%◌, ◌^◌, ◌<◌, ◌≤◌, List, [], ◌++◌, length, take, vec_capacity};
 ghost use Rattle.std.specs.Fn.{iterate};
@@ -14,7 +14,7 @@ use crate::mix::{BLOCK_WORDS, mix_and_append};
 use std::mem::size_of;
 use std::simd::prelude::*;
 
-/// Memory for the rows of a table. Blocks of sixteen words are appended to it and then read from it.
+/// Memory for the rows of scrypt's table. Blocks of sixteen words are appended to it and then read from it.
 pub trait Rows {
     // The words of the blocks appended so far.
     ghost words: { Self → List ℕ };
@@ -51,8 +51,8 @@ impl Rows for Vec<u32> {
         self.clear();
     }
 
-    // The block is loaded as one vector, as the mixing loads it, so it is loaded only once. The capacity is known to be
-    // enough, so it is not tested, and the mixing's loop has no branch.
+    // The block is loaded as one vector, as the mixing loads it, so the processor loads it only once. The caller
+    // guarantees the capacity, so no test of it puts a branch into the mixing's loop.
     #[inline(always)]
     fn push_block(&mut self, block: &[u32]) {
         'appending: for word in u32x16::from_slice(block).to_array() {
@@ -74,10 +74,10 @@ pub struct LentRows<'a> {
 }
 
 impl<'a> LentRows<'a> {
-    /// Returns empty rows that use `words` as memory, and adds the bytes of these, four for each word, to the meter's
-    /// table bytes.
+    /// Returns empty rows that use `words` as memory. The meter counts the bytes of `words`, four for each word, as
+    /// bytes of scrypt's table.
     ///
-    /// Preconditions: the words have at most 2^30 bytes, and the meter can count these without overflow.
+    /// Preconditions: `words` has at most 2^30 bytes, and the meter can count them without overflow.
     pub fn new(words: &'a mut [u32], meter: &mut Meter) -> LentRows<'a>
         requires fits { 4 * length words.old ≤ 2 ^ 30 }
         requires room { meter.old.table + 4 * length words.old < 2 ^ 128 }
@@ -113,14 +113,15 @@ impl<'a> Rows for LentRows<'a> {
 }
 
 /// Replaces all rows by `count` new ones, as the first loop of scryptROMix does (RFC 7914, section 5, step 2): row `i`
-/// is `x` after `i` mixings. The call leaves `x` mixed `count` times, and counts these mixings. Blocks are in diagonal
-/// order in `x` and the rows. Each mixing reads one of `x` and `y` and writes the other; `y` is only memory for that.
+/// is `x` after `i` mixings. Afterwards `x` is mixed `count` times, and the meter has counted these mixings. In `x` and
+/// in the rows, blocks are in diagonal order. One mixing reads `x` and writes `y`, and the next one reads `y` and
+/// writes `x`; so what `y` holds before the call does not matter.
 ///
 /// Preconditions:
 ///
 /// - `count` is even and not 0.
 /// - `x` and `y` have 32r words each, which is the length of a row, for the same r of at least 1.
-/// - There is memory for all rows.
+/// - `rows` has memory for all `count` rows.
 /// - The meter can count the mixings without overflow.
 pub fn fill_by_mixing<R: Rows>(
     rows: &mut R,

@@ -1,8 +1,8 @@
 //! The Salsa20/8 core of scrypt (RFC 7914, section 3), following Bernstein's Salsa20 specification.
 //!
-//! The sixteen words of a block form a matrix of four rows. A column round is a quarter round of each
-//! column, and a row round is one of each row; each starts on the diagonal. The eight rounds
-//! alternate between the two. The four quarter rounds of a round run at once, one in each lane.
+//! The sixteen words of a block form a matrix of four rows. A column round is a quarter round of each column, and a row
+//! round is a quarter round of each row. Each quarter round starts on the main diagonal. The eight rounds alternate
+//! between column rounds and row rounds. The four quarter rounds of a round run at once, one in each lane of a vector.
 
 ghost use Rattle.std.specs.Prelude.{◌≡◌, ℕ, ◌<◌, [], ◌∷◌, bit_xor, length, slice_index};
 ghost use Rattle.std.specs.Fn.{iterate};
@@ -29,7 +29,7 @@ pub(crate) fn salsa8_of(block: &Diagonals) -> Diagonals
     block.sum(&four_double_rounds(block))
 }
 
-// Returns the matrix after four double rounds.
+// Returns the matrix `x` after four double rounds.
 #[inline(always)]
 fn four_double_rounds(x: &Diagonals) -> Diagonals
     ensures rows { chunks_exact result 4 ≡ iterate double_round 4 (chunks_exact x.now 4) }
@@ -61,9 +61,9 @@ fn column_round(x: &Diagonals) -> Diagonals
     }
 }
 
-// Does a quarter round of each row, starting on the main diagonal. The next three words of a row are on the
-// fourth, third and second diagonals, but one, two and three lanes further on. So these diagonals are rotated
-// to line up with the main one, and rotated back afterwards.
+// Does a quarter round of each row, starting on the main diagonal. The next three words of a row are on the fourth,
+// third and second diagonals, but one, two and three lanes further on. So these diagonals are rotated to line up with
+// the main diagonal, and rotated back afterwards.
 #[inline(always)]
 fn row_round(x: &Diagonals) -> Diagonals
     ensures rows { chunks_exact result 4 ≡ row_round (chunks_exact x.now 4) }
@@ -97,8 +97,8 @@ fn quarter_rounds(a: u32x4, b: u32x4, c: u32x4, d: u32x4) -> (u32x4, u32x4, u32x
     (a, b, c, d)
 }
 
-// Returns `word` XOR the sum of `x` and `y` rotated left by `bits`. The two shifted halves of the rotation are
-// XORed in one after the other, which is faster than joining them first.
+// Returns, in each lane, `word` XOR the sum of `x` and `y` rotated left by `bits`. The two shifted halves of the
+// rotation are XORed in one after the other, which is faster than joining them first.
 #[inline(always)]
 fn xor_rotated_sum(word: u32x4, x: u32x4, y: u32x4, bits: u32) -> u32x4
     requires { (0 < bits) × (bits < 32) }

@@ -1,6 +1,6 @@
 //! The memory that scrypt uses besides its table: bytes, and 32-bit words.
 //!
-//! Each of the two is one allocation of its full size, or lent by the caller.
+//! The bytes are one allocation, and so are the words; or the caller lends them.
 
 ghost use Rattle.std.specs.Prelude.{◌≡◌, ◌+◌, ◌*◌, ◌^◌, ◌<◌, ◌≤◌, length, replicate, IfOk, OnOk, OnErr};
 ghost use Rattle.std.specs.Borrow.{sem};
@@ -11,7 +11,7 @@ use std::alloc::{AllocError, Global};
 use std::marker::Model;
 use std::mem::size_of;
 
-/// Bytes of scratch memory. Contracts see them as a list.
+/// Scratch memory that is read and written as bytes. Contracts see it as a list of bytes.
 #[derive(Drop)]
 pub struct ByteScratch {
     bytes: Vec<u8>,
@@ -28,7 +28,7 @@ impl Model for ByteScratch {
 impl ByteScratch {
     /// Returns `len` zero bytes, which the meter counts as scratch memory.
     ///
-    /// Preconditions: `len` is at most 2^30, and the meter can count it without overflow.
+    /// Preconditions: `len` is at most 2^30, and the meter can count `len` bytes without overflow.
     ///
     /// # Errors
     ///
@@ -61,7 +61,7 @@ impl ByteScratch {
     }
 }
 
-/// Words of scratch memory. Contracts see them as a list.
+/// Scratch memory that is read and written as words. Contracts see it as a list of words.
 #[derive(Drop)]
 pub struct WordScratch {
     words: Vec<u32>,
@@ -111,9 +111,9 @@ impl WordScratch {
     }
 }
 
-/// Counts lent bytes as scratch memory, and returns them.
+/// Counts the bytes that a caller lends as scratch memory, and returns them.
 ///
-/// Precondition: the meter can count them without overflow.
+/// Precondition: the meter can count the bytes without overflow.
 pub fn lent_bytes<'a>(bytes: &'a mut [u8], meter: &mut Meter) -> &'a mut [u8]
     requires { meter.old.scratch + length bytes.old < 2 ^ 128 }
     ensures value { result.now ≡ bytes.old }
@@ -123,7 +123,7 @@ pub fn lent_bytes<'a>(bytes: &'a mut [u8], meter: &mut Meter) -> &'a mut [u8]
     bytes
 }
 
-/// Counts the bytes of lent words, four for each word, as scratch memory, and returns the words.
+/// Counts the bytes of the words that a caller lends, four for each word, as scratch memory, and returns the words.
 ///
 /// Preconditions: the words have at most 2^30 bytes, and the meter can count these without overflow.
 pub fn lent_words<'a>(words: &'a mut [u32], meter: &mut Meter) -> &'a mut [u32]

@@ -1,8 +1,9 @@
 //! The table of scrypt (the V of RFC 7914, section 5): rows of 32-bit words, all of the same length.
 //!
-//! All rows are in one vector, one after another, so a table is a single allocation of its full size. The vector holds
-//! whole rows only. Where rows have at most 1,024 words, those after the last one that was set are not written yet and
-//! read as zeros: writing the zeros first would take as long as wiping the memory.
+//! All rows are in one vector, one after another, so a table is a single allocation of its full size. The vector always
+//! ends after a whole row. Rows of at most 1,024 words are not written when the table is made: the vector ends after
+//! the row with the highest number that was set, and later rows read as zeros. Writing these zeros would take as long
+//! as wiping the memory.
 
 ghost use Rattle.std.specs.Prelude.{◌≡◌, ℕ, ◌+◌, ◌-◌, ◌*◌, ◌^◌, ◌<◌, ◌≤◌, [], ◌++◌, length, replicate, slice_index_or, slice_set, vec_len, vec_capacity, IfOk, OnOk, OnErr};
 ghost use Rattle.prims_core.specs.Memory.{HasShape};
@@ -12,7 +13,8 @@ use std::alloc::{AllocError, Global};
 use std::marker::Model;
 use std::mem::size_of;
 
-// The zeros that an unwritten row reads as. They suffice for r up to 32.
+// The zeros that a row after the end of the vector reads as. A row of scrypt has 32r words, so they suffice for r up to
+// 32.
 const ZEROS: [u32; 1024] = [0; 1024];
 
 /// Rows of words, all of the same length. Contracts see them as a list of rows.
@@ -35,10 +37,10 @@ impl Model for Table {
 }
 
 impl Table {
-    /// Returns a table of `rows` rows of `row_words` zeros each, and adds its bytes, four for each word, to the meter's
-    /// table bytes.
+    /// Returns a table of `rows` rows of `row_words` zeros each. The meter counts the bytes of the table, four for each
+    /// word.
     ///
-    /// Preconditions: the table has at most 2^30 bytes, and the meter can count these without overflow.
+    /// Preconditions: the table has at most 2^30 bytes, and the meter can count them without overflow.
     ///
     /// # Errors
     ///
@@ -100,7 +102,7 @@ impl Table {
         self.words[start..end].copy_from_slice(row);
     }
 
-    /// Returns the table's vector, whose capacity is enough for the words of all rows.
+    /// Returns the table's vector. It has capacity for the words of all rows.
     pub fn into_words(self) -> Vec<u32>
         ensures room { (rows row_words : ℕ) → HasShape self rows row_words → rows * row_words ≤ vec_capacity result }
     {
@@ -109,7 +111,7 @@ impl Table {
     }
 }
 
-// Appends zeros until `words` has `len` words. A longer vector stays as it is.
+// Appends zeros until `words` has `len` words. If it has more already, it stays as it is.
 //
 // Precondition: the vector has capacity for `len` words.
 fn fill(words: &mut Vec<u32>, len: usize)

@@ -1,6 +1,7 @@
 //! Conversions between numbers and bytes, in the byte order of the standards.
 //!
-//! PBKDF2 numbers its blocks highest byte first (RFC 8018), and scrypt reads its words lowest byte first (RFC 7914).
+//! The number of a PBKDF2 block has its highest byte first (RFC 8018), and the words of scrypt have their lowest byte
+//! first (RFC 7914).
 
 ghost use Rattle.std.specs.Prelude.{◌≡◌, ◌*◌, length};
 ghost use Rattle.prims_core.specs.Words.{big_bytes, bytes_of_words, words_of};
@@ -16,7 +17,7 @@ pub fn number_be(number: u32) -> [u8; 4]
     bytes
 }
 
-/// Fills `words` from `bytes`, four bytes for each word, lowest first (RFC 7914, section 3).
+/// Fills `words` from `bytes`, four bytes for each word, lowest byte first (RFC 7914, section 3).
 ///
 /// Precondition: `bytes` has four bytes for each word.
 pub fn load_words(bytes: &[u8], words: &mut [u32])
@@ -26,7 +27,7 @@ pub fn load_words(bytes: &[u8], words: &mut [u32])
     LittleEndian::read_u32_into(bytes, words);
 }
 
-/// Fills `bytes` from `words`, four bytes for each word, lowest first. It is the inverse of [`load_words`].
+/// Fills `bytes` from `words`, four bytes for each word, lowest byte first. This is the inverse of [`load_words`].
 ///
 /// Precondition: `bytes` has four bytes for each word.
 pub fn store_words(words: &[u32], bytes: &mut [u8])

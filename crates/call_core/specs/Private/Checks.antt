@@ -1,4 +1,4 @@
--- What the steps promise that check a password.
+-- What the private steps of a password's check ensure.
 use Rattle.std.specs.Prelude.{◌≡◌, ◌⊎◌, ◌<◌, ℕ, List, length}
 use Rattle.crypt_core.specs.Settings.{SettingValue, Spells}
 use Rattle.crypt_core.specs.Work.{cost}
@@ -9,7 +9,7 @@ use Rattle.call_core.specs.declared.reason.Reason.TheVariants.{OverBudget}
 use Rattle.call_core.specs.declared.report.Report.{Report}
 
 -- IsCheckRefused password field budget report: the report if the password is not checked against the field: the field
--- is refused, or its setting costs more than the budget.
+-- is refused, or the check costs more than the budget.
 abbrev pub IsCheckRefused : List ℕ → List ℕ → ℕ → Report → Type 0
 IsCheckRefused password field budget report =
     ((reason : Reason) × IsFieldRefusal field reason × Refuses report reason)

@@ -1,5 +1,5 @@
--- What the steps promise that hash a password. `made` is the result of a step: a hash and its report, or the report of
--- a refusal.
+-- What the private steps of hashing a password ensure. `made` is the result of such a step: a hash and its report, or
+-- the report of a refusal.
 use Rattle.std.specs.Prelude.{◌≡◌, ◌≢◌, ◌⊎◌, ◌<◌, ◌≤◌, ◌==◌, ℕ, List, [], ◌∷◌, length, MatchBool, MatchResult, Result, Ok, Err}
 use Rattle.prims_core.specs.declared.meter.Work.{Work}
 use Rattle.crypt_core.specs.Crypt.{crypt}
@@ -19,8 +19,8 @@ abbrev pub IsRequestRefused : List ℕ → ℕ → ℕ → Report → Type 0
 IsRequestRefused password number rounds report =
     OnPassword password (Refuses report) (OnScheme TakesNewRounds number rounds (Refuses report) (λ scheme. ⊥))
 
--- MakesHash password kept budget room made: the hash for `room` bytes with its report, or the report of the first
--- refusal in the order budget, capacity, memory.
+-- MakesHash password kept budget room made: `made` is the hash and its report, or the report of the first refusal in
+-- the order budget, capacity, memory. The hash and a zero byte fit into `room` bytes.
 abbrev pub MakesHash : List ℕ → SettingValue → ℕ → ℕ → Result (List ℕ × Report) Report → Type 0
 MakesHash password kept budget room made =
     let text = crypt password kept in
@@ -29,14 +29,15 @@ MakesHash password kept budget room made =
     ⊎ ((report : Report) × (made ≡ Err report) × LacksMemory kept most report))
     (λ refusal. made ≡ Err refusal)
 
--- MakesHashOf password text budget room made: the hash with the setting in `text`, or the report of the first refusal.
+-- MakesHashOf password text budget room made: `made` is the hash with the setting in `text`, or the report of the first
+-- refusal.
 abbrev pub MakesHashOf : List ℕ → List ℕ → ℕ → ℕ → Result (List ℕ × Report) Report → Type 0
 MakesHashOf password text budget room made =
     let Fails = λ (reason : Reason). made ≡ Err (refused reason 0) in
     OnPassword password Fails (OnSetting text Fails (λ kept. MakesHash password kept budget room made))
 
--- MakesHashAnew password number rounds numbers budget room made: the hash with a new setting, or the report of the
--- first refusal.
+-- MakesHashAnew password number rounds numbers budget room made: `made` is the hash with a new setting, or the report
+-- of the first refusal.
 abbrev pub MakesHashAnew : List ℕ → ℕ → ℕ → List ℕ → ℕ → ℕ → Result (List ℕ × Report) Report → Type 0
 MakesHashAnew password number rounds numbers budget room made =
     let Fails = λ (reason : Reason). made ≡ Err (refused reason 0) in
@@ -47,16 +48,17 @@ MakesHashAnew password number rounds numbers budget room made =
     (λ most. made ≡ Err (refused NoRandomNumbers most))
     (λ refusal. made ≡ Err refusal))))
 
--- IsTold budget room done made: what the report says; `done` is everything that the meter counted. Either a hash was
--- made that fits into `room` bytes and costs at most the budget, or none was, and the report has an error.
+-- IsTold budget room done made: what the report in `made` says, where `done` is everything that the meter counted.
+-- Either a hash was made that costs at most the budget and fits, with a zero byte, into `room` bytes; or no hash was
+-- made, and the report has an error. The reported work is `done`.
 abbrev pub IsTold : ℕ → ℕ → Work → Result (List ℕ × Report) Report → Type 0
 IsTold budget room done (Ok (text, report)) =
     (report.error ≡ 0) × (report.length ≡ length text) × (length text < room) × (report.cost ≤ budget)
     × (done ≡ report.work)
 IsTold budget room done (Err report) = (report.error ≢ 0) × (done ≡ report.work)
 
--- IsPut made lock old report new: the call returns the report of a hash and writes the hash to `out`, or after a
--- refusal `lock`.
+-- IsPut made lock old report new: the call returns the report in `made`, and writes the hash in it to `out`, or `lock`
+-- after a refusal.
 abbrev pub IsPut : Result (List ℕ × Report) Report → List ℕ → List ℕ → Report → List ℕ → Type 0
 IsPut (Ok (text, told)) lock old report new = Leaves told text old report new
 IsPut (Err refusal) lock old report new = Leaves refusal lock old report new

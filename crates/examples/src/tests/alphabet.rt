@@ -1,4 +1,4 @@
-//! Crypt's alphabet, and numbers as bytes.
+//! Tests of crypt's alphabet and of numbers as bytes.
 
 use super::want;
 use arrayvec::ArrayVec;

@@ -1,4 +1,4 @@
-//! Whole commands, with their input and output in memory.
+//! Tests of whole commands, with their input and output in memory.
 
 ghost use Rattle.std.specs.Prelude.{◌^◌, ◌≤◌};
 
@@ -14,7 +14,7 @@ use std::alloc::Global;
 use std::process::Abort;
 use std::test::Fail;
 
-// What a command left: its exit status, its output and messages, and whether it hashed nothing.
+// What a command left: its exit status, its output, its messages on standard error, and whether it hashed nothing.
 #[derive(Drop)]
 pub struct Left {
     status: u8,
@@ -23,7 +23,7 @@ pub struct Left {
     is_free: bool,
 }
 
-// Runs a command within `turns` I/O calls.
+// Runs a command that may make at most `turns` I/O calls.
 fn left_within(alloc: Global, words: &[&str], input: &[u8], turns: u64) -> Result<Left, Fail>
     requires { turns ≤ 2 ^ 40 }
 {
@@ -55,19 +55,19 @@ fn left_within(alloc: Global, words: &[&str], input: &[u8], turns: u64) -> Resul
     })
 }
 
-/// Runs a command within the greatest limit on I/O calls.
+/// Runs a command with the greatest limit on its I/O calls.
 pub fn left_by(alloc: Global, words: &[&str], input: &[u8]) -> Result<Left, Fail> {
     left_within(alloc, words, input, 1 << 40)
 }
 
 impl Left {
-    /// Asserts the status, the output and the messages.
+    /// Asserts the exit status, the output and the messages on standard error. `what` names the case.
     pub fn want(&self, rt: &impl Abort, what: &str, status: u8, out: &str, faults: &str) {
         let told = (self.status, self.out.as_slice(), self.faults.as_slice());
         want(rt, told, (status, out.as_bytes(), faults.as_bytes()), what);
     }
 
-    /// Asserts that the first line was refused with this message, and that the command did nothing else.
+    /// Asserts that the first line of input was refused with this message, and that the command printed nothing else.
     pub fn want_refused(&self, rt: &impl Abort, alloc: Global, message: &str) -> Result<(), Fail> {
         let faults = format!(in alloc; "mkpasswd: line 1: {message}\n")?;
         self.want(rt, message, 1, "", faults.as_str());
@@ -78,7 +78,7 @@ impl Left {
 // The arguments and the input of a command, and the status, the output and the messages that it should leave.
 type Row<'a> = (&'a [&'a str], &'a str, u8, &'a str, &'a str);
 
-// Asserts what the command of each row leaves.
+// Asserts that the command of each row leaves what the row says.
 fn want_all(rt: &impl Abort, alloc: Global, rows: &[Row]) -> Result<(), Fail> {
     for &(words, input, status, out, faults) in rows {
         let left = left_by(alloc, words, input.as_bytes())?;
@@ -89,7 +89,7 @@ fn want_all(rt: &impl Abort, alloc: Global, rows: &[Row]) -> Result<(), Fail> {
 
 const BATCH: &[&str] = &["--batch", "-m", "md5crypt", "-S", "xxxxxxxx"];
 
-// The hash of "password" from openssl-passwd(1), and lines with it.
+// The hash of "password", from openssl-passwd(1). `ANN` and `HASHES` are lines of output with this hash.
 const HASH: &str = "$1$xxxxxxxx$UYCIxa628.9qXjpQCjM4a.\n";
 
 const ANN: &str = "ann:$1$xxxxxxxx$UYCIxa628.9qXjpQCjM4a.\n";
@@ -97,7 +97,7 @@ const ANN: &str = "ann:$1$xxxxxxxx$UYCIxa628.9qXjpQCjM4a.\n";
 const HASHES: &str =
     "ann:$1$xxxxxxxx$UYCIxa628.9qXjpQCjM4a.\nbob:$1$xxxxxxxx$UYCIxa628.9qXjpQCjM4a.\n";
 
-// The other hashes come from Drepper's specification and libxcrypt.
+// md5crypt's hash comes from openssl-passwd(1), and the others from Drepper's specification and libxcrypt.
 #[test]
 fn one_password(rt: HostRuntime) -> Result<(), Fail> {
     let rows: &[(&[&str], &str, &str)] = &[
@@ -141,7 +141,7 @@ fn one_password(rt: HostRuntime) -> Result<(), Fail> {
     Ok(())
 }
 
-// The plan of the first command above.
+// The arguments of a command that hashes one password become a plan for it.
 #[test]
 fn a_plan(rt: HostRuntime) -> Result<(), Fail> {
     let mut words = Vec::new(rt.alloc());
@@ -323,7 +323,7 @@ fn lines_to_check(rt: HostRuntime) -> Result<(), Fail> {
     want_all(&rt, rt.alloc(), rows)
 }
 
-// A line over budget is not hashed.
+// A line that can cost more than the budget is refused, and nothing is hashed.
 #[test]
 fn budgets(rt: HostRuntime) -> Result<(), Fail> {
     const ANN_LINE: &str = "ann:$1$xxxxxxxx$UYCIxa628.9qXjpQCjM4a.:password";
@@ -372,7 +372,7 @@ fn budgets(rt: HostRuntime) -> Result<(), Fail> {
     Ok(())
 }
 
-// Each limit, and one byte more.
+// A line as long as the limit and longer ones, whose names are too long too, and a password of one byte too many.
 #[test]
 fn long_inputs(rt: HostRuntime) -> Result<(), Fail> {
     const ONE: &[&str] = &["-s"];
@@ -392,7 +392,7 @@ fn long_inputs(rt: HostRuntime) -> Result<(), Fail> {
     Ok(())
 }
 
-// The salt is random, so only the form of the hash is known.
+// Passwords of up to 1,024 bytes are hashed. The salt is random, so only the form of the hash is known.
 #[test]
 fn a_long_password(rt: HostRuntime) -> Result<(), Fail> {
     for count in [512, 1024] {

@@ -1,4 +1,4 @@
-//! The greatest cost and work of a hash, which are known before it is made.
+//! Tests of the greatest cost and work of a hash, which are known before the hash is made.
 
 use super::want;
 use crypt_core::setting::Setting;

@@ -1,4 +1,4 @@
-//! HMAC, PBKDF2 and scrypt, with the work of each.
+//! Tests of HMAC, PBKDF2 and scrypt, and of the work that each counts.
 
 use super::{counts, want};
 use kdf_core::hmac::HmacKey;
@@ -12,7 +12,7 @@ use std::alloc::Global;
 use std::process::Abort;
 use std::test::Fail;
 
-// RFC 4231, section 4: cases 1 to 4, 6 and 7.
+// Keys, texts and tags of the test cases 1 to 4, 6 and 7 in RFC 4231, section 4.
 const TAGS: &[(&[u8], &[u8], &str)] = &[
     (
         &[0x0b; 20],
@@ -49,7 +49,7 @@ const TAGS: &[(&[u8], &[u8], &str)] = &[
     ),
 ];
 
-// Returns a key, and asserts the work of making it.
+// Returns the prepared key, and asserts the work of preparing it.
 fn want_key(rt: &impl Abort, key: &[u8], digests: u128, bytes: u128) -> HmacKey {
     assert!(rt; key.len() <= 131);
     let mut meter = Meter::new();
@@ -58,7 +58,7 @@ fn want_key(rt: &impl Abort, key: &[u8], digests: u128, bytes: u128) -> HmacKey 
     hmac
 }
 
-// Asserts the tag of a text in two pieces, and its work.
+// Asserts the tag of a text that is passed in two pieces, and the work of the tag.
 fn want_tag(
     rt: &impl Abort,
     alloc: Global,
@@ -75,7 +75,7 @@ fn want_tag(
     Ok(())
 }
 
-// The tag does not depend on where the text is cut, and one key makes several tags.
+// A tag does not depend on where the text is cut, and one prepared key makes several tags.
 #[test]
 fn tags(rt: HostRuntime) -> Result<(), Fail> {
     for (key, text, wanted) in TAGS {
@@ -119,9 +119,9 @@ struct Derivation {
     wanted: &'static str,
 }
 
-// The first vector is from RFC 7914, section 11. The other vector there has 80000 rounds, too many for a test. The next
-// five have the inputs of RFC 6070, except the one with 16777216 rounds; RFC 6070 has the outputs for SHA-1, so theirs
-// come from Python's `hashlib`. Of the last two, one ends in a cut block, and one derives no bytes.
+// The first row is from RFC 7914, section 11. The other vector there has 80000 rounds, too many for a test. The next
+// five rows have inputs of RFC 6070, whose outputs are for SHA-1, so the expected bytes come from Python's `hashlib`,
+// as do those of the last two rows: one ends in a block that is cut, and one derives no bytes.
 const DERIVATIONS: &[Derivation] = &[
     Derivation {
         password: b"passwd",
@@ -189,7 +189,7 @@ const DERIVATIONS: &[Derivation] = &[
     },
 ];
 
-// Asserts the bytes that a row derives, and their work.
+// Asserts the bytes that PBKDF2 derives for a row, and their work.
 fn want_derived(rt: &impl Abort, alloc: Global, row: &Derivation) -> Result<(), Fail> {
     let count = row.wanted.len() / 2;
     let rounds = row.rounds;
@@ -214,7 +214,7 @@ fn bytes_from_a_password(rt: HostRuntime) -> Result<(), Fail> {
     Ok(())
 }
 
-// The limits of each range and of the ceiling.
+// Parameters at the limits of their ranges and at the ceiling, and just beyond them.
 #[test]
 fn parameters(rt: HostRuntime) {
     for &(log_n, r, p, wanted) in &[
@@ -246,15 +246,15 @@ struct Row {
     log_n: u8,
     r: u32,
     p: u32,
-    // Digests, bytes digested, mixings, and bytes of table and scratch memory.
+    // The digests, bytes digested, mixings, and bytes of table and scratch memory.
     work: [u64; 5],
     wanted: &'static str,
 }
 
-// The first three are from RFC 7914, section 12, whose fourth needs a table of 1 GiB, too much for a test. The fourth
-// is the first one, cut. The others come from Python's `hashlib`: a password that ends with a block and one that is a
-// byte longer, both with three parts of more than one block; N of 2; a last block that is cut; no bytes; many parts;
-// and a part of many blocks.
+// Rows 1 to 3 are from RFC 7914, section 12, whose fourth vector needs a table of 1 GiB, too much for a test. Row 4 is
+// row 1 with half of its bytes. The other rows come from Python's `hashlib`: passwords of 64 and of 65 bytes, since
+// HMAC digests a longer key than 64 bytes; N of 2; a result that ends in a part of a block; no bytes; many parts; and a
+// part of many blocks.
 const ROWS: &[Row] = &[
     Row {
         password: b"",
@@ -357,7 +357,7 @@ const ROWS: &[Row] = &[
     },
 ];
 
-// Asserts the bytes of a row, and that its work is the same when computed beforehand and when counted.
+// Asserts the bytes that scrypt derives for a row, and its work, both as computed beforehand and as counted.
 fn want_bytes(rt: &impl Abort, alloc: Global, row: &Row) -> Result<(), Fail> {
     let (log_n, r, p, count) = (row.log_n, row.r, row.p, row.wanted.len() / 2);
     assert!(rt; count <= 128 && row.password.len() <= 65 && row.salt.len() <= 70);
@@ -394,7 +394,7 @@ fn bytes_by_scrypt(rt: HostRuntime) -> Result<(), Fail> {
     Ok(())
 }
 
-// Asserts what scrypt returns for a row in lent memory, what it counts, and what is in the bytes afterwards.
+// Asserts what scrypt returns for a row in lent memory, what its meter counts, and which bytes are in `out` afterwards.
 fn want_lent(
     rt: &impl Abort,
     alloc: Global,
@@ -429,7 +429,7 @@ fn want_lent(
     Ok(())
 }
 
-// The same rows in exactly the memory that they need, which does not hold zeros, and in a word or a byte less.
+// scrypt in lent memory: exactly as much as it needs, which does not hold zeros, and a word or a byte less.
 #[test]
 fn bytes_by_scrypt_in_lent_memory(rt: HostRuntime) -> Result<(), Fail> {
     let alloc = rt.alloc();

@@ -1,4 +1,4 @@
-//! Digests, which a meter counts.
+//! Tests of the digests and of the meter that counts them.
 
 use super::{counts, want};
 use prims_core::counted::{Counted, CountedMd5, CountedSha256, CountedSha512};
@@ -12,7 +12,8 @@ fn a_new_meter(rt: HostRuntime) {
     want(&rt, counts(&Meter::new()), [0; 5], "a new meter");
 }
 
-// Asserts the digest of a message that is fed in two pieces, and that the meter counts it.
+// Asserts the digest of a message that is fed in two pieces, and that the meter counts one digest and the message's
+// bytes.
 fn want_digest<C: Counted>(
     rt: &impl Abort,
     alloc: Global,
@@ -31,7 +32,7 @@ fn want_digest<C: Counted>(
     Ok(())
 }
 
-// RFC 1321, section A.5, and the examples of FIPS 180.
+// The expected digests come from RFC 1321, section A.5, and from the examples of FIPS 180.
 #[test]
 fn digests_of_the_standards(rt: HostRuntime) -> Result<(), Fail> {
     let alloc = rt.alloc();
@@ -46,7 +47,7 @@ fn digests_of_the_standards(rt: HostRuntime) -> Result<(), Fail> {
     want_digest::<CountedSha512>(&rt, alloc, (b"abc", b""), sha512)
 }
 
-// A meter adds up all work, and can say how much of it came after a reading.
+// A meter adds up all work, and says how much of it was done after a reading.
 #[test]
 fn work_since_a_reading(rt: HostRuntime) {
     let mut meter = Meter::new();

@@ -1,4 +1,4 @@
-//! The errors of each call: what `{}` prints, and the exit status of those that end the program.
+//! Tests of the errors: the message that `{}` prints, and the exit status of the errors that end the program.
 
 use super::want;
 use crypt_core::fits::FitFault;
@@ -15,7 +15,7 @@ use std::fmt::Display;
 use std::process::Abort;
 use std::test::Fail;
 
-// Asserts that `{}` prints the message of an error, and that the error's text is the same.
+// Asserts that `{}` prints this message for an error, and that the error's `text` is the same.
 fn want_shown<F: Display>(
     rt: &impl Abort,
     alloc: Global,
@@ -135,8 +135,8 @@ fn errors_of_arguments(rt: HostRuntime) -> Result<(), Fail> {
     Ok(())
 }
 
-// Asserts how `clap`'s error for this argument begins, and its status. Its text is empty, because the program prints
-// `clap`'s message.
+// Asserts how the message of `clap` for this argument begins, and its exit status. The error's `text` is empty, because
+// the program prints the message of `clap`.
 fn want_clap(
     rt: &impl Abort,
     alloc: Global,

@@ -1,5 +1,5 @@
-//! Hashes, with the counts of their work as the steps of the standards require it: digests, bytes digested, mixings,
-//! and bytes of table and scratch memory.
+//! Tests of hashes, and of the counts of their work as the steps of the standards require it: digests, bytes digested,
+//! mixings, and bytes of table and scratch memory.
 
 use super::{counts, want};
 use crypt_core::hash::{HashFault, hash};
@@ -17,7 +17,7 @@ use prims_core::meter::Meter;
 use std::process::Abort;
 use std::test::Fail;
 
-// The digests are the bytes 0, 1, 2 and so on, and zeros. The expected characters come from a Python program.
+// Each digest consists of the bytes 0, 1, 2 and so on, or of zeros. The expected characters come from a Python program.
 #[test]
 fn packed_digests(rt: HostRuntime) -> Result<(), Fail> {
     for &(method, length, step, wanted) in &[
@@ -130,7 +130,8 @@ fn hashes(rt: HostRuntime) -> Result<(), Fail> {
     Ok(())
 }
 
-// Some of these hashes in exactly the memory that they need, which does not hold zeros, and in a word or a byte less.
+// Stored hashes are checked in lent memory: exactly as much as they need, which does not hold zeros, and a word or a
+// byte less.
 #[test]
 fn hashes_in_lent_memory(rt: HostRuntime) -> Result<(), Fail> {
     let alloc = rt.alloc();
@@ -189,7 +190,7 @@ fn hashes_in_lent_memory(rt: HostRuntime) -> Result<(), Fail> {
     Ok(())
 }
 
-// Asserts the text of a digest, which is part of a hash above, and its work.
+// Asserts the text of a digest, which is the end of a hash that `hashes` tests, and its work.
 fn want_packed(rt: &impl Abort, text: &[u8], meter: &Meter, wanted: &str, work: [u128; 5]) {
     want(rt, text, wanted.as_bytes(), wanted);
     want(rt, counts(meter), work, wanted);

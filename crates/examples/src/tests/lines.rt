@@ -1,4 +1,4 @@
-//! The rules that a line can break, in the order in which they are checked.
+//! Tests of the rules that a line of input can break, in the order in which the rules are checked.
 
 use super::commands::left_by;
 use super::{padded, want};
@@ -7,8 +7,8 @@ use std::alloc::Global;
 use std::process::Abort;
 use std::test::Fail;
 
-// Asserts which rule a line breaks: `inspect` finds it, and a run prints the same message. A line that breaks none has
-// a locked account.
+// Asserts which rule a line breaks: `inspect` returns its error, and a command prints the same message. A line that
+// breaks no rule has a locked account here, so the command hashes nothing.
 fn want_rule(
     rt: &impl Abort,
     alloc: Global,

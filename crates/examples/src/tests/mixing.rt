@@ -1,4 +1,4 @@
-//! Salsa20/8, scrypt's mixing of blocks, and the memory that scrypt works in.
+//! Tests of Salsa20/8, of scrypt's mixing of blocks, and of the memory that scrypt works in.
 ghost use Rattle.std.specs.Prelude.{◌≡◌, ◌+◌, ◌*◌, ◌≤◌, length, vec_capacity, IfOk};
 ghost use Rattle.prims_core.specs.Memory.{HasShape};
 
@@ -15,7 +15,7 @@ use std::alloc::{AllocError, Global};
 use std::process::Abort;
 use std::test::Fail;
 
-// The input of RFC 7914, section 8.
+// The input of the test vector in RFC 7914, section 8.
 const BLOCK: [u8; 64] = [
     0x7e, 0x87, 0x9a, 0x21, 0x4f, 0x3e, 0xc9, 0x86, 0x7c, 0xa9, 0x40, 0xe6, 0x41, 0x71, 0x8f, 0x26,
     0xba, 0xee, 0x55, 0x5b, 0x8c, 0x61, 0xc1, 0xb5, 0x0d, 0xf8, 0x46, 0x11, 0x6d, 0xcd, 0x3b, 0x1d,
@@ -23,7 +23,7 @@ const BLOCK: [u8; 64] = [
     0x76, 0x02, 0x1d, 0x29, 0x09, 0xc7, 0x48, 0x29, 0xed, 0xeb, 0xc6, 0x8d, 0xb8, 0xb8, 0xc2, 0x5e,
 ];
 
-// Returns the block after Salsa20/8.
+// Returns the Salsa20/8 of a block.
 fn salsa8_of(block: &[u8; 64]) -> [u8; 64] {
     let mut words = [0; 16];
     load_words(block, &mut words);
@@ -43,7 +43,8 @@ fn a_block(rt: HostRuntime) -> Result<(), Fail> {
     Ok(())
 }
 
-// The lanes give what the plain form gives for 64 blocks: first the words 0 to 15, and then each result in turn.
+// `salsa8`, which works in lanes, gives what `word_by_word` gives for 64 blocks: the words 0 to 15, and then the result
+// for each block in turn.
 #[test]
 fn lanes_as_word_by_word(rt: HostRuntime) {
     let mut block = [0, 1, 2, 3, 4, 5, 6, 7, 8, 9, 10, 11, 12, 13, 14, 15];
@@ -55,7 +56,7 @@ fn lanes_as_word_by_word(rt: HostRuntime) {
     }
 }
 
-// Salsa20/8 without lanes: a quarter round of four words at a time.
+// Returns the Salsa20/8 of a block, computed without lanes: each quarter round has four words.
 fn word_by_word(block: [u32; 16]) -> [u32; 16] {
     let mut x = block;
     for _round in 0..4_u32 {
@@ -68,7 +69,7 @@ fn word_by_word(block: [u32; 16]) -> [u32; 16] {
     sum
 }
 
-// The quarter rounds of the columns, and then those of the rows.
+// Returns the block after the quarter rounds of its columns and then of its rows.
 fn double_round(x: [u32; 16]) -> [u32; 16] {
     let mut x = x;
     for [a, b, c, d] in [
@@ -89,7 +90,7 @@ fn double_round(x: [u32; 16]) -> [u32; 16] {
     x
 }
 
-// The input of RFC 7914, section 9.
+// The input of the test vector in RFC 7914, section 9.
 const BLOCKS: [u8; 128] = [
     0xf7, 0xce, 0x0b, 0x65, 0x3d, 0x2d, 0x72, 0xa4, 0x10, 0x8c, 0xf5, 0xab, 0xe9, 0x12, 0xff, 0xdd,
     0x77, 0x76, 0x16, 0xdb, 0xbb, 0x27, 0xa7, 0x0e, 0x82, 0x04, 0xf3, 0xae, 0x2d, 0x0f, 0x6f, 0xad,
@@ -101,7 +102,7 @@ const BLOCKS: [u8; 128] = [
     0x7f, 0x4d, 0x1c, 0xad, 0x6a, 0x52, 0x3c, 0xda, 0x77, 0x0e, 0x67, 0xbc, 0xea, 0xaf, 0x7e, 0x89,
 ];
 
-// The output for this input.
+// The output of the test vector in RFC 7914, section 9.
 const MIXED: [u8; 128] = [
     0xa4, 0x1f, 0x85, 0x9c, 0x66, 0x08, 0xcc, 0x99, 0x3b, 0x81, 0xca, 0xcb, 0x02, 0x0c, 0xef, 0x05,
     0x04, 0x4b, 0x21, 0x81, 0xa2, 0xfd, 0x33, 0x7d, 0xfd, 0x7b, 0x1c, 0x63, 0x96, 0x68, 0x2f, 0x29,
@@ -113,7 +114,7 @@ const MIXED: [u8; 128] = [
     0x5d, 0x2a, 0x22, 0x58, 0x77, 0xd5, 0xed, 0xf5, 0x84, 0x2c, 0xb9, 0xf1, 0x4e, 0xef, 0xe4, 0x25,
 ];
 
-// Returns two blocks after one mixing.
+// Returns the scryptBlockMix of two blocks.
 fn mixed(blocks: &[u8; 128], meter: &mut Meter) -> [u8; 128]
     requires { meter.old.mixes ≡ 0 }
 {
@@ -147,7 +148,7 @@ fn digest_of(alloc: Global, words: &[u32]) -> Result<String, Fail> {
     Ok(hex::encode(alloc, running.finish(&mut meter).as_slice())?)
 }
 
-// Returns the words of 2r blocks with the bytes 3, 10, 17 and so on.
+// Returns the words of 2r blocks whose bytes are 3, 10, 17 and so on, modulo 256.
 fn rising_blocks(alloc: Global, r: usize) -> Result<Vec<u32>, AllocError>
     requires { r ≤ 6 }
     ensures { IfOk result (λ words. length words.items ≡ 32 * r) }
@@ -161,7 +162,7 @@ fn rising_blocks(alloc: Global, r: usize) -> Result<Vec<u32>, AllocError>
     Ok(words)
 }
 
-// Asserts the mixing of 2r blocks.
+// Asserts the digest of the words after the 2r blocks of `rising_blocks` are mixed.
 fn want_mixed(rt: &impl Abort, alloc: Global, r: usize, wanted: &str) -> Result<(), Fail> {
     assert!(rt; 1 <= r && r <= 6);
     let words = rising_blocks(alloc, r)?;
@@ -171,7 +172,7 @@ fn want_mixed(rt: &impl Abort, alloc: Global, r: usize, wanted: &str) -> Result<
     want_xor_mixed(rt, alloc, r, wanted)
 }
 
-// Splits words into two parts whose XOR they are: `words` keeps one, and the other goes to `row`.
+// Splits words into two parts whose XOR is the words. One part is left in `words`, and the other is written to `row`.
 fn split(words: &mut [u32], row: &mut [u32])
     requires { length words.old ≡ length row.old }
 {
@@ -183,7 +184,7 @@ fn split(words: &mut [u32], row: &mut [u32])
     }
 }
 
-// Asserts the same mixing by diagonals, of two parts whose XOR the blocks are.
+// Asserts what `mix_xor_diagonals` gives for two parts whose XOR is the 2r blocks of `rising_blocks`.
 fn want_xor_mixed(rt: &impl Abort, alloc: Global, r: usize, wanted: &str) -> Result<(), Fail>
     requires { (1 ≤ r) × (r ≤ 6) }
 {
@@ -201,7 +202,8 @@ fn want_xor_mixed(rt: &impl Abort, alloc: Global, r: usize, wanted: &str) -> Res
     Ok(())
 }
 
-// The SHA-256 of the blocks that a Python program mixes; the program also gives the vector above.
+// Each expected value is the SHA-256 of the blocks that a Python program mixes. The program gives the vector of RFC
+// 7914, section 9, too.
 #[test]
 fn more_blocks(rt: HostRuntime) -> Result<(), Fail> {
     for &(r, wanted) in &[
@@ -223,7 +225,7 @@ fn more_blocks(rt: HostRuntime) -> Result<(), Fail> {
     Ok(())
 }
 
-// Each word is its own place, so the diagonals of the matrix are listed as Salsa20 orders them.
+// Each word of the block is the number of its place, so the result lists the places of the words in diagonal order.
 #[test]
 fn a_block_by_its_diagonals(rt: HostRuntime) {
     let rows = [0, 1, 2, 3, 4, 5, 6, 7, 8, 9, 10, 11, 12, 13, 14, 15];
@@ -265,7 +267,7 @@ fn a_table_of_long_rows(rt: HostRuntime) -> Result<(), Fail> {
     Ok(())
 }
 
-// Returns the words of two blocks in the order of their diagonals.
+// Returns the words of two blocks, each in diagonal order.
 fn on_diagonals(blocks: &[u8; 128]) -> [u32; 32] {
     let mut words = [0; 32];
     load_words(blocks, &mut words);
@@ -273,7 +275,7 @@ fn on_diagonals(blocks: &[u8; 128]) -> [u32; 32] {
     words
 }
 
-// Fills two rows, and returns the blocks that follow them.
+// Fills two rows, the blocks and the blocks mixed once, and returns the blocks mixed twice.
 fn fill<R: Rows>(rows: &mut R, blocks: &[u32; 32], meter: &mut Meter) -> [u32; 32]
     requires fits { 64 ≤ R.room rows.old }
     requires room { meter.old.mixes ≤ 2 }
@@ -286,7 +288,7 @@ fn fill<R: Rows>(rows: &mut R, blocks: &[u32; 32], meter: &mut Meter) -> [u32; 3
     x
 }
 
-// Asserts the two rows.
+// Asserts that the rows are `first` and `second`.
 fn want_rows<R: Rows>(
     rt: &impl Abort,
     rows: &R,
@@ -350,7 +352,7 @@ fn memory_that_is_counted(rt: HostRuntime) -> Result<(), Fail> {
     Ok(())
 }
 
-// Asserts that the bytes of scratch memory are zeros, and keep what is written.
+// Asserts that the bytes of scratch memory are zeros at first, and keep what is written to them.
 fn want_bytes(rt: &impl Abort, bytes: &mut ByteScratch)
     requires { length bytes.old ≡ 128 }
 {
@@ -360,7 +362,7 @@ fn want_bytes(rt: &impl Abort, bytes: &mut ByteScratch)
     want(rt, last, (0, 255), "bytes");
 }
 
-// Asserts the same of words.
+// Asserts that the words of scratch memory are zeros at first, and keep what is written to them.
 fn want_words(rt: &impl Abort, words: &mut WordScratch)
     requires { length words.old ≡ 64 }
 {

@@ -1,4 +1,4 @@
-//! Methods, passwords and settings: how they are read and made, and which setting replaces which.
+//! Tests of methods, passwords and settings: how they are read and made, and which setting replaces which.
 
 use super::{padded, want};
 use arrayvec::ArrayVec;
@@ -27,7 +27,7 @@ fn methods(rt: HostRuntime) {
     }
 }
 
-// Asserts that a password keeps its bytes, or the message of the error.
+// Asserts that a password is accepted and keeps its bytes, or is refused with this message.
 fn want_password(rt: &impl Abort, bytes: &[u8], wanted: Option<&str>) {
     let fault = match Password::new(bytes) {
         Ok(password) => {
@@ -57,7 +57,7 @@ fn passwords(rt: HostRuntime) -> Result<(), Fail> {
     Ok(())
 }
 
-// Returns the canonical text of a setting, or the message of the error.
+// Returns the canonical text of a setting, or the message of the error if there is no setting.
 fn told(made: Result<Setting, &str>) -> ArrayVec<u8, TEXT_CAPACITY> {
     match made {
         Ok(setting) => setting.text(),
@@ -139,7 +139,7 @@ fn what_a_setting_keeps(rt: HostRuntime) -> Result<(), Fail> {
     Ok(())
 }
 
-// Each limit, and one byte more.
+// Settings as long as the limit for a salt or for a whole setting, and settings of one byte more.
 #[test]
 fn long_settings(rt: HostRuntime) -> Result<(), Fail> {
     for &(front, letter, count, wanted) in &[
@@ -223,7 +223,7 @@ fn salts_from_random_numbers(rt: HostRuntime) {
     }
 }
 
-// Asserts whether a maker draws a salt, and its setting or the message of the error.
+// Asserts whether a maker needs random numbers for a salt, and which setting it makes, or the message of the error.
 fn want_maker(
     rt: &impl Abort,
     method: Method,
@@ -257,14 +257,15 @@ fn makers(rt: HostRuntime) {
     want_maker(&rt, Method::Md5crypt, 0, Some(b""), false, "salt length");
 }
 
-// Returns whether the setting `new` replaces `old`.
+// Returns whether a new hash with the setting `new` replaces a hash with the setting `old`.
 fn is_replaced(old: &str, new: &str) -> Result<bool, Fail> {
     let setting = Setting::read(old.as_bytes())?;
     let other = Setting::read(new.as_bytes())?;
     Ok(setting.replaced_by(&other))
 }
 
-// The rounds or scrypt's `N * r * p` decide, not the salt or whether the rounds are written.
+// Between settings of one method, the rounds or scrypt's `N * r * p` decide. The salt does not matter, nor whether the
+// setting has `rounds=`.
 #[test]
 fn settings_that_replace_others(rt: HostRuntime) -> Result<(), Fail> {
     for &(old, new, wanted) in &[

@@ -1,4 +1,4 @@
-//! Stored hashes: what a field holds, and which passwords match it.
+//! Tests of stored hashes: what a field holds, and which passwords match it.
 
 use super::{counts, want};
 use crypt_core::fits::fits;
@@ -9,8 +9,8 @@ use std::alloc::Global;
 use std::process::Abort;
 use std::test::Fail;
 
-// Asserts whether a password matches a stored hash, or the message of the error, and how many digests that takes. A
-// field that is refused costs nothing.
+// Asserts whether a password matches a stored hash, or the message of the error, and how many digests the check takes.
+// The check of a refused field does no work.
 fn want_fit(
     rt: &impl Abort,
     alloc: Global,

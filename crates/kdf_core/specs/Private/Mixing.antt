@@ -1,4 +1,4 @@
--- The memory in which scrypt mixes a part, and the meter after a derivation in it.
+-- The memory in which scrypt mixes a part, and the meter after scrypt has run in memory that was counted before.
 use Rattle.std.specs.Prelude.{◌≡◌, ℕ, ◌+◌, ◌*◌, ◌^◌, ◌≤◌, List, length}
 use Rattle.prims_core.specs.declared.meter.Work.{Work}
 use Rattle.kdf_core.specs.Params.{ScryptParams}
@@ -8,13 +8,13 @@ use Rattle.kdf_core.specs.ScryptWork.{scrypt_work}
 abbrev pub part_words : ℕ → ℕ
 part_words r = 32 * r
 
--- AreHalves r x y: r is at least 1, and the two halves have 2r blocks each.
+-- AreHalves r x y: r is at least 1, and the halves x and y have 2r blocks each.
 pub record AreHalves (r : ℕ) (x y : List ℕ) : Type 0 where
   pub some_block : 1 ≤ r
   pub first : length x ≡ part_words r
   pub second : length y ≡ part_words r
 
--- IsPower rows k: the number of rows is 2 ^ k, from 2 to 2 ^ 32.
+-- IsPower rows k: the number of rows is 2 ^ k, and at least 2 and at most 2 ^ 32.
 pub record IsPower (rows k : ℕ) : Type 0 where
   pub power : rows ≡ 2 ^ k
   pub above_one : 1 ≤ k

@@ -1,5 +1,6 @@
--- Every digest consists of bytes, for every message: the law `digest_bytes` of `Counted`, for MD5, SHA-256 and SHA-512.
--- A digest is its state words one after another, so induction over the words, and over the bytes of a word, shows it.
+-- Every digest consists of bytes, for every message: this is the law `digest_bytes` of `Counted`, for MD5, SHA-256 and
+-- SHA-512. A digest is the words of a state, one after another, as bytes. The proofs go by induction over the words,
+-- and over the bytes of a word.
 use Rattle.std.proofs.Common.{ℕ, zero, suc, ◌<◌, List, [], ◌∷◌, arith}
 use Rattle.std.specs.Prelude.{All, slice_index}
 use Rattle.std.specs.Int.{byte_at, bytes_low_first, bytes_high_first}

@@ -1,4 +1,4 @@
--- The report of a finding of a hash has no work (`idle`), whatever its scheme and standing.
+-- If the finding is a hash, its report has no work (clause `idle`), whatever the scheme and the standing of the hash.
 use Rattle.std.proofs.Common.{◌∙◌, ap}
 use Rattle.call_core.specs.declared.report.Report.{Report}
 use Rattle.call_core.proofs.AuditReports.{work-with_scheme, work-standing_report}

@@ -1,5 +1,5 @@
--- The clauses `current`, `passes` and `checked` of `report_audit`, from what AuditReports says about the report of a
--- finding.
+-- The clauses `current`, `passes` and `checked` of `report_audit` follow from what AuditReports says about the report
+-- of a finding.
 use Rattle.std.proofs.Common.{subst, sym}
 use Rattle.call_core.specs.Audits.{ForeseesLogins, Passes}
 use Rattle.call_core.proofs.AuditReports.{ForeseesLogins_from_Finds, IsCurrent_from_Passes, Passes_from_IsCurrent}

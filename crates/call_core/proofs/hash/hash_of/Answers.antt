@@ -1,5 +1,5 @@
--- The password opens the hash that `hash_of` made (`opens`): `hash_within` says that the hash spells the setting, is
--- the password's hash with it, and costs at most the budget.
+-- The password opens the hash that `hash_of` made (clause `opens`). `hash_within` ensures that the hash spells the
+-- setting, is the password's hash with it, and costs at most the budget.
 use Rattle.std.proofs.lemmas.Result.{IfOk-weaker}
 use Rattle.call_core.proofs.hash.hash_of.Goals as goal
 

@@ -1,4 +1,5 @@
--- The clauses `hashes` and `opens` of `put_hash`, from those of its two steps, `hash_of` and `put_hashed` (PutHashes).
+-- The clauses `hashes` and `opens` of `put_hash` follow from the clauses of its two steps, `hash_of` and `put_hashed`,
+-- by the lemmas of PutHashes.
 use Rattle.std.proofs.Common.{ℕ, List}
 use Rattle.call_core.specs.Checks.{Opens}
 use Rattle.call_core.proofs.PutHashes.{IsPut-whole, Hashes_from_IsPut}

@@ -1,5 +1,5 @@
--- What holds of the rounds that `report_rounds` reports (`fitted`): they make the fitted scheme again, at its cost,
--- within the limit (FittedSchemes).
+-- What holds of the rounds that `report_rounds` reports (clause `fitted`): they make the fitted scheme again, the
+-- reported cost is that of a new hash with it, and the cost is within the limit. FittedSchemes has the lemmas.
 use Rattle.std.proofs.Common.{◌≡◌, ◌≤◌, Some, ap, sym}
 use Rattle.std.specs.Prelude.{false}
 use Rattle.crypt_core.specs.MadeSettings.{rounds_of}

@@ -1,7 +1,7 @@
--- The clauses of `log_in` on its three ways out: a refused request (`in-Err`), a stored hash that can't be checked
--- (`in-Err-checkable`), and a comparison (`in-Ok-checkable`). LoginReports has the argument for `logs_in`. A field has
--- one setting, and a method and rounds make one scheme, so those of a clause are the ones that the call read; where a
--- clause says that a hash can be checked, `admits` excludes the other ways out.
+-- The clauses of `log_in` at its three returns: for a refused request (`in-Err`), for a stored hash that can't be
+-- checked (`in-Err-checkable`), and after a comparison (`in-Ok-checkable`). LoginReports has the lemmas for `logs_in`.
+-- A field spells one setting, and a method and rounds make one scheme, so those of a clause are the ones that the call
+-- read. Where a clause assumes that a hash can be checked, `admits` excludes the first two returns.
 use Rattle.std.proofs.Common.{◌≡◌, ◌≤◌, ◌∙◌, length, true, ap, arith, inl, inr, refl, sym}
 use Rattle.crypt_core.specs.Crypt.{allocates}
 use Rattle.crypt_core.specs.MadeSettings.{TakesRounds}

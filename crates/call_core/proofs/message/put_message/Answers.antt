@@ -1,5 +1,5 @@
--- `put_message` writes the message for the reason that has the number: the one that it found, since no two reasons have
--- the same number.
+-- `put_message` writes the message for the reason that has the number. The reason that it found is the only one with
+-- that number, since no two reasons have the same number.
 use Rattle.std.proofs.Common.{◌≡◌, rules}
 use Rattle.call_core.proofs.ReasonNumbers.{reason_numbered-reason_row}
 use Rattle.call_core.proofs.message.put_message.Goals as goal

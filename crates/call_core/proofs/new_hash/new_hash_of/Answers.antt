@@ -1,5 +1,5 @@
--- The clauses of `new_hash_of`, with three random numbers and without (PutNewHashes). The new hash is not outdated,
--- because its scheme is the one that the method and the rounds make, and no scheme replaces itself.
+-- The clauses of `new_hash_of`, with three random numbers and without, by the lemmas of PutNewHashes. The new hash is
+-- not outdated, because its scheme is the one that the method and the rounds make, and no scheme replaces itself.
 use Rattle.std.proofs.Common.{◌≡◌, ◌==◌, ℕ, List, [], ◌∷◌, length, false, true, arith, inl, refl, rules, Ok, Err}
 use Rattle.std.specs.Prelude.{slice_index}
 use Rattle.std.proofs.lemmas.Grind.{common_steps}
@@ -9,7 +9,7 @@ use Rattle.call_core.proofs.PutNewHashes.{not_three-false, MakesHashAnew-numbers
 use Rattle.call_core.proofs.MadeSchemes.{is_outdated_by-self, IsSchemeMade-TakesRounds}
 use Rattle.call_core.proofs.new_hash.new_hash_of.Goals as goal
 
--- a list of three numbers is that of its first three
+-- a list of length 3 consists of its items 0, 1 and 2
 length-three : (numbers : List ℕ) → length numbers ≡ 3 → numbers ≡ slice_index numbers 0 ∷ slice_index numbers 1 ∷ slice_index numbers 2 ∷ []
 length-three [] few = absurd (omega (arith, few))
 length-three (a ∷ []) few = absurd (omega (arith, few))

@@ -1,5 +1,5 @@
--- The clauses `hashes`, `opens` and `current` of `put_new_hash`, from those of its two steps, `new_hash_of` and
--- `put_hashed` (PutNewHashes, PutHashes).
+-- The clauses `hashes`, `opens` and `current` of `put_new_hash` follow from the clauses of its two steps, `new_hash_of`
+-- and `put_hashed`, by the lemmas of PutNewHashes and PutHashes.
 use Rattle.std.proofs.Common.{ℕ, List, length}
 use Rattle.prims_core.specs.Work.{no_work}
 use Rattle.call_core.specs.Checks.{Opens}

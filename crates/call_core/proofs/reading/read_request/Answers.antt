@@ -1,5 +1,5 @@
--- `read_request` reports the refusal of a method or of rounds (`refused`): the report is the one that `?` makes of the
--- reason.
+-- `read_request` reports the refusal of a method or of rounds (clause `refused`): its report is the one that `?` makes
+-- of the reason.
 use Rattle.std.proofs.Common.{◌≡◌, Ok, Err, inl, refl}
 use Rattle.std.specs.Prelude.{IfErr, IsErrAnd, Result}
 use Rattle.call_core.specs.Arguments.{Refuses, TakesNewRounds}
@@ -8,7 +8,7 @@ use Rattle.call_core.specs.declared.report.Report.{Report}
 use Rattle.call_core.proofs.MadeSchemes.{OnScheme-refused}
 use Rattle.call_core.proofs.reading.read_request.Goals as goal
 
--- what holds of the wanted report holds of the error, which is that report
+-- if an error equals a report, what holds of the report holds of the error
 IfErr-report : {A : Type 0} → (made : Result A Report) (report : Report) (P : Report → Type 0) → IsErrAnd made (λ told. told ≡ report) → P report → IfErr made P
 IfErr-report (Ok a) report P is holds = tt
 IfErr-report (Err told) report P is holds = rw is holds

@@ -1,5 +1,5 @@
--- `stored_hash` returns each setting that the field spells (`each_setting`): a text can be read in one way only, so the
--- hash that was read has that setting, and an error contradicts it.
+-- `stored_hash` returns the setting that the field spells, if it spells one (clause `each_setting`). A text can be read
+-- in one way only, so the hash that was read has that setting, and an error contradicts it.
 use Rattle.std.proofs.Common.{Ok, Err, rules}
 use Rattle.crypt_core.specs.Readings.{IsReadOneWay}
 use Rattle.crypt_core.specs.StoredFields.{IsHashOf}

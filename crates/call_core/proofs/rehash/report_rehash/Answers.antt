@@ -1,5 +1,6 @@
--- `report_rehash` reports every outdated hash (`replaced`), and a refused method or rounds (`rehashes`). The setting
--- and the scheme of an outdated hash are those that the call read, because there is only one of each.
+-- `report_rehash` reports every outdated hash (clause `replaced`), and a refused method or rounds (clause `rehashes`).
+-- A text spells one setting, and a method and rounds make one scheme, so those of an outdated hash are the ones that
+-- the call read.
 use Rattle.std.proofs.Common.{◌≡◌, ap, true, inl}
 use Rattle.crypt_core.specs.MadeSettings.{TakesRounds}
 use Rattle.crypt_core.specs.OutdatedSchemes.{is_outdated_by}

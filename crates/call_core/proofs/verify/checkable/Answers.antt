@@ -1,5 +1,5 @@
--- `checkable` admits a stored hash whose cost is within the budget (`admits`), and returns the only setting of the
--- field (`only`).
+-- `checkable` admits a stored hash whose cost is within the budget (clause `admits`), and returns the only setting that
+-- the field spells (clause `only`).
 use Rattle.call_core.proofs.CheckReports.{cost-not_above}
 use Rattle.call_core.proofs.verify.checkable.Goals as goal
 

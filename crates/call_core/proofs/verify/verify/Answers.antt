@@ -1,6 +1,7 @@
--- The clauses `verifies`, `opens` and `shut` of `verify`, once the field is refused (`in-Err-checkable`) and once it is
--- compared (`in-Ok-checkable`). CheckReports has the report of each; the setting of a hash that the password opens is
--- the one that was read.
+-- The clauses `verifies`, `opens` and `shut` of `verify` at two of its returns: if `checkable` refuses the field or the
+-- cost (`in-Err-checkable`), and if the hashes are compared (`in-Ok-checkable`). CheckReports has the lemma for the
+-- report of each. The setting of a hash that the password opens is the one that was read, because a field spells only
+-- one.
 use Rattle.std.proofs.Common.{◌≡◌, ◌∙◌, inl, inr, sym, ap, arith}
 use Rattle.crypt_core.specs.Crypt.{allocates}
 use Rattle.crypt_core.specs.Settings.{SettingValue}

@@ -1,6 +1,6 @@
 -- The clause `block` of `block_of`, for its two cases: a key longer than a block is replaced by its digest
--- (`key_block-long`), and any other key is copied (`key_block-short`). Zeros fill the rest, since the block starts as
--- zeros.
+-- (`key_block-long`), and any other key is copied (`key_block-short`). The rest of the block is zeros, since the code
+-- starts with a block of zeros.
 use Rattle.std.proofs.Common.{◌≡◌, refl, ap, ◌∙◌, arith}
 use Rattle.std.proofs.lemmas.List.{append-nil}
 use Rattle.prims_core.specs.Digests.{sha256}

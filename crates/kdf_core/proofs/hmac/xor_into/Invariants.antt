@@ -1,4 +1,5 @@
--- The loop of `xor_into`: the places below the index hold the XOR, and those from it on are as at the start.
+-- The loop of `xor_into`: in `sum`, the places below the index hold the XOR of the two bytes, and those from the index
+-- on are as at the start.
 use Rattle.std.proofs.Common.{◌≡◌, ℕ, ◌<◌, ◌≤◌, bit_xor, get_or}
 use Rattle.kdf_core.proofs.hmac.xor_into.Given as goal
 

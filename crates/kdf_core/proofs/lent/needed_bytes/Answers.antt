@@ -1,5 +1,5 @@
--- All parts have at most 2 ^ 29 bytes (`parts_bytes-le`), so `needed_bytes` doesn't overflow, and its result is within
--- that bound.
+-- All parts have at most 2 ^ 29 bytes (`parts_bytes-le`). So `needed_bytes` doesn't overflow, and its result is at most
+-- 2 ^ 29.
 use Rattle.std.proofs.Common.{arith}
 use Rattle.kdf_core.proofs.ScryptBounds.{parts_bytes-product, parts_bytes-le}
 use Rattle.kdf_core.proofs.lent.needed_bytes.Goals as goal

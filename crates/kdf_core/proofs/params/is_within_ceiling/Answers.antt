@@ -1,5 +1,5 @@
--- The clause of `is_within_ceiling`, for its two cases: up to log2 N = 23 the comparison with the quotient is exact
--- (`quotient_test-iff_within`), and from 24 on the product is above the ceiling (`power_test-iff_within`).
+-- The clause of `is_within_ceiling`, for its two cases. If log2 N is at most 23, the comparison with the quotient is
+-- exact (`quotient_test-iff_within`). If it is 24 or more, the product is above the ceiling (`power_test-iff_within`).
 use Rattle.kdf_core.proofs.CeilingByQuotient.{quotient_test-iff_within, power_test-iff_within}
 use Rattle.kdf_core.proofs.params.is_within_ceiling.Goals as goal
 

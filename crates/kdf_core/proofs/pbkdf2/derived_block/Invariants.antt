@@ -1,4 +1,4 @@
--- The loop of `derived_block`: after j rounds, the last tag is U_j, the sum is T_i of j rounds, and their work is
+-- The loop of `derived_block`: after j rounds, `last` is U_j, `sum` is T_i of j rounds, and the work of j rounds is
 -- counted.
 use Rattle.std.proofs.Common.{◌≡◌, ℕ, ◌*◌, List, length}
 use Rattle.prims_core.specs.Meter.{with_work}

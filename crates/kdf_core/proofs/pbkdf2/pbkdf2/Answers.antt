@@ -1,6 +1,6 @@
--- The clauses of `pbkdf2`, from its loop over the blocks: each iteration writes the next block after the others
--- (`take-blocks_add_one`), and at the end `out` is the derived bytes (`pbkdf2_sha256-from_blocks`). The meter can count
--- one more block while a block is missing, since it can count all of them.
+-- The clauses of `pbkdf2`, from its loop over the blocks. Each iteration writes the next block after the others
+-- (`take-blocks_add_one`), and at the end `out` holds the derived bytes (`pbkdf2_sha256-from_blocks`). The meter can
+-- count the work of all blocks, so it can count that of the next one.
 use Rattle.std.proofs.Common.{◌≡◌, ℕ, ◌+◌, ◌*◌, ◌<◌, ◌≤◌, ◌-◌, ◌++◌, length, take, ap, ◌∙◌, arith}
 use Rattle.std.specs.Int.{div_ceil}
 use Rattle.std.proofs.Math.Nat.{mul-le-mul_left, mul-le-mul_right}
@@ -11,7 +11,7 @@ use Rattle.kdf_core.proofs.AddedWork.{with_work-add}
 use Rattle.kdf_core.proofs.Pbkdf2Lemmas.{take-blocks_add_one, pbkdf2_sha256-from_blocks}
 use Rattle.kdf_core.proofs.pbkdf2.pbkdf2.Goals as goal
 
--- The work of one more block is within the work of all.
+-- The work of i + 1 blocks is at most that of all blocks, so the meter can count one more block.
 pub derived_block-block-requires-clause-digests_room : goal.derived_block-block-requires-clause-digests_room
 derived_block-block-requires-clause-digests_room c =
     let so_far = ap (λ m. m.digests) c.filling.invariant.count in

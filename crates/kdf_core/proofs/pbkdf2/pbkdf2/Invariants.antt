@@ -1,4 +1,5 @@
--- The loop of `pbkdf2`: `out` begins with the blocks so far, as far as they fit, and their work is counted.
+-- The loop of `pbkdf2`: before block i + 1 is written, `out` begins with the first i blocks, as far as they fit, and
+-- their work is counted.
 use Rattle.std.proofs.Common.{◌≡◌, ℕ, ◌*◌, List, length, take}
 use Rattle.std.specs.List.{flat_map, range_with_len}
 use Rattle.prims_core.specs.Meter.{with_work}

@@ -1,5 +1,5 @@
--- The clauses of `mix_back`: the slice that it takes of the table is row j (`row_slice-get_or`), which holds the start
--- after j mixings, so mixing its XOR with x is one step of ROMix's second loop.
+-- The clauses of `mix_back`. The slice that it takes of the table is row j (`row_slice-get_or`), which holds the start
+-- after j mixings. So mixing the XOR of this row and x is one step of ROMix's second loop.
 use Rattle.std.proofs.Common.{ℕ, ◌<◌, length, ap, ◌∙◌, arith}
 use Rattle.std.specs.Fn.{iterate}
 use Rattle.prims_core.specs.BlockMix.{block_mix}

@@ -1,5 +1,6 @@
--- The clause `part` of `mix_part`: the clauses of its calls compose to ROMix as defined. The words are loaded and
--- rearranged, the first loop fills the rows, the second loop uses them, and the words are rearranged back and stored.
+-- The clause `part` of `mix_part`: the clauses of its calls compose to the definition of ROMix. The words are loaded
+-- and rearranged, the first loop fills the rows, the second loop mixes with the rows, and the words are rearranged back
+-- and stored.
 use Rattle.std.proofs.Common.{◌≡◌, ◌*◌, ℕ, length, subst, ap, ◌∙◌, arith}
 use Rattle.std.specs.Fn.{iterate}
 use Rattle.prims_core.specs.Diagonals.{in_rows}
@@ -30,7 +31,7 @@ returns-clause-part g c =
     let start = in_rows c.to_diagonals.new.words in
     let loaded = c.to_diagonals.ensures ∙ c.load_words.ensures in
     let filled = c.fill_by_mixing.ensures in
-    -- The rows that the first loop leaves are the table of the second.
+    -- The rows that the first loop leaves are the table of the second loop.
     let held : HoldsMixings (rows_of count (length c.fill_by_mixing.new.x) c.words.result.now) count start =
     rw c.words.ensures (subst (λ (n : ℕ). HoldsMixings (rows_of count n (g.M.Rows.words c.fill_by_mixing.new.rows)) count start)
     (omega (arith, c.fill_by_mixing.auto.x)) filled.rows) in

@@ -1,5 +1,5 @@
--- The loop of `mix_parts`: the parts before part i are replaced by their ROMix, those from it on are as at the start,
--- and the mixings are counted.
+-- The loop of `mix_parts`: the parts before part i are replaced by their ROMix, the parts from i on are as at the
+-- start, the memory for rows has kept its size, and the mixings are counted.
 use Rattle.std.proofs.Common.{◌≡◌, ◌+◌, ◌*◌, take, drop}
 use Rattle.kdf_core.proofs.MixedParts.{first_parts}
 use Rattle.kdf_core.proofs.romix.mix_parts.Given as goal

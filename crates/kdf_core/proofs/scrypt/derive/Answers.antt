@@ -1,5 +1,5 @@
--- The clauses of `derive`: its three calls compose to scrypt of the definition (`scrypt-from_derivations`), and the
--- meter can count the bytes of the last derivation (`scrypt_bytes-lt`).
+-- The clauses of `derive`: its calls compose to the scrypt of the definition (`scrypt-from_derivations`), and the meter
+-- can count the bytes of the last derivation (`scrypt_bytes-lt`).
 use Rattle.std.proofs.Common.{◌≡◌, ◌∙◌, length, arith}
 use Rattle.kdf_core.specs.Scrypt.{parts_bytes}
 use Rattle.kdf_core.proofs.ScryptBounds.{scrypt_bytes-lt}

@@ -1,6 +1,6 @@
--- The clauses of `scrypt`. The preconditions of its allocations follow from the bounds on the parameters. Where the
--- third allocation fails, the meter has counted the first two (`meter-after_two_growths`). The clause `specified` holds
--- at each return (`HaveCountAndSum-scrypt_messages`).
+-- The clauses of `scrypt`. The preconditions of its allocations follow from the bounds on the parameters. If the third
+-- allocation fails, the meter has counted the first two (`meter-after_two_growths`). The clause `specified` holds at
+-- each return (`HaveCountAndSum-scrypt_messages`).
 use Rattle.std.proofs.Common.{◌*◌, length, inr, arith, rules}
 use Rattle.kdf_core.specs.Scrypt.{parts_bytes}
 use Rattle.kdf_core.specs.ScryptWork.{table_bytes, IsAfterRefusal}

@@ -1,5 +1,5 @@
--- The clauses of `scrypt_work`: no sum overflows, since the lengths are at most 2 ^ 32 and the parameters are bounded
--- (`known_work_bytes-lt`), and the numbers that the code reads are those of the parameters, so its result is the closed
+-- The clauses of `scrypt_work`. No sum overflows, since the lengths are at most 2 ^ 32 and the parameters are bounded
+-- (`known_work_bytes-lt`). The numbers that the code reads are those of the parameters, so its result is the closed
 -- form.
 use Rattle.std.proofs.Common.{◌≡◌, ℕ, ◌*◌, ◌^◌, ◌≤◌, ◌∙◌, refl, arith, rules}
 use Rattle.std.proofs.Math.Nat.{mul-le-mul}

@@ -1,5 +1,5 @@
--- The clauses of `put_group`, from the invariant of its loop: each iteration writes one character of the numeral
--- (`numerals-character_written`), and after the last one the numeral is whole (`numerals-all_written`).
+-- The clauses of `put_group`, from the invariant of its loop. Each iteration writes one character of the numeral
+-- (`numerals-character_written`), and after the last iteration the numeral is complete (`numerals-all_written`).
 use Rattle.std.proofs.Common.{arith}
 use Rattle.prims_core.proofs.NumeralFacts.{numerals-character_written, numerals-all_written}
 use Rattle.prims_core.proofs.alphabet.put_group.Goals as goal

@@ -1,4 +1,5 @@
--- The loop of `put_group`: what is written, followed by the numeral of what is left of the value, is the whole group.
+-- The loop of `put_group`: the characters written so far, followed by the numeral of the rest of the value, are the
+-- numeral of the whole value.
 use Rattle.std.proofs.Common.{◌≡◌, ◌+◌, ◌-◌, ◌++◌, length}
 use Rattle.prims_core.specs.Alphabet.{numerals}
 use Rattle.prims_core.proofs.alphabet.put_group.Given as goal

@@ -1,5 +1,5 @@
 -- The clauses of `read_30`. Each iteration puts the last unread digit in front of the numeral of the number so far
--- (`numerals-digit_read`), so at the end the numeral is all digits. Where the loop stops early, the digit is outside
+-- (`numerals-digit_read`), so at the end this numeral is all digits. If the loop stops early, it found a digit outside
 -- the alphabet, so the digits are not the numeral of any number.
 use Rattle.std.proofs.Common.{◌≡◌, ℕ, List, [], ◌∷◌, ◌++◌, ◌+◌, ◌<◌, ◌^◌, length, true, false, Some, refl, sym, ap, ◌∙◌, subst, arith, length-append}
 use Rattle.std.specs.Prelude.{Contains, All}
@@ -17,7 +17,7 @@ digits-init c = record {
   small = omega arith;
 }
 
--- The digit at which the call returns `None` is not in the alphabet, so not all digits are.
+-- If the call returns `None` at a digit, that digit is not in the alphabet, so not all digits are in the alphabet.
 digits-not_All_Contains : (c : goal.After-from_residual) → All (Contains alphabet) c.args.digits.now → ⊥
 digits-not_All_Contains c all =
     let digit_outside : Contains alphabet c.in-Some.digit.now → ⊥ = λ inside. (let no : false ≡ true = c.in_err-value_of.ensures.accepts.1 inside in cc) in
@@ -44,7 +44,7 @@ digits-preserved c =
       small = rw (one_more, c.from.ensures) (mul-add-lt_pow _ _ _ c.digits.invariant.small c.in_ok-value_of.ensures.value.0);
     }
 
--- At the end no digit is unread: the digits are the numeral of the number, which is below 64 ^ 5.
+-- At the end all digits are read, so the digits are the numeral of the number, which is below 64 ^ 5.
 numeral-of_whole_digits : (c : goal.In-None)
     → (numerals 5 c.digits.number ≡ c.args.digits.now) × (c.digits.number < 64 ^ 5)
 numeral-of_whole_digits c =

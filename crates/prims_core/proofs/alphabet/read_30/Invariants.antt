@@ -1,4 +1,5 @@
--- The loop of `read_30`: the unread digits, followed by the numeral of the number so far, are all digits.
+-- The loop of `read_30`: the unread digits, followed by the numeral of the number so far, are the digits of the
+-- argument.
 use Rattle.std.proofs.Common.{◌≡◌, ◌^◌, ◌++◌, ◌<◌, length}
 use Rattle.prims_core.specs.Alphabet.{numerals}
 use Rattle.prims_core.proofs.alphabet.read_30.Given as goal

@@ -1,6 +1,6 @@
--- The clauses of `value_of`, for each arm of its match. In a range, the byte is the character of the value
--- (`character_of-dot_to_nine` and the like), and no other value has that character. A byte of the last arm is in one of
--- the four gaps around the ranges, so it is outside the alphabet.
+-- The clauses of `value_of`, for each arm of its match. In the arm of a range, the byte is the character of the value
+-- (`character_of-dot_to_nine` and the lemmas on the other ranges), and no other value has that character. A byte of the
+-- last arm is in one of the four gaps around the three ranges, so it is outside the alphabet.
 use Rattle.std.proofs.Common.{◌≡◌, ℕ, ◌+◌, ◌-◌, ◌<◌, arith, refl, sym, ◌∙◌, ap, inl, inr, Some}
 use Rattle.prims_core.specs.Alphabet.{character_of}
 use Rattle.prims_core.proofs.AlphabetFacts.{character_of-dot_to_nine, character_of-upper_case, character_of-lower_case, character_of-injective, Contains-character_of, IsOutside, Contains-not_outside, character_of-not_outside}

@@ -1,4 +1,5 @@
--- The precondition of `from_diagonals` in `block_mix`: `dst` has whole blocks, as many as before the mixing.
+-- The precondition of `from_diagonals` in `block_mix`: `dst` has whole blocks, since the mixing did not change its
+-- length.
 use Rattle.std.proofs.Common.{arith}
 use Rattle.prims_core.proofs.mix.block_mix.Goals as goal
 

@@ -1,5 +1,5 @@
--- The clause of `block_on_diagonals`: block i, rearranged to row order, is block i of all blocks rearranged
--- (`block_at-in_rows`).
+-- The clause of `block_on_diagonals`: rearranging block i to row order gives block i of the list in which all blocks
+-- are rearranged (`block_at-in_rows`).
 use Rattle.std.proofs.Common.{◌*◌, ◌+◌, ◌≤◌, length, ap, ◌∙◌, sym, arith, length-take, length-drop}
 use Rattle.prims_core.specs.Diagonals.{block_in_rows}
 use Rattle.prims_core.proofs.BlockFacts.{block_at-in_rows}

@@ -1,5 +1,5 @@
 -- The clause of `from_diagonals`. Each iteration of its loop rearranges block i and leaves the others
--- (`rearranged_blocks-put_mid`). At the end each block is the rearranged one, so the lists are equal
+-- (`rearranged_blocks-put_mid`). At the end each block is rearranged, so the list is the one of the clause
 -- (`equal-from_same_blocks`).
 use Rattle.std.proofs.Common.{◌≡◌, ℕ, ◌+◌, ◌-◌, ◌*◌, ◌/◌, ◌<◌, length, take, drop, refl, ap, ◌∙◌, sym, arith}
 use Rattle.prims_core.specs.BlockMix.{block_at}

@@ -1,7 +1,6 @@
--- The clauses of `mix_and_append`, as for `mix_blocks`: each iteration computes the next X (`x_after-add_one`), writes
--- it to its place and appends block i to the rows (`take-append-block_at`). After 2r iterations the results are those
--- of scryptBlockMix in their order (`in_rows-from_ArePlaced`). Each block fits into the rows' memory, since all of
--- `src` does.
+-- The clauses of `mix_and_append`. Each iteration computes the next X (`x_after-add_one`), writes it to its place, and
+-- appends block i to the rows (`take-append-block_at`). After 2r iterations the results are those of scryptBlockMix in
+-- their order (`in_rows-from_ArePlaced`). Each block fits into the rows' memory, since all of `src` does.
 use Rattle.std.proofs.Common.{◌≡◌, ℕ, ◌+◌, ◌*◌, ◌/◌, ◌≤◌, List, ◌++◌, length, take, sym, ap, ap₂, ◌∙◌, arith, length-take, length-drop, length-append, append_assoc, append-nil}
 use Rattle.prims_core.specs.BlockMix.{block_at, x_after, block_mix}
 use Rattle.prims_core.specs.Diagonals.{in_rows}

@@ -1,5 +1,5 @@
--- The loop of `mix_and_append`: x is X before block i is mixed, the results before that block are in their places, and
--- the blocks before it are appended to the rows.
+-- The loop of `mix_and_append`, before block i is mixed: x is X of the definition, the results of the blocks before
+-- block i are in their places, and these blocks are appended to the rows.
 use Rattle.std.proofs.Common.{◌≡◌, ◌*◌, ◌++◌, take}
 use Rattle.prims_core.specs.BlockMix.{x_after}
 use Rattle.prims_core.specs.Diagonals.{in_rows}

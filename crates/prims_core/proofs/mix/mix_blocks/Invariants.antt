@@ -1,4 +1,5 @@
--- The loop of `mix_blocks`: x is X before block i is mixed, and the results before that block are in their places.
+-- The loop of `mix_blocks`, before block i is mixed: x is X of the definition, and the results of the blocks before
+-- block i are in their places.
 use Rattle.std.proofs.Common.{◌≡◌}
 use Rattle.prims_core.specs.BlockMix.{x_after}
 use Rattle.prims_core.specs.Private.Mixing.{y_at, ArePlaced}

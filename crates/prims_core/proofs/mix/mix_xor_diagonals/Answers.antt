@@ -1,4 +1,5 @@
--- The precondition of `mix_blocks` in `mix_xor_diagonals`: the XOR of the two lists has 32r words, as each of them has.
+-- The precondition of `mix_blocks` in `mix_xor_diagonals`: `src` and `row` have 32r words each, so their XOR has 32r
+-- words.
 use Rattle.std.proofs.Common.{◌≡◌, length, arith}
 use Rattle.prims_core.specs.Diagonals.{in_rows}
 use Rattle.prims_core.proofs.BlockFacts.{length-in_rows}

@@ -1,6 +1,6 @@
 -- The clause of `to_diagonals`. Each iteration of its loop rearranges block i and leaves the others
--- (`rearranged_blocks-put_mid`). At the end each block, read in row order, is the original one, so the lists are equal
--- (`equal-from_same_blocks`).
+-- (`rearranged_blocks-put_mid`). At the end each block, read in row order, is the original one, so the list in row
+-- order is the original list (`equal-from_same_blocks`).
 use Rattle.std.proofs.Common.{◌≡◌, ℕ, ◌+◌, ◌-◌, ◌*◌, ◌/◌, ◌<◌, length, take, drop, refl, ap, ◌∙◌, arith}
 use Rattle.prims_core.specs.BlockMix.{block_at}
 use Rattle.prims_core.specs.Diagonals.{block_in_rows, in_rows}

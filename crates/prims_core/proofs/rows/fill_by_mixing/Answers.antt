@@ -1,6 +1,6 @@
 -- The clauses of `fill_by_mixing`. Each iteration appends x and then y, which is x mixed once, and leaves x mixed twice
--- (`HasMixings-append_two`). The memory holds both rows (`two_more_rows-fit`). Since the number of rows is even, all of
--- them are there after the last iteration (`HoldsMixings-from_HasMixings`).
+-- (`HasMixings-append_two`). The memory has space for both rows (`two_more_rows-fit`). The number of rows is even, so
+-- all rows are filled after the last iteration (`HoldsMixings-from_HasMixings`).
 use Rattle.std.proofs.Common.{rules, ◌≡◌, ℕ, ◌+◌, ◌*◌, length, ap, ◌∙◌, arith, length-append}
 use Rattle.prims_core.specs.BlockMix.{block_mix}
 use Rattle.prims_core.specs.Diagonals.{in_rows}

@@ -1,5 +1,5 @@
 -- The loop of `fill_by_mixing`: after n iterations there are 2n rows, and row i is the start after i mixings. x is the
--- start after 2n mixings, and all mixings are counted.
+-- start after 2n mixings, and the 2n mixings are counted.
 use Rattle.std.proofs.Common.{◌≡◌, ◌+◌, ◌*◌, length}
 use Rattle.std.specs.Fn.{iterate}
 use Rattle.prims_core.specs.BlockMix.{block_mix}

@@ -1,5 +1,5 @@
--- The clause of `column_round`: lane j of the diagonals is column j, from its word on the main diagonal down. So the
--- quarter round of lane j is that of column j, and both sides compute to the same matrix.
+-- The clause of `column_round`: lane j of the four diagonals is column j, from its word on the main diagonal down. So
+-- the quarter round of lane j is the quarter round of column j, and both sides compute to the same matrix.
 use Rattle.std.proofs.Common.{refl, arith}
 use Rattle.prims_core.specs.Words.{chunks_exact}
 use Rattle.prims_core.specs.Salsa.{column_round, row_round, transpose}

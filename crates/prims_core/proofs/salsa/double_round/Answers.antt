@@ -1,4 +1,4 @@
--- The clause of `double_round`, from those of `column_round` and `row_round`.
+-- The clause of `double_round`, from the clauses of `column_round` and `row_round`.
 use Rattle.std.proofs.Common.{ap, ◌∙◌}
 use Rattle.prims_core.specs.Salsa.{row_round, double_round}
 use Rattle.prims_core.proofs.salsa.double_round.Goals as goal

@@ -1,4 +1,5 @@
--- The clause of `quarter_rounds`: in each lane, the four steps are those of the quarter round of the definition.
+-- The clause of `quarter_rounds`: in each lane, the four steps of the code are those of the definition of a quarter
+-- round.
 use Rattle.std.proofs.Common.{refl}
 use Rattle.prims_core.specs.Salsa.{quarter_round}
 use Rattle.prims_core.proofs.salsa.quarter_rounds.Goals as goal

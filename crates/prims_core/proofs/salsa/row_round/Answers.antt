@@ -1,6 +1,6 @@
--- The clause of `row_round`. The lanes of a rotated vector are those of the vector joined to itself, from a place on
--- (`slice_index-append_self`). With them, lane j of the four vectors is row j, from its word on the main diagonal on,
--- so the quarter round of lane j is that of row j. The rotations back put each word in its place.
+-- The clause of `row_round`. The lanes of a rotated vector are four lanes in a row of the vector joined to itself
+-- (`slice_index-append_self`). So lane j of the four rotated diagonals is row j, from its word on the main diagonal on,
+-- and the quarter round of lane j is the quarter round of row j. The rotations back put each word in its place.
 use Rattle.std.proofs.Common.{refl, arith, rules}
 use Rattle.prims_core.specs.Words.{chunks_exact}
 use Rattle.prims_core.specs.Salsa.{row_round}

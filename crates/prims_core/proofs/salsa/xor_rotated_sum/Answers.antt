@@ -1,4 +1,4 @@
--- The clause of `xor_rotated_sum` is `rotated_sum-in_lanes`, since each vector has four lanes.
+-- The clause of `xor_rotated_sum` is what `rotated_sum-in_lanes` says of vectors with four lanes.
 use Rattle.prims_core.proofs.RotatedLanes.{rotated_sum-in_lanes}
 use Rattle.prims_core.proofs.salsa.xor_rotated_sum.Goals as goal
 

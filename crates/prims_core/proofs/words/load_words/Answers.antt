@@ -1,4 +1,5 @@
--- The clause of `load_words`, from that of `read_u32_into`, which says it word by word (`words_of-from_places`).
+-- The clause of `load_words`, from the clause of `read_u32_into`, which gives each word by its four bytes
+-- (`words_of-from_places`).
 use Rattle.std.proofs.Common.{arith}
 use Rattle.prims_core.proofs.WordFacts.{words_of-from_places}
 use Rattle.prims_core.proofs.words.load_words.Goals as goal

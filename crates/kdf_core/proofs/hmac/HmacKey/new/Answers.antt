@@ -1,4 +1,4 @@
--- The clause of `new`: the block XOR each pad is the padded key of the definition (`padded_key-from_xor`).
+-- The clause `key` of `new`: the block XOR each pad is the padded key of the definition (`padded_key-from_xor`).
 use Rattle.kdf_core.proofs.HmacLemmas.{padded_key-from_xor}
 use Rattle.kdf_core.proofs.hmac.HmacKey.new.Goals as goal
 

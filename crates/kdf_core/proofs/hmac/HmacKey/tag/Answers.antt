@@ -1,4 +1,5 @@
--- The clause of `tag`: the two digests that the code takes are those of the definition (`hmac_sha256-from_digests`).
+-- The clause `tag` of `tag`: the two digests that the code takes are those of the definition
+-- (`hmac_sha256-from_digests`).
 use Rattle.std.proofs.Common.{sym, subst}
 use Rattle.kdf_core.specs.HmacMessages.{PaddedKey, IsKeyOf}
 use Rattle.kdf_core.proofs.HmacLemmas.{hmac_sha256-from_digests}

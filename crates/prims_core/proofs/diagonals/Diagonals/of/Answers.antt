@@ -1,4 +1,4 @@
--- The clause of `of`: the words that the four swizzles pick are the block (`words_on-loaded_from_rows`).
+-- The clause of `of`: the words that the four swizzles pick make up the block (`words_on-loaded_from_rows`).
 use Rattle.std.proofs.Common.{arith}
 use Rattle.std.proofs.lemmas.List.{take_all}
 use Rattle.prims_core.proofs.FourDiagonals.{words_on-loaded_from_rows}

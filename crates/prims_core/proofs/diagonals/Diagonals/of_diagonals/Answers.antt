@@ -1,4 +1,4 @@
--- The clause of `of_diagonals`: the words that the four swizzles pick are the block in row order
+-- The clause of `of_diagonals`: the words that the four swizzles pick make up the block in row order
 -- (`words_on-loaded_from_diagonals`).
 use Rattle.std.proofs.Common.{arith}
 use Rattle.std.proofs.lemmas.List.{take_all}

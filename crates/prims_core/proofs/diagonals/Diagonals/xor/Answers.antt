@@ -1,5 +1,5 @@
--- The clause of `xor`: XORing the diagonals XORs the words of the blocks (`words_on-zip2`), and leaves four words in
--- each.
+-- The clause of `xor`: XORing the diagonals XORs the words of the blocks (`words_on-zip2`), and each diagonal of the
+-- result has four words (`HaveFourWords-zip2`).
 use Rattle.std.proofs.Common.{◌∙◌, ap₂}
 use Rattle.std.specs.Simd.Lanes.{zip2}
 use Rattle.prims_core.specs.Words.{xor_lists}

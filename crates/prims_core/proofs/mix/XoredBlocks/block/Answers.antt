@@ -1,5 +1,5 @@
--- The clause of `block` for `Xored`: block i of the XOR of two lists is the XOR of their blocks i
--- (`take_drop-xor_lists`). Both lists have that block, since the XOR is no longer than either.
+-- The clause of `block` for `Xored`: block i of the XOR of two lists is the XOR of block i of each list
+-- (`take_drop-xor_lists`). Both lists have a block i, since the XOR of the lists is no longer than either of them.
 use Rattle.std.proofs.Common.{◌*◌, ap₂, ◌∙◌, sym, arith}
 use Rattle.prims_core.specs.Diagonals.{in_rows}
 use Rattle.prims_core.specs.Words.{xor_lists}

@@ -1,5 +1,5 @@
--- The clause of `push_block` for `LentRows`: the words up to the new end are those before and the block, since the copy
--- replaces exactly sixteen words at the old end.
+-- The clause of `push_block` for `LentRows`: the words up to the new end are the words before, followed by the block,
+-- since the copy replaces exactly the sixteen words after the old end.
 use Rattle.std.proofs.Common.{◌≡◌, ℕ, ◌+◌, ◌-◌, List, ◌++◌, length, take, drop, ap, ◌∙◌, arith, length-take, length-drop}
 use Rattle.std.specs.Simd.Lanes.{put_chunk, chunk}
 use Rattle.std.proofs.lemmas.List.{take_all}
@@ -12,7 +12,7 @@ returns-clause-words c =
     let words : List ℕ = c.args.self.now.words.now in
     let old_end : ℕ = c.args.self.now.written in
     let old_part : List ℕ = take (old_end + 16 - old_end) (drop old_end words) in
-    -- Loading the block as one vector gives all its words, since it has sixteen.
+    -- Loading the block as one vector gives all its words, since it has sixteen words.
     let whole_block : chunk 0 16 c.args.block.now ≡ c.args.block.now = take_all 16 c.args.block.now (omega (arith, c.requires.whole)) in
     let same_length : length old_part ≡ length (chunk 0 16 c.args.block.now) =
     omega (
@@ -24,7 +24,7 @@ returns-clause-words c =
       c.requires.whole,
       c.requires.fits,
     ) in
-    -- Copying it to a part of sixteen words leaves the block there.
+    -- After the block is copied to a part of sixteen words, that part is the block.
     let written : put_chunk 0 old_part (chunk 0 16 c.args.block.now) ≡ c.args.block.now =
     put_chunk_whole old_part (chunk 0 16 c.args.block.now) same_length ∙ whole_block in
     take-put_mid old_end (old_end + 16 - old_end) words (put_chunk 0 old_part (chunk 0 16 c.args.block.now)) (old_end + 16)

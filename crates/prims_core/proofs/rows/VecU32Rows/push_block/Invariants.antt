@@ -1,5 +1,5 @@
 -- The loop of `push_block` for a vector: the words of the block before the index are appended, and the capacity is
--- kept.
+-- unchanged.
 use Rattle.std.proofs.Common.{◌≡◌, ◌+◌, ◌++◌, take, vec_len, vec_capacity}
 use Rattle.prims_core.proofs.rows.VecU32Rows.push_block.Given as goal
 

@@ -1,5 +1,5 @@
--- The clause of `into_words`: a table of this shape has no more words than the rows of the list (`HasShape-le`), and
--- the vector has capacity for these.
+-- The clause of `into_words`: a table of a shape has no more words than the rows of the padded list (`HasShape-le`),
+-- and the vector has capacity for the words of all rows.
 use Rattle.std.proofs.Common.{arith}
 use Rattle.prims_core.proofs.TableFacts.{HasShape-le}
 use Rattle.prims_core.proofs.table.Table.into_words.Goals as goal

@@ -1,5 +1,5 @@
--- The clause `zeros` of `new`: a new table reads as zeros, whether its vector is empty or filled with zeros, since the
--- list is padded with zeros either way (`padded-append_zeros`).
+-- The clause `zeros` of `new`: a new table reads as zeros. Its vector is empty or filled with zeros; the padded list is
+-- all zeros in both cases (`padded-append_zeros`).
 use Rattle.std.proofs.Common.{◌≡◌, ℕ, ◌-◌, ◌*◌, List, [], ◌++◌, length, replicate, Vec, Global, ap, ◌∙◌, arith}
 use Rattle.prims_core.specs.Memory.{rows_of, padded}
 use Rattle.prims_core.proofs.TableFacts.{rows_of-replicate, padded-append_zeros}

@@ -1,6 +1,6 @@
 -- The clause of `row`, for its two cases. A row that ends within the vector is read from it (`take_drop-padded_row`).
 -- Any other row starts at the vector's end or after it, since the vector has whole rows (`multiple-le_row_start`). So
--- it is zeros (`replicate-padded_row`), and it is short enough for `ZEROS`.
+-- such a row is zeros (`replicate-padded_row`), and it is short enough for `ZEROS`.
 use Rattle.std.proofs.Common.{◌≡◌, ℕ, ◌+◌, ◌-◌, ◌*◌, ◌≤◌, List, take, drop, length, arith, ap, ◌∙◌}
 use Rattle.std.proofs.lemmas.List.{take-replicate}
 use Rattle.prims_core.proofs.TableFacts.{take_drop-padded_row, replicate-padded_row, row_ends_within, multiple-le_row_start}

@@ -1,6 +1,6 @@
--- The clauses of `set_row`. Filling up with zeros keeps the table as it is (`rows_of-append_zeros`), and its layout
--- (`IsLaidOut-extended`). Then the row is within the vector, and copying to it replaces this row alone
--- (`rows_of-padded_put_mid`).
+-- The clauses of `set_row`. Appending zeros to the vector keeps the table as it is (`rows_of-append_zeros`), and
+-- `IsLaidOut` still holds (`IsLaidOut-extended`). Then the row is within the vector, and copying to it replaces this
+-- row alone (`rows_of-padded_put_mid`).
 use Rattle.std.proofs.Common.{◌≡◌, ℕ, ◌+◌, ◌-◌, ◌*◌, ◌≤◌, List, length, arith, ap, ◌∙◌, length-take, length-drop}
 use Rattle.std.specs.Vec.{with_items}
 use borrow.Rule.Slice.PartMut.{put_mid}
