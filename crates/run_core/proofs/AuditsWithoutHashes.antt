@@ -34,7 +34,7 @@ hashings_of-audit_answers job number (line ∷ lines) stream (answer ∷ answers
 hashings_of-audit_answers job number [] stream (answer ∷ answers) are = absurd are
 hashings_of-audit_answers job number (line ∷ lines) stream [] are = absurd are
 
--- An empty list of hashes contains no hash for which scrypt could not allocate memory (`not_IsRefusedAmong-nil`).
+-- If joining two lists gives the empty list, both are empty.
 append-nil-parts : (front back : List Hashing) → front ++ back ≡ [] → (front ≡ []) × (back ≡ [])
 append-nil-parts [] back is = (refl, is)
 append-nil-parts (made ∷ front) back is = absurd cc
@@ -44,6 +44,7 @@ hashings-last-nil done next none =
     let parts = append-nil-parts (hashings_of done) (hashings_of (next ∷ [])) (sym (flat_map-append _ done (next ∷ [])) ∙ none) in
     (append-nil-parts next.hashings [] parts.1).0
 
+-- An empty list of hashes contains no hash for which scrypt could not allocate memory.
 not_IsRefusedAmong-nil : (before after : Work) (hashings : List Hashing) (stream : Stream) → hashings ≡ [] → IsRefusedAmong before hashings after stream → ⊥
 not_IsRefusedAmong-nil before after hashings stream none (made, next, others, are, growth, same) =
     let cut = append-nil-parts made (next ∷ others) (sym are ∙ none) in

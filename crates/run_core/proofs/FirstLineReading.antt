@@ -159,7 +159,8 @@ module _ {I : Type 0} where
       let size : length (take filled buffer) ≡ filled = length-take-le filled buffer (omega (arith, long, room)) in
       (not_Contains-feed_at _ (before.no_line_feed ∙ sym size), omega (arith, size, room))
 
-  -- If some steps of reading do not fail and a later step stops, then the steps together stop in the same way.
+  -- If each earlier `fetch` returned a byte and did not fail, and the next one stops, `StopsFetching` holds for all of
+  -- them together.
   pub StopsFetching-after_unfailed : (old mid new : Device I) (left left_new : ℕ) (fault : RunFault) → IsUnfailed old mid → MovesBytes 0 old mid
       → StopsFetching left mid new fault → left_new ≡ left - 1 → StopsFetching left_new old new fault
   StopsFetching-after_unfailed old mid new left left_new fault unfailed moves stops took = (
@@ -170,7 +171,8 @@ module _ {I : Type 0} where
     ],
   )
 
-  -- Exit when reading stops: a `fetch` failed, or no I/O call was left. The first line is not known yet.
+  -- Exit when reading stops: a `fetch` failed, or no I/O call was left. The bytes that were read contain no line feed,
+  -- and do not fill the buffer.
   pub FindsLine-stopped : (old mid new : Device I) (buffer next : List ℕ) (filled turns left left_new : ℕ) (fault : RunFault)
       → IsReading old mid buffer filled turns left → filled < buffer_size
       → Fetches left mid new (drop filled next) (Err fault) → left_new ≡ left - 1

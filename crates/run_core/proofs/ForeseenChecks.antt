@@ -1,8 +1,9 @@
 -- Lemmas for the clauses `foresees`, `checked` and `refutes` of `run_audit`, which say what the finding of an audit
--- means for later checks. For `foresees`: a check of the longest password costs what the audit says, and checks of
--- shorter ones cost no more, so no line with a field within the budget is costly. For `checked` (`heeds_limit`):
--- without a given budget, an audit also compares the cost for the empty password with the limit of the policy. For
--- `refutes`: a field that is not whole is the hash of no password, so the only outcome of its line is `Misfit`.
+-- means for later checks. For `foresees`: without rehashes, a check of the longest password costs what the audit says,
+-- and checks of shorter ones cost no more, so no line with a field within the budget is costly. For `checked`
+-- (`heeds_limit`): without a given budget, an audit also compares the cost for the empty password with the limit of the
+-- policy. For `refutes`: a field that is not whole is the hash of no password, so a line with this field that is not
+-- refused has the outcome `Misfit`.
 use Rattle.std.proofs.Common.{◌≡◌, ◌≤◌, ◌<◌, ℕ, List, [], Ok, inl, inr, refl, sym, ap, subst, ◌∙◌, arith, length, Some}
 use Rattle.std.proofs.lemmas.Option.{none-some}
 use Rattle.rand_core.specs.Stream.{Stream}
@@ -54,7 +55,8 @@ foresees job field scheme most OverBudget finds other checking same line parts h
 foresees job field scheme most standing (kept, spells, is_scheme, is_number, stands) other checking same line parts has is =
     not_IsCostly-greatest_cost checking field kept line parts spells (one_reading field) (rw same (λ above. stands.0 (inl above))) has is
 
--- If a hash is within the audit's own budget, its cost for the empty password is within the limit of the policy.
+-- If no budget is given, and a hash is within the audit's own budget, its cost for the empty password is within the
+-- limit of the policy.
 cost-le-policy_limit : (new : Scheme) (budget : ℕ) (kept : SettingValue) → ¬ IsOverBudget new budget kept → budget ≡ 0 → cost kept 0 ≤ policy_limit new
 cost-le-policy_limit new budget kept within default =
     let never : ¬ (policy_limit new < cost kept 0) = λ above. within (inr (default, above)) in

@@ -1,9 +1,9 @@
 -- Lemmas for the clauses `budget` and `rehash` of `run_batch` and `run_check`, and for `options` of `RunsOne` in the
 -- clause `runs` of `run_one`. A budget occurs in an answer only if the line is costly. For any other line,
--- `only_refuses` shows case by case that the answers with and without the budget are the same. Rehashes change a cost
--- or an outcome only if the setting in the field is out of date, and the password matches or the line is costly. Such a
--- line is renewable, and for any other line `only_renews` shows that the answers with and without rehashes are the
--- same. The run for a single password depends on neither option.
+-- `only_refuses` shows case by case that the answers with and without the budget are the same. Rehashes make a line
+-- costly or change its outcome only if the setting in the field is out of date, and the password matches or the line is
+-- costly. Such a line is renewable, and for any other line `only_renews` shows that the answers with and without
+-- rehashes are the same. The run for a single password depends on neither option.
 use Rattle.std.proofs.Common.{◌≡◌, ◌↔◌, ℕ, List, Result, inl, inr, refl, sym, ◌∙◌, arith, ◌≤◌, ◌⊎◌, Bool, true, false, true≢false, length, Option, None, Some}
 use Rattle.std.specs.Prelude.{◌≢◌}
 use Rattle.std.proofs.lemmas.Option.{none-some}
@@ -120,8 +120,8 @@ module _ (kind : Kind) (job : Job) (line : List ℕ) (stream : Stream) where
   ]
 
   module _ (not_renewable : ¬ IsRenewable kind job line) where
-    -- If a line is not renewable, but its password matches or it is costly, then the setting in its field is not out of
-    -- date.
+    -- If a line breaks no rule and is not renewable, but its password matches or it is costly, then the setting in its
+    -- field is not out of date.
     is_outdated-not_renewable : (parts : Parts) (field : List ℕ) (kept : SettingValue) → IsSound kind line → HasParts kind line parts → HasSetting parts field kept
         → (crypt parts.password kept ≡ field) ⊎ IsCostly kind job line → is_outdated job kept ≡ false
     is_outdated-not_renewable parts field kept sound cut spelled why = go (is_outdated job kept) refl
@@ -160,7 +160,8 @@ module _ (kind : Kind) (job : Job) (line : List ℕ) (stream : Stream) where
       above = costly.above;
     }
 
-    -- A line that is not renewable has the same outcome with and without rehashes. The outcome is never `Rehashed`.
+    -- A line that breaks no rule and is not renewable has the same outcome with and without rehashes. The outcome is
+    -- never `Rehashed`.
     ComesTo-without_rehash : (parts : Parts) (outcome : Outcome) (made : List Hashing) → IsSound kind line → HasParts kind line parts
         → ComesTo job parts stream outcome made ↔ ComesTo (without_rehash job) parts stream outcome made
     ComesTo-without_rehash parts (Hashed hash) made sound cut = ((λ comes. comes), λ comes. comes)

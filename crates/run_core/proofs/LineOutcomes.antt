@@ -52,7 +52,8 @@ not_IsAbove-zero (Some budget) above = omega arith
 abbrev parts_with : List ℕ → List ℕ → Option (List ℕ) → Parts
 parts_with name password field = record { name = name; field = field; password = password }
 
--- A line is costly if its cost, which depends on its field and the length of its password, is above the budget.
+-- A line that breaks no rule is costly if its cost, which depends on its field and the length of its password, is above
+-- the budget.
 IsCostly_from_parts : (kind : Kind) (job : Job) (line name password : List ℕ) (field : Option (List ℕ)) (stored : Option StoredField)
     → HasSoundParts kind line (parts_with name password field) → IsFieldOf field stored
     → IsAbove job.budget (field_cost job stored (length password)) → IsCostly kind job line
@@ -81,7 +82,7 @@ IsCostly_from_line : (kind : Kind) (job : Job) (line name password : List ℕ) (
     → IsAbove job.budget (field_cost job stored (length password)) → IsCostly kind job line
 IsCostly_from_line kind job line name password stored is above = IsCostly_from_parts kind job line name password is.field stored is.taken is.field_of above
 
--- A field spells at most one setting.
+-- A field that has at most one reading spells at most one setting.
 pub Spells-unique : (field : List ℕ) (one other : SettingValue) → IsReadOneWay field → Spells field one → Spells field other → one ≡ other
 unfolding IsReadOneWay
 Spells-unique field one other once spells spells_other =
@@ -165,8 +166,8 @@ ComesTo_from_IsChecked job stream name password field stored hashings (Rehashed 
     (field, stored.setting, (refl, spells), checked.0 ∙ is, checked.1, checked.2, checked.3)
 ComesTo_from_IsChecked job stream name password field stored hashings outcome is spells checked = absurd checked
 
--- If the cost for the password and the field of a line is not above the budget, the line is not costly, and its outcome
--- is the one that was settled for the password and the field.
+-- If a line breaks no rule, and the cost for its password and its field is not above the budget, the line is not
+-- costly, and its outcome is the one that was settled for this password and this field.
 ComesTo_from_IsSettled : (kind : Kind) (job : Job) (line : List ℕ) (stream : Stream) (name password : List ℕ) (field : Option (List ℕ)) (stored : Option StoredField)
     (hashings : List Hashing) (outcome : Outcome) → HasSoundParts kind line (parts_with name password field) → IsFieldOf field stored
     → ¬ IsAbove job.budget (field_cost job stored (length password))
@@ -205,7 +206,7 @@ IsAnswer-password : (kind : Kind) (job : Job) (number : ℕ) (line : List ℕ) (
 IsAnswer-password Audit job number line stream answer other is = absurd (other refl)
 IsAnswer-password kind job number line stream answer other is = is
 
--- The answer to a line to audit is what the audit finds in its field.
+-- The answer to a line to audit that breaks no rule is its name and what the audit finds in its field.
 pub IsAnswer-audit : (kind : Kind) (job : Job) (number : ℕ) (line : List ℕ) (stream : Stream) (parts : Parts) (field : List ℕ) (finding : Finding) → kind ≡ Audit
     → HasSoundParts kind line parts → parts.field ≡ Some field → Finds job.maker.scheme (given_budget job) field finding
     → IsAnswer kind job number line stream (answer_of job parts.name (Audited finding) [])
@@ -214,7 +215,8 @@ IsAnswer-audit Audit job number line stream parts field finding is taken fielded
 IsAnswer-audit Batch job number line stream parts field finding is taken fielded finds = absurd cc
 IsAnswer-audit Check job number line stream parts field finding is taken fielded finds = absurd cc
 
--- The answer to a line within the budget is the outcome that was settled for its password and its field.
+-- The answer to a line that breaks no rule and is within the budget is its name and the outcome that was settled for
+-- its password and its field.
 IsPasswordAnswer_from_IsSettled : (kind : Kind) (job : Job) (number : ℕ) (line : List ℕ) (stream : Stream) (name password : List ℕ) (stored : Option StoredField)
     (hashings : List Hashing) (outcome : Outcome) → IsLine kind line name password stored
     → ¬ IsAbove job.budget (field_cost job stored (length password))
@@ -223,7 +225,8 @@ IsPasswordAnswer_from_IsSettled kind job number line stream name password stored
     let comes = ComesTo_from_IsSettled kind job line stream name password is.field stored hashings outcome is.taken is.field_of within settled in
     inr (inr (is.taken.sound, comes.0, parts_with name password is.field, is.taken.cut, outcome, comes.1, refl))
 
--- If the step for a password and a field returned this result, the result is right for their line.
+-- If the step for a password and a field returned this result, the result is right for a line to hash or to check that
+-- breaks no rule and has this password and this field.
 pub Concludes_from_Settles : (kind : Kind) (job : Job) (line name password : List ℕ) (stored : Option StoredField) (stream : Stream) (before after : Work) (new_stream : Stream)
     (result : Result (Result Outcome LineFault) HashFault) → IsLine kind line name password stored
     → Settles job password stored stream before after new_stream result → Concludes kind job line name stream before after new_stream result
@@ -261,7 +264,7 @@ no_field-not_Audit Audit line parts has none same = none-some has.0 (sym none �
 no_field-not_Audit Batch line parts has none same = absurd cc
 no_field-not_Audit Check line parts has none same = absurd cc
 
--- If a field was read as `found`, then `IsFieldOf` holds for the field and `found`.
+-- If a field was read as `found`, and has at most one reading, then `IsFieldOf` holds for the field and `found`.
 pub IsFieldOf-read : (field : List ℕ) (fielded : Option (List ℕ)) (result : Result StoredField SettingFault) (found stored : StoredField) → result ≡ Ok found
     → found ≡ stored → IsFieldReading field result → IsReadOneWay field → fielded ≡ Some field → IsFieldOf fielded (Some stored)
 IsFieldOf-read field fielded result found stored ok is reading once some =

@@ -161,8 +161,8 @@ module _ {I : Type 0} where
           let some : line ≢ [] = λ none. let both = tells.1 none in absurd (cc) in
           (line, moved.2 is.part is.held, given (lines ++ line ∷ []) (sym (lines_are ∙ ap (λ others. lines ++ others) (lines_of-last line no_feed some))))
 
-  -- Exit when reading stops: a read failed, or no I/O call was left. The lines that were returned are all lines that
-  -- are known.
+  -- Exit when reading stops: a read failed, or no I/O call was left. The bytes that were read are the lines that were
+  -- returned, each with its line feed, and a rest without a line feed.
   pub HasStopped-fetch_failed : (start now new : Device I) (piece next fetched : List ℕ) (buffer new_buffer : LineBuffer) (lines : List (List ℕ)) (left new_left : ℕ) (fault : RunFault)
       → TakesLine piece next buffer new_buffer false → Reads now new fetched → FetchesPiece left now new fetched (Err fault) → new_left ≡ left - 1
       → IsSeeking start now piece buffer lines → HasStopped new_left start new lines fault
@@ -177,8 +177,8 @@ module _ {I : Type 0} where
 
   -- ---- the loop
 
-  -- The loop's invariant. The clause `gives` needs the field `seeking`; the clauses on I/O calls and on room for counts
-  -- need the fields after it.
+  -- The loop's invariant: the reader has not found the end of the input, and seeks the next line. The clause `gives`
+  -- needs the field `seeking`, and the other clauses of `next_line` need the fields after it.
   pub record SeeksNextLine (old_reader : LineReader) (old now : Device I) (reader : LineReader) (old_left left : ℕ) : Type 0 where
     pub more : reader.at_end ≡ false
     pub seeking : (start : Device I) (lines : List (List ℕ)) → HasGiven start old old_reader lines → IsSeeking start now reader.piece reader.buffer lines

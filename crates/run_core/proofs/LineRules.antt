@@ -3,8 +3,8 @@
 -- `line_faults`. So each lemma on a refusal shows that the line breaks none of the rules before it. The lemmas follow
 -- that order: length and name (`refused_after_name` skips these rules), the parts, the password, the field. They rest
 -- on `UniqueParts`: a line has only one name and one list of parts, so what was checked for the parts that were found
--- holds for any parts. The last sections say what holds for a line that breaks no rule; `outcome_of` and `answer_line`
--- need them.
+-- holds for any parts. The last two sections are about a line that is too long, and about one that breaks no rule;
+-- `outcome_of` and `answer_line` need them.
 use Rattle.std.proofs.Common.{◌≡◌, ℕ, ◌≤◌, ◌<◌, List, [], ◌∷◌, ◌++◌, length, map, Contains, Option, Some, None, inl, inr, refl, sym, ap, subst, ◌∙◌, arith}
 use Rattle.std.proofs.lemmas.Bool.{cases_order}
 use Rattle.std.proofs.lemmas.List.{nil_from_length}
@@ -57,7 +57,8 @@ module _ (kind : Kind) (line name : List ℕ) (short : length line ≤ line_limi
   unfolding IsLineRefused
   refused_after_name fault later = inr (keeps-LineTooLong, inr (keeps-NoName, inr (keeps-NameTooLong, later)))
 
--- A line whose name is empty is refused as `NoName`, and one whose name is too long as `NameTooLong`.
+-- A line that is not too long is refused as `NoName` if its name is empty, and as `NameTooLong` if its name is too
+-- long.
 pub refused_for_no_name : (kind : Kind) (line name : List ℕ) (back : Option (List ℕ)) → length line ≤ line_limit → IsCutOrWhole line name back
     → length name ≡ 0 → IsLineRefused kind line NoName
 unfolding IsLineRefused
@@ -170,7 +171,7 @@ IsSound_from_IsEntry kind line parts entry right fault breaks = go fault breaks
 pub IsSound-no_field : (kind : Kind) (line : List ℕ) (parts : Parts) → IsEntry kind line parts → parts.field ≡ None → IsSound kind line
 IsSound-no_field kind line parts entry none = IsSound_from_IsEntry kind line parts entry (λ fault field unaudited some refused. cc)
 
--- A field that can be read is not refused.
+-- A field that was read without an error, and has at most one reading, is not refused.
 not_IsFieldRefused-read : (field : List ℕ) (stored : StoredField) → IsReadOneWay field → IsFieldReading field (Ok stored) → (fault : SettingFault) → IsFieldRefused field fault → ⊥
 unfolding IsReadOneWay
 not_IsFieldRefused-read field Empty one read fault refused = refused.0.0 read
@@ -193,7 +194,8 @@ IsSound-audit Audit line parts audited named cut =
 IsSound-audit Batch line parts audited named cut = absurd cc
 IsSound-audit Check line parts audited named cut = absurd cc
 
--- A line that breaks none of the rules before those on the field is refused for the first rule that its field breaks.
+-- A line to check that breaks none of the rules before those on the field is refused for the first rule that its field
+-- breaks.
 pub refused_field : (kind : Kind) (line : List ℕ) (parts : Parts) (field : List ℕ) (fault : SettingFault) → kind ≢ Audit → IsEntry kind line parts
     → parts.field ≡ Some field → IsFieldRefused field fault → IsLineRefused kind line (Setting fault)
 unfolding IsRefused

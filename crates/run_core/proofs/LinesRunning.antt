@@ -70,8 +70,8 @@ module _ {I O E : Type 0} where
   abbrev failures_of : RunState I O E → ℕ
   failures_of now = now.input.failures + now.out.failures + now.faults.failures
 
-  -- If at most one call failed, the run is within its limits. It made at most two more calls than it moved bytes: the
-  -- call that failed, and the read that found the end of the input.
+  -- A run with `left` of its `turns` I/O calls left is within its limits if at most one call failed, and all others but
+  -- one read moved a byte. So it made at most two more calls than it moved bytes.
   IsWithinTurns-one_failure : (turns left : ℕ) (start new : RunState I O E) → calls_of new + left ≡ calls_of start + turns → failures_of new ≤ failures_of start + 1
       → MovesBytes 1 start.input new.input → MovesBytes 0 start.out new.out → MovesBytes 0 start.faults new.faults → IsWithinTurns turns start new
   IsWithinTurns-one_failure turns left start new calls once input out faults = record {
@@ -206,7 +206,8 @@ module _ {I O E : Type 0} where
 -- In this module, the run has called `next_line`, after which the input is `input`, and `mid` I/O calls are left.
 module _ {I O E : Type 0} {turns : ℕ} {kind : Kind} {job : Job} {start old : RunState I O E} {reader : LineReader} {tally : Tally} {left : ℕ}
     (running : IsRunning turns kind job start old reader tally left) (input : Device I) (mid : ℕ) (read_calls : input.calls + mid ≡ old.input.calls + left) where
-  -- If the outputs make no more I/O calls after the read than are left, the run is within its limits.
+  -- The run is within its limits if the outputs made no more I/O calls after the read than were left, and at most one
+  -- call of the whole run failed.
   IsWithinTurns-after_read : (new_left : ℕ) (new : RunState I O E) → MovesBytes 1 start.input new.input → MovesBytes 0 old.out new.out → MovesBytes 0 old.faults new.faults
       → failures_of new ≤ failures_of start + 1 → new.input.calls ≡ input.calls
       → new.out.calls + new.faults.calls + new_left ≡ old.out.calls + old.faults.calls + mid → IsWithinTurns turns start new
@@ -215,7 +216,7 @@ module _ {I O E : Type 0} {turns : ℕ} {kind : Kind} {job : Job} {start old : R
       IsWithinTurns-one_failure turns new_left start new (omega (arith, before, read_calls, calls, same)) once read
       (MovesBytes-trans 0 start.out old.out new.out running.out_moves out) (MovesBytes-trans 0 start.faults old.faults new.faults running.faults_moves faults)
 
-  -- Exit while reading: if reading stopped, the run ends with this error.
+  -- Exit while reading: if a read failed or no I/O call was left, the run ends with this error.
   pub RunsLines-reading_stopped : (fault : RunFault) → HasStopped mid start.input input running.lines fault → RunsLines turns kind job start (run_state input old.out old.faults old.stream old.counts) (Err fault)
   RunsLines-reading_stopped fault stop =
       let now = run_state input old.out old.faults old.stream old.counts in
@@ -348,7 +349,8 @@ module _ {I O E : Type 0} {turns : ℕ} {kind : Kind} {job : Job} {start old : R
             (MovesBytes-none old.out) (MovesBytes-none old.faults) (omega (arith, unfailed, of_out, of_faults)) refl refl;
       }
 
-  -- Exit while writing: if `answer` was written only in part, the run ends with this error.
+  -- Exit while writing: if `answer` was written only in part, because a write failed or no I/O call was left, the run
+  -- ends with this error.
   pub RunsLines-written_in_part : (out : Device O) (faults : Device E) (stream : Stream) (counts : Work) (new_left : ℕ) (A : Type 0) (fault : RunFault)
       → stream ≡ stream_left old.stream answer.hashings → counts ≡ after_work old.counts answer.hashings
       → Sends new_left answer old.out old.faults out faults {A = A} (Err fault)

@@ -39,7 +39,8 @@ module _ {I O E : Type 0} (turns : ℕ) (job : Job) where
   abbrev outputs_kept : RunState I O E → Device I → Stream → Work → RunState I O E
   outputs_kept old input stream counts = run_state input old.out old.faults stream counts
 
-  -- If nothing was written, the outputs have taken no answers.
+  -- If the outputs are as they were, and exactly `failed` reads failed, then `TakeAll` holds for no answers and this
+  -- number of failures.
   TakeAll-nil : (old : RunState I O E) (input : Device I) (stream : Stream) (counts : Work) (failed : ℕ)
       → input.failures ≡ old.input.failures + failed → TakeAll failed 0 0 0 0 [] old (outputs_kept old input stream counts)
   TakeAll-nil old input stream counts failed failures =
@@ -51,7 +52,7 @@ module _ {I O E : Type 0} (turns : ℕ) (job : Job) where
 
   -- ---- the password
 
-  -- If the password is refused, the run ends with this error.
+  -- If no read failed and the password is refused, the run ends with this error.
   EndsPassword-refused : (Decided Undecided : Type 0) (password : List ℕ) (old : RunState I O E) (input : Device I) (fault : RunFault)
       → Decided → input.failures ≡ old.input.failures → IsPasswordFault fault password
       → EndsPassword Decided Undecided turns job password old (outputs_kept old input old.stream old.counts) (Err fault)
@@ -63,7 +64,7 @@ module _ {I O E : Type 0} (turns : ℕ) (job : Job) where
     IsAfter-nil old input,
   )))
 
-  -- If reading stops before the password is known, the run ends with this error.
+  -- If a read failed or no I/O call was left before the whole password was read, the run ends with this error.
   EndsPassword-undecided : (Decided Undecided : Type 0) (password : List ℕ) (old : RunState I O E) (input : Device I) (left : ℕ) (fault : RunFault)
       → Undecided → StopsFetching left old.input input fault → input.calls + left ≡ old.input.calls + turns
       → EndsPassword Decided Undecided turns job password old (outputs_kept old input old.stream old.counts) (Err fault)
@@ -80,7 +81,8 @@ module _ {I O E : Type 0} (turns : ℕ) (job : Job) where
     ),
   ))
 
-  -- Exit without a password: if the password was refused or reading stopped, the run ends with this error.
+  -- Exit without a password: if the password was refused, a read failed or no I/O call was left, the run ends with this
+  -- error.
   pub EndsOne-without_password : (from : PasswordFrom) (old : RunState I O E) (input : Device I) (left : ℕ) (fault : RunFault)
       → ObtainsFrom from old.input input left (Err fault) → input.calls + left ≡ old.input.calls + turns
       → EndsOne turns job from old (outputs_kept old input old.stream old.counts) (Err fault)
@@ -91,7 +93,8 @@ module _ {I O E : Type 0} (turns : ℕ) (job : Job) where
   EndsOne-without_password Input old input left fault (bytes, reads, inr (unfailed, decided, refused)) calls =
       (bytes, reads, EndsPassword-refused (IsDecided input bytes) _ (first_line bytes) old input fault decided unfailed refused)
 
-  -- How a run ends with a password depends on the password alone, not on where it comes from.
+  -- If a run has obtained its password, `EndsPassword` for this password gives `EndsOne`, whether the password is an
+  -- argument or comes from the input.
   EndsOne_from_EndsPassword : (from : PasswordFrom) (old new : RunState I O E) (left : ℕ) (password : List ℕ) (result : Result Tally RunFault)
       → ObtainsFrom from old.input new.input left (Ok password)
       → ((Decided Undecided : Type 0) → Decided → EndsPassword Decided Undecided turns job password old new result)
@@ -150,7 +153,8 @@ module _ {I O E : Type 0} (turns : ℕ) (job : Job) where
 
   -- ---- writing
 
-  -- Exit while writing: if only a prefix of the line was written, the run ends with this error.
+  -- Exit while writing: if only a prefix of the line was written, because a write failed or no I/O call was left, the
+  -- run ends with this error.
   pub EndsOne-written_in_part : (from : PasswordFrom) (password line : List ℕ) (old : RunState I O E) (input : Device I) (out : Device O) (stream : Stream) (counts : Work) (left : ℕ) (fault : RunFault)
       → HasHash from password line old input stream counts left
       → Delivers left old.out out line {A = Unit {0}} (Err fault)

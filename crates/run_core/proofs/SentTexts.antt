@@ -62,7 +62,7 @@ module _ {T : Type 0} where
     pub untried : left ≡ turns → rest ≡ text
     pub moves : MovesBytes 0 old new
 
-  -- The invariant is kept when a `give` takes `count` bytes of the rest.
+  -- The invariant is kept when a `give` takes `count` bytes of the rest, and at least one.
   pub IsUnderWay-step : (old mid new : Device T) (text rest next : List ℕ) (turns left count : ℕ)
       → IsUnderWay old mid text rest turns left → 0 < left → 0 < count → count ≤ length rest
       → Appends mid.shown new.shown (take count rest)

@@ -14,7 +14,8 @@ use Rattle.run_core.specs.declared.line.Kind.TheVariants.{Batch, Check, Audit}
 Contains-colon-cons : (b : ℕ) (bytes : List ℕ) → b ≡ colon → Contains (b ∷ bytes) colon
 Contains-colon-cons b bytes is = (0, omega arith, is)
 
--- If the texts `f` and `g` contain no colon, and each is followed by a colon in the same text, they are the same.
+-- If `f`, a colon and `b` are the same text as `g`, a colon and `d`, and neither `f` nor `g` contains a colon, then `f`
+-- is `g` and `b` is `d`.
 append-colon-unique : (f g b d : List ℕ) → ¬ Contains f colon → ¬ Contains g colon → f ++ colon ∷ b ≡ g ++ colon ∷ d → (f ≡ g) × (b ≡ d)
 append-colon-unique [] [] b d no_f no_g e = (refl, cc)
 append-colon-unique [] (y ∷ g) b d no_f no_g e = absurd (no_g (Contains-colon-cons y g (cc)))

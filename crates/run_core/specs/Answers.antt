@@ -129,8 +129,8 @@ counts_text wanted made = if wanted then work_text (after_work no_work made) els
 abbrev pub new_hash : Job → List ℕ → Stream → List ℕ
 new_hash job password stream = crypt password (next_setting job.maker stream)
 
--- new_hashing job password stream is the hash of the password with the job's next setting, as a `Hashing`. The random
--- numbers for the setting are drawn before hashing begins.
+-- new_hashing job password stream is the hash of the password with the job's next setting, as a `Hashing`. If the
+-- setting gets a new salt, its random numbers are drawn before hashing begins.
 abbrev pub new_hashing : Job → List ℕ → Stream → Hashing
 new_hashing job password stream = hashing password (next_setting job.maker stream) (stream_after job.maker stream)
 

@@ -55,13 +55,13 @@ pub record IsUnflushed {T : Type 0} (old new : Device T) : Type 0 where
   pub flushes : new.flushes ≡ old.flushes
   pub flushed : new.flushed ≡ old.flushed
 
--- IsFlushed old new: one flush was tried, after all bytes had been moved, and the counts of flushes record it as a
--- success. Whether it failed shows in `failures`.
+-- IsFlushed old new: one flush was made, after which `flushed` is the number of all bytes moved so far. A flush that
+-- succeeds does this. The record says nothing of `failures`.
 pub record IsFlushed {T : Type 0} (old new : Device T) : Type 0 where
   pub flushes : new.flushes ≡ old.flushes + 1
   pub flushed : new.flushed ≡ new.bytes
 
--- FailsToFlush old new: one flush was tried, and the counts of flushes do not record it as a success.
+-- FailsToFlush old new: one flush was made, and `flushed` is unchanged. A flush that fails does this.
 pub record FailsToFlush {T : Type 0} (old new : Device T) : Type 0 where
   pub flushes : new.flushes ≡ old.flushes + 1
   pub flushed : new.flushed ≡ old.flushed

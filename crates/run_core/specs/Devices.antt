@@ -30,8 +30,8 @@ turns_limit = 2 ^ 40
 abbrev pub HasRoomBeforeRun : {T : Type 0} → Device T → Type 0
 HasRoomBeforeRun d = (d.failures ≤ 2 ^ 62) × (d.calls ≤ 2 ^ 62) × (d.bytes ≤ 2 ^ 62) × (d.flushes ≤ 2 ^ 62)
 
--- HasRoomWithinRun device: no count of the device can overflow in the rest of a run, or when one more text is written
--- after it.
+-- HasRoomWithinRun device: no count of the device can overflow in the rest of a run, or when one more text of fewer
+-- than 2^63 bytes is written after it.
 pub record HasRoomWithinRun {T : Type 0} (device : Device T) : Type 0 where
   pub failures : device.failures ≤ 2 ^ 63
   pub calls : device.calls ≤ 2 ^ 63 + turns_limit

@@ -16,14 +16,14 @@ without_budget job = record job { budget = None }
 abbrev pub given_budget : Job → ℕ
 given_budget job = unwrap_or job.budget 0
 
--- is_outdated job kept is true if the job asks for rehashes and a hash with the setting `kept` is out of date for its
--- scheme.
+-- is_outdated job kept is true if the job asks for rehashes and the scheme of its new hashes makes a hash with the
+-- setting `kept` out of date.
 abbrev pub is_outdated : Job → SettingValue → Bool
 is_outdated job kept = job.rehash && is_outdated_by kept.scheme job.maker.scheme
 
 -- check_cost job kept password_length is the maximum cost of checking a password of this length against a hash with the
--- stored setting `kept`. It is the cost of the hash with that setting. If the setting is out of date, the cost of the
--- new hash is added, whether or not the password matches.
+-- stored setting `kept`. It is the cost of the hash with that setting. If the job asks for rehashes and the setting is
+-- out of date, the cost of the new hash is added, whether or not the password matches.
 abbrev pub check_cost : Job → SettingValue → ℕ → ℕ
 check_cost job kept password_length =
     cost kept password_length + (if is_outdated job kept then made_cost_by job.maker password_length else 0)

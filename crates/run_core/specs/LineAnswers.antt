@@ -24,8 +24,8 @@ use Rattle.run_core.specs.declared.line.LineFault.TheVariants.{OverBudget}
 -- ---- the outcome of a line
 
 -- HasCost job parts number: a line with these parts costs at most `number`. Without a field, `number` is the cost of
--- hashing the password with a setting that the job makes. With a field, it is the cost of the check with the setting
--- that the field spells.
+-- hashing the password with a setting that the job makes. With a field that spells a setting, it is the cost of the
+-- check with this setting. With any other field, the line has no cost: this holds for no number.
 abbrev pub HasCost : Job → Parts → ℕ → Type 0
 HasCost job parts number =
     ((parts.field ≡ None) × (number ≡ made_cost_by job.maker (length parts.password)))
@@ -50,9 +50,10 @@ HasSetting parts field kept = (parts.field ≡ Some field) × Spells field kept
 --   Hashed    there is no field, and the password is hashed with a setting that the job makes
 --   NoHash    the field is empty
 --   Locked    the field begins with `!` or `*`
---   Match     hashing the password with the setting in the field reproduces the field, and this setting is current
---   Rehashed  hashing the password with the setting in the field reproduces the field, but the setting is out of date,
---             so the password is hashed again
+--   Match     hashing the password with the setting in the field reproduces the field, and the setting is not out of
+--             date or the job asks for no rehashes
+--   Rehashed  hashing the password with the setting in the field reproduces the field, but the setting is out of date
+--             and the job asks for rehashes, so the password is hashed again
 --   Misfit    hashing the password with the setting in the field does not reproduce the field
 abbrev pub ComesTo : Job → Parts → Stream → Outcome → List Hashing → Type 0
 ComesTo job parts stream (Hashed hash) made =

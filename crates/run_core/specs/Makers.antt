@@ -44,8 +44,8 @@ next_setting recipe stream = setting_by recipe (three_words stream).0
 abbrev pub stream_after : Recipe → Stream → Stream
 stream_after recipe stream = if is_some recipe.salt then stream else (three_words stream).1
 
--- made_cost_by recipe password_length is the maximum cost of hashing a password of this length. The length of the salt
--- is that of the given salt, or else that of the method's new salts.
+-- made_cost_by recipe password_length is the maximum cost of hashing a password of this length with a setting that is
+-- made by the recipe. The length of the salt is that of the given salt, or else that of the method's new salts.
 abbrev pub made_cost_by : Recipe → ℕ → ℕ
 made_cost_by recipe password_length =
     cost_by recipe.scheme password_length (option_map_or length recipe.salt (method_row (method_of recipe.scheme)).made_salt_length)

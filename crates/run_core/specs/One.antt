@@ -25,8 +25,8 @@ EndsPassword Decided Undecided turns job password old new = EndsBy
 
 -- EndsOne turns job from old new result: the run for the password from this source ends with this result.
 --   Word   the password is the argument, and the input is unchanged
---   Input  the password is the first line of the input. If the run stops before that line is known, the bytes that it
---          has read contain no line feed and are not too many for a password
+--   Input  the password is the first line of the input. If the run stops while it reads, the bytes that it has read
+--          contain no line feed and are not too many for a password
 abbrev pub EndsOne : {I O E : Type 0} → ℕ → Job → PasswordFrom → RunState I O E → RunState I O E → Result Tally RunFault → Type 0
 EndsOne turns job (Word word) old new result = (new.input ≡ old.input) × EndsPassword ⊤ ⊥ turns job word.items old new result
 EndsOne turns job Input old new result = (bytes : List ℕ) × Reads old.input new.input bytes

@@ -52,7 +52,7 @@ module _ {I O E : Type 0} where
   calls_of state = state.input.calls + state.out.calls + state.faults.calls
 
   -- IsWithinTurns turns old new: the run made at most `turns` I/O calls. It made at most two more calls than it moved
-  -- bytes, because each call moved a byte or failed, except one read that found the end of the input.
+  -- bytes, because each call moved a byte, except at most one that failed and one read that found the end of the input.
   pub record IsWithinTurns (turns : ℕ) (old new : RunState I O E) : Type 0 where
     pub at_most_turns : calls_of new ≤ calls_of old + turns
     pub at_most_bytes : calls_of new + old.input.bytes + old.out.bytes + old.faults.bytes ≤ calls_of old + new.input.bytes + new.out.bytes + new.faults.bytes + 2

@@ -190,8 +190,9 @@ fn hash_within_budget<R: Rng>(
     Ok(Ok(Outcome::Hashed(make_hash(alloc, job, password, rng, meter)?)))
 }
 
-// Checks the password against its stored hash, and hashes a matching password again if the setting is out of date.
-// Returns `OverBudget` and hashes nothing if these hashes together can cost more than the budget.
+// Checks the password against its stored hash, and hashes a matching password again if the job asks for rehashes and
+// the setting is out of date. Returns `OverBudget` and hashes nothing if these hashes together can cost more than the
+// budget.
 fn check_within_budget<R: Rng>(
     alloc: Global,
     job: &Job,

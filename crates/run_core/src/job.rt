@@ -92,8 +92,8 @@ impl Model for Maker {
 impl Maker {
     /// Returns a maker of settings with this method and cost, and with this salt if there is one.
     ///
-    /// Without a salt, each setting gets a new one. Cost 0 is the method's default. Any other cost is the number of
-    /// rounds for SHA-crypt, or 6 to 11 for scrypt; md5crypt ignores it.
+    /// Without a salt, each setting gets a new one. Cost 0 is the method's default. For SHA-crypt, any other cost is
+    /// the number of rounds, clamped to 1000..999999999. scrypt takes 6 to 11, and md5crypt ignores the cost.
     ///
     /// # Errors
     ///

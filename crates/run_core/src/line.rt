@@ -30,7 +30,8 @@ pub enum Kind {
     Audit,
 }
 
-/// The first rule that a line breaks. The rules are in the order in which they are checked.
+/// The reason why a line is refused: the first rule that it breaks, or else its cost. The variants are in the order in
+/// which they are checked.
 #[derive(Clone, Copy, Debug, PartialEq, Eq, Error)]
 #[error("{}", self.text())]
 pub enum LineFault {

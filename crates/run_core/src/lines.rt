@@ -157,8 +157,8 @@ pub fn run_check<I: Read, O: Write, E: Write, R: Rng>(
 
 /// Audits the field of each line `name:field`, or `name:field:` and anything, and writes the finding to `out`.
 ///
-/// - `name:METHOD:ROUNDS:COST:over budget`: `field` has a valid setting, whose hash is over the job's `budget`
-///   ([`Standing::OverBudget`]).
+/// - `name:METHOD:ROUNDS:COST:over budget`: `field` has a valid setting, whose hash is over the job's `budget`, or over
+///   that of its scheme if the job's is `None` or 0 ([`Standing::OverBudget`]).
 /// - `name:METHOD:ROUNDS:COST:dead`: the hash is within the budget, but no password matches `field`, because it is not
 ///   [whole](crypt_core::stored::StoredHash::is_whole).
 /// - `name:METHOD:ROUNDS:COST:outdated`: the hash is within the budget and whole, and the job's settings replace its

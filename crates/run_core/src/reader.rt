@@ -82,7 +82,7 @@ impl Piece {
 #[derive(Drop)]
 pub(crate) struct LineReader {
     piece: Piece,
-    /// The line that was read last.
+    /// The line that was read last, once `next_line` has returned true.
     pub(crate) buffer: LineBuffer,
     /// Whether a read has found the end of the input.
     at_end: bool,

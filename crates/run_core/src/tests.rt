@@ -137,8 +137,8 @@ type Ran<'a> = (
     MemoryReader<'a>,
 );
 
-// Calls `run_batch` on devices that expose their contents. If it returns a tally, the outputs have gained exactly the
-// answers to all lines of the input. The prover derives that from the clauses of `run_batch` alone.
+// Calls `run_batch`. If it returns a tally, and the reader does not repeat its bytes, the outputs have gained exactly
+// the answers to all lines of the input. The prover derives that from the clauses of `run_batch` alone.
 fn run_batch_on<'a, R: Rng>(
     alloc: Global,
     job: &Job,
@@ -307,7 +307,7 @@ fn draws_and_counts(rt: HostRuntime) -> Result<(), Fail> {
     };
     let over = "mkpasswd: line 1: over budget\n";
     // In each row: the run, its input and outcome, both outputs, the next random number, and the number of digests. If
-    // no digests were computed, all other counts of the meter must be 0 too.
+    // no digests were computed, the meter's counts of bytes, mixes and table must be 0 too.
     let rows: [(Asked<'_>, &str, Outcome, &str, &str, u64, u128); 10] = [
         (
             salting(BATCH),

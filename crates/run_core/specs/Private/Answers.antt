@@ -40,8 +40,7 @@ field_cost job (Some (fields.Hash stored)) password_length = check_cost job stor
 field_cost job (Some other) password_length = 0
 
 -- IsChecked job password stored stream hashings outcome: checking the password against its stored hash has this
--- outcome, and takes these hashes. If scrypt could not allocate memory, `outcome` is what the outcome would have been
--- otherwise.
+-- outcome, and takes these hashes.
 abbrev pub IsChecked : Job → List ℕ → StoredHash → Stream → List Hashing → Outcome → Type 0
 IsChecked job password stored stream hashings Misfit =
     (crypt password stored.setting ≢ stored.text) × (hashings ≡ hashing password stored.setting stream ∷ [])
@@ -78,7 +77,8 @@ Settles job password field stream before after new_stream (Err fault) =
     × IsRefusedAmong before hashings after new_stream
 
 -- Concludes kind job line name stream before after new_stream result: the step for a line with this name, which breaks
--- no rule, returned this result. The result is right whatever the number of the line is.
+-- no rule, returned this result. The result is right whatever the number of the line is. After an error, because scrypt
+-- could not allocate memory, `outcome` is what the outcome would have been otherwise.
 abbrev pub Concludes : Kind → Job → List ℕ → List ℕ → Stream → Work → Work → Stream → Result (Result Outcome LineFault) HashFault → Type 0
 Concludes kind job line name stream before after new_stream (Ok (Ok outcome)) =
     (hashings : List Hashing) × ((number : ℕ) → IsAnswer kind job number line stream (answer_of job name outcome hashings))

@@ -44,14 +44,14 @@ module _ {I : Type 0} where
   Fetches left old new buffer (Err fault) = Reads old new [] × StopsFetching left old new fault
 
   -- FindsLine old new bytes left buffer result: these bytes were read, and their first line is at the front of the
-  -- buffer; or reading stopped before the first line was known.
+  -- buffer; or reading stopped when they did not decide yet what the password is (`IsUndecided`).
   abbrev pub FindsLine : Device I → Device I → List ℕ → ℕ → List ℕ → Result ℕ RunFault → Type 0
   FindsLine old new bytes left buffer (Ok count) =
       IsUnfailed old new × IsDecided new bytes × (count ≤ length buffer) × (take count buffer ≡ first_line bytes)
   FindsLine old new bytes left buffer (Err fault) = IsUndecided bytes × StopsFetching left old new fault
 
   -- Obtains old new bytes left result: these bytes were read, and their first line is the password, or is refused as a
-  -- password; or reading stopped before the first line was known.
+  -- password; or reading stopped when they did not decide yet what the password is (`IsUndecided`).
   abbrev pub Obtains : Device I → Device I → List ℕ → ℕ → Result (List ℕ) RunFault → Type 0
   Obtains old new bytes left (Ok password) =
       IsUnfailed old new × IsDecided new bytes × (password ≡ first_line bytes) × IsPassword password

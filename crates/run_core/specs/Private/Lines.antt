@@ -52,7 +52,8 @@ parts_of found = record { name = found.name.now; field = bytes_of found.field; p
 abbrev pub AreSound : Kind → Parts → Type 0
 AreSound kind parts = (line : List ℕ) × HasSoundParts kind line parts
 
--- IsFieldOf field stored: there is no field and `stored` is `None`, or the field is read as `stored`.
+-- IsFieldOf field stored: there is no field and `stored` is `None`, or the field is read as `stored`, and has at most
+-- one reading (`IsReadOneWay`).
 abbrev pub IsFieldOf : Option (List ℕ) → Option StoredField → Type 0
 IsFieldOf None None = Unit {0}
 IsFieldOf (Some field) (Some stored) = IsFieldReading field (Ok stored) × IsReadOneWay field

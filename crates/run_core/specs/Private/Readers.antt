@@ -35,8 +35,9 @@ FetchesPiece left old new piece (Err fault) = (piece ≡ []) × StopsFetching le
 -- ---- lines
 
 module _ {I : Type 0} where
-  -- IsAt now piece at_end lines bytes: the bytes are these lines, each with its line feed, and then `piece`, which has
-  -- fewer than `piece_size` bytes. If the input is at its end, these are all lines of the bytes.
+  -- IsAt now piece at_end lines bytes: if `at_end` is false, the bytes are these lines, each with its line feed, and
+  -- then `piece`, which has fewer than `piece_size` bytes. If `at_end` is true, the input is at its end, and these are
+  -- all lines of the bytes, of which the last may lack its line feed.
   abbrev pub IsAt : Device I → List ℕ → Bool → List (List ℕ) → List ℕ → Type 0
   IsAt now piece false lines bytes = HasLines bytes lines piece × (length piece < piece_size)
   IsAt now piece true lines bytes = IsAtEnd now.shown × (lines ≡ lines_of bytes)
@@ -49,7 +50,8 @@ module _ {I : Type 0} where
     pub moves : MovesBytes (as_count reader.at_end) start now
     pub at : IsAt now reader.piece reader.at_end lines bytes
 
-  -- HasStopped left start now lines fault: reading stopped after these lines and a part of the next one.
+  -- HasStopped left start now lines fault: reading stopped, because a read failed or no I/O call was left. The bytes
+  -- that were read are these lines, each with its line feed, and a rest without a line feed.
   pub record HasStopped (left : ℕ) (start now : Device I) (lines : List (List ℕ)) (fault : RunFault) : Type 0 where
     pub bytes : List ℕ
     pub rest : List ℕ

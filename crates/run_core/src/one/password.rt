@@ -41,7 +41,7 @@ pub(crate) fn read_password<I: Read>(
     Ok(Password::new(&buffer[..end])?)
 }
 
-// Reads until the first line has ended or fills `buffer`, and returns the length of the line.
+// Reads until the first line has ended or fills `buffer`, and returns the number of its bytes in `buffer`.
 fn read_first_line<I: Read>(
     input: &mut Input<I>,
     buffer: &mut [u8],

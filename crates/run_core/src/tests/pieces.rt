@@ -75,7 +75,7 @@ fn measures_any_pieces_alike(rt: HostRuntime) -> Result<(), Fail> {
 }
 
 // A run finishes if its limit on I/O calls is as high as the number of calls that it needs, and returns `Turns` if the
-// limit is lower by one. An endless input uses all calls up to the limit.
+// limit is lower by one. Over an endless input, a batch uses all calls up to the limit.
 #[test]
 fn stops_with_its_turns(rt: HostRuntime) -> Result<(), Fail> {
     let begun = "Available methods:\nmd5crypt\nsha256crypt\nsha512cryp";

@@ -1,5 +1,6 @@
--- Proves the goals of `check`, one for each return, by the lemmas of `LineRules`. The calls before a return have shown
--- what its lemma needs: the line has a good name and its parts, and its password and its field are valid or refused.
+-- Proves the goals of `check` at each return after `check_name`, by the lemmas of `LineRules`. The calls before a
+-- return have shown what its lemma needs: the line has a good name, it has its parts or lacks one, and its password and
+-- its field are valid or refused.
 use Rattle.std.proofs.Common.{◌≡◌, Some, sym, ap, true≢false, rules}
 use Rattle.std.specs.Prelude.{◌≢◌}
 use Rattle.std.proofs.lemmas.Result.{err_from_is_err_and}
