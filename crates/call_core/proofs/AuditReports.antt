@@ -1,9 +1,9 @@
 -- What the report of an audit says about the stored hash, for the clauses `current`, `passes` and `checked` of
--- `report_audit` and the clause `idle` of `finding_report`. An audit passes exactly the current hashes. A login can
--- check each hash that an audit with a budget of 0 does not report as over the budget.
+-- `report_audit` and the clause `idle` of `finding_report`. An audit passes exactly the current hashes. With the empty
+-- password, a login can check each hash that an audit with a budget of 0 does not report as over the budget.
 --
 -- Each proof goes through the possible findings. The number of a reason determines the reason (`reason_row-unique`) and
--- is never 0, so the error in the report determines the standing of the hash.
+-- is never 0, so `error` and `outdated` in the report determine the standing of the hash.
 use Rattle.std.proofs.Common.{◌≡◌, ◌≢◌, ◌⊎◌, ◌≤◌, ◌<◌, ◌∙◌, ℕ, List, [], inl, inr, refl, subst, sym, ap, true≢false, arith}
 use Rattle.prims_core.specs.Work.{no_work}
 use Rattle.crypt_core.specs.Findings.{Finds, JudgesHash}
@@ -108,13 +108,14 @@ Passes_from_IsCurrent number rounds budget new field finding makes judges (kept,
     let same : standing ≡ standings.Current = Current-unique new budget field kept standing has_current has in
     rw (is, same) (with_scheme-error kept.scheme _)
 
--- the limit of a login with the empty password is that of the policy
+-- with a budget of 0 and a valid method and rounds, the limit of a login with the empty password is the policy's
 limit_of-empty_password : (number rounds : ℕ) (scheme : Scheme) → IsSchemeMade TakesNewRounds number rounds scheme
     → limit_of number rounds twice 0 ≡ policy_limit scheme
 limit_of-empty_password number rounds scheme makes =
     limit_by-policy_limit scheme 0 _ (limit_in-allowance number rounds scheme Policy 0 makes) (omega arith) (new_cost-empty-le scheme)
 
--- a login with the empty password can check a hash whose cost for it is within the policy's limit
+-- with a budget of 0 and a valid method and rounds, a login with the empty password can check a hash whose cost for it
+-- is within the policy's limit
 pub not_IsUncheckable-policy_limit : (field : List ℕ) (kept : SettingValue) (number rounds : ℕ) (scheme : Scheme) → Spells field kept
     → IsSchemeMade TakesNewRounds number rounds scheme → cost kept 0 ≤ policy_limit scheme → ¬ IsUncheckable [] field (limit_of number rounds twice 0)
 not_IsUncheckable-policy_limit field kept number rounds scheme spells makes within un =
@@ -152,7 +153,7 @@ Hash_from_IsJudged (findings.Other other) judged = absurd (not_IsJudged-refused 
 Hash_from_IsJudged findings.Unknown judged = absurd (not_IsJudged-refused reasons.UnknownScheme 0 (λ is. absurd (cc is)) judged)
 Hash_from_IsJudged findings.NoScheme judged = absurd (not_IsJudged-refused reasons.NoScheme 0 (λ is. absurd (cc is)) judged)
 
--- with a budget of 0, a hash whose standing isn't OverBudget costs at most the policy's limit with the empty password
+-- with a budget of 0, a hash whose standing isn't OverBudget is not over the budget
 not_IsOverBudget_from_HasStanding : (new : Scheme) (field : List ℕ) (kept : SettingValue) (told : Standing) → HasStanding new 0 field kept told → told ≢ standings.OverBudget
     → ¬ IsOverBudget new 0 kept
 not_IsOverBudget_from_HasStanding new field kept standings.OverBudget has other = absurd (other refl)
@@ -160,10 +161,12 @@ not_IsOverBudget_from_HasStanding new field kept standings.Dead has other = has.
 not_IsOverBudget_from_HasStanding new field kept standings.Outdated has other = has.0
 not_IsOverBudget_from_HasStanding new field kept standings.Current has other = has.0
 
+-- with a budget of 0, a hash that is not over the budget costs at most the policy's limit with the empty password
 cost-le-policy_limit : (new : Scheme) (kept : SettingValue) → ¬ IsOverBudget new 0 kept → cost kept 0 ≤ policy_limit new
 cost-le-policy_limit new kept within = omega (arith, λ (above : policy_limit new < cost kept 0). within (inr (refl, above)))
 
--- a login can check a hash that an audit with a budget of 0 reports as current, outdated or dead
+-- with the empty password, a login with a budget of 0 can check a hash that an audit with a budget of 0 reports as
+-- current, outdated or dead
 pub ForeseesLogins_from_Finds : (number rounds budget : ℕ) (new : Scheme) (field : List ℕ) (finding : Finding) → IsSchemeMade TakesNewRounds number rounds new
     → Finds new budget field finding → ForeseesLogins field number rounds budget (audit_report finding)
 ForeseesLogins_from_Finds number rounds budget new field finding makes finds judged default =

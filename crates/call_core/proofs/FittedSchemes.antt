@@ -33,7 +33,7 @@ made_rounds-chosen_rounds rounds = go (rounds == 0) refl where
 
 -- ---- scrypt
 
--- the rounds that scrypt's parameters give back make the same parameters
+-- for rounds from 6 to 11, scrypt's parameters give back rounds that make the same parameters
 made_scheme-made_params : (rounds : ℕ) → 6 ≤ rounds → rounds ≤ 11
     → made_scheme methods.Scrypt (chosen_rounds methods.Scrypt (rounds_of (Scrypt (made_params rounds)))) ≡ Scrypt (made_params rounds)
 made_scheme-made_params rounds low high =
@@ -43,7 +43,7 @@ made_scheme-made_params rounds low high =
 
 -- ---- Each scheme
 
--- the rounds of a scheme of new hashes make that scheme
+-- if a method's number and rounds make a scheme, so do the number and the rounds that the scheme has (`rounds_of`)
 pub IsSchemeMade-rounds_of : (number rounds : ℕ) (scheme : Scheme) → IsSchemeMade TakesNewRounds number rounds scheme
     → IsSchemeMade TakesNewRounds number (rounds_of scheme) scheme
 IsSchemeMade-rounds_of number rounds scheme (methods.Md5crypt, named, takes, is) = rw is (methods.Md5crypt, named, tt, refl)
@@ -71,7 +71,7 @@ Some-within-unique : (sha : Sha) (n : ℕ) (within : Bool) (own : Scheme)
 Some-within-unique sha n true own e = cc e
 Some-within-unique sha n false own e = absurd (cc e)
 
--- the rounds of a scheme that `fewer_rounds` finds make that scheme
+-- if `fewer_rounds` finds a scheme, the method's number and the rounds that this scheme has (`rounds_of`) make it
 IsSchemeMade-fewer_rounds : (number rounds limit len : ℕ) (scheme own : Scheme) → IsSchemeMade TakesNewRounds number rounds scheme
     → fewer_rounds scheme limit len ≡ Some own → IsSchemeMade TakesNewRounds number (rounds_of own) own
 IsSchemeMade-fewer_rounds number rounds limit len scheme own (methods.Md5crypt, named, takes, is) e = absurd (cc (rw is at e))
@@ -83,7 +83,8 @@ IsSchemeMade-fewer_rounds number rounds limit len scheme own (methods.Sha512cryp
     let same = Some-within-unique Sha512 _ _ own (rw is at e) in
     rw (← same) (methods.Sha512crypt, named, inr (omega arith), sym (ap (Shacrypt Sha512) (made_rounds-clamped _)))
 
--- the rounds of a fitted scheme make that scheme, which is the policy's own or has fewer rounds
+-- The method's number and the rounds that a fitted scheme has (`rounds_of`) make this scheme. It is the policy's own
+-- scheme, or the one that `fewer_rounds` finds.
 pub IsSchemeMade-fitted : (number rounds limit len : ℕ) (scheme own : Scheme) → IsSchemeMade TakesNewRounds number rounds scheme
     → fitted scheme limit len ≡ Some own → IsSchemeMade TakesNewRounds number (rounds_of own) own
 IsSchemeMade-fitted number rounds limit len scheme own makes = go (nat_le (new_cost scheme len) limit) where

@@ -15,7 +15,7 @@ use Rattle.call_core.specs.Arguments.{BreaksGiven, IsGivenRefused, TakesNewRound
 use Rattle.call_core.specs.Private.Settings.{IsClamped}
 use Rattle.call_core.proofs.FittedSchemes.{made_rounds-chosen_rounds}
 
--- `chosen_rounds` returns rounds other than 0 unchanged
+-- for SHA-crypt, `chosen_rounds` returns rounds other than 0 unchanged
 chosen_rounds-nonzero : (rounds : ℕ) → rounds ≢ 0 → chosen_rounds methods.Sha512crypt rounds ≡ rounds
 chosen_rounds-nonzero rounds some =
     let none : (rounds == 0) ≡ false = grind (arith, some) in
@@ -50,7 +50,7 @@ not_TakesNewRounds-clamped methods.Sha512crypt rounds (some, other) (inl none) =
 not_TakesNewRounds-clamped methods.Sha512crypt rounds (some, other) (inr same) = other (made_count-nonzero rounds some ∙ same)
 not_TakesNewRounds-clamped methods.Scrypt rounds is takes = is
 
--- rounds that a method takes without clamping them are taken for new hashes
+-- rounds that a method takes without clamping them are taken for new hashes (stated with double negations)
 not_not_TakesNewRounds : (method : Method) (rounds : ℕ) → ¬ (¬ TakesRounds method (chosen_rounds method rounds))
     → ¬ IsClamped (made_scheme method (chosen_rounds method rounds)) rounds → ¬ (¬ TakesNewRounds method rounds)
 not_not_TakesNewRounds methods.Md5crypt rounds taken same never = never tt

@@ -1,6 +1,8 @@
--- The clauses `judges` and `treats_alike` of mkpasswd_login and web_login follow from what `log_in` ensures. Each field
--- of `JudgesStoredHash` and `TreatsFieldsAlike` is a lemma of LoginReports about the report, or of PolicyLimits about
--- the limit. mkpasswd_new uses `limit_of-policy` too.
+-- The clauses `judges` and `treats_alike` of mkpasswd_login and web_login follow from what `log_in` ensures. The fields
+-- `shut`, `dead` and `outdated` of `JudgesStoredHash` are clauses of `log_in`; `shut` and `outdated` are restated for
+-- the result of the call. The other fields, and those of `TreatsFieldsAlike`, follow from the clauses `logs_in` and
+-- `lets_in`, by lemmas of LoginReports about the report and of PolicyLimits about the limit. mkpasswd_new uses
+-- `limit_of-policy` too.
 use Rattle.std.proofs.Common.{◌≡◌, ◌≢◌, ℕ, ℤ, pos, List, length, inl, inr}
 use Rattle.crypt_core.specs.declared.scheme.Scheme.{Scheme}
 use Rattle.call_core.specs.Arguments.{IsSchemeMade, TakesNewRounds}
@@ -21,7 +23,8 @@ Answers-zero result report answers never = elim answers.0 [
   | inr zero ↦ zero
 ]
 
--- with a budget of 0 the limit is that of the policy
+-- with a budget of 0 and a valid method and rounds, the limit for a password of this length is that of the policy; it
+-- is 0 if the password is too long or its new hash is above the policy's limit (`limit_by`)
 pub limit_of-policy : (number rounds budget len : ℕ) (scheme : Scheme) → IsSchemeMade TakesNewRounds number rounds scheme → budget ≡ twice
     → limit_of number rounds budget len ≡ limit_by scheme len
 limit_of-policy number rounds budget len scheme makes policy = rw policy (limit_in-allowance number rounds scheme Policy len makes)

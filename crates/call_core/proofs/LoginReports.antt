@@ -93,7 +93,8 @@ error-Declines password kept budget refusal report declines = go (nat_lt budget 
   go false (inl e) = inl (ap (λ (r : Report). r.error) e)
   go false (inr (done, lacks, e)) = inr (ap (λ (r : Report). r.error) e, allocates-refused_growth kept.scheme done lacks)
 
--- the work in the report of a login that can't check the stored hash is that of the decoy
+-- the work in the report of a login that can't check the stored hash is that of the decoy, or none if the decoy can
+-- cost more than the budget (`IsHashWork`)
 work-Declines : (password : List ℕ) (kept : SettingValue) (budget : ℕ) (refusal report : Report) → refusal.work ≡ no_work
     → Declines password kept budget refusal report → IsHashWork password kept budget report.work
 work-Declines password kept budget refusal report idle declines = go (nat_lt budget (cost kept (length password))) declines where
@@ -178,7 +179,7 @@ IsUncheckable-none_within password field budget never = λ kept spells. go kept 
 
 -- ---- The work of a login
 
--- the work of a hash spends at most the cost of the hash
+-- the cost of a hash's work (`spent`) is at most the cost that is computed before hashing (`cost_by`)
 spent-work : (scheme : Scheme) (password salt : List ℕ)
     → spent scheme (work password (record { scheme = scheme; salt = salt })) ≤ cost_by scheme (length password) (length salt)
 spent-work Md5crypt password salt = work_bytes-le-cost password (record { scheme = Md5crypt; salt = salt })
@@ -197,7 +198,8 @@ spent-refused_growth (Scrypt params) done (inr (inr e)) = rw e (spent-no_work (S
 spent-refused_growth Md5crypt done never = absurd never
 spent-refused_growth (Shacrypt sha rounds) done never = absurd never
 
--- the work of a hash within a budget spends at most the budget
+-- The work that `IsHashWork` allows under a budget costs at most the budget. If the hash can cost more, there is no
+-- work.
 spent-le-budget : (password : List ℕ) (kept : SettingValue) (budget : ℕ) (done : Work) → IsHashWork password kept budget done
     → spent kept.scheme done ≤ budget
 spent-le-budget password kept budget done hashed = go (nat_lt budget (cost kept (length password))) refl hashed where
@@ -245,7 +247,8 @@ IsLoginWork_from_LogsIn password field number rounds budget report (inl (is, inl
       | inr old ↦ inr (kept, inl spells, old, spent-le-budget password kept budget _ old)
     ]
 
--- a login that can't check the stored hash refuses it and makes the decoy, if the other arguments are valid
+-- if the other arguments are valid, a login that can't check the stored hash refuses it, and makes the decoy if the
+-- budget allows that
 pub Declines_from_LogsIn : (password field : List ℕ) (number rounds budget : ℕ) (scheme : Scheme) (report : Report)
     → IsSchemeMade TakesNewRounds number rounds scheme → IsPassword password → IsUncheckable password field budget
     → LogsIn password field number rounds budget report
@@ -264,7 +267,8 @@ Declines_from_LogsIn password field number rounds budget scheme report makes is 
     let decoyed = rw above at checked in
     (refused OverBudget (cost kept (length password)), refl, rw same at decoyed)
 
--- the work of a login that can't check the stored hash is that of the decoy
+-- if the other arguments are valid, the work of a login that can't check the stored hash is that of the decoy, or none
+-- if the decoy can cost more than the budget (`IsHashWork`)
 pub decoy_work-IsUncheckable : (password field : List ℕ) (number rounds budget : ℕ) (scheme : Scheme) (report : Report)
     → IsSchemeMade TakesNewRounds number rounds scheme → IsPassword password → IsUncheckable password field budget
     → LogsIn password field number rounds budget report → IsHashWork password (decoy scheme) budget report.work
@@ -272,8 +276,8 @@ decoy_work-IsUncheckable password field number rounds budget scheme report makes
     let declined = Declines_from_LogsIn password field number rounds budget scheme report makes is never logged in
     work-Declines password (decoy scheme) budget declined.0 report declined.1 declined.2
 
--- if the budget admits the decoy, a login that can't check the stored hash does all its work, or the error is
--- OutOfMemory
+-- if the other arguments are valid and the budget admits the decoy, a login that can't check the stored hash does all
+-- the work of the decoy, or the error is OutOfMemory
 pub decoy_work-or_no_memory : (password field : List ℕ) (number rounds budget : ℕ) (scheme : Scheme) (report : Report)
     → IsSchemeMade TakesNewRounds number rounds scheme → IsPassword password → IsUncheckable password field budget
     → LogsIn password field number rounds budget report → cost (decoy scheme) (length password) ≤ budget
@@ -296,7 +300,8 @@ report-password_refused password field number rounds budget HasNul report broken
 report-password_refused password field number rounds budget TooLong report broken (inr (HasNul, also, e)) = absurd (omega (arith, also.0, broken))
 report-password_refused password field number rounds budget HasNul report broken (inr (TooLong, also, e)) = absurd (omega (arith, broken.0, also))
 
--- a method and rounds that no new hash can have are refused with the same report for every field
+-- if the password is valid, a method or rounds that no new hash can have are refused with the same report for every
+-- field
 pub report-rounds_refused : (password field : List ℕ) (number rounds budget : ℕ) (reason : Reason) (report : Report) → IsPassword password
     → IsSchemeReading TakesNewRounds number rounds (Err reason) → LogsIn password field number rounds budget report → report ≡ refused reason 0
 report-rounds_refused password field number rounds budget reason report is reading (inr (TooLong, broken, e)) = absurd (omega (arith, is.0, broken))

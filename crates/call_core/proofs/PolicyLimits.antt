@@ -108,12 +108,13 @@ limit_by-zero scheme len limit is above =
 
 -- ---- A limit of 0 admits no hash
 
--- the rounds of SHA-crypt are positive, whether or not the setting spells them
+-- a count that is positive in both cases of a test is positive
 count-positive : (written : Bool) (count : ℕ) (Written Unwritten : Type 0) → (Written → 0 < count) → (Unwritten → 0 < count)
     → MatchBool written Written Unwritten → 0 < count
 count-positive true count Written Unwritten one other is = one is
 count-positive false count Written Unwritten one other is = other is
 
+-- the rounds of SHA-crypt are positive, whether or not the setting spells them
 SpellsRounds-positive : (rounds : Rounds) (part after : List ℕ) → SpellsRounds rounds part after → 0 < rounds.count
 SpellsRounds-positive rounds part after spells =
     count-positive rounds.is_written rounds.count _ _ (λ is. omega (arith, is.3)) (λ is. omega (arith, is.1)) spells

@@ -97,7 +97,8 @@ PutsHash-made password kept budget lock old report new low room puts =
       | inr lacks ↦ inr (ap (λ (r : Report). r.error) lacks.0.2)
     ]
 
--- a new hash of a valid password with three random numbers is written, unless scrypt lacks memory
+-- if the password, the method and the rounds are valid, there are three random numbers, and the budget and the capacity
+-- allow the new hash, it is written, unless scrypt lacks memory
 pub HashesAnew-made : (password : List ℕ) (number rounds budget : ℕ) (numbers old : List ℕ) (scheme : Scheme) (report : Report) (new : List ℕ)
     → IsSchemeMade TakesNewRounds number rounds scheme → IsPassword password → (length numbers == 3) ≡ true
     → nat_lt budget (cost (salted scheme numbers) (length password)) ≡ false

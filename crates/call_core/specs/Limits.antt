@@ -39,13 +39,14 @@ takes_new_rounds methods.Sha256crypt rounds = (rounds == 0) || (clamped rounds =
 takes_new_rounds methods.Sha512crypt rounds = (rounds == 0) || (clamped rounds == rounds)
 takes_new_rounds methods.Scrypt rounds = (rounds == 0) || (nat_le 6 rounds && nat_le rounds 11)
 
--- method_limit method rounds len: the limit of the policy with this method and rounds, or 0 if the method does not take
--- the rounds for new hashes.
+-- method_limit method rounds len: `limit_by` for the policy with this method and rounds, or 0 if the method does not
+-- take the rounds for new hashes.
 abbrev pub method_limit : Method → ℕ → ℕ → ℕ
 method_limit method rounds len = if takes_new_rounds method rounds then limit_by (made_scheme method (chosen_rounds method rounds)) len else 0
 
 -- limit_in number rounds limit len: the most that a login or a new hash may cost for a password of this length: the
--- budget, or the limit of the policy, which is 0 if no method has the number.
+-- budget, or the limit of the policy. A policy's limit is 0 if no method has the number or the method does not take the
+-- rounds, if the password is too long, or if its new hash is above the limit.
 abbrev pub limit_in : ℕ → ℕ → Limit → ℕ → ℕ
 limit_in number rounds Policy len = option_map_or (λ (method : Method). method_limit method rounds len) (chosen_method number) 0
 limit_in number rounds (Bytes budget) len = budget
@@ -79,7 +80,7 @@ limit_report scheme limit (Some longest) = record (succeeded longest limit no_wo
 limit_report scheme limit None = refused OverBudget limit
 
 -- Limits number rounds limit report: the report of mkpasswd_limit and web_limit: the limit, and the length of the
--- longest password whose new hash is within it.
+-- longest password whose new hash is within it; or a refusal.
 abbrev pub Limits : ℕ → ℕ → Limit → Report → Type 0
 Limits number rounds limit report =
     OnScheme TakesNewRounds number rounds (Refuses report) (λ scheme.
@@ -94,7 +95,7 @@ rounds_report scheme len (Some own) = record (succeeded 0 (new_cost own len) no_
 rounds_report scheme len None = refused OverBudget (new_cost scheme len)
 
 -- ReportsRounds len number rounds limit report: the report of mkpasswd_rounds and web_rounds: rounds with which a new
--- hash of a password of this length is within the limit, and the cost of that hash.
+-- hash of a password of this length is within the limit, and the cost of that hash; or a refusal.
 abbrev pub ReportsRounds : ℕ → ℕ → ℕ → Limit → Report → Type 0
 ReportsRounds len number rounds limit report =
     OnLength len (Refuses report) (OnScheme TakesNewRounds number rounds (Refuses report) (λ scheme.

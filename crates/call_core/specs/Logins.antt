@@ -57,8 +57,8 @@ IsMiss field kept reason = ((reason ≡ WrongPassword) × IsWhole field kept) �
 
 -- LogsIn password field number rounds budget report: the report of mkpasswd_login and web_login.
 --   a refused password, method or rounds  the reason, without work
---   a stored hash that can't be checked   the report of mkpasswd_verify with the work of the decoy, or OutOfMemory if
---                                         scrypt lacked memory for the decoy
+--   a stored hash that can't be checked   the report of mkpasswd_verify, with the work of the decoy if the budget
+--                                         allows it, or OutOfMemory if scrypt lacked memory for the decoy
 --   otherwise                             the report of mkpasswd_verify; after a match it says whether the scheme
 --                                         replaces the setting. Dead replaces WrongPassword if the hash is not whole
 abbrev pub LogsIn : List ℕ → List ℕ → ℕ → ℕ → ℕ → Report → Type 0
@@ -113,10 +113,11 @@ TellsDead password field number rounds budget report =
 -- JudgesStoredHash password field number rounds budget result report: how a login judges the stored hash, both for C
 -- and for web pages.
 --   shut       a dead hash lets nobody in
---   dead       the report of a check against a dead hash is Dead
+--   dead       if the arguments are valid, and the stored hash is dead and within the budget, the report is Dead,
+--              unless scrypt lacked memory
 --   tells      the report is Dead only if the stored hash is dead
 --   outdated   `outdated` is 1 exactly if the password is let in and a new hash would replace the stored one
---   as_verify  the report agrees with that of mkpasswd_verify with the same budget
+--   as_verify  if the method and the rounds are valid, the report agrees with that of mkpasswd_verify with this budget
 pub record JudgesStoredHash (password field : List ℕ) (number rounds budget : ℕ) (result : ℤ) (report : Report) : Type 0 where
   pub shut : IsDead field → result ≡ pos 0
   pub dead : TellsDead password field number rounds budget report
@@ -126,15 +127,16 @@ pub record JudgesStoredHash (password field : List ℕ) (number rounds budget : 
       → (verified : Report) × Verifies password field budget verified × Agrees scheme report verified
 
 -- TreatsFieldsAlike password field number rounds budget result report: what a login does alike for all fields, or for
--- all that it can't check, both for C and for web pages. Its limit is `limit_of`. A decoy of scrypt can end at an
--- allocation that fails.
+-- all that it can't check, both for C and for web pages. Its limit is `limit_of`. The clauses on the decoy are for a
+-- valid password, method and rounds. A decoy of scrypt can end at an allocation that fails.
 --   one_hash      the work is that of at most one hash, within the limit
 --   decoy_lacks   for a field that can't be checked, the decoy is made if the limit admits it, or scrypt lacks memory
 --   decoy_made    under a policy's limit that admits a new hash, a field that can't be checked costs the decoy
 --   decoy         a field that can't be checked costs the decoy if the limit admits that, and otherwise nothing
 --   alike         an invalid password is refused with the same report for each field
---   alike_rounds  a method or rounds that no new hash can have are refused with the same report for each field
---   alike_long    a password whose new hash is above the policy's limit gets in by no field, and costs nothing
+--   alike_rounds  with a valid password, a method or rounds that no new hash can have are refused with the same report
+--                 for each field
+--   alike_long    under a policy's limit, a password whose new hash is above it gets in by no field, and costs nothing
 pub record TreatsFieldsAlike (password field : List ℕ) (number rounds budget : ℕ) (result : ℤ) (report : Report) : Type 0 where
   pub one_hash : IsLoginWork password field number rounds (limit_of number rounds budget (length password)) report.work
   pub decoy_lacks : (scheme : Scheme) → IsSchemeMade TakesNewRounds number rounds scheme → IsPassword password

@@ -51,8 +51,8 @@ abbrev pub PutsWhole : List ℕ → List ℕ → ℤ → List ℕ → Type 0
 PutsWhole text old result new =
     (new ≡ put text old) × ((result ≡ pos 1) ⊎ (result ≡ pos 0)) × (result ≡ pos 1 ↔ length text < length old)
 
--- token setting: the string that a refusal writes in place of a hash with this setting (crypt(3)). The token never
--- equals the setting, and it spells no setting.
+-- token setting: the string that a call writes when it refuses, in place of a hash with this setting (crypt(3)). The
+-- token never equals the setting, and it spells no setting.
 abbrev pub token : List ℕ → List ℕ
 token setting = if bytes_eq (take 2 setting) (codes "*0") then codes "*1" else codes "*0"
 

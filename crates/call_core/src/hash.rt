@@ -84,7 +84,7 @@ fn hash_of<M: Memory>(
 }
 
 /// Hashes the password, and returns the hash and the report, or the report of a refusal. A hash is refused if it can
-/// cost more than the budget, and then if it and a zero byte need more than `room` bytes.
+/// cost more than the budget, then if it and a zero byte need more than `room` bytes, and last if scrypt lacks memory.
 pub(crate) fn hash_within<M: Memory>(
     memory: &mut M,
     password: &Password,

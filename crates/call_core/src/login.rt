@@ -27,9 +27,10 @@ use crypt_core::setting::Setting;
 use crypt_core::stored::StoredHash;
 use prims_core::meter::Meter;
 
-/// Checks the password against the stored hash if the limit allows the check. Otherwise the call makes a decoy, which
-/// is a hash like a new one, and drops it. After a match, `outdated` in the report says whether a new hash with the
-/// method and the rounds would replace the stored one.
+/// Checks the password against the stored hash if the limit allows the check. If the field has no stored hash, or the
+/// limit does not allow its check, the call makes a decoy, which is a hash like a new one, and drops it. It makes no
+/// decoy above the limit, and hashes nothing if it refuses the password, the method or the rounds. After a match,
+/// `outdated` in the report says whether a new hash with the method and the rounds would replace the stored one.
 pub fn log_in<M: Memory>(
     memory: &mut M,
     password: &[u8],

@@ -153,8 +153,8 @@ fn answer(report: &mut Report, told: Report, is_yes: bool) -> i32
     i32::from(is_yes)
 }
 
-/// Returns the string that a refusal writes in place of a hash with this setting: `*0`, or `*1` if the setting begins
-/// with `*0` (crypt(3)).
+/// Returns the string that a call writes when it refuses, in place of a hash with this setting: `*0`, or `*1` if the
+/// setting begins with `*0` (crypt(3)).
 pub fn token(setting: &[u8]) -> &'static [u8]
     ensures { result.now ≡ token setting.now }
 {

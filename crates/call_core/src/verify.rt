@@ -79,8 +79,8 @@ pub(crate) fn checkable<'a>(
 }
 
 /// Hashes the password with the setting of the stored hash and compares the two hashes. If they are equal, the report
-/// has no error and says whether the stored hash is outdated (`is_outdated`). Otherwise its error is `misses`. `most`
-/// is the greatest cost of the hash.
+/// has no error and says whether the stored hash is outdated (`is_outdated`). Otherwise its error is `misses`. If
+/// scrypt gets no memory, its error is `OutOfMemory`. `most` is the greatest cost of the hash.
 pub(crate) fn compare<M: Memory>(
     memory: &mut M,
     password: &Password,

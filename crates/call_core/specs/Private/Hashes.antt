@@ -37,7 +37,7 @@ MakesHashOf password text budget room made =
     OnPassword password Fails (OnSetting text Fails (λ kept. MakesHash password kept budget room made))
 
 -- MakesHashAnew password number rounds numbers budget room made: `made` is the hash with a new setting, or the report
--- of the first refusal.
+-- of the first refusal. Without exactly three random numbers it is always a refusal.
 abbrev pub MakesHashAnew : List ℕ → ℕ → ℕ → List ℕ → ℕ → ℕ → Result (List ℕ × Report) Report → Type 0
 MakesHashAnew password number rounds numbers budget room made =
     let Fails = λ (reason : Reason). made ≡ Err (refused reason 0) in
