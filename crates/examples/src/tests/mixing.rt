@@ -202,8 +202,8 @@ fn want_xor_mixed(rt: &impl Abort, alloc: Global, r: usize, wanted: &str) -> Res
     Ok(())
 }
 
-// Each expected value is the SHA-256 of the blocks that a Python program mixes. The program gives the vector of RFC
-// 7914, section 9, too.
+// Each expected value is the SHA-256 of the mixed blocks. A Python program outside this repository computed it, which
+// also reproduces the test vector of RFC 7914, section 9.
 #[test]
 fn more_blocks(rt: HostRuntime) -> Result<(), Fail> {
     for &(r, wanted) in &[
