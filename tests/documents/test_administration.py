@@ -403,8 +403,20 @@ def test_the_nightly_job_succeeds_without_passwords(job: Job) -> None:
     assert job.has_succeeded(), ended.lacks("a success, for whoever watches")
 
 
-def test_the_nightly_job_goes_on_after_a_night_that_was_interrupted(job: Job) -> None:
+def test_the_nightly_job_keeps_a_list_that_comes_meanwhile(job: Job) -> None:
+    chpasswd = job.folder.parent / "bin/chpasswd"
+    comes = f"echo bob:another > '{job.folder}/passwords'\n"
+    save_command(chpasswd, chpasswd.read_text().replace("exec", f"{comes}exec"))
     job.machine.write("passwords", b"ann:password\n")
+    ended = job.run()
+    assert ended.result.status == 0, ended.lacks("status 0")
+    assert job.machine.has_new_password("ann", "password"), ended.lacks("a new hash for ann")
+    ended = job.run()
+    assert job.machine.has_new_password("bob", "another"), ended.lacks("a new hash for bob")
+
+
+def test_the_nightly_job_goes_on_after_a_night_that_was_interrupted(job: Job) -> None:
+    job.machine.write("loading", b"ann:password\n")
     job.machine.write("hashes.part", b"ann:$6$")
     job.machine.write("hashes", b"bob:*\n")
     ended = job.run()
@@ -430,7 +442,7 @@ def test_the_nightly_job_reports_what_fails_and_keeps_everything(
     assert f"status {status}:" in ended.errors, ended.lacks("a message that names the status")
     assert "secret" not in ended.errors, ended.lacks("no password in the mail")
     assert job.machine.entries() == before, ended.lacks("no account has changed")
-    assert (job.folder / "passwords").read_bytes() == lines, ended.lacks("the passwords are kept")
+    assert (job.folder / "loading").read_bytes() == lines, ended.lacks("the passwords are kept")
     assert not job.has_succeeded(), ended.lacks("no success, for whoever watches")
 
 
