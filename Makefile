@@ -5,7 +5,8 @@
 #   CPU=x86-64-v3     the level of x86-64 to build for. The default is x86-64-v2, and x86-64 for
 #                     what is taken to other machines: make static, dist, image and wheel.
 #   TARGET=aarch64    builds for ARM: make its archive and its wheel, make image its image.
-#   CC, CPPFLAGS, CFLAGS, LDFLAGS    compile and link the C code, in place of the flags below.
+#   CC, CPPFLAGS, CFLAGS, LDFLAGS    compile and link the C code, in place of the flags below. If
+#                     they differ from those of the last make, it is compiled and linked again.
 #   PREFIX, LIBDIR, DESTDIR    where make install puts what it installs.
 PREFIX ?= /usr/local
 LIBDIR ?= $(PREFIX)/lib
@@ -98,9 +99,23 @@ python/src/mkpasswd_version.py: crates/crypt_core/src/version.rt tools/version
 
 # The processor of the last build. A build for another one rewrites this file, and so all that
 # depends on it.
+ifneq ($(file < build/cpu),$(CPU))
 build/cpu: FORCE
+endif
+build/cpu:
 	@mkdir -p build
-	@echo '$(CPU)' | cmp -s - $@ || echo '$(CPU)' > $@
+	@echo '$(CPU)' > $@
+
+# The C compiler and the flags of the last build. A build with others rewrites this file, and so
+# compiles all C code again. It proves nothing again, since rt uses no such flags.
+FLAGS = $(CC) $(CPPFLAGS) $(CFLAGS) $(LDFLAGS)
+ifneq ($(file < build/flags),$(FLAGS))
+build/flags: FORCE
+endif
+build/flags: export FLAGS := $(FLAGS)
+build/flags:
+	@mkdir -p build
+	@printf '%s\n' "$$FLAGS" > $@
 
 # What is proved, as an object for a processor: the program, and the calls for C.
 build/%/program.o: $(SOURCES) tools/for-cpu
@@ -112,7 +127,9 @@ build/%/libcrypt_c.a: $(SOURCES) tools/for-cpu
 # A file below build/aarch64 is made by the compiler and the binutils for ARM.
 CROSS = $(if $(filter build/aarch64/%,$@),aarch64-linux-gnu-)
 STANDARD = c99
-COMPILE = $(if $(CROSS),$(CROSS)gcc,$(CC)) -std=$(STANDARD) -Wall -Wextra -Ic $(CPPFLAGS) $(CFLAGS)
+# Without link-time optimization, since ld and objcopy join machine code to that of rt.
+COMPILE = $(if $(CROSS),$(CROSS)gcc,$(CC)) -std=$(STANDARD) -Wall -Wextra -Ic $(CPPFLAGS) \
+	$(CFLAGS) -fno-lto
 LINK = $(if $(CROSS),$(CROSS)gcc,$(CC)) $(CFLAGS) $(LEVEL) $(LDFLAGS)
 # The level of x86-64 that a file needs, so that glibc refuses it on a lesser processor.
 LEVEL = $(addprefix -Wl$(comma)-z$(comma),$(NEEDED))
@@ -120,19 +137,19 @@ NEEDED = $(filter x86-64-v%,$(subst /, ,$(if $(filter build/%,$@),$@,$(OWN))))
 comma := ,
 
 # How memory is allocated: a program of one thread keeps its last large block, a library none.
-build/%/heap-of-program.o: c/heap.c
+build/%/heap-of-program.o: c/heap.c build/flags
 	@mkdir -p $(@D)
 	$(COMPILE) -DKEEPS=1 -fPIE -c -o $@ $<
 
-build/%/heap-of-library.o: c/heap.c
+build/%/heap-of-library.o: c/heap.c build/flags
 	@mkdir -p $(@D)
 	$(COMPILE) -DKEEPS=0 -fPIC -c -o $@ $<
 
-build/aarch64/runtime.o: c/runtime.c
+build/aarch64/runtime.o: c/runtime.c build/flags
 	@mkdir -p $(@D)
 	$(COMPILE) -fPIE -c -o $@ $<
 
-build/%/calls.o: c/calls.c c/mkpasswd.h
+build/%/calls.o: c/calls.c c/mkpasswd.h build/flags
 	@mkdir -p $(@D)
 	$(COMPILE) -fPIC -c -o $@ $<
 
@@ -140,11 +157,12 @@ build/%/calls.o: c/calls.c c/mkpasswd.h
 RUNTIME = $(if $(CROSS),build/aarch64/runtime.o,$$(dirname $$($(RT) doc))/c/libos_c.a)
 
 # The program that takes the system's C library, and the one that brings its own.
-mkpasswd: $(OWN)/program.o $(OWN)/heap-of-program.o build/cpu
+mkpasswd: $(OWN)/program.o $(OWN)/heap-of-program.o build/cpu build/flags
 	$(LINK) -fPIE -pie -Wl,--gc-sections -o $@ $(filter %.o,$^) $(RUNTIME)
 
-build/%/mkpasswd: build/%/program.o build/%/heap-of-program.o
-	$(LINK) -fPIE -static-pie -s -Wl,--gc-sections -o $@ $(filter-out %/runtime.o,$^) $(RUNTIME)
+build/%/mkpasswd: build/%/program.o build/%/heap-of-program.o build/flags
+	$(LINK) -fPIE -static-pie -s -Wl,--gc-sections -o $@ \
+		$(filter %/program.o %/heap-of-program.o,$^) $(RUNTIME)
 
 build/aarch64/mkpasswd: build/aarch64/runtime.o
 
@@ -160,15 +178,16 @@ build/%/libmkpasswd.a: build/%/mkpasswd.o
 	rm -f $@
 	$(CROSS)ar rcsD $@ $<
 
-build/%/libmkpasswd.so.3: build/%/mkpasswd.o c/libmkpasswd.map
+build/%/libmkpasswd.so.3: build/%/mkpasswd.o c/libmkpasswd.map build/flags
 	$(LINK) -shared -Wl,-soname,$(@F) -Wl,--version-script=c/libmkpasswd.map \
 		-Wl,--no-undefined-version -Wl,-z,defs -o $@ $<
 
 # The module has the library in it, and offers nothing to the service that loads it but PAM's calls.
+# It is compiled and linked at once, so LDFLAGS could turn on link-time optimization, too.
 build/%/pam_mkpasswd.so: STANDARD = gnu11
 build/%/pam_mkpasswd.so: build/%/libmkpasswd.a $(PAM_SOURCES) $(PAM_HEADERS) c/pam/module.map \
-		c/mkpasswd.h
-	$(COMPILE) -fPIC -shared $(LEVEL) $(LDFLAGS) -Wl,--version-script=c/pam/module.map \
+		c/mkpasswd.h build/flags
+	$(COMPILE) -fPIC -shared $(LEVEL) $(LDFLAGS) -fno-lto -Wl,--version-script=c/pam/module.map \
 		-Wl,--no-undefined-version -Wl,-z,defs -o $@ $(PAM_SOURCES) $< -lpam
 
 # The completions, from the help of a program that runs on this machine.

@@ -1,4 +1,4 @@
-/* A service around README's login, whose code is compiled together with this file. Its command is
+/* A service around SECURITY's login, whose code is compiled together with this file. Its command is
  * `service PASSWORD [FIELD]`, with `null` for no password. It returns 0 if it accepts the login. */
 #include "service.h"
 #include <string.h>

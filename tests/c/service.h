@@ -1,5 +1,5 @@
-/* What README's login needs here: a function that stores hashes, and a call that prints how much
- * work it did. The compiler reads this first (-include), so that README's code needs no change. */
+/* What SECURITY's login needs here: a function that stores hashes, and a call that prints how much
+ * work it did. The compiler reads this first (-include), so that the login needs no change. */
 #ifndef SERVICE_H
 #define SERVICE_H
 

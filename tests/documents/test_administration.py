@@ -37,6 +37,9 @@ CURRENT = (
 OVER_BUDGET = "$6$rounds=999999999$ab$x"
 MALFORMED = "$7$C6....../..ab$x"
 YESCRYPT = "$y$j9T$ab$x"
+# libxcrypt's hashes of "password" by other methods.
+YESCRYPT_OF_PASSWORD = "$y$j75$abcdefgh$hycRI05iyPwUdPZDaw/SJaABdj2h8B1Bgxi1Z/4Xke0"
+BCRYPT_OF_PASSWORD = "$2b$05$abcdefghijklmnopqrstuuWG29KuyeAicPCJODk1zjyGvyQUU2awu"
 
 
 def today() -> int:
@@ -91,12 +94,17 @@ class Machine:
         """Writes a file in the folder."""
         (self.folder / name).write_bytes(content)
 
-    def follow(self, mark: str, language: str = "sh") -> "Followed":
-        """Follows a recipe, with this system's file in place of /etc/shadow."""
+    def follow(self, mark: str, language: str = "sh", stdin: bytes = b"") -> "Followed":
+        """Follows a recipe, with this system's file in place of /etc/shadow.
+
+        This system is also the one on the disk that is mounted at /mnt.
+        """
         block = marked(mark, language)
         commands = SCHEDULE.sub("", block.code)
-        commands = re.sub(r" /etc/shadow\b", f" {shlex.quote(str(self.shadow))}", commands)
-        result = run("sh", "-c", commands, env=self.environment, cwd=self.folder)
+        shadow = shlex.quote(str(self.shadow))
+        commands = re.sub(r" (?:/mnt)?/etc/shadow\b", f" {shadow}", commands)
+        commands = commands.replace(" -R /mnt", "")  # the machine's chpasswd has this option
+        result = run("sh", "-c", commands, stdin=stdin, env=self.environment, cwd=self.folder)
         return Followed(block, result)
 
     def has_new_password(self, name: str, password: str) -> bool:
@@ -218,6 +226,34 @@ def test_generated_passwords_are_loaded_and_listed_by_class(
         assert machine.has_new_password(name, password), followed.lacks(f"a new hash for {name}")
 
 
+def test_generated_passwords_of_all_lists_are_installed_for_nginx(machine: Machine) -> None:
+    machine.set_accounts(THREE_LOCKED)
+    follow_generated_passwords(machine)
+    block = marked("passwords of lists for nginx", "sh")
+    commands = block.code.replace("/etc/nginx/", "at.").replace("--group www-data", "")
+    followed = Followed(
+        block, run("sh", "-c", commands, env=machine.environment, cwd=machine.folder)
+    )
+    assert followed.result.status == 0, followed.lacks("status 0")
+    lines = (machine.folder / "at.passwords").read_text(encoding="ascii").splitlines()
+    fields = dict(line.split(":") for line in lines)
+    lists = [passwords_in(path) for path in (machine.folder / "lists").iterdir()]
+    passwords = {name: password for of_class in lists for name, password in of_class.items()}
+    assert set(fields) == set(passwords) == {"ann", "bob", "eve"}, followed.lacks("all names")
+    for name, password in passwords.items():
+        assert is_hash_of(fields[name], password), followed.lacks(f"a hash for {name}")
+
+
+def test_nothing_is_installed_for_nginx_if_a_list_is_damaged(machine: Machine) -> None:
+    machine.set_accounts(THREE_LOCKED)
+    follow_generated_passwords(machine)
+    (machine.folder / "lists/5a.csv").write_bytes(b"last;first;name;password\n;;ann\n")
+    code = marked("passwords of lists for nginx", "sh").code.replace("/etc/nginx/", "at.")
+    result = run("sh", "-c", code, env=machine.environment, cwd=machine.folder)
+    assert result.status != 0, str(result)
+    assert not (machine.folder / "at.passwords").exists(), str(result)
+
+
 def test_generated_passwords_unlock_no_account_a_year_later(machine: Machine) -> None:
     machine.set_accounts({"ann": OUTDATED, "bob": LOCKED + OUTDATED, "eve": LOCKED + CURRENT})
     before = machine.entries()
@@ -273,6 +309,141 @@ def test_other_lines_are_shown_by_number_and_without_passwords(good_lines: Follo
     output = good_lines.result.stdout + good_lines.result.stderr
     assert b"secret" not in output, good_lines.lacks("no password")
     assert good_lines.result.stdout == b"", good_lines.lacks("nothing on standard output")
+
+
+# ---- A password on another disk
+
+
+def test_an_account_of_another_disk_gets_the_password_that_is_typed(machine: Machine) -> None:
+    machine.set_accounts({"root": LOCKED, "ann": OUTDATED})
+    followed = machine.follow("another disk", stdin=b"password\n")
+    assert followed.result.status == 0, followed.lacks("status 0")
+    assert machine.has_new_password("root", "password"), followed.lacks("a new hash for root")
+    assert machine.entries()["ann"] == Entry(OUTDATED, AGED), followed.lacks("ann keeps the hash")
+
+
+@pytest.mark.parametrize(("typed", "status"), [(b"password\n", 0), (b"passwort\n", 1)])
+def test_a_password_on_another_disk_is_checked(machine: Machine, typed: bytes, status: int) -> None:
+    machine.set_accounts({"root": CURRENT})
+    followed = machine.follow("another disk, checked", stdin=typed)
+    assert followed.result.status == status, followed.lacks(f"status {status}")
+
+
+@pytest.mark.needs("perl")
+@pytest.mark.parametrize("field", [YESCRYPT_OF_PASSWORD, BCRYPT_OF_PASSWORD, CURRENT])
+@pytest.mark.parametrize(("typed", "answer"), [("password", b"yes\n"), ("passwort", b"no\n")])
+def test_a_hash_is_checked_by_the_systems_crypt(
+    machine: Machine, field: str, typed: str, answer: bytes
+) -> None:
+    followed = machine.follow("check by crypt", stdin=f"{field}\n{typed}\n".encode())
+    assert followed.result.stdout == answer, followed.lacks(f"{answer!r} is printed")
+
+
+@pytest.mark.needs("perl")
+@pytest.mark.parametrize("field", ["", "*0", "*1", "!", "$apr1$xxxxxxxx$dxHfLAsjHkDRmG83UXe8K0"])
+def test_what_is_no_hash_of_the_system_matches_no_password(machine: Machine, field: str) -> None:
+    followed = machine.follow("check by crypt", stdin=f"{field}\npassword\n".encode())
+    assert followed.result.stdout == b"no\n", followed.lacks("no")
+
+
+# ---- A job every night
+
+
+@dataclass(frozen=True)
+class Job:
+    """The recipe's job, installed as a command that reads the machine's folder."""
+
+    machine: Machine
+
+    @property
+    def folder(self) -> Path:
+        return self.machine.folder
+
+    def run(self) -> Followed:
+        """Runs the command of the recipe's file for cron."""
+        line = marked("nightly job by cron", "text").code.splitlines()[-1]
+        command = SCHEDULE.sub("", line)
+        result = run("sh", "-c", command, env=self.machine.environment)
+        return Followed(marked("nightly job", "sh"), result)
+
+    def has_succeeded(self) -> bool:
+        """Returns whether the command by which it is watched says so."""
+        command = marked("nightly job watched", "sh").code.replace(
+            "/root/accounts", shlex.quote(str(self.folder))
+        )
+        return run("sh", "-c", command).status == 0
+
+
+@pytest.fixture(name="job")
+def fixture_job(machine: Machine) -> Job:
+    machine.set_accounts({"ann": LOCKED, "bob": OUTDATED})
+    script = marked("nightly job", "sh").code
+    script = script.replace("/root/accounts", shlex.quote(str(machine.folder)))
+    script = script.replace("/etc/shadow", shlex.quote(str(machine.shadow)))
+    save_command(machine.folder.parent / "bin/load-passwords", script)
+    return Job(machine)
+
+
+def test_the_nightly_job_loads_the_passwords_and_prints_nothing(job: Job) -> None:
+    job.machine.write("passwords", b"ann:password\nbob:pass:word\n")
+    ended = job.run()
+    assert ended.result.status == 0, ended.lacks("status 0")
+    assert ended.result.stdout + ended.result.stderr == b"", ended.lacks("nothing printed")
+    assert job.machine.has_new_password("ann", "password"), ended.lacks("a new hash for ann")
+    assert job.machine.has_new_password("bob", "pass:word"), ended.lacks("a new hash for bob")
+    left = sorted(path.name for path in job.folder.iterdir())
+    assert left == ["last-success"], ended.lacks("no file with passwords or hashes is left")
+    assert job.has_succeeded(), ended.lacks("a success, for whoever watches")
+
+
+def test_the_nightly_job_succeeds_without_passwords(job: Job) -> None:
+    ended = job.run()
+    is_quiet = ended.result.stdout + ended.result.stderr == b""
+    assert ended.result.status == 0 and is_quiet, ended.lacks("status 0, and nothing printed")
+    assert job.has_succeeded(), ended.lacks("a success, for whoever watches")
+
+
+def test_the_nightly_job_keeps_a_list_that_comes_meanwhile(job: Job) -> None:
+    chpasswd = job.folder.parent / "bin/chpasswd"
+    comes = f"echo bob:another > '{job.folder}/passwords'\n"
+    save_command(chpasswd, chpasswd.read_text().replace("exec", f"{comes}exec"))
+    job.machine.write("passwords", b"ann:password\n")
+    ended = job.run()
+    assert ended.result.status == 0, ended.lacks("status 0")
+    assert job.machine.has_new_password("ann", "password"), ended.lacks("a new hash for ann")
+    ended = job.run()
+    assert job.machine.has_new_password("bob", "another"), ended.lacks("a new hash for bob")
+
+
+def test_the_nightly_job_goes_on_after_a_night_that_was_interrupted(job: Job) -> None:
+    job.machine.write("loading", b"ann:password\n")
+    job.machine.write("hashes.part", b"ann:$6$")
+    job.machine.write("hashes", b"bob:*\n")
+    ended = job.run()
+    assert ended.result.status == 0, ended.lacks("status 0")
+    assert job.machine.has_new_password("ann", "password"), ended.lacks("a new hash for ann")
+
+
+@pytest.mark.parametrize(
+    ("lines", "status"),
+    [
+        pytest.param(b"ann:password\nbob:\n", 1, id="an empty password"),
+        pytest.param(b"ann:password\nnobody:secret\n", 1, id="a name without an account"),
+        pytest.param(b"", 2, id="no lines"),
+    ],
+)
+def test_the_nightly_job_reports_what_fails_and_keeps_everything(
+    job: Job, lines: bytes, status: int
+) -> None:
+    before = job.machine.entries()
+    job.machine.write("passwords", lines)
+    ended = job.run()
+    assert ended.result.status == status, ended.lacks(f"status {status}")
+    assert f"status {status}:" in ended.errors, ended.lacks("a message that names the status")
+    assert "secret" not in ended.errors, ended.lacks("no password in the mail")
+    assert job.machine.entries() == before, ended.lacks("no account has changed")
+    assert (job.folder / "loading").read_bytes() == lines, ended.lacks("the passwords are kept")
+    assert not job.has_succeeded(), ended.lacks("no success, for whoever watches")
 
 
 # ---- Known passwords

@@ -1,4 +1,4 @@
-"""The library's documents: README's login in C works, and each call has a manual."""
+"""The library's documents: SECURITY's login in C works, and each call has a manual."""
 from __future__ import annotations
 
 import re
@@ -23,12 +23,12 @@ WITHOUT_MATCH = {
     "a hash above the limit": [b"$6$rounds=999999999$ab$x"],
 }
 
-# ---- README's login
+# ---- SECURITY's login
 
 
 @pytest.fixture(scope="session", name="service")
 def fixture_service(builder: Builder, tmp_path_factory: pytest.TempPathFactory) -> Path:
-    """A service with the login that README shows."""
+    """A service with the login that SECURITY shows."""
     login = tmp_path_factory.mktemp("login") / "login.c"
     login.write_text(marked("login in C", "c").code, encoding="ascii")
     return builder.build(SOURCES / "service.c", "-include", SOURCES / "service.h", login)

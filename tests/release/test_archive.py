@@ -25,7 +25,7 @@ pytestmark = pytest.mark.xdist_group("archive")  # so that it is packed once
 
 LIBRARY = "lib/libmkpasswd.so.3"
 MODULE = "lib/security/pam_mkpasswd.so"
-# Matches README.md's command that unpacks the archive, up to the next command.
+# Matches GUIDE.md's command that unpacks the archive, up to the next command.
 UNPACKS = r"(tar -?xzf mkpasswd-[^`\n]*-linux\.tar\.gz [^`&\n]*/usr/local\b[^`&\n]*)"
 
 
@@ -169,11 +169,11 @@ def test_the_commands_of_the_readme_install_check_and_remove_the_files(
     assert files_below(prefix) == []
 
 
-def test_the_command_of_readme_md_installs_the_program(
+def test_the_command_of_the_guide_installs_the_program(
     archive: Archive, version: str, tmp_path: Path
 ) -> None:
-    found = re.search(UNPACKS, (ROOT / "README.md").read_text(encoding="utf-8"))
-    assert found is not None, "README.md unpacks no archive into /usr/local"
+    found = re.search(UNPACKS, (ROOT / "docs/GUIDE.md").read_text(encoding="utf-8"))
+    assert found is not None, "GUIDE.md unpacks no archive into /usr/local"
     command = found[1].replace("/usr/local", str(tmp_path))
     assert_result(run("sh", "-c", command, cwd=archive.file.parent))
     expected = f"mkpasswd {version}\n".encode()
@@ -202,17 +202,17 @@ def test_the_readme_names_the_oldest_glibc(archive: Archive, file: str) -> None:
         pytest.param(".whl`", id="for the wheel"),
     ],
 )
-def test_readme_md_names_the_oldest_glibc(archive: Archive, part: str) -> None:
+def test_the_guide_names_the_oldest_glibc(archive: Archive, part: str) -> None:
     glibc = oldest_glibc(archive.tree / LIBRARY)
-    lines = (ROOT / "README.md").read_text(encoding="utf-8").splitlines()
+    lines = (ROOT / "docs/GUIDE.md").read_text(encoding="utf-8").splitlines()
     rows = [line for line in lines if line.startswith("|") and part in line]
     assert [row for row in rows if row.endswith(f"glibc {glibc}+ |")] != [], rows
 
 
 @pytest.mark.needs("objdump")
-def test_readme_md_names_the_oldest_glibc_for_the_pam_module(archive: Archive) -> None:
+def test_the_guide_names_the_oldest_glibc_for_the_pam_module(archive: Archive) -> None:
     glibc = oldest_glibc(archive.tree / MODULE)
-    assert f"(PAM module: x86-64 and glibc {glibc}+;" in (ROOT / "README.md").read_text("utf-8")
+    assert f"(PAM module: x86-64 and glibc {glibc}+;" in (ROOT / "docs/GUIDE.md").read_text("utf-8")
 
 
 @pytest.mark.needs("objdump")

@@ -56,10 +56,10 @@ def test_the_readme_names_the_oldest_glibc(archive: Archive) -> None:
 
 
 @pytest.mark.needs("objdump")
-def test_readme_md_names_the_oldest_glibc(archive: Archive) -> None:
+def test_the_guide_names_the_oldest_glibc(archive: Archive) -> None:
     glibc = oldest_glibc(archive.tree / "lib" / LIBRARY)
     row = rf"^\| .*C libraries.* ARM \| glibc {re.escape(glibc)}\+ \|$"
-    assert re.search(row, (ROOT / "README.md").read_text(encoding="utf-8"), re.MULTILINE)
+    assert re.search(row, (ROOT / "docs/GUIDE.md").read_text(encoding="utf-8"), re.MULTILINE)
 
 
 @pytest.mark.needs("objdump", "python3-build", "python3-setuptools", "python3-wheel")

@@ -100,6 +100,79 @@ def test_flags_in_the_environment_are_used(tree: Tree) -> None:
     assert commands.count(b"-DFROM_ENVIRONMENT") == 2, commands
 
 
+@pytest.mark.needs("objdump")
+def test_the_library_is_machine_code_with_flags_for_link_time_optimization(tmp_path: Path) -> None:
+    """Several distributions build their packages with -flto."""
+    tree = copied(tmp_path / "tree")
+    tree.make("CFLAGS=-O2 -flto=auto", "LDFLAGS=-flto=auto", *FILES).required()
+    sections = run("objdump", "--section-headers", tree.folder / "libmkpasswd.a").required().stdout
+    assert b".text" in sections and b".gnu.lto" not in sections
+    printed = b"$1$xxxxxxxx$UYCIxa628.9qXjpQCjM4a.\n"  # libxcrypt's hash
+    words = ("-m", "md5crypt", "-S", "xxxxxxxx", "password")
+    assert_result(run(tree.folder / "mkpasswd", *words), stdout=printed)
+
+
+# ---- Changed flags
+
+FIRST_FLAGS = "CFLAGS=-g -O1"
+# The C code of the files that make builds: for the program, then for the library and the module.
+COMPILED = ("heap-of-program.o", "calls.o", "heap-of-library.o", "pam_mkpasswd.so")
+LINKED = ("mkpasswd", "libmkpasswd.so.3", "pam_mkpasswd.so")
+
+
+@pytest.fixture(scope="module", name="compiled_tree")
+def fixture_compiled_tree(tmp_path_factory: pytest.TempPathFactory) -> Tree:
+    """A copy whose C code is compiled with the first flags."""
+    tree = copied(tmp_path_factory.mktemp("compiled"))
+    tree.make(FIRST_FLAGS, *FILES).required()
+    return tree
+
+
+def commands_left(tree: Tree, *words: Word) -> list[str]:
+    """Returns the commands that make would run, also those by which rt proves something."""
+    result = run("make", "--dry-run", *words, *FILES, cwd=tree.folder, env=NOTHING_OF_MAKE)
+    return result.required().stdout.decode().replace("\\\n", " ").splitlines()
+
+
+def outputs_of(commands: list[str]) -> set[str]:
+    """Returns the names of the files that these commands compile or link."""
+    words = [command.split() for command in commands if " -o " in command]
+    return {Path(of_command[of_command.index("-o") + 1]).name for of_command in words}
+
+
+def test_make_does_nothing_again_with_the_same_flags(compiled_tree: Tree) -> None:
+    lines = commands_left(compiled_tree, FIRST_FLAGS)
+    assert lines == [f"make: '{name}' is up to date." for name in FILES]
+
+
+@pytest.mark.parametrize(
+    "changed",
+    [
+        pytest.param((FIRST_FLAGS, "CC=gcc -pipe"), id="another compiler"),
+        pytest.param((FIRST_FLAGS, "CPPFLAGS=-DOURS"), id="flags of the preprocessor"),
+        pytest.param(("CFLAGS=-O2 '-DQUOTED=a b'",), id="flags of the compiler"),
+        pytest.param((FIRST_FLAGS, "LDFLAGS=-Wl,-rpath,$$ORIGIN"), id="flags of the linker"),
+        pytest.param((), id="the usual flags"),
+    ],
+)
+def test_make_compiles_and_links_all_c_code_again_with_other_flags(
+    compiled_tree: Tree, changed: tuple[str, ...]
+) -> None:
+    commands = commands_left(compiled_tree, *changed)
+    assert {*COMPILED, *LINKED} <= outputs_of(commands), commands
+    assert "for-cpu" not in "\n".join(commands), "expected: nothing is proved again"
+
+
+def test_make_compiles_once_after_a_change(compiled_tree: Tree, tmp_path: Path) -> None:
+    tree = Tree(tmp_path / "changed")
+    shutil.copytree(compiled_tree.folder, tree.folder, symlinks=True)
+    changed = ("CFLAGS=-g -O2 '-DQUOTED=a b'", "LDFLAGS=-Wl,-rpath,$$ORIGIN")
+    before = (tree.folder / "mkpasswd").read_bytes()
+    tree.make(*changed, *FILES).required()
+    assert (tree.folder / "mkpasswd").read_bytes() != before
+    assert commands_left(tree, *changed) == [f"make: '{name}' is up to date." for name in FILES]
+
+
 # ---- Hardening
 
 

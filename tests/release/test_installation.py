@@ -9,6 +9,7 @@ from pathlib import Path
 
 import pytest
 from support import ROOT
+from support.documents import marked
 from support.process import Result, Word, assert_result, run
 from support.release import Archive, files_below
 
@@ -137,6 +138,23 @@ def test_a_program_is_replaced_while_it_runs(tmp_path: Path) -> None:
         assert_result(destination.install())
         hashed, _ = running.communicate(b"password\n")
     assert hashed == HASH
+
+
+# ---- A distribution with another mkpasswd
+
+
+def test_the_guides_commands_leave_our_program_its_second_name_alone(
+    archive: Archive, tmp_path: Path
+) -> None:
+    assert archive.tree.is_dir()
+    destination = Destination(tmp_path / "root")
+    destination.install().required()
+    assert_result(run("sh", "-euc", marked("second name", "sh").code, cwd=tmp_path))
+    program = destination.folder / "usr/bin/mkpasswd.proved"
+    assert_result(run(program, *HASHED, "password"), stdout=HASH)
+    of_the_first_name = {"mkpasswd", "_mkpasswd", "mkpasswd.fish", "mkpasswd.1"}
+    names = files_below(destination.folder)
+    assert [name for name in names if Path(name).name in of_the_first_name] == []
 
 
 # ---- A prefix with characters that are special to shells, pkg-config and sed

@@ -11,6 +11,14 @@ from support.recipes import ANN, Site, is_recommended_hash
 
 pytestmark = [pytest.mark.needs("namespaces"), pytest.mark.xdist_group("services")]
 
+
+def assert_shows(mark: str, content: bytes) -> None:
+    """Fails the test unless a document shows this content, with HASH in place of each hash."""
+    block = marked(mark, "text")
+    shown = re.sub(r"\$6\$\S+", "HASH", content.decode())
+    assert shown == block.code, f"{block.place}\nexpected:\n{block.code}\nreceived:\n{shown}"
+
+
 # ---- preseed
 
 PRESEED = "d-i passwd/make-user boolean true\n"
@@ -27,9 +35,14 @@ def fixture_preseed(site: Site) -> Site:
     return site
 
 
+def test_a_preseed_file_gets_the_lines_that_are_shown(preseed: Site) -> None:
+    content = (preseed.folder / "preseed.cfg").read_bytes()
+    assert_shows("preseed lines", content.removeprefix(PRESEED.encode()))
+
+
 @NEEDS_DEBCONF
 def test_debconf_accepts_a_preseed_file_without_a_message(preseed: Site) -> None:
-    assert_result(preseed.run("debconf-set-selections", "--checkonly", "preseed.cfg"))
+    assert_result(preseed.answer(marked("preseed checked", "sh").code))
 
 
 @NEEDS_DEBCONF
@@ -51,6 +64,7 @@ def test_a_kickstart_file_gets_a_line_with_a_hash(site: Site) -> None:
     site.follow("kickstart")
     lines = re.fullmatch(rb"reboot\nrootpw --iscrypted (\S+)\n", file.read_bytes())
     assert lines and is_recommended_hash(lines[1], ANN.password), file.read_bytes()
+    assert_shows("kickstart lines", file.read_bytes().removeprefix(b"reboot\n"))
 
 
 # ---- cloud-init
@@ -68,6 +82,10 @@ def fixture_user_data(site: Site) -> Path:
 def test_cloud_init_finds_the_file_valid(site: Site) -> None:
     result = site.run("cloud-init", "schema", "--config-file", "user-data")
     assert re.fullmatch(rb"\s*Valid .*user-data\n", result.stdout), result
+
+
+def test_the_file_for_cloud_init_is_the_one_that_is_shown(user_data: Path) -> None:
+    assert_shows("cloud-init lines", user_data.read_bytes())
 
 
 @pytest.mark.needs("cloud-init", "python3-yaml")
