@@ -1,7 +1,10 @@
 /* The service around the code of docs/C.md. `c_page FIELD PASSWORD [NEW]` has one user, ann, with
  * this field, or no user if it is `-`. It tries to log ann in, then prints her field, and the log
- * on standard error, and at last hashes the new password. The status is 0 if she is logged in. If
- * LOCKED is in the environment, somebody locks the account during the login. */
+ * on standard error, and at last hashes the new password. The status is 0 if she is logged in.
+ *
+ * Two variables of the environment change the field during the login. FIELDS is a list, separated
+ * by blanks: each time that the service has read the field, somebody stores the next one. If
+ * AFTER_RENEWAL is set, somebody stores that as soon as the service has stored a new hash. */
 #include <mkpasswd.h>
 #include <stdio.h>
 #include <stdlib.h>
@@ -15,26 +18,46 @@ bool find_field(const char *name, char *field);
 bool replace_field(const char *name, const char *old, const char *hash);
 void log_login(const char *name, const char *what);
 
-static const char *stored;
-static char kept[MKPASSWD_TEXT_SIZE];
-static int times_read;
+#define NO_USER "-"
+
+static char stored[MKPASSWD_TEXT_SIZE];
+static const char *next_fields = "";
+
+static void store(const char *field, size_t length)
+{
+    (void)snprintf(stored, sizeof stored, "%.*s", (int)length, field);
+}
+
+static void store_next_field(void)
+{
+    size_t length = strcspn(next_fields, " ");
+
+    if (length == 0)
+        return;
+    store(next_fields, length);
+    next_fields += length;
+    next_fields += strspn(next_fields, " ");
+}
 
 bool find_field(const char *name, char *field)
 {
-    const char *now = ++times_read > 1 && getenv("LOCKED") ? "!" : stored;
+    bool is_found = strcmp(name, "ann") == 0 && strcmp(stored, NO_USER) != 0;
 
-    if (!now || strcmp(name, "ann") != 0)
-        return false;
-    (void)snprintf(field, MKPASSWD_TEXT_SIZE, "%s", now);
-    return true;
+    if (is_found)
+        (void)snprintf(field, MKPASSWD_TEXT_SIZE, "%s", stored);
+    store_next_field();
+    return is_found;
 }
 
 bool replace_field(const char *name, const char *old, const char *hash)
 {
+    const char *after = getenv("AFTER_RENEWAL");
+
     if (strcmp(name, "ann") != 0 || strcmp(old, stored) != 0)
         return false;
-    (void)snprintf(kept, sizeof kept, "%s", hash);
-    stored = kept;
+    if (!after)
+        after = hash;
+    store(after, strlen(after));
     return true;
 }
 
@@ -49,9 +72,11 @@ int main(int argc, char **argv)
     char hash[MKPASSWD_TEXT_SIZE];
     bool is_in;
 
-    stored = strcmp(argv[1], "-") == 0 ? NULL : argv[1];
+    if (getenv("FIELDS"))
+        next_fields = getenv("FIELDS");
+    store(argv[1], strlen(argv[1]));
     is_in = log_in("ann", argv[2]);
-    (void)puts(stored ? stored : "-");
+    (void)puts(stored);
     if (argc > 3)
         (void)puts(hash_new_password(argv[3], hash, &sentence) ? hash : sentence);
     return !is_in;

@@ -11,6 +11,8 @@ from support.process import Result, Word, assert_result, run
 from support.stored_fields import MD5CRYPT
 
 CURRENT = crypt(b"password", b"$6$rounds=656000$ab")
+SAME_PASSWORD = crypt(b"password", b"$6$rounds=656000$cd")
+ANOTHER_PASSWORD = crypt(b"another one", b"$6$rounds=656000$ab")
 BCRYPT = crypt(b"password", b"$2b$05$abcdefghijklmnopqrstuu")
 YESCRYPT = crypt(b"password", b"$y$j75$abcdefghijklmnopqrst.1$")
 ASKS = "mkpasswd_login(password, mkpasswd_field(is_known ? field : NULL), NULL, &report)"
@@ -75,9 +77,50 @@ def test_nobody_else_gets_in(service: Path, field: bytes, logged: bytes) -> None
     assert_result(run(service, field, "passwort"), status=1, stdout=field + b"\n", stderr=logged)
 
 
-def test_an_account_that_is_locked_meanwhile_is_refused(service: Path) -> None:
-    result = run(service, CURRENT, "password", env={"LOCKED": "1"})
-    assert_result(result, status=1, stdout=CURRENT + b"\n")
+# ---- Changes during a login
+
+NOBODY = b"-"
+NO_LONGER_HERS = pytest.mark.parametrize(
+    ("changed", "logged"),
+    [
+        pytest.param(b"!" + CURRENT, b"ann: locked\n", id="a lock"),
+        pytest.param(ANOTHER_PASSWORD, b"ann: wrong password\n", id="another password"),
+        pytest.param(NOBODY, b"somebody: no hash\n", id="a deletion"),
+    ],
+)
+
+
+@NO_LONGER_HERS
+@pytest.mark.parametrize("field", [CURRENT, MD5CRYPT], ids=["current", "outdated"])
+def test_a_change_during_the_check_lets_nobody_in_and_is_kept(
+    service: Path, field: bytes, changed: bytes, logged: bytes
+) -> None:
+    result = run(service, field, "password", env={"FIELDS": changed.decode()})
+    assert_result(result, status=1, stdout=changed + b"\n", stderr=logged)
+
+
+@NO_LONGER_HERS
+def test_a_change_after_the_renewal_lets_nobody_in_and_is_kept(
+    service: Path, changed: bytes, logged: bytes
+) -> None:
+    result = run(service, MD5CRYPT, "password", env={"AFTER_RENEWAL": changed.decode()})
+    assert_result(result, status=1, stdout=changed + b"\n", stderr=logged)
+
+
+def test_another_hash_of_the_same_password_that_comes_meanwhile_is_accepted(service: Path) -> None:
+    result = run(service, MD5CRYPT, "password", env={"FIELDS": SAME_PASSWORD.decode()})
+    assert_result(result, stdout=SAME_PASSWORD + b"\n")
+
+
+def test_a_field_that_is_never_the_same_lets_nobody_in(service: Path) -> None:
+    fields = (SAME_PASSWORD.decode(), CURRENT.decode()) * 3
+    result = run(service, CURRENT, "password", env={"FIELDS": " ".join(fields)})
+    assert_result(
+        result,
+        status=1,
+        stdout=CURRENT + b"\n",
+        stderr=b"ann: the field changes all the time\n",
+    )
 
 
 # ---- A new password

@@ -2,12 +2,20 @@
 from __future__ import annotations
 
 import importlib
+import sqlite3
 import warnings
 from typing import Any
 
 import pytest
-from support.package import Cook, crypt, class_raised, package_under_test
-from support.stored_strings import MD5, SHA256, SHA512
+from support.package import (
+    Cook,
+    crypt,
+    class_raised,
+    package_under_test,
+    recipe,
+    whole_login,
+)
+from support.stored_strings import MD5, SHA256, SHA512, title
 
 with package_under_test():
     import mkpasswd
@@ -59,6 +67,95 @@ def fixture_of_168(context: Any) -> str:
 
 
 # ---- The recipe
+
+
+@pytest.fixture(name="database")
+def fixture_database() -> sqlite3.Connection:
+    """The document's table, with a user."""
+    users = sqlite3.connect(":memory:")
+    users.execute(recipe("the table", "sql"))
+    users.execute("INSERT INTO users VALUES ('ann', ?, 'key')", (MD5,))
+    users.commit()
+    return users
+
+
+@pytest.fixture(name="service")
+def fixture_service(cook: Cook) -> dict[str, Any]:
+    """The document's whole login by passlib."""
+    code = [whole_login(), recipe("passlib"), recipe("log in with passlib")]
+    return cook.run("\n\n".join(code))
+
+
+def field_of_ann(users: sqlite3.Connection) -> Any:
+    """Returns what is stored for her."""
+    return users.execute("SELECT hash FROM users").fetchone()[0]
+
+
+def store(users: sqlite3.Connection, field: str) -> None:
+    """Stores another field for her."""
+    users.execute("UPDATE users SET hash = ?", (field,))
+
+
+def log_in(service: dict[str, Any], users: sqlite3.Connection, name: str, password: str) -> Any:
+    """Logs in by the document's code."""
+    return service["login"](users, name, password, "203.0.113.7")
+
+
+def test_a_login_by_passlib_accepts_the_right_password_and_renews_the_hash(
+    service: dict[str, Any], database: sqlite3.Connection
+) -> None:
+    assert log_in(service, database, "ann", "passw0rd") is False
+    assert field_of_ann(database) == MD5
+    assert log_in(service, database, "ann", "password") is True
+    stored = field_of_ann(database)
+    assert stored.startswith(FRONT) and stored == crypt("password", stored)
+    assert log_in(service, database, "ann", "password") is True
+    assert field_of_ann(database) == stored
+
+
+@pytest.mark.parametrize(
+    "field", ["", "!" + MD5, MD5[:-1], "$2b$05$x", "password", BEYOND], ids=title
+)
+def test_a_login_by_passlib_refuses_what_is_no_hash_or_too_costly(
+    service: dict[str, Any], database: sqlite3.Connection, field: str
+) -> None:
+    store(database, field)
+    assert log_in(service, database, "ann", "password") is False
+    assert field_of_ann(database) == field
+
+
+def test_a_login_by_passlib_refuses_an_unknown_name(
+    service: dict[str, Any], database: sqlite3.Connection
+) -> None:
+    assert log_in(service, database, "nobody", "password") is False
+
+
+@pytest.mark.parametrize(
+    ("change", "expected"),
+    [
+        pytest.param("!" + MD5, False, id="a lock"),
+        pytest.param(crypt("another one", "$1$salt"), False, id="another password"),
+        pytest.param(crypt("password", f"{FRONT}salt"), True, id="the same password"),
+    ],
+)
+def test_a_login_by_passlib_answers_by_what_is_stored_when_it_ends(
+    service: dict[str, Any],
+    database: sqlite3.Connection,
+    change: str,
+    expected: bool,
+) -> None:
+    names = service["login"].__globals__
+    check = names["verify_and_update"]
+
+    def check_and_change(password: str, field: str) -> Any:
+        names["verify_and_update"] = check
+        answer = check(password, field)
+        store(database, change)
+        return answer
+
+    names["verify_and_update"] = check_and_change
+    assert log_in(service, database, "ann", "password") is expected
+    assert field_of_ann(database) == change
 
 
 def test_a_new_hash_is_libxcrypts_with_the_recommended_rounds(stored: str) -> None:

@@ -4,17 +4,21 @@ from __future__ import annotations
 import asyncio
 import contextlib
 import doctest
+import functools
 import hashlib
 import importlib
 import sqlite3
 import time
-from concurrent.futures import ThreadPoolExecutor
+from collections.abc import Callable
+from dataclasses import dataclass
 from pathlib import Path
 from typing import Any
 
 import pytest
 from support import ROOT
 from support.documents import Block, blocks_of
+from support.model.settings import read_setting
+from support.model.work import cost
 from support.package import (
     Cook,
     replace_lines,
@@ -34,6 +38,7 @@ with package_under_test():
     from mkpasswd import _library
 
 RECOMMENDED = "$6$rounds=656000$"
+LIMIT = 253_921_472  # of the recommended policy, as docs/FORMATS.md works it out
 # A good hash, an empty field, a locked one, one that costs too much, and NULL.
 USERS = {"ann": MD5, "joe": "", "bob": "!" + MD5, "eve": COSTLY, "kim": None}
 WRONG_PASSWORDS = ["passw0rd", "", "x\0", "\ud800", "x" * 1025, MD5, "!"]
@@ -44,13 +49,19 @@ ADDRESS = "203.0.113.7"
 def fixture_database() -> sqlite3.Connection:
     users = sqlite3.connect(":memory:")
     users.execute(recipe("the table", "sql"))
-    users.executemany("INSERT INTO users VALUES (?, ?)", USERS.items())
+    users.executemany("INSERT INTO users VALUES (?, ?, 'key')", USERS.items())
     users.commit()
     return users
 
 
 def fields_of(users: sqlite3.Connection) -> dict[str, Any]:
     return dict(users.execute("SELECT name, hash FROM users"))
+
+
+def keys_of(users: sqlite3.Connection) -> dict[str, str]:
+    """Returns the session keys of the users whose key isn't that of the fixture any more."""
+    keys = dict(users.execute("SELECT name, session_key FROM users"))
+    return {name: key for name, key in keys.items() if key != "key"}
 
 
 # ---- Interpreter sessions
@@ -110,6 +121,7 @@ def test_the_right_password_is_accepted(database: sqlite3.Connection, login: Any
 
 def test_an_outdated_hash_is_renewed(database: sqlite3.Connection, login: Any) -> None:
     assert login(database, "ann", "password") is True
+    assert keys_of(database) == {}  # a renewal ends no session
     fields = fields_of(database)
     assert fields.pop("ann").startswith(RECOMMENDED)
     assert fields == {name: field for name, field in USERS.items() if name != "ann"}
@@ -135,6 +147,27 @@ def test_a_password_that_cannot_be_used_registers_nobody(
     assert fields_of(database) == USERS
 
 
+@pytest.mark.parametrize(
+    ("password", "problem"),
+    [
+        pytest.param("pässword", None, id="none"),
+        pytest.param("ä" * 84, None, id="168 bytes"),
+        pytest.param("ä" * 84 + "x", "at most 168 bytes", id="169 bytes"),
+        pytest.param("\ud800" * 57, "at most 168 bytes", id="169 bytes of half characters"),
+        pytest.param("x\0", "zero byte", id="a zero byte"),
+        pytest.param("", "empty", id="an empty password"),
+    ],
+)
+def test_a_form_says_what_is_wrong_with_a_password(
+    names: dict[str, Any], password: str, problem: str | None
+) -> None:
+    answer = names["problem_of"](password)
+    if problem is None:
+        assert answer is None
+    else:
+        assert problem in answer
+
+
 def test_a_known_name_is_not_registered_again(
     database: sqlite3.Connection, names: dict[str, Any]
 ) -> None:
@@ -145,33 +178,6 @@ def test_a_known_name_is_not_registered_again(
 def test_a_read_only_database_keeps_the_old_hash(database: sqlite3.Connection, login: Any) -> None:
     database.execute("PRAGMA query_only = 1")
     assert login(database, "ann", "password") is True and fields_of(database)["ann"] == MD5
-
-
-@pytest.mark.parametrize(
-    ("change", "expected"),
-    [
-        pytest.param("!" + MD5, False, id="a lock"),
-        pytest.param(SHA512, True, id="a new password"),
-        pytest.param("", False, id="a reset password"),
-        pytest.param(None, False, id="a deletion"),
-    ],
-)
-def test_a_change_during_a_login_is_kept_and_a_lock_respected(
-    database: sqlite3.Connection,
-    login: Any,
-    monkeypatch: pytest.MonkeyPatch,
-    change: str | None,
-    expected: bool,
-) -> None:
-    new = _library.new
-
-    def meanwhile(*arguments: Any) -> Any:
-        database.execute("UPDATE users SET hash = ? WHERE name = 'ann'", (change,))
-        return new(*arguments)
-
-    monkeypatch.setattr(_library, "new", meanwhile)
-    assert login(database, "ann", "password") is expected
-    assert fields_of(database)["ann"] == change
 
 
 @pytest.mark.parametrize(
@@ -187,22 +193,6 @@ def test_a_failed_renewal_leaves_the_old_hash_and_accepts_the_login(
 
     monkeypatch.setattr(_library, "new", fail)
     assert login(database, "ann", "password") is True and fields_of(database)["ann"] == MD5
-
-
-def test_two_simultaneous_logins_renew_a_hash_once(
-    database: sqlite3.Connection, login: Any, monkeypatch: pytest.MonkeyPatch
-) -> None:
-    """The second login comes while the first one hashes, and both are accepted."""
-    new, answers = _library.new, []
-
-    def come_between(*arguments: Any) -> Any:
-        monkeypatch.setattr(_library, "new", new)
-        answers.append(login(database, "ann", "password"))
-        return new(*arguments)
-
-    monkeypatch.setattr(_library, "new", come_between)
-    assert login(database, "ann", "password") is True and answers == [True]
-    assert mkpasswd.login("password", field=fields_of(database)["ann"])
 
 
 @pytest.mark.parametrize(
@@ -223,23 +213,178 @@ def test_the_log_of_a_failure_has_the_address_and_names_only_users(
     assert [(record.name, record.getMessage()) for record in caplog.records] == [("logins", logged)]
 
 
-def test_the_log_names_a_user_who_was_locked_during_the_login(
+# ---- Changes during a login
+
+
+@functools.cache
+def current_hash(password: str, salt: str) -> str:
+    """Returns libxcrypt's hash with the recommended rounds."""
+    return crypt(password, f"{RECOMMENDED}{salt}")
+
+
+@dataclass(frozen=True)
+class Change:
+    """What somebody does to ann's account during a login, and what the login must return."""
+
+    title: str
+    statement: str
+    text: str | None = None  # what is stored for her then, unless it is a hash:
+    password: str | None = None  # the password of the new hash
+    expected: bool = False
+    logged_name: str | None = "ann"  # if the login fails
+
+    def __str__(self) -> str:
+        return self.title
+
+    @property
+    def field(self) -> str | None:
+        """What is stored for her then."""
+        return self.text if self.password is None else current_hash(self.password, "salt")
+
+    def make(self, users: sqlite3.Connection) -> None:
+        """Changes the account."""
+        users.execute(self.statement, {"field": self.field})
+
+
+SET = "UPDATE users SET hash = :field WHERE name = 'ann'"
+DELETE = "DELETE FROM users WHERE name = 'ann'"
+CHANGES = [
+    Change("a lock", SET, "!" + MD5),
+    Change("an emptied field", SET, ""),
+    Change("no hash any more", SET, logged_name=None),
+    Change("a deletion", DELETE, logged_name=None),
+    Change("another password", SET, password="another one"),
+    Change("another hash of the same password", SET, password="password", expected=True),
+]
+
+
+def make_once(
+    monkeypatch: pytest.MonkeyPatch, call: str, change: Callable[[], object], *, is_late: bool
+) -> None:
+    """Lets something happen once, when a call of the library begins, or ends if it is late."""
+    original = getattr(_library, call)
+
+    def changed(*arguments: Any) -> Any:
+        monkeypatch.setattr(_library, call, original)
+        if not is_late:
+            change()
+        answer = original(*arguments)
+        if is_late:
+            change()
+        return answer
+
+    monkeypatch.setattr(_library, call, changed)
+
+
+def assert_respected(
+    change: Change,
+    users: sqlite3.Connection,
+    answer: object,
+    caplog: pytest.LogCaptureFixture,
+) -> None:
+    """Fails the test unless a login answered as the change demands, and left it as it is."""
+    assert answer is change.expected
+    assert fields_of(users).get("ann") == change.field
+    logged = [record.getMessage() for record in caplog.records]
+    if change.expected:
+        assert not logged
+    else:
+        assert logged == [f"login failed: {change.logged_name!r} from '{ADDRESS}'"]
+
+
+@pytest.mark.parametrize("change", CHANGES, ids=str)
+@pytest.mark.parametrize("call", ["login", "new"], ids=["the check", "the renewal"])
+@pytest.mark.parametrize("is_late", [False, True], ids=["its beginning", "its end"])
+def test_a_login_answers_by_what_is_stored_when_it_ends(
+    database: sqlite3.Connection,
+    login: Any,
+    monkeypatch: pytest.MonkeyPatch,
+    caplog: pytest.LogCaptureFixture,
+    change: Change,
+    call: str,
+    is_late: bool,
+) -> None:
+    make_once(monkeypatch, call, lambda: change.make(database), is_late=is_late)
+    answer = login(database, "ann", "password")
+    assert_respected(change, database, answer, caplog)
+
+
+@pytest.mark.parametrize("change", CHANGES, ids=str)
+def test_a_login_with_a_current_hash_answers_by_what_is_stored_when_it_ends(
+    database: sqlite3.Connection,
+    login: Any,
+    monkeypatch: pytest.MonkeyPatch,
+    caplog: pytest.LogCaptureFixture,
+    change: Change,
+) -> None:
+    store(database, current_hash("password", "current"))
+    make_once(monkeypatch, "login", lambda: change.make(database), is_late=True)
+    answer = login(database, "ann", "password")
+    assert_respected(change, database, answer, caplog)
+
+
+@pytest.mark.parametrize("change", CHANGES, ids=str)
+def test_a_change_after_the_renewal_is_respected(
+    database: sqlite3.Connection,
+    names: dict[str, Any],
+    caplog: pytest.LogCaptureFixture,
+    change: Change,
+) -> None:
+    """The change comes between the statement that stores the new hash, and the one that reads."""
+    replace_hash = names["login"].__globals__["replace_hash"]
+
+    def replace_and_change(*arguments: Any) -> Any:
+        is_replaced = replace_hash(*arguments)
+        change.make(database)
+        return is_replaced
+
+    names["login"].__globals__["replace_hash"] = replace_and_change
+    answer = from_an_address(names)(database, "ann", "password")
+    assert_respected(change, database, answer, caplog)
+
+
+def test_a_new_password_that_comes_during_a_login_is_the_one_that_counts(
+    database: sqlite3.Connection, login: Any, monkeypatch: pytest.MonkeyPatch
+) -> None:
+    """The user types the new password, which is stored while the old one is checked."""
+    store(database, current_hash("old password", "old"))
+    new = current_hash("new password", "new")
+    make_once(monkeypatch, "login", lambda: store(database, new), is_late=True)
+    assert login(database, "ann", "old password") is False
+    assert login(database, "ann", "new password") is True
+    assert fields_of(database)["ann"] == new
+
+
+def test_a_login_whose_hash_is_never_the_same_fails_after_three_checks(
     database: sqlite3.Connection,
     login: Any,
     monkeypatch: pytest.MonkeyPatch,
     caplog: pytest.LogCaptureFixture,
 ) -> None:
-    new = _library.new
+    check, salts = _library.login, iter("abcdefgh")
 
-    def lock(*arguments: Any) -> Any:
-        database.execute(recipe("lock an account", "sql"))
-        return new(*arguments)
+    def check_and_change(*arguments: Any) -> Any:
+        answer = check(*arguments)
+        store(database, current_hash("password", next(salts)))
+        return answer
 
-    monkeypatch.setattr(_library, "new", lock)
+    monkeypatch.setattr(_library, "login", check_and_change)
     assert login(database, "ann", "password") is False
-    assert fields_of(database)["ann"] == "!" + MD5
+    assert fields_of(database)["ann"] == current_hash("password", "c")
     messages = [record.getMessage() for record in caplog.records]
     assert messages == [f"login failed: 'ann' from '{ADDRESS}'"]
+
+
+def test_two_simultaneous_logins_renew_a_hash_once(
+    database: sqlite3.Connection, login: Any, monkeypatch: pytest.MonkeyPatch
+) -> None:
+    """The second login comes while the first one hashes, and both are accepted."""
+    answers: list[object] = []
+    second_login = functools.partial(login, database, "ann", "password")
+    make_once(monkeypatch, "new", lambda: answers.append(second_login()), is_late=False)
+    assert login(database, "ann", "password") is True and answers == [True]
+    stored = fields_of(database)["ann"]
+    assert stored.startswith(RECOMMENDED) and stored == crypt("password", stored)
 
 
 # ---- Changes of passwords, and locks
@@ -252,6 +397,7 @@ def test_a_password_is_changed(
     stored = fields_of(database)["ann"]
     assert stored.startswith(RECOMMENDED) and stored == crypt("pässword", stored)
     assert login(database, "ann", "password") is False
+    assert list(keys_of(database)) == ["ann"]
 
 
 @pytest.mark.parametrize("name", [*USERS, "nobody"])
@@ -270,6 +416,15 @@ def test_a_new_password_that_cannot_be_used_keeps_the_old_one(
     with pytest.raises(ValueError):
         names["change_password"](database, "ann", "password", new)
     assert fields_of(database) == USERS
+
+
+def test_a_table_with_users_gets_a_key_for_each() -> None:
+    old = sqlite3.connect(":memory:")
+    old.execute("CREATE TABLE users (name TEXT PRIMARY KEY, hash TEXT)")
+    old.executemany("INSERT INTO users VALUES (?, ?)", USERS.items())
+    old.executescript(recipe("keys for a table with users", "sql"))
+    assert fields_of(old) == USERS
+    assert len(set(keys_of(old).values())) == len(USERS)
 
 
 @pytest.mark.parametrize("change", ["!" + MD5, SHA512], ids=["a lock", "another change"])
@@ -293,6 +448,7 @@ def test_changing_a_password_undoes_no_other_change(
 def test_a_lock_locks_only_one_account(database: sqlite3.Connection, login: Any) -> None:
     database.execute(recipe("lock an account", "sql"))
     assert login(database, "ann", "password") is False
+    assert list(keys_of(database)) == ["ann"]
     fields = fields_of(database)
     assert fields.pop("ann") == "!" + MD5
     assert fields == {name: field for name, field in USERS.items() if name != "ann"}
@@ -482,10 +638,11 @@ def fixture_fixed_time(
 
 @pytest.fixture(name="answer", params=["threads", "asyncio"])
 def fixture_answer(fixed_time: dict[str, Any], request: pytest.FixtureRequest) -> Any:
-    """The document's function for threads, and then the one for asyncio."""
+    """The document's login by its function for threads, and then by the one for asyncio."""
+    login = fixed_time["login_by_name"]
     if request.param == "threads":
-        return fixed_time["answer"]
-    return lambda *words: asyncio.run(fixed_time["answer_later"](*words))
+        return functools.partial(fixed_time["answer"], login)
+    return lambda *words: asyncio.run(fixed_time["answer_later"](login, *words))
 
 
 def test_the_right_password_is_answered_with_true(answer: Any) -> None:
@@ -493,10 +650,10 @@ def test_the_right_password_is_answered_with_true(answer: Any) -> None:
 
 
 @pytest.mark.parametrize("name", ["ann", "nobody"])
-def test_a_wrong_password_is_answered_after_six_seconds(answer: Any, name: str) -> None:
+def test_a_wrong_password_is_answered_after_nine_seconds(answer: Any, name: str) -> None:
     began = time.monotonic()
     assert answer(name, "passw0rd", ADDRESS) is False
-    assert time.monotonic() - began >= 6
+    assert time.monotonic() - began >= 9
 
 
 def test_the_costliest_login_is_measured(cook: Cook, capsys: pytest.CaptureFixture[str]) -> None:
@@ -522,26 +679,41 @@ def test_an_audit_prints_each_field(
     assert capsys.readouterr().out.splitlines() == expected
 
 
-@pytest.mark.parametrize(
-    ("name", "password", "problem"),
-    [
-        pytest.param("zoe", "pässword", None, id="none"),
-        pytest.param("zoe", "x" * 169, "at most 168 bytes", id="a long password"),
-        pytest.param("zoe", "x\0", "zero byte", id="a zero byte"),
-        pytest.param("zoe", "", "empty", id="an empty password"),
-        pytest.param("ann", "pässword", "another name", id="a known name"),
-    ],
-)
-def test_a_form_says_why_a_user_cannot_be_registered(
-    database: sqlite3.Connection, cook: Cook, name: str, password: str, problem: str | None
+FIELDS_BY_PROBLEM: dict[str | None, list[str | None]] = {
+    None: [MD5, SHA512],
+    "over budget": [f"$6$rounds=20000000$saltstring${'x' * 86}"],
+    "dead": [MD5[:-1], SHA512[:40]],
+    "malformed": ["$6$rounds=0$salt$x"],
+    "unknown": ["$2b$05$abcdefghijklmnopqrstuu", "$y$j9T$abc$x"],
+    "no scheme": ["password"],
+    "none": ["", None],
+    "locked": ["!" + MD5, "*"],
+}
+
+
+@pytest.mark.parametrize("problem", FIELDS_BY_PROBLEM, ids=str)
+def test_users_whom_no_login_accepts_are_named(
+    cook: Cook, capsys: pytest.CaptureFixture[str], problem: str | None
 ) -> None:
-    names = cook.run(whole_login() + "\n\n" + recipe("errors"))
-    answer = names["problem_of_registration"](database, name, password)
-    if problem is None:
-        assert answer is None
-        assert crypt(password, fields_of(database)[name]) == fields_of(database)[name]
-    else:
-        assert problem in answer and fields_of(database) == USERS
+    rows = [("it's", field) for field in FIELDS_BY_PROBLEM[problem]]
+    cook.follow("users whom no login accepts", rows=rows)
+    expected = [] if problem is None else [f'"it\'s": {problem}'] * len(rows)
+    assert capsys.readouterr().out.splitlines() == expected
+
+
+@pytest.mark.parametrize("rounds", [800_000, 1_500_000])
+def test_the_longest_password_of_a_costly_hash_is_named(
+    cook: Cook, capsys: pytest.CaptureFixture[str], rounds: int
+) -> None:
+    setting = f"$6$rounds={rounds}$saltstring"
+    read = read_setting(setting.encode())
+    longest = max(length for length in range(169) if cost(read, length) <= LIMIT)
+    cook.follow("users whom no login accepts", rows=[("ann", f"{setting}${'x' * 86}")])
+    assert capsys.readouterr().out == f"'ann': over budget above {longest} bytes\n"
+
+
+def test_a_password_within_the_limit_of_a_costly_hash_is_accepted() -> None:
+    assert mkpasswd.login("password", field=crypt("password", "$6$rounds=800000$saltstring"))
 
 
 LOGINS_OF_ALL_KINDS = f"""
@@ -607,73 +779,17 @@ def test_fail2ban_finds_the_address_of_a_failure(user: str, is_known: bool, tmp_
 @pytest.mark.parametrize(
     ("password", "is_match"), [("password", True), ("passw0rd", False)], ids=["right", "wrong"]
 )
-def test_asyncio_waits_for_a_login(cook: Cook, password: str, is_match: bool) -> None:
-    login = cook.follow("asyncio")["login"]
-    assert asyncio.run(login(password, MD5)) is is_match
-
-
-@pytest.fixture(name="app")
-def fixture_app(
-    database: sqlite3.Connection, cook: Cook, tmp_path: Path, monkeypatch: pytest.MonkeyPatch
-) -> Any:
-    """The application in Flask, which answers failures at once."""
-    folder_with(database, tmp_path, monkeypatch)
-    fixed_time = replace_lines(recipe("failures after a fixed time"), {"seconds=6": "seconds=0"})
-    return cook.run("\n\n".join([whole_login(), fixed_time, recipe("Flask")]))["app"]
-
-
-@pytest.fixture(name="post")
-def fixture_post(app: Any) -> Any:
-    """A function that posts a form to the application in a thread, and returns the status."""
-
-    def post(**form: str) -> int:
-        with ThreadPoolExecutor(1) as threads:
-            answer = threads.submit(app.test_client().post, "/login", data=form).result()
-        return int(answer.status_code)
-
-    return post
-
-
-@pytest.mark.needs("python3-flask")
-def test_flask_accepts_the_right_password(post: Any) -> None:
-    assert post(name="ann", password="password") == 200
-
-
-@pytest.mark.needs("python3-flask")
-@pytest.mark.parametrize("name", ["ann", "bob", "eve", "nobody"])
-@pytest.mark.parametrize("password", ["passw0rd", "", "x\0", "x" * 1025], ids=title)
-def test_flask_refuses_a_wrong_password(post: Any, name: str, password: str) -> None:
-    assert post(name=name, password=password) == 403
-
-
-@pytest.mark.needs("python3-flask")
-def test_flask_refuses_a_locked_account(post: Any) -> None:
-    assert post(name="bob", password="password") == 403
-
-
-@pytest.mark.needs("python3-flask")
-@pytest.mark.parametrize(
-    "form", [{}, {"name": "ann"}, {"password": "password"}], ids=["nothing", "a name", "a password"]
-)
-def test_flask_refuses_an_incomplete_form(post: Any, form: dict[str, str]) -> None:
-    assert post(**form) == 400
-
-
-@pytest.mark.needs("python3-flask")
-@pytest.mark.parametrize("is_trusted", [False, True], ids=["no proxy", "a proxy"])
-def test_the_log_of_flask_has_the_address_of_the_client(
-    app: Any, cook: Cook, caplog: pytest.LogCaptureFixture, is_trusted: bool
+def test_asyncio_waits_for_a_login(
+    database: sqlite3.Connection,
+    cook: Cook,
+    tmp_path: Path,
+    monkeypatch: pytest.MonkeyPatch,
+    password: str,
+    is_match: bool,
 ) -> None:
-    if is_trusted:
-        cook.follow("behind a proxy", app=app)
-    environment = {"REMOTE_ADDR": "192.0.2.1"}
-    headers = {"X-Forwarded-For": f"198.51.100.1, {ADDRESS}"}
-    form = {"name": "ann", "password": "passw0rd"}
-    client = app.test_client()
-    client.post("/login", data=form, headers=headers, environ_overrides=environment)
-    address = ADDRESS if is_trusted else "192.0.2.1"
-    messages = [record.getMessage() for record in caplog.records if record.name == "logins"]
-    assert messages == [f"login failed: 'ann' from '{address}'"]
+    folder_with(database, tmp_path, monkeypatch)
+    login = cook.run(whole_login() + "\n\n" + recipe("asyncio"))["login_later"]
+    assert asyncio.run(login("ann", password, ADDRESS)) is is_match
 
 
 @pytest.fixture(name="matches")

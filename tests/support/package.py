@@ -109,6 +109,7 @@ WHOLE_LOGIN = (
     "register a user",
     "log a user in",
     "change a password",
+    "a connection for each login",
 )
 
 

@@ -37,7 +37,8 @@ class FixedTime:
     `seconds` is the time from submit() to the answer of a failure. A failure that takes longer is
     answered after twice that time, three times, and so on. To avoid that, choose more seconds than
     the costliest login takes behind a full queue: math.ceil(1 + queued / threads) times the seconds
-    of one login.
+    of one login. That can be three hashes: the check, a new hash, and another check if somebody has
+    changed the stored hash meanwhile.
 
     `threads` is how many logins run at once, `queued` how many more may wait for a thread, and
     `failed` how many failures may wait for their time. Above these numbers, submit() raises Busy.

@@ -1,0 +1,145 @@
+"""The limit on attempts of docs/PYTHON.md, by itself. test_flask.py logs in with it."""
+from __future__ import annotations
+
+import sqlite3
+import stat
+from concurrent.futures import ThreadPoolExecutor
+from pathlib import Path
+from typing import Any
+
+import pytest
+from support.package import Cook, recipe, run_python
+from support.process import run
+
+HOME = "203.0.113.7"
+ELSEWHERE = "198.51.100.1"
+
+
+@pytest.fixture(name="names")
+def fixture_names(cook: Cook, tmp_path: Path, monkeypatch: pytest.MonkeyPatch) -> dict[str, Any]:
+    """The names that the section's code defines."""
+    monkeypatch.chdir(tmp_path)
+    Path("secret_key").write_text("secret", encoding="ascii")
+    return cook.follow("limit attempts")
+
+
+@pytest.fixture(name="database")
+def fixture_database(tmp_path: Path) -> sqlite3.Connection:
+    database = sqlite3.connect(tmp_path / "users.db")
+    database.executescript(recipe("tables of attempts", "sql"))
+    return database
+
+
+def attempts(
+    names: dict[str, Any], database: sqlite3.Connection, name: str, *addresses: str
+) -> list[bool]:
+    """Begins an attempt from each address, and returns which may go on."""
+    begin = names["begin_attempt"]
+    return [begin(database, name, address) is not None for address in addresses]
+
+
+def test_ten_attempts_for_a_name_may_go_on(
+    names: dict[str, Any], database: sqlite3.Connection
+) -> None:
+    addresses = [f"203.0.113.{number}" for number in range(11)]
+    assert attempts(names, database, "ann", *addresses) == [True] * 10 + [False]
+    assert attempts(names, database, "bob", HOME) == [True]
+
+
+def test_a_hundred_attempts_from_a_network_may_go_on(
+    names: dict[str, Any], database: sqlite3.Connection
+) -> None:
+    begun = [attempts(names, database, f"user {number}", HOME) for number in range(101)]
+    assert begun == [[True]] * 100 + [[False]]
+    assert attempts(names, database, "ann", ELSEWHERE) == [True]
+
+
+@pytest.mark.parametrize(
+    ("address", "same_client"),
+    [
+        pytest.param("2001:db8::1", "2001:db8::ffff:ffff:ffff:ffff", id="IPv6"),
+        pytest.param("203.0.113.7", "::ffff:203.0.113.7", id="IPv4 by a socket for IPv6"),
+    ],
+)
+def test_the_addresses_of_a_client_are_one_network(
+    names: dict[str, Any], address: str, same_client: str
+) -> None:
+    assert names["network_of"](address) == names["network_of"](same_client)
+
+
+@pytest.mark.parametrize(
+    ("address", "another"),
+    [
+        pytest.param("2001:db8::1", "2001:db8:0:1::1", id="IPv6"),
+        pytest.param("203.0.113.7", "203.0.113.8", id="IPv4"),
+        pytest.param("::ffff:203.0.113.7", "::ffff:203.0.113.8", id="IPv4 by a socket for IPv6"),
+    ],
+)
+def test_the_addresses_of_two_clients_are_two_networks(
+    names: dict[str, Any], address: str, another: str
+) -> None:
+    assert names["network_of"](address) != names["network_of"](another)
+
+
+def test_a_user_has_attempts_of_her_own_where_she_has_logged_in(
+    names: dict[str, Any], database: sqlite3.Connection
+) -> None:
+    names["remember_network"](database, "ann", HOME)
+    names["remember_network"](database, "ann", HOME)
+    assert attempts(names, database, "ann", *[ELSEWHERE] * 11) == [True] * 10 + [False]
+    assert attempts(names, database, "ann", *[HOME] * 11) == [True] * 10 + [False]
+    assert attempts(names, database, "bob", HOME) == [True]
+
+
+def test_an_attempt_that_is_forgotten_does_not_count(
+    names: dict[str, Any], database: sqlite3.Connection
+) -> None:
+    assert attempts(names, database, "ann", *[HOME] * 9) == [True] * 9
+    for _ in range(3):
+        attempt = names["begin_attempt"](database, "ann", HOME)
+        assert attempt is not None
+        names["forget_attempt"](database, attempt)
+    assert attempts(names, database, "ann", HOME, HOME) == [True, False]
+
+
+def test_attempts_count_for_an_hour(names: dict[str, Any], database: sqlite3.Connection) -> None:
+    assert attempts(names, database, "ann", *[HOME] * 11) == [True] * 10 + [False]
+    database.execute("UPDATE attempts SET time = time - 3500")
+    database.commit()
+    assert attempts(names, database, "ann", HOME) == [False]
+    database.execute("UPDATE attempts SET time = time - 101")
+    database.commit()
+    assert attempts(names, database, "ann", HOME) == [True]
+    assert database.execute("SELECT count(*) FROM attempts").fetchone() == (1,)
+
+
+def test_no_name_that_was_typed_is_stored(
+    names: dict[str, Any], database: sqlite3.Connection
+) -> None:
+    assert attempts(names, database, "my password", HOME) == [True]
+    assert "my password" not in "\n".join(database.iterdump())
+
+
+PROCESS = """
+import sqlite3
+for _ in range(5):
+    database = sqlite3.connect("users.db", timeout=60)
+    print(begin_attempt(database, "ann", "203.0.113.7") is not None)
+"""
+
+
+@pytest.mark.usefixtures("names", "database")
+def test_processes_share_the_limit(tmp_path: Path) -> None:
+    """Four processes begin twenty attempts at once, and ten of these may go on."""
+    code = recipe("limit attempts") + PROCESS
+    with ThreadPoolExecutor(4) as threads:
+        results = list(threads.map(lambda _: run_python(code, cwd=tmp_path).required(), range(4)))
+    lines = b"".join(result.stdout for result in results).split()
+    assert (lines.count(b"True"), lines.count(b"False")) == (10, 10)
+
+
+def test_a_secret_is_made_for_its_owner_alone(tmp_path: Path) -> None:
+    run("sh", "-euc", recipe("a secret", "sh"), cwd=tmp_path).required()
+    secret = tmp_path / "secret_key"
+    assert len(secret.read_bytes()) >= 64
+    assert stat.S_IMODE(secret.stat().st_mode) == 0o600
