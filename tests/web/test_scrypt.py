@@ -23,7 +23,7 @@ SALT = "SodiumChloride12345678"
 MEBIBYTE = 1 << 20
 MEMORY_OF_DEFAULT = 64 * MEBIBYTE  # with N = 2^14 and r = 32, the program's default
 PAGES_OF_DEFAULT = MEMORY_OF_DEFAULT // (64 << 10)
-MOST_OTHER_PAGES = 16  # for all but the table of N rows, 1 MiB: that needs less
+MOST_OTHER_PAGES = 16  # 1 MiB, more than a hash needs besides its table
 LOGINS = 20
 # With this option node gives an instance at most 600 pages of 64 KiB, too few for the default cost.
 TOO_LITTLE_MEMORY = "--wasm-max-mem-pages=600"
@@ -223,7 +223,7 @@ def is_of_default(pages: int) -> bool:
 
 @pytest.mark.slow
 def test_worker_reuses_its_memory_for_each_of_its_logins(at_once: Report) -> None:
-    """Twenty logins, each with a table for its check, make a table for each worker."""
+    """Twenty logins need a table of 64 MiB each, but only as many are made as there are workers."""
     for worker in at_once["workers"]:
         assert worker["instances"] == 1, at_once
         assert is_of_default(worker["pages"]), at_once
@@ -248,7 +248,7 @@ RIGHT = {"matches": True}
 
 
 def test_memory_of_a_worker_grows_to_the_largest_need(report_of: Callable[..., Report]) -> None:
-    """A check of one cost and a new hash of another share the memory, too."""
+    """The checks have different costs, and a new hash of 32 MiB follows some of them."""
     stored = (HASH_OF_SMALL, HASH_OF_DEFAULT, HASH_OF_SMALL, HASH_OF_SHA, HASH_OF_DEFAULT)
     report = report_of("inTurn", [[PASSWORD, field] for field in stored])
     assert report["outcomes"] == [RIGHT] * len(stored), report
@@ -276,7 +276,7 @@ def test_instance_that_traps_is_wiped_and_replaced(report_of: Callable[..., Repo
 
 
 def test_login_in_the_callers_thread_keeps_no_memory(report_of: Callable[..., Report]) -> None:
-    """Each has an instance of its own, which is garbage after it. The module's own never grows."""
+    """Each has an instance of its own, which is garbage then. The first instance never grows."""
     rows = logins_at_once(5)
     report = report_of("inThisThread", rows)
     assert report["matches"] == matches(rows), report
