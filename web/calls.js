@@ -130,21 +130,21 @@ function sizeOf({ words, bytes }) {
 }
 
 // An instance of the module. The report, `out` and the bytes that are passed are in its free
-// memory. After them comes the memory that it lends to a call with scrypt.
+// memory. After them comes the memory that it lends to calls with scrypt, which never shrinks.
+//
+// Between calls the whole memory is as it was in the beginning, with zeros where it has grown.
 class Instance {
     #compiled;
-    #need;
     #exports;
     #memory;
     #initial;
     #report;
     #out;
     #passed;
+    #lent = NO_NEED; // what the next call or the running one gets for scrypt
 
-    // Throws RangeError if there isn't enough memory for the need.
-    constructor(compiled, need = NO_NEED) {
+    constructor(compiled) {
         this.#compiled = compiled;
-        this.#need = need;
         this.#instantiate();
         const free = Number(this.#exports.__heap_base.value);
         this.#report = Math.ceil(free / ALIGNMENT) * ALIGNMENT;
@@ -154,11 +154,23 @@ class Instance {
 
     #instantiate() {
         const { exports } = runEngine(() => new WebAssembly.Instance(this.#compiled));
-        this.#initial = new Uint8Array(exports.memory.buffer).slice();
-        const pages = Math.ceil(sizeOf(this.#need) / PAGE_SIZE);
-        if (pages > 0) exports.memory.grow(pages);
+        const memory = new Uint8Array(exports.memory.buffer);
+        this.#initial = memory.slice();
+        this.#memory = memory;
         this.#exports = exports;
-        this.#memory = new Uint8Array(exports.memory.buffer);
+    }
+
+    // Lends memory for scrypt to the next call. Throws RangeError if there isn't enough. The memory
+    // grows before a password is in it, since an engine may copy it when it grows.
+    lend(need) {
+        if (!this.#exports) this.#instantiate();
+        const missing = this.#initial.length + sizeOf(need) - this.#memory.length;
+        if (missing > 0) {
+            const { memory } = this.#exports;
+            memory.grow(Math.ceil(missing / PAGE_SIZE));
+            this.#memory = new Uint8Array(memory.buffer);
+        }
+        this.#lent = need;
     }
 
     // The address and size of `out`, as a call takes them. They are the same in each instance.
@@ -169,54 +181,61 @@ class Instance {
     // The memory that is lent for scrypt, as a call takes it: an address and a count of words, then
     // of bytes.
     get lent() {
-        const { words, bytes } = this.#need;
-        const isLending = sizeOf(this.#need) > 0;
+        const { words, bytes } = this.#lent;
+        const isLending = sizeOf(this.#lent) > 0;
         const start = isLending ? this.#initial.length : this.#report;
         const end = start + WORD_SIZE * words;
         return [BigInt(start), BigInt(words), BigInt(end), BigInt(bytes)];
     }
 
-    // Makes a call that writes a report, and wipes the memory. In the result `isDone` says whether
-    // the call did what its name says.
+    // Makes a call that writes a report. In the result `isDone` says whether the call did what its
+    // name says.
     call(name, ...args) {
-        const returned = this.#run(name, [...args, BigInt(this.#report)]);
-        const report = readReport(new DataView(this.#memory.buffer, this.#report, REPORT_SIZE));
-        const text = this.#readOut();
-        this.#wipe();
-        return { isDone: returned === 1, text, ...report };
+        return this.#run(name, [...args, BigInt(this.#report)], (returned) => {
+            const report = readReport(this.#viewOfReport(REPORT_SIZE));
+            return { isDone: returned === 1, text: this.#readOut(), ...report };
+        });
     }
 
     // Makes a call that only writes a string. Returns null if it writes none.
     callForText(name, ...args) {
-        const returned = this.#run(name, [...args, ...this.out]);
-        const text = returned === 1 ? this.#readOut() : null;
-        this.#wipe();
-        return text;
+        const given = [...args, ...this.out];
+        return this.#run(name, given, (returned) => (returned === 1 ? this.#readOut() : null));
     }
 
     // Makes a call that only reports how much memory another call needs.
     callForNeed(name, ...args) {
-        this.#run(name, [...args, BigInt(this.#report)]);
-        const view = new DataView(this.#memory.buffer, this.#report, NEED_SIZE);
-        const need = {
-            words: Number(view.getBigUint64(0, true)),
-            bytes: Number(view.getBigUint64(8, true)),
-        };
-        this.#wipe();
-        return need;
+        return this.#run(name, [...args, BigInt(this.#report)], () => {
+            const view = this.#viewOfReport(NEED_SIZE);
+            return {
+                words: Number(view.getBigUint64(0, true)),
+                bytes: Number(view.getBigUint64(8, true)),
+            };
+        });
     }
 
-    #run(name, args) {
+    // Makes a call, and returns what `read` reads in the memory after it. Then wipes the memory. If
+    // anything throws, as when the stack overflows in the module, the memory is in an unknown
+    // state, and the next call gets a new one.
+    #run(name, args, read) {
         if (!this.#exports) this.#instantiate();
-        const words = this.#copyIn(args);
         try {
-            return this.#exports[name](...words);
+            const words = this.#copyIn(args);
+            const result = read(this.#exports[name](...words));
+            this.#wipe();
+            return result;
         } catch (error) {
-            // The stack overflowed in the module, whose memory is now in an unknown state.
-            this.#exports = undefined;
-            this.#memory.fill(0);
+            this.#discard();
             throw error;
         }
+    }
+
+    #discard() {
+        const memory = this.#memory;
+        this.#exports = undefined;
+        this.#memory = undefined;
+        this.#lent = NO_NEED;
+        memory.fill(0);
     }
 
     // Copies the byte arrays among the arguments into the memory. Returns the arguments with the
@@ -237,6 +256,10 @@ class Instance {
         return words;
     }
 
+    #viewOfReport(size) {
+        return new DataView(this.#memory.buffer, this.#report, size);
+    }
+
     // Returns the string in `out`, which ends with a zero byte. After a call that writes none it is
     // empty.
     #readOut() {
@@ -244,9 +267,12 @@ class Instance {
         return String.fromCharCode(...this.#memory.subarray(this.#out, end));
     }
 
+    // Wipes all that a call can write: the memory that every instance has, and what was lent.
     #wipe() {
+        const start = this.#initial.length;
         this.#memory.set(this.#initial);
-        this.#memory.fill(0, this.#initial.length);
+        this.#memory.fill(0, start, start + sizeOf(this.#lent));
+        this.#lent = NO_NEED;
     }
 }
 
@@ -265,12 +291,18 @@ const NO_MATCH = [
 
 // The calls of a compiled module. `audit` and `passwordError` return errors. `login` throws only if
 // there is no memory. The others throw refusals.
+//
+// The memory of an instance never shrinks, so each call with scrypt gets an instance of its own,
+// which is garbage-collected later. If `keepsMemory` is true, there is only one instance, whose
+// memory is as large as any call has needed. That is for workers, which the pool ends.
 class Calls {
     #compiled;
+    #keepsMemory;
     #module;
 
-    constructor(compiled) {
+    constructor(compiled, { keepsMemory = false } = {}) {
         this.#compiled = compiled;
+        this.#keepsMemory = keepsMemory;
         this.#module = new Instance(compiled);
     }
 
@@ -280,20 +312,20 @@ class Calls {
         return report;
     }
 
-    // Makes a call that can hash, with the memory that it needs. The memory of an instance never
-    // shrinks, so each call with scrypt gets an instance of its own, which is garbage-collected
-    // later.
+    // Makes a call that can hash, with the memory that it needs.
     #callWith(need, name, ...args) {
         const instance = this.#instanceFor(need);
         return instance.call(name, ...instance.lent, ...args);
     }
 
     // Returns an instance that lends the memory that is needed. If there isn't enough, it returns
-    // the one that lends none, and the call reports that it is out of memory.
+    // one that lends none, and the call reports that it is out of memory.
     #instanceFor(need) {
         if (sizeOf(need) === 0) return this.#module;
         try {
-            return new Instance(this.#compiled, need);
+            const instance = this.#keepsMemory ? this.#module : new Instance(this.#compiled);
+            instance.lend(need);
+            return instance;
         } catch (error) {
             if (error.name !== 'RangeError') throw error;
             return this.#module;

@@ -15,7 +15,7 @@ function runCall({ name, args }) {
 
 port.onmessage = ({ data }) => {
     if (data.compiled) {
-        calls = new Calls(data.compiled);
+        calls = new Calls(data.compiled, { keepsMemory: true });
     } else {
         port.postMessage(runCall(data));
     }

@@ -2,15 +2,22 @@
 // thread isn't blocked. A worker runs hasher.js, which tools/web puts here as a string.
 const HASHER = "@HASHER@";
 
+const MEBIBYTE = 2 ** 20;
+
+// The most bytes that an instance in a worker keeps from one call to the next. A stored hash of
+// scrypt needs little more than 128 MiB at most, unless a policy has a higher budget.
+const MOST_KEPT = 144 * MEBIBYTE;
+
 // Runs calls in workers, in the order in which they come. There is one worker fewer than cores, but
 // at least one. An idle worker doesn't keep node running. If a worker dies, only its own call
 // fails.
 //
 // A call with scrypt says how much memory it needs. Only as many such calls run at once as there is
 // memory for, but one always runs. While one waits for memory, calls that need none go ahead of it.
-// After scrypt a worker holds on to its memory until that is garbage-collected, or until the worker
-// ends. So a worker that has run scrypt ends if no call is waiting, or when another call finds no
-// memory.
+//
+// After scrypt a worker keeps its memory, and the next call with scrypt reuses it. It gives the
+// memory back only by ending. So such a worker ends if no waiting call can start when it has
+// answered, and after a call that needed more than MOST_KEPT.
 class Pool {
     #start;
     #memory;
@@ -97,31 +104,31 @@ class Pool {
         this.#idle.push(worker);
         this.#usedMemory -= call.memory;
         if (answer.failure?.reason === OUT_OF_MEMORY) {
-            this.#handleLackOfMemory(call, answer);
+            this.#handleLackOfMemory(worker, call, answer);
         } else {
             call.resolve(answer);
-            this.#releaseMemory(worker, call);
+            if (call.memory > 0) worker.keepsMemory = true;
+            if (call.memory > MOST_KEPT) this.#end(worker);
         }
         this.#distribute();
+        this.#endIdleKeepers();
     }
 
-    #releaseMemory(worker, { memory }) {
-        if (memory === 0) return;
-        worker.keepsMemory = true;
-        if (this.#waiting.length === 0) this.#end(worker);
-    }
-
-    // Handles a call that found no memory. If other calls used the memory, or idle workers kept it,
-    // the call is tried again.
-    #handleLackOfMemory(call, answer) {
-        const used = Math.max(call.usedByOthers, this.#usedMemory);
+    #endIdleKeepers() {
         const keepers = this.#idle.filter(({ keepsMemory }) => keepsMemory);
-        const isAlone = used === 0 && keepers.length === 0;
+        for (const worker of keepers) this.#end(worker);
+    }
+
+    // Handles a call that found no memory. If other calls used the memory, or the worker kept some
+    // from an earlier call, the call is tried again.
+    #handleLackOfMemory(worker, call, answer) {
+        const used = Math.max(call.usedByOthers, this.#usedMemory);
+        const isAlone = used === 0 && !worker.keepsMemory;
         if (isAlone || call.memory === 0) {
             call.resolve(answer);
             return;
         }
-        for (const worker of keepers) this.#end(worker);
+        if (worker.keepsMemory) this.#end(worker);
         call.usedByOthers = used;
         this.#waiting.unshift(call);
     }
@@ -182,7 +189,7 @@ function newBrowserWorker(url) {
     }
 }
 
-const GIBIBYTE = 2 ** 30;
+const GIBIBYTE = 1024 * MEBIBYTE;
 
 // Returns how a browser starts workers, and how much memory they may use: a quarter of the
 // device's.

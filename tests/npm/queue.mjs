@@ -1,17 +1,12 @@
 // Reports what a LoginQueue does. test_npm.py provides a password with its hashes and the fields of
-// failures, and has the expected report.
+// failures, and has the expected report. Hashing takes the time that it takes, but the queue reads
+// and waits by a clock that this script sets, so the report is the same on any machine.
 import { readFileSync } from 'node:fs';
+import { setTimeout as sleep } from 'node:timers/promises';
 import { LoginQueue, Policy } from 'mkpasswd';
 
-const { password, stored, costly, failures, most } = JSON.parse(readFileSync(0, 'utf8'));
+const { password, stored, costly, failures } = JSON.parse(readFileSync(0, 'utf8'));
 const policy = new Policy({ rounds: 5000 });
-const TRIES = 10;
-
-async function timeOf(call) {
-    const begin = performance.now();
-    await call();
-    return performance.now() - begin;
-}
 
 async function outcomeOf(call) {
     try {
@@ -21,58 +16,76 @@ async function outcomeOf(call) {
     }
 }
 
-// Measures until a result is small enough, but at most TRIES times, and returns the least result:
-// the machine may be busy.
-async function leastOf(measure, enough) {
-    let least = Infinity;
-    for (let count = 0; count < TRIES && least > enough; count++) {
-        least = Math.min(least, await measure());
+async function until(test) {
+    while (!test()) await sleep(1);
+}
+
+// ---- The clock
+
+const clock = { now: 0, timers: [] };
+performance.now = () => clock.now;
+globalThis.setTimeout = (call, milliseconds) => {
+    clock.timers.push({ moment: clock.now + milliseconds, call });
+};
+
+// Sets the clock, and fires the timers up to a moment. Then waits until what they call has run.
+async function advance(now, moment = now) {
+    clock.now = now;
+    const due = clock.timers.filter((timer) => timer.moment <= moment);
+    clock.timers = clock.timers.filter((timer) => timer.moment > moment);
+    for (const { call } of due) call();
+    await sleep(1);
+}
+
+// Calls failing logins at once. Returns, once all are hashed, the moments of their answers so far,
+// to which later answers are added.
+async function failing(queue, logins, meanwhile = () => {}) {
+    const moments = [];
+    for (const [typed, field] of logins) {
+        queue.login(typed, field).then(() => { moments.push(clock.now); });
     }
-    return least;
+    meanwhile();
+    await until(() => clock.timers.length + moments.length === logins.length);
+    return moments;
 }
 
-// Returns how long each failure takes if all are called at once.
-async function timesOfFailures(failureTime) {
-    const queue = new LoginQueue({ policy, failureTime });
-    const calls = failures.map(([typed, field]) => () => queue.login(typed, field));
-    return Promise.all(calls.map(timeOf));
+function different(moments) {
+    return [...new Set(moments)];
 }
 
-async function measureFailures(failureTime) {
-    let earliest = Infinity;
-    const spread = await leastOf(async () => {
-        const times = await timesOfFailures(failureTime);
-        earliest = Math.min(earliest, ...times);
-        return Math.max(...times) - Math.min(...times);
-    }, most.spread);
-    return { earliest, spread };
+// ---- The parts of the report
+
+// Reports how many failures are answered too soon, though timers fire a little early, and when the
+// others are.
+async function timesOfFailures() {
+    const queue = new LoginQueue({ policy, failureTime: 1000 });
+    const moments = await failing(queue, failures);
+    await advance(999.5, 1000);
+    const early = moments.length;
+    await advance(1000.5);
+    return { early, count: moments.length, moments: different(moments) };
 }
 
-// Returns how much longer a login takes while a hundred failures wait than in an empty queue.
-async function slowdown() {
-    const alone = new LoginQueue({ policy });
-    const beside = new LoginQueue({ policy, failureTime: 1_000_000 });
-    for (let count = 0; count < 100; count++) beside.login('wrong', stored);
-    await beside.login(password, costly); // ends once all of them are hashed
-    return leastOf(async () => {
-        const time = await timeOf(() => alone.login(password, costly));
-        return await timeOf(() => beside.login(password, costly)) / time;
-    }, most.slowdown);
+// Reports when failures are answered whose hashing ends at 250 ms, two and a half times their time.
+async function timesOfLateFailures() {
+    clock.now = 0;
+    const logins = Array(15).fill(['wrong', stored]);
+    const queue = new LoginQueue({ policy, failureTime: 100 });
+    const moments = await failing(queue, logins, () => { clock.now = 250; });
+    await advance(299);
+    const early = moments.length;
+    await advance(300);
+    return { early, count: moments.length, moments: different(moments) };
 }
 
-function median(numbers) {
-    return numbers.toSorted((one, other) => one - other)[numbers.length >> 1];
-}
-
-// Returns how far past a multiple of the failure time the median failure in a long queue comes.
-async function lateness() {
-    const failureTime = 100;
-    const queue = new LoginQueue({ policy, failureTime });
-    return leastOf(async () => {
-        const calls = Array.from({ length: 15 }, () => timeOf(() => queue.login('wrong', costly)));
-        const times = await Promise.all(calls);
-        return median(times.map((time) => time % failureTime));
-    }, most.lateness);
+// Reports the result of a login while many more failures wait than there are workers.
+async function besideFailures() {
+    const queue = new LoginQueue({ policy, failureTime: 1000 });
+    await failing(queue, Array(100).fill(['wrong', stored]));
+    const result = await queue.login(password, costly);
+    const waiting = clock.timers.length;
+    clock.timers = [];
+    return { result, waiting };
 }
 
 async function full() {
@@ -101,10 +114,9 @@ const OPTIONS = [
 ];
 
 console.log(JSON.stringify({
-    failures: await measureFailures(1000),
-    lateness: await lateness(),
+    failures: await timesOfFailures(),
+    late: await timesOfLateFailures(),
+    beside: await besideFailures(),
     full: await full(),
     options: await Promise.all(OPTIONS.map((given) => outcomeOf(() => new LoginQueue(given)))),
-    slowdown: await slowdown(),
 }));
-process.exit(); // some failures still wait

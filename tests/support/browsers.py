@@ -2,7 +2,10 @@
 
 Selenium calls Debian's drivers for Chromium and WebKit. Debian has no driver for Firefox, but
 Firefox itself speaks WebDriver BiDi, which is JSON over a WebSocket. A browser and all its
-processes end with the `with` block that started it, or after half an hour.
+processes end with the `with` block that started it, or after two hours.
+
+The limits are for a machine with much other work, where a script that takes a minute alone can take
+a quarter of an hour. A browser that doesn't start within its limit is started again.
 """
 from __future__ import annotations
 
@@ -16,9 +19,10 @@ from typing import Any, Callable, ContextManager, Iterator, Protocol
 
 from .process import Changes, Word, started
 
+STARTS = 3
 SECONDS_TO_START = 120
-SECONDS_TO_EVALUATE = 600
-SECONDS_TO_LIVE = 1800
+SECONDS_TO_EVALUATE = 1800
+SECONDS_TO_LIVE = 7200
 LISTENING = "0A"  # the state of a listening socket in /proc/net/tcp
 
 
@@ -27,6 +31,10 @@ class Browser(Protocol):
 
     def evaluate(self, address: str, script: str) -> Any:
         """Opens an address, runs a function's body there, and awaits and returns its result."""
+
+
+class NotStarted(AssertionError):
+    """A browser or its driver ends or hangs while it starts, as happens on a busy machine."""
 
 
 class DrivenBrowser:
@@ -49,12 +57,16 @@ class Firefox:
     def __init__(self, address: str) -> None:
         import websocket
 
-        self._socket = websocket.create_connection(
-            address, timeout=SECONDS_TO_EVALUATE, suppress_origin=True
-        )
         self._number = 0
-        self._call("session.new", capabilities={})
-        self._tab = self._call("browsingContext.getTree")["contexts"][0]["context"]
+        try:
+            self._socket = websocket.create_connection(
+                address, timeout=SECONDS_TO_START, suppress_origin=True
+            )
+            self._call("session.new", capabilities={})
+            self._tab = self._call("browsingContext.getTree")["contexts"][0]["context"]
+        except (OSError, websocket.WebSocketException) as error:
+            raise NotStarted(f"Firefox doesn't answer: {error}") from error
+        self._socket.settimeout(SECONDS_TO_EVALUATE)
 
     def _call(self, method: str, **params: Any) -> Any:
         self._number += 1
@@ -120,22 +132,43 @@ def webkit(folder: Path) -> Iterator[Browser]:
             yield connected(port, ArgOptions())
 
 
-BROWSERS: dict[str, Callable[[Path], ContextManager[Browser]]] = {
-    "Chromium": chromium,
-    "Firefox": firefox,
-    "WebKit": webkit,
-}
+Start = Callable[[Path], ContextManager[Browser]]
+
+BROWSERS: dict[str, Start] = {"Chromium": chromium, "Firefox": firefox, "WebKit": webkit}
+
+
+@contextlib.contextmanager
+def started_browser(start: Start, folder: Path) -> Iterator[Browser]:
+    """Starts one of BROWSERS, which keeps its files below the folder."""
+    with contextlib.ExitStack() as running:
+        yield first_started(start, folder, running)
+
+
+def first_started(start: Start, folder: Path, running: contextlib.ExitStack) -> Browser:
+    """Starts a browser that ends with `running`. If it doesn't start, it is started again."""
+    *others, last = [folder / str(number) for number in range(STARTS)]
+    for place in others:
+        place.mkdir()
+        with contextlib.suppress(NotStarted):
+            return running.enter_context(start(place))
+    last.mkdir()
+    return running.enter_context(start(last))
 
 
 def connected(port: int, options: Any) -> Browser:
     """Opens a session with the driver that listens on this local port."""
     from selenium import webdriver
+    from selenium.common.exceptions import WebDriverException
     from selenium.webdriver.remote.remote_connection import RemoteConnection
+    from urllib3.exceptions import HTTPError
 
     # Without a limit, a driver that hangs would hang the test.
     RemoteConnection.set_timeout(SECONDS_TO_EVALUATE + SECONDS_TO_START)
     options.ignore_local_proxy_environment_variables()
-    return DrivenBrowser(webdriver.Remote(f"http://127.0.0.1:{port}", options=options))
+    try:
+        return DrivenBrowser(webdriver.Remote(f"http://127.0.0.1:{port}", options=options))
+    except (OSError, HTTPError, WebDriverException) as error:
+        raise NotStarted(f"the browser's driver opens no session: {error}") from error
 
 
 @contextlib.contextmanager
@@ -176,7 +209,7 @@ def wait_for(find: Callable[[], Any], process: subprocess.Popen[bytes], folder: 
             return found
         time.sleep(0.05)
     log = (folder / "log").read_text(errors="replace")
-    raise AssertionError(f"{process.args!r} doesn't start, and prints:\n{log}")
+    raise NotStarted(f"{process.args!r} doesn't start, and prints:\n{log}")
 
 
 def wait_for_output(process: subprocess.Popen[bytes], folder: Path, pattern: str) -> str:

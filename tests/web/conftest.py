@@ -9,7 +9,7 @@ from typing import Any, Iterator
 
 import pytest
 from support import ROOT
-from support.browsers import BROWSERS, Browser
+from support.browsers import BROWSERS, Browser, started_browser
 from support.needs import missing, need, not_applicable
 from support.npm_site import Site
 from support.process import run
@@ -112,7 +112,8 @@ def browser(
     request: pytest.FixtureRequest, tmp_path_factory: pytest.TempPathFactory
 ) -> Iterator[Browser]:
     """Each browser in turn."""
-    with BROWSERS[request.param](tmp_path_factory.mktemp(request.param)) as started:
+    folder = tmp_path_factory.mktemp(request.param)
+    with started_browser(BROWSERS[request.param], folder) as started:
         yield started
 
 

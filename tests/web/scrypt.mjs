@@ -2,23 +2,42 @@
 // standard input has the part's rows as JSON. test_scrypt.py has the expected reports.
 import { readFileSync } from 'node:fs';
 import { syncBuiltinESMExports } from 'node:module';
-import { setTimeout } from 'node:timers/promises';
+import os from 'node:os';
 import threads from 'node:worker_threads';
 
-const MEBIBYTE = 2 ** 20;
 const NO_LIMIT = 2 ** 42;
 const [file, part] = process.argv.slice(2);
 const given = JSON.parse(readFileSync(0, 'utf8'));
 
 // ---- Watched workers
 
-// Counts the hashing calls that run at once. isCrowded means that there is memory for only one.
-const watched = { running: 0, most: 0, started: 0, isCrowded: false };
+const WATCHER = readFileSync(new URL('watched_worker.js', import.meta.url), 'utf8');
+
+// Counts the hashing calls that run at once, and the workers that have started and ended.
+// isCrowded means that there is memory for only one call, and isTrapping that the first login of
+// each worker traps in the module. watched_worker.js counts in the array of each worker.
+const watched = {
+    running: 0,
+    most: 0,
+    started: 0,
+    ended: 0,
+    isCrowded: false,
+    isTrapping: false,
+    ofWorkers: [],
+};
+
+// Returns an array of zeros that is shared with a worker.
+function newCounts() {
+    return new Int32Array(new SharedArrayBuffer(3 * Int32Array.BYTES_PER_ELEMENT));
+}
 
 threads.Worker = class extends threads.Worker {
-    constructor(...arguments_) {
-        super(...arguments_);
+    constructor(source, options) {
+        const counts = newCounts();
+        const workerData = { counts, isTrapping: watched.isTrapping };
+        super(WATCHER + source, { ...options, workerData });
         watched.started += 1;
+        watched.ofWorkers.push(counts);
     }
 
     postMessage(message) {
@@ -38,8 +57,33 @@ threads.Worker = class extends threads.Worker {
             listener(this.isRefused ? { failure } : answer);
         });
     }
+
+    terminate() {
+        watched.ended += 1;
+        return super.terminate();
+    }
 };
 syncBuiltinESMExports();
+
+// Returns the counts of all workers so far.
+function countsOfWorkers() {
+    const counts = watched.ofWorkers.map(([instances, pages, unwiped]) => (
+        { instances, pages, unwiped }
+    ));
+    return { started: watched.started, ended: watched.ended, workers: counts };
+}
+
+// ---- Watched instances in this thread
+
+// Has the memory of each instance of the module, beginning with the one that the module makes when
+// it is loaded.
+const memories = [];
+const { Instance } = WebAssembly;
+WebAssembly.Instance = function (compiled) {
+    const instance = new Instance(compiled);
+    memories.push(instance.exports.memory);
+    return instance;
+};
 
 const { Policy, crypt, describe, login, loginAsync } = await import(file);
 
@@ -88,10 +132,16 @@ async function withoutMemory([password, ...stored]) {
     };
 }
 
-// Reports the results of simultaneous logins, and how many of them ran at once.
+// Reports the results of simultaneous logins, how many of them ran at once, and how many workers
+// there can be.
 async function atOnce(rows) {
     const results = await Promise.all(rows.map(([password, field]) => loginAsync(password, field)));
-    return { matches: results.map((result) => result !== false), most: watched.most };
+    return {
+        matches: results.map((result) => result !== false),
+        most: watched.most,
+        mostWorkers: Math.max(1, os.availableParallelism() - 1),
+        ...countsOfWorkers(),
+    };
 }
 
 // Reports the same with this many bytes of free memory.
@@ -106,35 +156,37 @@ async function crowded(rows) {
     return atOnce(rows);
 }
 
+// Reports the results of logins with a policy that admits every cost. They all wait for memory, so
+// that one runs at a time.
+async function inTurn(rows) {
+    process.availableMemory = () => 0;
+    const policy = new Policy({ method: 'scrypt', rounds: 6, budget: NO_LIMIT });
+    const calls = rows.map((row) => outcomeOf(() => policy.loginAsync(...row)));
+    return { outcomes: await Promise.all(calls), ...countsOfWorkers() };
+}
+
+// Reports the same if the first login of a worker traps in the module.
+async function trapping(rows) {
+    watched.isTrapping = true;
+    return inTurn(rows);
+}
+
 // Reports how many workers are started for successive logins.
 async function oneAfterAnother(rows) {
     for (const [password, field] of rows) await loginAsync(password, field);
     return { started: watched.started };
 }
 
-async function residentMemory() {
-    let least = Infinity;
-    for (let count = 0; count < 20; count++) {
-        globalThis.gc();
-        await setTimeout(50);
-        least = Math.min(least, process.memoryUsage.rss());
-    }
-    return least / MEBIBYTE;
-}
-
-async function growthBy(call) {
-    const before = await residentMemory();
-    await call();
-    return await residentMemory() - before;
-}
-
-// Reports by how many MiB the resident memory grows through successive and simultaneous logins. The
-// first row is for a login before them, which starts a worker.
-async function growth([first, ...rows]) {
-    await loginAsync(...first);
-    const inTurn = await growthBy(() => rows.slice(0, 5).map((row) => login(...row)));
-    const together = await growthBy(() => atOnce(rows));
-    return { inTurn, together };
+// Reports how many instances logins in this thread make, and whether the memory of the first one
+// has grown.
+function inThisThread(rows) {
+    const [{ buffer }] = memories;
+    const results = rows.map(([password, field]) => login(password, field));
+    return {
+        matches: results.map((result) => result !== false),
+        instances: memories.length,
+        hasGrown: memories[0].buffer !== buffer,
+    };
 }
 
 const parts = {
@@ -143,7 +195,9 @@ const parts = {
     atOnce,
     inFreeMemory,
     crowded,
+    inTurn,
+    trapping,
     oneAfterAnother,
-    growth,
+    inThisThread,
 };
 console.log(JSON.stringify(await parts[part](given)));

@@ -90,10 +90,7 @@ FIELDS_OF_FAILURES = {
     "a hostile hash": "$6$rounds=999999999$s$x",
 }
 IMPOSSIBLE_PASSWORDS = ("x" * 1025, "x\0y", "\ud83d")
-FAILURE_MILLISECONDS = 1000  # in queue.mjs
-MOST_MILLISECONDS_APART = 5  # between failures that are called at once
-MOST_MILLISECONDS_LATE = 25  # after a multiple of 100; at random moments it would be about 50
-GREATEST_SLOWDOWN = 1.2
+FAILURE_MILLISECONDS = 1000.5  # in queue.mjs, whose clock is set to half a millisecond later
 
 
 @pytest.fixture(scope="module")
@@ -106,29 +103,26 @@ def queue(user: Site) -> Report:
         "stored": hashed,
         "costly": crypt(b"password", b"$6$rounds=100000$saltsaltsaltsalt").decode(),
         "failures": wrong + impossible,
-        "most": {
-            "spread": MOST_MILLISECONDS_APART,
-            "lateness": MOST_MILLISECONDS_LATE,
-            "slowdown": GREATEST_SLOWDOWN,
-        },
     }
     return user.report_of("queue.mjs", given=given)
 
 
 def test_no_failure_is_answered_before_its_time(queue: Report) -> None:
-    assert queue["failures"]["earliest"] >= FAILURE_MILLISECONDS
+    assert queue["failures"]["early"] == 0
 
 
 def test_all_kinds_of_failures_are_answered_at_the_same_moment(queue: Report) -> None:
-    assert queue["failures"]["spread"] <= MOST_MILLISECONDS_APART
+    assert queue["failures"]["count"] == len(FIELDS_OF_FAILURES) + len(IMPOSSIBLE_PASSWORDS)
+    assert queue["failures"]["moments"] == [FAILURE_MILLISECONDS]
 
 
 def test_failure_that_takes_too_long_is_answered_at_a_multiple_of_its_time(queue: Report) -> None:
-    assert queue["lateness"] <= MOST_MILLISECONDS_LATE
+    assert queue["late"] == {"early": 0, "count": 15, "moments": [300]}
 
 
-def test_login_takes_no_longer_while_failures_wait(queue: Report) -> None:
-    assert queue["slowdown"] <= GREATEST_SLOWDOWN
+def test_login_is_answered_while_failures_wait(queue: Report) -> None:
+    """If failures kept their workers while they wait, no worker would be left for it."""
+    assert queue["beside"] == {"result": {"matches": True}, "waiting": 100}
 
 
 def test_full_queue_is_busy(queue: Report) -> None:

@@ -4,7 +4,11 @@ The README's programs answer a failed login after 5 seconds, the tests' copies s
 """
 from __future__ import annotations
 
+import base64
+import hashlib
+import json
 import re
+from dataclasses import dataclass
 from pathlib import Path
 
 import pytest
@@ -79,8 +83,15 @@ def test_program_of_readme_renews_an_outdated_hash(user: Site, login_program: st
     assert stored == crypt(b"password", stored.encode()).decode(), report
 
 
-@pytest.mark.parametrize("change", ["users.set(name, '!')", "users.delete(name)"])
-def test_program_of_readme_refuses_a_user_who_was_locked_meanwhile(
+@pytest.mark.parametrize(
+    "change",
+    [
+        pytest.param("users.set(name, '!')", id="locked"),
+        pytest.param("users.delete(name)", id="deleted"),
+        pytest.param("users.set(name, '$1$xxxxxxxx$UYCIxa628.9qXjpQCjM4a.')", id="reset"),
+    ],
+)
+def test_program_of_readme_refuses_a_user_whose_field_changed_meanwhile(
     user: Site, login_program: str, change: str
 ) -> None:
     after = "const result = await queue.login(password, field);\n"
@@ -155,12 +166,135 @@ def test_program_of_readme_answers_with_http_statuses(user: Site, web_build: Pat
     assert (report["right"], report["wrong"], report["both"]) == (200, 403, [200, 503]), report
 
 
+# A service in which somebody changes ann's field after each login, before the program reads the
+# field again. It reports the statuses of logins at once, how many hashes they checked, what they
+# stored, and what is stored at the end.
+OF_A_CHANGING_SERVICE = """
+import { readFileSync } from 'node:fs';
+import { LoginQueue, Policy } from 'mkpasswd';
+
+const { stored, changes, count } = JSON.parse(readFileSync(0, 'utf8'));
+const realQueue = new LoginQueue({ policy: new Policy({ rounds: 1000 }), failureTime: 0 });
+const written = [];
+class Users extends Map {
+    set(name, field) {
+        written.push(field);
+        return super.set(name, field);
+    }
+
+    change(field) {
+        if (field === null) this.delete('ann');
+        else super.set('ann', field);
+    }
+}
+const users = new Users();
+users.change(stored);
+let logins = 0;
+const queue = {
+    async login(password, field) {
+        const result = await realQueue.login(password, field);
+        if (logins < changes.length) users.change(changes[logins]);
+        logins += 1;
+        return result;
+    },
+};
+"""
+STATUSES_OF_CHANGES = """
+const calls = Array.from({ length: count }, () => statusOfLogin('ann', 'password'));
+const statuses = await Promise.all(calls);
+console.log(JSON.stringify({ statuses, logins, written, stored: users.get('ann') ?? null }));
+"""
+CHECKED = crypt(b"password", b"$6$rounds=1000$saltsaltsaltsalt").decode()
+OUTDATED = crypt(b"password", b"$1$saltsalt").decode()
+OF_THE_SAME_PASSWORD = crypt(b"password", b"$6$rounds=1000$another.salt").decode()
+OF_ANOTHER_PASSWORD = crypt(b"another", b"$6$rounds=1000$saltsaltsaltsalt").decode()
+
+
+@dataclass(frozen=True)
+class Meanwhile:
+    """What is stored, what it becomes after each login (None: it's deleted), and the answer."""
+
+    title: str
+    stored: str
+    changes: tuple[str | None, ...] = ()
+    status: int = 403
+    logins: int = 2
+
+    @property
+    def stored_at_the_end(self) -> str | None:
+        """What is stored if the program stores nothing."""
+        return self.changes[-1] if self.changes else self.stored
+
+
+CHANGES_MEANWHILE = [
+    Meanwhile("nothing", CHECKED, status=200, logins=1),
+    Meanwhile("a reset", CHECKED, (OF_ANOTHER_PASSWORD,)),
+    Meanwhile("a reset of an outdated hash", OUTDATED, (OF_ANOTHER_PASSWORD,)),
+    Meanwhile("a lock", CHECKED, (f"!{CHECKED}",)),
+    Meanwhile("a lock of an outdated hash", OUTDATED, (f"!{OUTDATED}",)),
+    Meanwhile("a deletion", CHECKED, (None,)),
+    Meanwhile("a deletion of an outdated hash", OUTDATED, (None,)),
+    Meanwhile("another hash of the password", CHECKED, (OF_THE_SAME_PASSWORD,), status=200),
+    Meanwhile("a renewal elsewhere", OUTDATED, (OF_THE_SAME_PASSWORD,), status=200),
+    Meanwhile("two changes", CHECKED, (OF_THE_SAME_PASSWORD, CHECKED), status=200, logins=3),
+    Meanwhile("a lock after a change", CHECKED, (OF_THE_SAME_PASSWORD, "!"), logins=3),
+    Meanwhile(
+        "a change at each login",
+        CHECKED,
+        (OF_THE_SAME_PASSWORD, CHECKED, OF_THE_SAME_PASSWORD),
+        status=503,
+        logins=3,
+    ),
+]
+
+
+def report_of_changes(
+    user: Site, web_build: Path, stored: str, changes: tuple[str | None, ...], count: int = 1
+) -> Report:
+    """Returns what logins at once answer and store while the field changes."""
+    program = program_of_readme(web_build, "Too many logins")
+    text = OF_A_CHANGING_SERVICE + program + STATUSES_OF_CHANGES
+    (user.folder / "meanwhile.mjs").write_text(text, encoding="utf-8")
+    given = {"stored": stored, "changes": changes, "count": count}
+    return user.report_of("meanwhile.mjs", given=given)
+
+
+@pytest.mark.parametrize("row", CHANGES_MEANWHILE, ids=[row.title for row in CHANGES_MEANWHILE])
+def test_program_with_statuses_answers_by_what_is_stored_after_the_login(
+    user: Site, web_build: Path, row: Meanwhile
+) -> None:
+    report = report_of_changes(user, web_build, row.stored, row.changes)
+    assert (report["statuses"], report["logins"]) == ([row.status], row.logins), report
+    assert (report["written"], report["stored"]) == ([], row.stored_at_the_end), report
+
+
+def test_program_with_statuses_stores_a_renewed_hash(user: Site, web_build: Path) -> None:
+    report = report_of_changes(user, web_build, OUTDATED, ())
+    assert (report["statuses"], report["logins"]) == ([200], 1), report
+    assert report["written"] == [report["stored"]], report
+    assert report["stored"].startswith("$6$rounds=1000$"), report
+
+
+def test_program_with_statuses_stores_one_of_two_renewed_hashes(
+    user: Site, web_build: Path
+) -> None:
+    report = report_of_changes(user, web_build, OUTDATED, (), count=2)
+    assert (report["statuses"], report["logins"]) == ([200, 200], 3), report
+    assert report["written"] == [report["stored"]], report
+
+
 OF_AN_OLD_SERVICE = """
+import { pbkdf2Sync } from 'node:crypto';
 import { passwordProblem } from 'mkpasswd';
 const OLD = '$2b$05$abcdefghijklmnopqrstuuqDsKnOFqPaNCEhHd5ZzD0Y1nJ1xN0cG';
-async function bcryptMatches(password, field) {
+async function oldMatches(password, field) {
+    if (field.startsWith('pbkdf2_')) return djangoMatches(password, field);
     if (field !== OLD) throw new Error('damaged');
     return password === 'password';
+}
+function djangoMatches(password, field) {
+    const [, rounds, salt, digest] = field.split('$');
+    return pbkdf2Sync(password, salt, Number(rounds), 32, 'sha256').toString('base64') === digest;
 }
 users.set('bob', OLD);
 """
@@ -175,8 +309,18 @@ const both = [statusOfLogin('ann', 'x'), statusOfLogin('ann', 'x')];
 const busy = await Promise.all([...both, status('password')]);
 console.log(JSON.stringify({ wrong, kept, right, others, busy, stored: users.get('bob') }));
 """
-# The times in milliseconds of a right password, a wrong one, one whose check throws, and one for a
-# user without a field.
+# The statuses of a user with a hash of Django's, and what is stored before and after a match.
+OLD_DJANGO = """
+import { readFileSync } from 'node:fs';
+const field = JSON.parse(readFileSync(0, 'utf8'));
+users.set('bob', field);
+const wrong = await statusOfAnyLogin('bob', 'x');
+const isKept = users.get('bob') === field;
+const right = await statusOfAnyLogin('bob', 'password');
+console.log(JSON.stringify({ wrong, isKept, right, stored: users.get('bob') }));
+"""
+# The times in milliseconds of a wrong password, one whose check throws, and one for a user without
+# a field.
 OLD_TIMES = """
 async function timed(password, field) {
     users.set('bob', field);
@@ -184,12 +328,16 @@ async function timed(password, field) {
     const status = await statusOfAnyLogin('bob', password);
     return { status, time: performance.now() - begin };
 }
-await queue.hash('the first starts a worker');
-const right = await timed('password', OLD);
 const late = [await timed('x', OLD), await timed('password', '$2b$'), await timed('x', undefined)];
-console.log(JSON.stringify({ right, late }));
+console.log(JSON.stringify({ late }));
 """
 OLD_FAILURE = 2000  # milliseconds
+# The answer to a right password. The failure of the dummy login still waits.
+OLD_MATCH = """
+console.log(JSON.stringify({ status: await statusOfAnyLogin('bob', 'password') }));
+process.exit();
+"""
+LONGEST_FAILURE = 2**31 - 1  # milliseconds, about 25 days
 
 
 @pytest.fixture(scope="module")
@@ -209,13 +357,28 @@ def test_program_of_readme_moves_users_of_bcrypt(user: Site, old_service: str) -
     assert report["busy"] == [403, 403, 503] and report["stored"].startswith("$2b$"), report
 
 
+def test_program_of_readme_moves_users_of_pbkdf2(user: Site, old_service: str) -> None:
+    digest = hashlib.pbkdf2_hmac("sha256", b"password", b"salt", 1000)
+    field = f"pbkdf2_sha256$1000$salt${base64.b64encode(digest).decode()}"
+    (user.folder / "django.mjs").write_text(old_service + OLD_DJANGO, encoding="utf-8")
+    report = user.report_of("django.mjs", given=field)
+    assert (report["wrong"], report["isKept"], report["right"]) == (403, True, 200), report
+    stored = report["stored"]
+    assert stored.startswith("$6$") and stored == crypt(b"password", stored.encode()).decode()
+
+
 def test_program_of_readme_hides_an_old_check_that_throws(user: Site, old_service: str) -> None:
     text = old_service.replace("failureTime: 0", f"failureTime: {OLD_FAILURE}")
     (user.folder / "throwing.mjs").write_text(text + OLD_TIMES, encoding="utf-8")
     report = user.report_of("throwing.mjs")
-    assert report["right"]["status"] == 200 and report["right"]["time"] < OLD_FAILURE, report
     for failure in report["late"]:
         assert failure["status"] == 403 and failure["time"] >= OLD_FAILURE, report
+
+
+def test_program_of_readme_answers_an_old_match_at_once(user: Site, old_service: str) -> None:
+    text = old_service.replace("failureTime: 0", f"failureTime: {LONGEST_FAILURE}")
+    (user.folder / "match.mjs").write_text(text + OLD_MATCH, encoding="utf-8")
+    assert user.report_of("match.mjs")["status"] == 200
 
 
 # Changes of the password. The last two meet another change of the field while they hash.
@@ -328,23 +491,11 @@ def test_program_of_readme_is_a_whole_service(user: Site, whole_service: str) ->
     assert statuses == [200, 403, 400, 400, 400, 413, 404, 400, 200, 403, 200]
 
 
-def test_program_with_statuses_refuses_a_user_who_is_locked_meanwhile(
-    user: Site, web_build: Path
-) -> None:
-    program = program_of_readme(web_build, "Too many logins")
-    after = "const result = await queue.login(password, field);\n"
-    changed = program.replace(after, f"{after}users.set(name, '!');\n")
-    assert changed != program
-    printed = "console.log(JSON.stringify({ status: await statusOfLogin('ann', 'password') }));\n"
-    (user.folder / "locked.mjs").write_text(OF_A_BUSY_SERVICE + changed + printed, "utf-8")
-    assert user.report_of("locked.mjs")["status"] == 403
-
-
 def test_program_of_readme_measures_the_costliest_login(user: Site, web_build: Path) -> None:
     program = program_of_readme(web_build, "When a failure is answered")
     (user.folder / "measure.mjs").write_text(program, encoding="utf-8")
     printed = user.run(user.node, "measure.mjs").stdout.decode()
-    assert re.fullmatch(r"the costliest login: [\d.]+m?s\n", printed), printed
+    assert re.fullmatch(r"the costliest login: [\d.:]+(ms|s| \(m:ss.mmm\))\n", printed), printed
 
 
 # Hashes that cost less and more than a new one, and fields that have none of our hashes.
@@ -365,6 +516,39 @@ console.log(JSON.stringify({ isOfScrypt, passwordLength }));
     (user.folder / "budget.mjs").write_text(STORED + program + printed, encoding="utf-8")
     report = user.report_of("budget.mjs")
     assert report["isOfScrypt"] is True and report["passwordLength"] >= 64, report
+
+
+# Fields whose users get in or not, in the order of the README's table, and a name for each.
+TOO_COSTLY = "$6$rounds=2000000$saltsaltsaltsalt$" + "." * 86
+FIELDS_OF_USERS = {
+    "ann": crypt(b"password", b"$6$rounds=656000$saltsaltsaltsalt").decode(),
+    "bob": OUTDATED,
+    "eve": "$2b$05$abcdefghijklmnopqrstuuqDsKnOFqPaNCEhHd5ZzD0Y1nJ1xN0cG",
+    "fay": "pbkdf2_sha256$1000$salt$AAAA",
+    "gus": "correct horse",
+    "hal": CHECKED[:40],
+    "ida": "$5$rounds=$x",
+    "jon": TOO_COSTLY,
+    "kim": f"!{CHECKED}",
+    "leo": "",
+}
+FOUND_USERS = """\
+eve: unknown
+fay: no scheme
+gus: no scheme
+hal: dead
+ida: malformed
+jon: over budget
+kim: locked
+leo: none
+"""
+
+
+def test_program_of_readme_finds_users_whom_no_login_lets_in(user: Site, web_build: Path) -> None:
+    program = program_of_readme(web_build, "Users whom no login lets in")
+    given = f"const users = new Map(Object.entries({json.dumps(FIELDS_OF_USERS)}));\n"
+    (user.folder / "find.mjs").write_text(given + program, encoding="utf-8")
+    assert user.run(user.node, "find.mjs").stdout.decode() == FOUND_USERS
 
 
 def test_program_of_readme_makes_hashes_by_another_policy(user: Site, web_build: Path) -> None:
@@ -397,6 +581,7 @@ def assert_accepted(user: Site, text: str) -> None:
         pytest.param("When a failure is answered", "js", "", id="a measurement"),
         pytest.param("If that is too few", "js", USERS, id="a budget"),
         pytest.param("Why a login failed", "js", FIELD, id="a reason"),
+        pytest.param("Users whom no login lets in", "js", USERS, id="a search for users"),
         pytest.param("Another policy", "js", "", id="a policy"),
         pytest.param("TypeScript", "ts", "", id="TypeScript"),
     ],
@@ -410,20 +595,26 @@ def test_typescript_accepts_programs_of_readme(
 
 # The code before the README's functions.
 FUNCTIONS_USE = """
-import { Busy, LoginQueue, describe, passwordProblem } from 'mkpasswd';
+import { Busy, LoginQueue, passwordProblem } from 'mkpasswd';
 declare const queue: LoginQueue;
 declare const users: Map<string, string>;
-declare function bcryptMatches(password: string, field: string): Promise<boolean>;
+declare function oldMatches(password: string, field: string): Promise<boolean>;
 declare function setImmediate(call: (value: unknown) => void): void;
 """
 
 
+CONFIRM_FIELD = "confirmField(name, field, renewed)"
+TYPED_CONFIRM_FIELD = "confirmField(name: string, field?: string, renewed?: string | null)"
+
+
 def with_types(program: str) -> str:
-    """Returns a program that declares each parameter of a function as a string."""
+    """Returns a program that declares the parameters of its functions, nearly all as strings."""
+    declaration = f"function {CONFIRM_FIELD}"
+    assert declaration in program
     return re.sub(
         r"function (\w+)\(([\w, ]+)\)",
         lambda match: f"function {match[1]}({match[2].replace(',', ': string,')}: string)",
-        program,
+        program.replace(declaration, f"function {TYPED_CONFIRM_FIELD}"),
     )
 
 

@@ -38,6 +38,10 @@ FORMS = {
     "md5crypt": r"\$1\$[./\w]{8}\$\S+",
 }
 
+# How the page says how long a job took, and how long one will take, on any machine.
+TIME_TAKEN = r"(less than 0\.1\u00a0s|\d\.\d\u00a0s|\d+ (seconds|minutes|hours))"
+TIME_EXPECTED = r"(a moment|about ((a|a quarter of a|half a) second|\d+ (seconds|minutes|hours)))"
+
 OUTDATED = (
     "The password matches, but the hash is outdated "
     "(few rounds, or not sha512crypt): replace it with a new one."
@@ -122,7 +126,7 @@ UNCHECKED = [
         "a hash above the budget",
         stored=DEAR_HASH,
         password="x",
-        answer="Checking this hash can take about N, so it was refused. "
+        answer="Checking this hash can take N, so it was refused. "
         f"If you trust it, raise the budget to {COST_OF_DEAR_HASH}.",
     ),
     Unchecked(
@@ -151,7 +155,7 @@ UNCHECKED = [
         "scrypt above the budget",
         stored=DEAR_SCRYPT_HASH,
         password="x",
-        answer="Checking this hash can take about N, so it was refused. "
+        answer="Checking this hash can take N, so it was refused. "
         f"If you trust it, raise the budget to {COST_OF_DEAR_SCRYPT_HASH}.",
     ),
     Unchecked(
@@ -369,7 +373,7 @@ def new_hash(page: Report, method: str) -> NewHash:
 
 def without_time(answer: str) -> str:
     """Returns the page's answer without the time that it took."""
-    return re.sub(r" Checked in .*\u00a0s\.$", "", answer)
+    return re.sub(rf" Checked in {TIME_TAKEN}\.$", "", answer)
 
 
 def of_libxcrypt(password: str, stored: str) -> str:
@@ -397,13 +401,11 @@ def test_every_hash_has_another_salt(served: Report, opened: Report) -> None:
 @each_method
 def test_page_says_how_long_a_hash_took(page: Report, method: str) -> None:
     message = new_hash(page, method).message_when_made
-    assert re.fullmatch(r"Made in (less than 0\.1|\d+\.\d)\u00a0s\.", message)
+    assert re.fullmatch(rf"Made in {TIME_TAKEN}\.", message)
 
 
 def test_page_says_how_long_a_hash_will_take(page: Report) -> None:
-    some_seconds = r"(a|a quarter of a|half a|\d+) seconds?"
-    form = rf"Takes (a moment|about ({some_seconds}|\d+ (minutes|hours)))\."  # hours if busy
-    assert re.fullmatch(form, page["estimate"])
+    assert re.fullmatch(rf"Takes {TIME_EXPECTED}\.", page["estimate"])
 
 
 @pytest.mark.parametrize(
@@ -418,7 +420,7 @@ def test_page_says_how_much_time_and_memory_scrypt_will_take(
 ) -> None:
     shown_rounds, estimate = page["scrypt"]["estimates"][place]
     assert shown_rounds == str(rounds)
-    assert re.fullmatch(rf"Takes (a|about) [\w ]+ and {memory}\u00a0MiB of memory\.", estimate)
+    assert re.fullmatch(rf"Takes {TIME_EXPECTED} and {memory}\u00a0MiB of memory\.", estimate)
 
 
 def test_fields_have_the_recommended_rounds_and_their_budget(page: Report) -> None:
@@ -637,7 +639,7 @@ def test_page_says_why_no_password_matches(page: Report, method: str, flaw: Flaw
 @pytest.mark.parametrize("row", UNCHECKED, ids=[row.title for row in UNCHECKED])
 def test_page_says_why_it_cannot_check(page: Report, row: Unchecked) -> None:
     answer = page["refused"][UNCHECKED.index(row)]
-    assert re.sub(r"(?<=about )\d+ (seconds|minutes|hours)", "N", answer) == row.answer
+    assert re.sub(rf"(?<=can take ){TIME_EXPECTED}", "N", answer) == row.answer
 
 
 def test_budget_is_hidden_until_a_hash_is_above_it(page: Report) -> None:
@@ -738,7 +740,7 @@ def test_estimate_is_corrected_by_the_time_of_the_last_hash(
     report = visit_page(browser, pages.slow.as_uri(), page_script)
     before, after = report.value
     assert before == "Takes about 20 minutes.", report
-    assert after == "Takes about N.", report
+    assert re.fullmatch(rf"Takes {TIME_EXPECTED}\.", after) and after != before, report
 
 
 # ---- mkpasswd.mjs in a page

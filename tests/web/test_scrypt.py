@@ -7,7 +7,6 @@ from __future__ import annotations
 
 import hashlib
 import json
-import os
 from pathlib import Path
 from typing import Any, Callable
 
@@ -23,7 +22,8 @@ PASSWORD = "K\u00e4se \U0001f40e"
 SALT = "SodiumChloride12345678"
 MEBIBYTE = 1 << 20
 MEMORY_OF_DEFAULT = 64 * MEBIBYTE  # with N = 2^14 and r = 32, the program's default
-MOST_GROWTH = 20  # MiB
+PAGES_OF_DEFAULT = MEMORY_OF_DEFAULT // (64 << 10)
+MOST_OTHER_PAGES = 16  # 1 MiB, more than a hash needs besides its table
 LOGINS = 20
 # With this option node gives an instance at most 600 pages of 64 KiB, too few for the default cost.
 TOO_LITTLE_MEMORY = "--wasm-max-mem-pages=600"
@@ -59,8 +59,10 @@ def of_hashlib(log_n: int, r: int, p: int) -> str:
 
 DEFAULT = scrypt_setting(14, 32, 1)
 SMALL = scrypt_setting(10, 8, 1)
+LARGE = scrypt_setting(16, 32, 1)  # takes 256 MiB, more than a worker keeps
 HASH_OF_DEFAULT = of_libxcrypt(PASSWORD, DEFAULT)
 HASH_OF_SMALL = of_libxcrypt(PASSWORD, SMALL)
+HASH_OF_LARGE = of_libxcrypt(PASSWORD, LARGE)
 HASH_OF_SHA = of_libxcrypt(PASSWORD, "$6$rounds=656000$saltsaltsaltsalt")
 
 
@@ -154,11 +156,6 @@ def test_other_hashes_are_checked_even_without_memory_for_some(
 # ---- Simultaneous logins
 
 
-def workers() -> int:
-    """Returns how many workers mkpasswd.mjs starts at most."""
-    return max(1, len(os.sched_getaffinity(0)) - 1)
-
-
 def logins_at_once(count: int) -> list[list[str]]:
     """Returns passwords and hashes for logins. Every fourth password is wrong."""
     typed = [PASSWORD if number % 4 else "wrong" for number in range(count)]
@@ -170,12 +167,16 @@ def matches(rows: list[list[str]]) -> list[bool]:
     return [password == PASSWORD for password, _ in rows]
 
 
+@pytest.fixture(scope="module")
+def at_once(report_of: Callable[..., Report]) -> Report:
+    """What twenty logins at once do."""
+    return report_of("atOnce", logins_at_once(LOGINS))
+
+
 @pytest.mark.slow
-def test_twenty_logins_at_once_are_answered(report_of: Callable[..., Report]) -> None:
-    rows = logins_at_once(LOGINS)
-    report = report_of("atOnce", rows)
-    assert report["matches"] == matches(rows), report
-    assert report["most"] <= workers(), report
+def test_twenty_logins_at_once_are_answered(at_once: Report) -> None:
+    assert at_once["matches"] == matches(logins_at_once(LOGINS)), at_once
+    assert at_once["most"] <= at_once["mostWorkers"], at_once
 
 
 @pytest.mark.parametrize(
@@ -192,7 +193,7 @@ def test_simultaneous_logins_take_at_most_half_of_the_free_memory(
     rows = logins_at_once(6)
     report = report_of("inFreeMemory", [free, *rows])
     assert report["matches"] == matches(rows), report
-    assert report["most"] == min(most, workers()), report
+    assert report["most"] == min(most, report["mostWorkers"]), report
 
 
 def test_login_without_scrypt_overtakes_those_that_wait_for_memory(
@@ -201,7 +202,7 @@ def test_login_without_scrypt_overtakes_those_that_wait_for_memory(
     rows = [*logins_at_once(3), [PASSWORD, HASH_OF_SHA]]
     report = report_of("inFreeMemory", [0, *rows])
     assert report["matches"] == matches(rows), report
-    assert report["most"] == min(2, workers()), report
+    assert report["most"] == min(2, report["mostWorkers"]), report
 
 
 def test_login_that_finds_no_memory_during_others_is_tried_again(
@@ -212,28 +213,71 @@ def test_login_that_finds_no_memory_during_others_is_tried_again(
     assert report["matches"] == matches(rows), report
 
 
-# ---- Memory that is released
+# ---- Memory that is reused, wiped and released
 
 
-def test_worker_ends_after_scrypt_if_no_call_waits(report_of: Callable[..., Report]) -> None:
+def is_of_default(pages: int) -> bool:
+    """Returns whether a memory grew by the pages of the default cost, once."""
+    return PAGES_OF_DEFAULT <= pages <= PAGES_OF_DEFAULT + MOST_OTHER_PAGES
+
+
+@pytest.mark.slow
+def test_worker_reuses_its_memory_for_each_of_its_logins(at_once: Report) -> None:
+    """Twenty logins need a table of 64 MiB each, but only as many are made as there are workers."""
+    for worker in at_once["workers"]:
+        assert worker["instances"] == 1, at_once
+        assert is_of_default(worker["pages"]), at_once
+
+
+@pytest.mark.slow
+def test_worker_wipes_its_memory_before_each_answer(at_once: Report) -> None:
+    assert [worker["unwiped"] for worker in at_once["workers"]] == [0] * at_once["started"]
+
+
+@pytest.mark.slow
+def test_workers_end_after_scrypt_if_no_call_waits(at_once: Report) -> None:
+    assert at_once["ended"] == at_once["started"] <= at_once["mostWorkers"], at_once
+
+
+def test_worker_ends_after_each_of_successive_logins(report_of: Callable[..., Report]) -> None:
     rows = logins_at_once(3)
     assert report_of("oneAfterAnother", rows)["started"] == len(rows)
 
 
-@pytest.fixture(scope="module")
-def growth(report_of: Callable[..., Report]) -> Report:
-    """The growth of the resident memory during logins in MiB, after garbage collection."""
-    rows = [[PASSWORD, HASH_OF_SHA], *logins_at_once(LOGINS)]
-    return report_of("growth", rows, "--expose-gc")
+RIGHT = {"matches": True}
+
+
+def test_memory_of_a_worker_grows_to_the_largest_need(report_of: Callable[..., Report]) -> None:
+    """The checks have different costs, and a new hash of 32 MiB follows some of them."""
+    stored = (HASH_OF_SMALL, HASH_OF_DEFAULT, HASH_OF_SMALL, HASH_OF_SHA, HASH_OF_DEFAULT)
+    report = report_of("inTurn", [[PASSWORD, field] for field in stored])
+    assert report["outcomes"] == [RIGHT] * len(stored), report
+    (worker,) = report["workers"]
+    assert (worker["instances"], worker["unwiped"]) == (1, 0), report
+    assert is_of_default(worker["pages"]), report
 
 
 @pytest.mark.slow
-@pytest.mark.parametrize(
-    "logins",
-    [
-        pytest.param("inTurn", id="after logins in the caller's thread"),
-        pytest.param("together", id="after twenty logins at once"),
-    ],
-)
-def test_resident_memory_is_released(growth: Report, logins: str) -> None:
-    assert growth[logins] <= MOST_GROWTH, growth
+def test_worker_does_not_keep_a_very_large_memory(report_of: Callable[..., Report]) -> None:
+    stored = (HASH_OF_LARGE, HASH_OF_DEFAULT)
+    report = report_of("inTurn", [["wrong", field] for field in stored])
+    assert report["outcomes"] == [False, False], report
+    of_large, of_default = report["workers"]
+    assert of_large["pages"] > 4 * PAGES_OF_DEFAULT, report
+    assert is_of_default(of_default["pages"]), report
+    assert report["ended"] == 2, report
+
+
+def test_instance_that_traps_is_wiped_and_replaced(report_of: Callable[..., Report]) -> None:
+    report = report_of("trapping", [[PASSWORD, HASH_OF_DEFAULT]] * 3)
+    assert report["outcomes"] == ["Error: unreachable", RIGHT, RIGHT], report
+    (worker,) = report["workers"]
+    assert (worker["instances"], worker["unwiped"]) == (2, 0), report
+
+
+def test_login_in_the_callers_thread_keeps_no_memory(report_of: Callable[..., Report]) -> None:
+    """Each has an instance of its own, which is garbage then. The first instance never grows."""
+    rows = logins_at_once(5)
+    report = report_of("inThisThread", rows)
+    assert report["matches"] == matches(rows), report
+    assert (report["instances"], report["hasGrown"]) == (1 + len(rows), False), report
