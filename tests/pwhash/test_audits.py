@@ -131,6 +131,84 @@ def test_the_systems_own_accounts_are_audited() -> None:
     assert pwhash("audit", "--only-problems", "/etc/shadow").status in (0, 1)
 
 
+PREFIXED = [
+    pytest.param(b"{SHA512-CRYPT}" + SHA512 + b"a" * 85 + b".", "current", id="Dovecot's"),
+    pytest.param(b"{CRYPT}" + MD5.encode(), "outdated", id="LDAP's"),
+    pytest.param(b"{crypt}" + SHA512 + b"short", "dead", id="in small letters"),
+    pytest.param(b"{CRYPT}$6$rounds=999999999$a$b", "over budget", id="before a hostile hash"),
+    pytest.param(b"{CRYPT}!" + MD5.encode(), "locked", id="before a lock"),
+    pytest.param(b"!{CRYPT}" + MD5.encode(), "locked", id="after a lock"),
+    pytest.param(b"{SSHA}!", "locked", id="of another scheme, before a lock"),
+    pytest.param(b"{BLF-CRYPT}$2y$05$" + b"a" * 53, "unknown", id="of bcrypt"),
+    pytest.param(b"{SSHA}" + b"a" * 28, "unknown", id="of another scheme"),
+]
+
+
+@pytest.mark.parametrize(("field", "finding"), PREFIXED)
+def test_the_hash_after_a_prefix_is_judged(field: bytes, finding: str) -> None:
+    save("hashes", b"ann:" + field + b":1000:1000::/home/ann\n")
+    done = pwhash("audit", "--json", "hashes")
+    judged = json.loads(done.out)
+    prefix = field[field.index(b"{") : field.index(b"}") + 1].decode()
+    assert (judged["finding"], judged["prefix"], judged["name"]) == (finding, prefix, "ann"), done
+    done = pwhash("audit", "hashes")
+    assert f"after {prefix}".encode() in done.out, done
+
+
+def test_a_plain_password_after_a_prefix_has_no_scheme() -> None:
+    done = pwhash("audit", "--json", save("one", b"ann:{PLAIN}secret\n"))
+    assert json.loads(done.out)["finding"] == "no scheme" and b"PLAIN" not in done.out, done
+
+
+@pytest.mark.parametrize("lock", [b"{CRYPT}!", b"!{CRYPT}", b"*{SHA512-CRYPT}!"])
+def test_the_option_locked_audits_the_hash_after_a_lock_and_a_prefix(lock: bytes) -> None:
+    save("locked", b"ann:" + lock + MD5.encode() + b"\n")
+    done = pwhash("audit", "--locked", "--json", "locked")
+    assert done.status == 1 and json.loads(done.out)["finding"] == "outdated", done
+
+
+def test_comments_and_blank_lines_are_no_accounts() -> None:
+    lines = b"# users: all\n\n" + ANN.line + b"\n#bob:" + MD5.encode() + b"\n \t\r\n"
+    done = pwhash("audit", save("fields", lines))
+    assert done.status == 0 and b"\n1 line of fields" in done.out, done
+    assert b"users" not in done.out and b"bob" not in done.out, done
+    done = pwhash("audit", "--json", "fields")
+    assert [json.loads(row)["line"] for row in done.out.splitlines()] == [3], done
+
+
+SECRET = "TopSecret1"
+NOT_NAMES = [
+    pytest.param(MD5, id="a bare hash"),
+    pytest.param(f"{MD5}:ann", id="hash:name"),
+    pytest.param(f"{MD5}:19000:0:99999:7:::", id="a line of shadow without its name"),
+    pytest.param(f"{MD5[:20]}:ann", id="a cut hash"),
+    pytest.param(f"!{MD5}:ann", id="a locked hash"),
+    pytest.param("{SSHA}" + "a" * 28 + ":ann", id="an LDAP hash"),
+    pytest.param("5f4dcc3b5aa765d61d8327deb882cf99:ann", id="MD5 in hexadecimal"),
+    pytest.param("abJnggxhB/yWI:ann", id="a hash of DES"),
+    pytest.param("W6ph5Mm5Pz8GgiULbPgzG37mj9g=:ann", id="SHA-1 in Base64"),
+    pytest.param(f"{SECRET}:ann", id="password:name"),
+    pytest.param(f"{SECRET}", id="a password"),
+    pytest.param(f"ann,{SECRET}", id="a row with commas"),
+    pytest.param(f"ann;{SECRET};https://example.org", id="a row with a colon in it"),
+    pytest.param(f"ann\t{SECRET}:x", id="a row with tabs"),
+    pytest.param(f"ann {SECRET}:{MD5}", id="blanks"),
+    pytest.param(f"ann\uff1a{SECRET}:{MD5}", id="a full-width colon"),
+    pytest.param(f'"{SECRET}":{MD5}', id="quotes"),
+]
+
+
+@pytest.mark.parametrize("line", NOT_NAMES)
+@pytest.mark.parametrize("words", [(), ("--json",), ("--only-problems",)], ids=" ".join)
+def test_a_hash_or_password_in_place_of_a_name_is_not_shown(
+    line: str, words: tuple[str, ...]
+) -> None:
+    save("fields", b"bob:*\n" + line.encode() + b"\n")
+    done = pwhash("audit", *words, "fields")
+    assert b"line 2" in done.out and SECRET.encode() not in done.out, done
+    assert line.partition(":")[0].encode() not in done.out, done
+
+
 def test_a_file_without_lines_is_named() -> None:
     done = pwhash("audit", "--only-problems", save("none", b""))
     message = b"pwhash: none has no lines.\n"

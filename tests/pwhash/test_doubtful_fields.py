@@ -109,8 +109,8 @@ def test_a_name_with_a_blank_may_come_from_another_column() -> None:
     table = save("people", b"person,password\nAnn Lee,secret\nbob,pw2\n")
     words = ("file", *MD5CRYPT, "--csv", "--columns", "person,password", table, "-o", "hashes")
     done = pwhash(*words)
-    assert done.status == 1 and b"(Ann Lee): a blank in the name" in done.err, done
-    assert b"--columns" in done.err, done
+    assert done.status == 1 and b"people, line 2: a blank in the name" in done.err, done
+    assert b"--columns" in done.err and b"Lee" not in done.err, done
 
 
 def test_a_service_that_reads_names_with_blanks_gets_them() -> None:

@@ -28,6 +28,7 @@ ONE = hashed(b"one")
 SIX = crypt(b"six", b"$6$rounds=656000$abcdefgh")
 HOSTILE = b"$6$rounds=999999999$abcdefgh$" + b"x" * 86
 BCRYPT = crypt(b"password", b"$2b$04$abcdefghijklmnopqrstuu")
+YESCRYPT = crypt(b"password", b"$y$j75$abcdefghijklmnopqrstu.")
 HASHES = b"ann:" + ONE + b"\nbob:" + SIX + b":1000:1000::/home/bob\neve:!" + ONE + b"\n"
 OLD = b"ann:" + SIX + b"\n"
 OTHERS = "--accept-other-schemes"
@@ -184,6 +185,14 @@ def test_an_invalid_owner_group_or_mode_is_refused(words: tuple[str, ...]) -> No
         pytest.param(b"eva:{CLEARTEXT}secret", b"prefix", OTHERS, id="LDAP's, with others"),
         pytest.param(b"eva:secret", b"no scheme", OTHERS, id="a bare one, with others"),
         pytest.param(b"eva:{SSHA}", b"empty", OTHERS, id="a prefix alone, with others"),
+        pytest.param(b"eva:$ecret$secret", b"by its form", OTHERS, id="a dollar sign, with others"),
+        pytest.param(b"eva:$9$secret", b"by its form", OTHERS, id="another number, with others"),
+        pytest.param(b"eva:$2b$secret", b"by its form", OTHERS, id="bcrypt's sign, with others"),
+        pytest.param(b"eva:" + BCRYPT[:-1], b"by its form", OTHERS, id="cut bcrypt, with others"),
+        pytest.param(b"eva:" + BCRYPT + b"x", b"by its form", OTHERS, id="longer, with others"),
+        pytest.param(b"eva:" + YESCRYPT[:-9], b"by its form", OTHERS, id="cut yescrypt"),
+        pytest.param(b"eva:secretsecrets", b"by its form", OTHERS, id="13 letters, with others"),
+        pytest.param(b"eva:{CRYPT}$ecret", b"by its form", OTHERS, id="after {CRYPT}, with others"),
         pytest.param(b"eva:" + HOSTILE, b"over budget", OTHERS, id="a costly one, with others"),
         pytest.param(b"eva:" + SIX[:-1], b"dead", OTHERS, id="a truncated one, with others"),
         pytest.param(
@@ -233,7 +242,10 @@ def test_a_hash_after_a_prefix_is_installed(words: str) -> None:
         pytest.param(BCRYPT, "--for apache", id="bcrypt for Apache"),
         pytest.param(BCRYPT.replace(b"$2b$", b"$2y$"), "--for nginx", id="bcrypt of htpasswd"),
         pytest.param(b"$apr1$saltsalt$" + b"x" * 22, "--for apache", id="Apache's"),
-        pytest.param(b"$y$j9T$abcdefghijklmnopqrstu.$abc", "", id="yescrypt"),
+        pytest.param(YESCRYPT, "", id="yescrypt"),
+        pytest.param(YESCRYPT.replace(b"$y$", b"$gy$"), "", id="gost-yescrypt"),
+        pytest.param(b"$argon2id$v=19$m=65536,t=3,p=4$c2FsdHNhbHQ$" + b"x" * 43, "", id="argon2"),
+        pytest.param(crypt(b"password", b"$sha1$1000$saltsalt"), "", id="NetBSD's"),
         pytest.param(b"{CRYPT}" + BCRYPT, "--for dovecot", id="bcrypt after a prefix"),
         pytest.param(b"{SHA}fEqNCco3Yq9h5ZUglD3CZJT4lBs=", "--for apache", id="{SHA} for Apache"),
         pytest.param(b"{SSHA}" + BASE64, "--for nginx", id="{SSHA} for nginx"),

@@ -3,7 +3,17 @@ from __future__ import annotations
 
 
 import pytest
-from support.pwhash_runs import ANN, BOB, BY_NUMBER, BOM, MD5, MD5CRYPT, lines_named_in, pwhash
+from support.pwhash_runs import (
+    ANN,
+    BOB,
+    BOM,
+    BY_NUMBER,
+    MD5,
+    MD5CRYPT,
+    hashed,
+    lines_named_in,
+    pwhash,
+)
 
 
 @pytest.mark.parametrize(
@@ -50,4 +60,53 @@ def test_the_option_windows_drops_marks_of_joined_lists() -> None:
     lists = BOM + b"ann:password\r\n" + BOM + b"bob:password\r\neve:password\n"
     expected = b"".join(name + b":" + MD5.encode() + b"\n" for name in (b"ann", b"bob", b"eve"))
     done = pwhash("file", *MD5CRYPT, "--windows", stdin=lists)
+    assert (done.status, done.out, done.err) == (0, expected, b""), done
+
+
+# ---- The first list has no line feed at its end
+
+
+@pytest.mark.parametrize(
+    "table",
+    [
+        pytest.param(b"name,password\nann,pw1\ncid,secretname,password\nbob,pw2\n", id="alike"),
+        pytest.param(
+            b"name,password,mail\nann,pw1,a\ncid,secretname,password\nbob,pw2\n",
+            id="a short row, and a narrower table",
+        ),
+        pytest.param(
+            b"name;password;room\nann;pw1;1\ncid;secretlogin;passwort\nbob;pw2\n",
+            id="a short row, and other headings",
+        ),
+        pytest.param(
+            b"name,password,mail\nann,pw1,a\ncidname,password,mail\nbob,pw2,b\n",
+            id="a row of a name alone",
+        ),
+        pytest.param(
+            b'"name","password"\n"ann","pw1"\n"cid","secret""name","password"\n"bob","pw2"\n',
+            id="quotes",
+        ),
+        pytest.param(
+            b"name,password,mail\nann,pw1,a\ncid,secret" + BOM + b"name,password\nbob,pw2\n",
+            id="a byte order mark",
+        ),
+    ],
+)
+def test_a_heading_behind_a_row_is_refused(table: bytes) -> None:
+    done = pwhash("file", "--csv", *MD5CRYPT, stdin=table)
+    assert (done.status, done.out, lines_named_in(done.err)) == (1, ANN + BOB, [3]), done
+    assert b"secret" not in done.err, done
+
+
+@pytest.mark.parametrize("heading", [b"name:password", b"Benutzer:Kennwort", b"E-Mail:PASSWORD"])
+def test_a_heading_behind_a_password_is_doubtful(heading: bytes) -> None:
+    done = pwhash("file", *MD5CRYPT, stdin=b"ann:pw1\ncid:secret" + heading + b"\nbob:pw2\n")
+    assert (done.status, done.out, lines_named_in(done.err)) == (1, ANN + BOB, [2]), done
+    assert b"secret" not in done.err, done
+
+
+def test_a_password_that_ends_like_a_heading_is_hashed() -> None:
+    table = b"name,password\nuser,myname\ndbuser,password\n"
+    done = pwhash("file", "--csv", *MD5CRYPT, "--accept-doubtful", stdin=table)
+    expected = b"user:" + hashed(b"myname") + b"\ndbuser:" + MD5.encode() + b"\n"
     assert (done.status, done.out, done.err) == (0, expected, b""), done

@@ -62,6 +62,40 @@ def test_each_password_is_tried_for_its_name() -> None:
     assert (done.status, done.out) == (1, b"ann:ok\nbob:no\neve:locked\nann:no\n"), done
 
 
+def test_a_name_that_is_repeated_among_the_stored_hashes_is_named() -> None:
+    save("shadow", b"ann:%b\nbob:%b\n#ann:x\nann:%b\n" % (HASH, HASH, hashed(b"second")))
+    done = pwhash("check", "--shadow", "shadow", stdin=b"ann:password\n")
+    assert (done.status, done.out) == (1, b"ann:ok\n"), done
+    assert b"shadow, line 4 (ann): the name again, after line 1: " in done.err, done
+
+
+def test_a_name_with_two_hashes_in_a_list_is_named() -> None:
+    lines = b"ann:%b:password\nann:%b:second\nann:%b:other\n" % (HASH, hashed(b"second"), HASH)
+    done = pwhash("check", stdin=lines)
+    assert (done.status, done.out) == (1, b"ann:ok\nann:ok\nann:no\n"), done
+    assert re.search(rb"another field in an earlier line.*\[2\]", done.err), done
+
+
+def test_several_passwords_for_one_hash_are_no_mistake() -> None:
+    done = pwhash("check", stdin=b"ann:%b:other\nann:%b:password\n" % (HASH, HASH))
+    assert (done.status, done.out, done.err) == (1, b"ann:no\nann:ok\n", b""), done
+
+
+@pytest.mark.parametrize(
+    "line",
+    [
+        pytest.param(b"TopSecret:ann", id="password:name"),
+        pytest.param(b"$9$TopSecret:ann", id="hash:name"),
+        pytest.param(b"ann,TopSecret:$9$x", id="a row"),
+    ],
+)
+def test_a_password_in_place_of_a_name_is_not_shown(line: bytes) -> None:
+    save("shadow", b"bob:%b\n%b\n" % (HASH, line))
+    done = pwhash("check", "--shadow", "shadow", stdin=b"password\n")
+    assert (done.status, done.out) == (1, b"bob:ok\n"), done
+    assert b"isn't checked" in done.err and b"TopSecret" not in done.err, done
+
+
 def test_a_name_without_a_stored_hash_is_named_by_its_line() -> None:
     save("shadow", SHADOW)
     done = pwhash("check", "--shadow", "shadow", save("list", LIST))

@@ -29,6 +29,26 @@ def test_without_python_the_message_says_so() -> None:
     assert done.status == 3 and b"/usr/bin/python3 is missing" in done.err, done
 
 
+@pytest.mark.parametrize("status", [125, 1], ids=["of coreutils 8.30", "of BusyBox"])
+def test_an_env_that_is_too_old_is_named(status: int) -> None:
+    script = f"""
+        echo '#!/bin/sh' > env
+        echo 'case $1 in -*) exit {status} ;; esac; exec "$@"' >> env
+        chmod 755 env
+        mount --bind env "$(readlink -f /usr/bin/env)"
+        "$@"
+    """
+    done = in_namespace(script, *MD5CRYPT, stdin=b"x\n")
+    assert done.status == 3 and b"/usr/bin/env" in done.err and b"8.31" in done.err, done
+
+
+@pytest.mark.parametrize("tool", ["env", "readlink"])
+def test_a_missing_tool_is_named(tool: str) -> None:
+    script = f'mount --bind /dev/null "$(readlink -f /usr/bin/{tool})"; "$@"'
+    done = in_namespace(script, *MD5CRYPT, stdin=b"x\n")
+    assert done.status == 3 and f"/usr/bin/{tool} is missing".encode() in done.err, done
+
+
 @pytest.mark.parametrize("files", range(11, 24))
 @pytest.mark.parametrize(
     "words",

@@ -1,10 +1,10 @@
-"""No control sequence in a name reaches the terminal."""
+"""A name in a message controls no terminal, and isn't shown if it may be a password or a hash."""
 from __future__ import annotations
 
 import os
 
 import pytest
-from support.pwhash_runs import ESCAPE, pwhash, save
+from support.pwhash_runs import ESCAPE, MD5, lines_named_in, pwhash, save
 
 
 def name_commands() -> list[tuple[str, ...]]:
@@ -46,3 +46,44 @@ def test_no_name_in_a_message_controls_the_terminal(words: tuple[str, ...]) -> N
     assert done.status != 0, done
     for output in done.out, done.err:
         assert b"\x1b" not in output and b"\nroot:ok" not in output, done
+
+
+SECRETS = [
+    pytest.param(b"Top Secret", id="blanks"),
+    pytest.param(b"ann,TopSecret", id="a comma"),
+    pytest.param(b"ann\tTopSecret", id="a tab"),
+    pytest.param(b'"TopSecret"', id="quotes"),
+    pytest.param("ann\uff1aTopSecret".encode(), id="a full-width colon"),
+    pytest.param(MD5.encode(), id="a hash"),
+    pytest.param(b"{SSHA}TopSecretTopSecretTopSecret", id="a hash of LDAP"),
+    pytest.param(b"5f4dcc3b5aa765d61d8327deb882cf99", id="a hash in hexadecimal"),
+    pytest.param(b"abJnggxhB/yWI", id="a hash of DES"),
+]
+# Commands that find the line doubtful, wrong or unknown, with the line, where NAME is its name.
+COMMANDS = [
+    pytest.param(("file", "lines"), b"NAME:", id="a doubtful line"),
+    pytest.param(("file", "--look", "lines"), b"NAME:", id="look"),
+    pytest.param(
+        ("file", "--skip-unknown", "known", "lines"), b"NAME:password", id="an unknown name"
+    ),
+    pytest.param(("install", "lines", "target"), b"NAME:$1$x", id="a wrong hash"),
+    pytest.param(("install", "lines", "target"), b"NAME:ann", id="no hash"),
+]
+
+
+@pytest.mark.parametrize("name", SECRETS)
+@pytest.mark.parametrize(("words", "line"), COMMANDS)
+def test_what_may_be_a_password_is_not_shown_as_a_name(
+    words: tuple[str, ...], line: bytes, name: bytes
+) -> None:
+    save("known", b"ann:x\n")
+    save("lines", b"ann:password\n" + line.replace(b"NAME", name) + b"\n")
+    done = pwhash(*words)
+    assert 2 in lines_named_in(done.err) and name not in done.err, done
+    assert b"Secret" not in done.err, done
+
+
+def test_a_password_in_front_of_a_known_name_is_not_shown() -> None:
+    save("known", b"ann:x\n")
+    done = pwhash("file", "--skip-unknown", "known", save("lines", b"TopSecret:ann\n"))
+    assert b"line 1: not in known" in done.err and b"TopSecret" not in done.err, done

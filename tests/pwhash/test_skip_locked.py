@@ -33,6 +33,12 @@ LOCKED = [
     pytest.param(b"*LK*", id="a lock in words"),
     pytest.param(b"{CRYPT}!" + MD5.encode(), id="a lock after Dovecot's prefix"),
     pytest.param(b"!{SHA512-CRYPT}" + MD5.encode(), id="a lock before Dovecot's prefix"),
+    pytest.param(b"{SHA512-CRYPT}!" + MD5.encode(), id="a lock after another prefix"),
+    pytest.param(b"{CRYPT}!", id="a lock after a prefix, and no hash"),
+    pytest.param(b"{SSHA}!", id="a lock after LDAP's prefix, and no hash"),
+    pytest.param(b"{SSHA}!" + b"a" * 28, id="a lock after LDAP's prefix"),
+    pytest.param(b"!{SSHA}" + b"a" * 28, id="a lock before LDAP's prefix"),
+    pytest.param(b"!!*", id="several marks"),
     pytest.param(b"!$y$j9T$abcdefghijklmnopqrstu.$abc", id="yescrypt"),
 ]
 NOT_LOCKED = [
@@ -41,6 +47,7 @@ NOT_LOCKED = [
     pytest.param(b"", id="nothing"),
     pytest.param(b"!", id="useradd"),
     pytest.param(b"!!", id="Red Hat's useradd"),
+    pytest.param(b"{PLAIN}!secret", id="a plain password that begins with a mark"),
 ]
 
 

@@ -195,14 +195,55 @@ def test_a_wrong_option_is_named_before_anything_is_typed() -> None:
     assert terminal.status == 2 and b"Password" not in terminal.screen, terminal
 
 
-def test_a_password_typed_after_ctrl_z_is_hidden() -> None:
-    """Otherwise the shell, which doesn't wait for the prompt to end, would show the password."""
-    save("script", f"{PWHASH} {shlex.join(MD5CRYPT)}\nexit $?\n".encode())
-    child = pexpect.spawn("/bin/sh", ["-m", "script"], timeout=60)
-    child.expect(rb"Password: ")
+def test_ctrl_z_at_a_prompt_shows_keys_until_fg(monkeypatch: pytest.MonkeyPatch) -> None:
+    monkeypatch.setenv("PS1", "shell> ")
+    child = pexpect.spawn("/bin/sh", ["-i"], timeout=60)
+    child.expect_exact("shell> ")
+    child.send(f"{PWHASH} {shlex.join(MD5CRYPT)}\r")
+    child.expect_exact("Password: ")
+    child.send(b"half\x1a")
+    child.expect_exact("shell> ")
+    screen = bytes(child.before)
+    wait_for(lambda: shows_keys(child.child_fd))
+    child.send("fg\r")
+    child.expect_exact("Password: ")
+    screen += bytes(child.before)
+    assert not shows_keys(child.child_fd)
+    child.send(b"secret\r")
+    child.expect_exact("Again: ")
+    screen += bytes(child.before)
+    child.send(b"secret\r")
+    child.expect_exact("shell> ")
+    screen += bytes(child.before)
+    child.close()
+    assert hashed(b"secret") in screen.split(), screen
+    assert b"half" not in screen and b"secret" not in screen, screen
+
+
+def test_ctrl_z_without_a_shell_that_could_continue_asks_again() -> None:
+    child = pexpect.spawn(PWHASH, list(MD5CRYPT), timeout=60)
+    child.expect_exact("Password: ")
+    child.send(b"half\x1a")
+    child.expect_exact("Password: ")
+    screen = bytes(child.before) + type_secret(child)
+    assert hashed(b"secret") in screen.split(), screen
+    assert b"half" not in screen and b"secret" not in screen, screen
+
+
+def test_a_stopped_prompt_can_be_ended(monkeypatch: pytest.MonkeyPatch) -> None:
+    monkeypatch.setenv("PS1", "shell> ")
+    child = pexpect.spawn("/bin/sh", ["-i"], timeout=60)
+    child.expect_exact("shell> ")
+    child.send(f"{PWHASH} {shlex.join(MD5CRYPT)}\r")
+    child.expect_exact("Password: ")
     child.send(b"\x1a")
-    screen = type_secret(child)
-    assert b"secret" not in screen and screen.split()[-1] == hashed(b"secret"), screen
+    child.expect_exact("shell> ")
+    child.send("jobs -p > job; kill %1; bg; wait\r")
+    wait_for(lambda: os.path.exists("job") and read("job") != b"")
+    process = int(read("job"))
+    wait_for(lambda: state_of(process) == "")
+    assert shows_keys(child.child_fd)
+    child.close()
 
 
 def test_keys_after_the_password_are_not_left_for_the_shell() -> None:

@@ -127,6 +127,23 @@ PASTED = [
     pytest.param(b"ann:FIRST\nREST:19000:\n0:99999:7:::", id="a line from shadow with line breaks"),
     pytest.param(b'password: "FIRSTREST"', id="a line from Ansible"),
     pytest.param(b"ann:{CRYPT}FIRST\n REST", id="a prefix"),
+    pytest.param(b"password-hash: FIRSTREST", id="a key of an installer"),
+    pytest.param(
+        b"d-i passwd/user-password-crypted password FIRSTREST", id="a line for Debian's installer"
+    ),
+    pytest.param(b"rootpw --iscrypted FIRSTREST", id="a line for Kickstart"),
+    pytest.param(b"user --name=ann --password=FIRSTREST --iscrypted", id="a user of Kickstart"),
+    pytest.param(b"    passwd: 'FIRSTREST'  # of ann", id="YAML with a comment"),
+    pytest.param(b'  "passwordHash": "FIRSTREST",', id="JSON"),
+    pytest.param(b'hashedPassword = "FIRSTREST";', id="a line of Nix"),
+    pytest.param(b"--password-hash='FIRSTREST'", id="an option"),
+    pytest.param(b"usermod -p 'FIRSTREST' ann", id="a command"),
+    pytest.param(b"  - FIRSTREST", id="an entry of a list"),
+    pytest.param(b"<user_password>FIRSTREST</user_password>", id="a line of AutoYaST"),
+    pytest.param(b"userPassword: {CRYPT}FIRSTREST", id="a line of LDIF"),
+    pytest.param(b"> > FIRST\n> > REST\n", id="a reply to an e-mail"),
+    pytest.param("\u201cFIRSTREST\u201d".encode(), id="quotes of a word processor"),
+    pytest.param(b"HOST$:FIRSTREST:19000::::::", id="the account of a machine"),
 ]
 
 
@@ -139,6 +156,53 @@ def test_a_pasted_hash_may_have_blanks_and_its_line_around_it(pasted: bytes, set
     assert (done.status, done.out) == (0, YES) and done.err.count(b"\n") <= 1, done
     done = pwhash("verify", stdin=b"other\n" + pasted)
     assert (done.status, done.out) == (1, NO), done
+
+
+@pytest.mark.parametrize("length", [1, 2, 3, 6, 10, 12, 16, 17, 20])
+@pytest.mark.parametrize("line_break", [b"\n", b"\r\n", b"\n> "])
+def test_a_line_break_may_be_within_the_setting(length: int, line_break: bytes) -> None:
+    stored = hashed(SECRET, "$6$rounds=10000$saltsalt")
+    pasted = b"ann:" + stored[:length] + line_break + stored[length:] + b":19000:0:99999:7:::\n"
+    done = pwhash("verify", stdin=SECRET + b"\n" + pasted)
+    assert (done.status, done.out) == (0, YES), done
+    done = pwhash("verify", stdin=b"other\n" + pasted)
+    assert (done.status, done.out) == (1, NO), done
+
+
+def test_the_rest_of_a_hash_may_come_later() -> None:
+    stored = hashed(SECRET, "$6$rounds=10000$saltsalt").decode()
+    parts = f"echo '{stored[:12]}'; sleep 0.2; echo '{stored[12:50]}'; sleep 0.2"
+    done = shell(f"(echo TopSecret; {parts}; echo '{stored[50:]}') | \"$@\"", "verify")
+    assert (done.status, done.out) == (0, YES), done
+
+
+# What is no stored hash of TopSecret, although it contains one. HASH is a hash of it.
+AMBIGUOUS = [
+    pytest.param(b"ann:HASH:HASH", b"more than one hash", id="two hashes"),
+    pytest.param(b"HASH HASH", b"cut or changed", id="two hashes with a blank between"),
+    pytest.param(b"HASH\nHASH\n", b"more than one hash", id="two lines with a hash"),
+    pytest.param(b"HASH\nbob:!HASH\n", b"more than one hash", id="another user's line after it"),
+    pytest.param(b"ann:x:HASH", b"stored as it is", id="a hash in another field"),
+    pytest.param(b"ann:x HASH", b"stored as it is", id="a field that ends in a hash"),
+    pytest.param(b"ann:xHASH", b"stored as it is", id="a letter before the hash"),
+    pytest.param(b"ann HASH", b"stored as it is", id="a name without a colon"),
+    pytest.param(b"ann:HASH # old:1", b"cut or changed", id="a comment in the field"),
+    pytest.param(b"ann:!HASH:1", b"locked", id="a lock"),
+    pytest.param(b"passwd: '!HASH'", b"locked", id="a lock in quotes"),
+    pytest.param(b"ann:{CRYPT}!HASH", b"locked", id="a lock after a prefix"),
+    pytest.param(b"--password='*HASH'", b"locked", id="a star in an option"),
+    pytest.param(b"{CRYPT}{CRYPT}HASH", b"another scheme", id="two prefixes"),
+    pytest.param(b"'HASH'x", b"cut or changed", id="a letter after the quote"),
+    pytest.param(b"HASHx", b"cut or changed", id="a letter after the hash"),
+]
+
+
+@pytest.mark.parametrize(("pasted", "reason"), AMBIGUOUS)
+def test_what_only_contains_a_hash_is_not_compared(pasted: bytes, reason: bytes) -> None:
+    save("input", SECRET + b"\n" + pasted.replace(b"HASH", HASH) + b"\n")
+    done = shell('"$@" < input', "verify")
+    assert (done.status, done.out) == (2, b"") and reason in done.err, done
+    assert SECRET not in done.err and HASH[12:] not in done.err, done
 
 
 def test_pwhash_does_not_wait_for_more_after_a_complete_hash() -> None:
@@ -158,6 +222,7 @@ def test_pwhash_does_not_wait_for_more_after_a_complete_hash() -> None:
         pytest.param(b"pass\x1b[Dword", b"control character", id="an arrow"),
         pytest.param(b"p\xe4ssword", b"UTF-8", id="Latin-1"),
         pytest.param("pa\u0308ssword".encode(), b"NFC", id="decomposed accents"),
+        pytest.param("p\xe4ssword".encode(), b"another encoding", id="an accent in UTF-8"),
     ],
 )
 def test_a_no_says_what_is_odd_about_the_password(password: bytes, reason: bytes) -> None:

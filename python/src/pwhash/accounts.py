@@ -7,10 +7,11 @@ from typing import Dict, List
 
 from pwhash.console import Console
 from pwhash.lines import BYTE_ORDER_MARK, Line, LineGroups
-from pwhash.stored import stored_in
-from pwhash.text import is_utf8
+from pwhash.shown_names import shown_line
+from pwhash.stored import Stored, stored_in
+from pwhash.text import display_name, is_utf8
 
-MAX_NAMED = 20  # numbers of lines in a message
+MAX_NAMED = 20  # numbers of lines, or names, in messages
 MAX_GROUP = 1 << 10  # lines in a group
 
 
@@ -18,10 +19,24 @@ class Accounts:
     """The stored field of each account, and the odd lines among those to try."""
 
     def __init__(self, path: str, console: Console) -> None:
-        self._fields = read_fields(path, console)
+        self.repeated = 0  # how many lines of FIELDS have the name of an earlier one
+        self._fields = self._read(path, console)
         self.absent: List[int] = []  # lines whose name has no account
         self.marked: List[int] = []  # lines with a carriage return or a byte order mark
         self.odd = 0  # how many lines aren't UTF-8, or have a zero byte
+
+    def _read(self, path: str, console: Console) -> Dict[bytes, bytes]:
+        """Returns the field of each name, in its first line. Reports its further lines."""
+        first_lines: Dict[bytes, Stored] = {}
+        for stored in stored_in(path, console):
+            first = first_lines.setdefault(stored.name, stored)
+            if first is stored:
+                continue
+            self.repeated += 1
+            if self.repeated <= MAX_NAMED:
+                where = shown_line(display_name(path), stored.number, stored.name)
+                console.say(f"{where}: the name again, after line {first.number}: not tried")
+        return {name: stored.field for name, stored in first_lines.items()}
 
     def lines_to_check(self, groups: LineGroups) -> LineGroups:
         """Turns lines name:password, or passwords for all names, into name:field:password."""
@@ -63,11 +78,3 @@ class Accounts:
             self.marked.append(line.number)
         if b"\0" in data or not is_utf8(data):
             self.odd += 1
-
-
-def read_fields(path: str, console: Console) -> Dict[bytes, bytes]:
-    """Returns the first field of each name in a file of lines name:field."""
-    fields: Dict[bytes, bytes] = {}
-    for stored in stored_in(path, console):
-        fields.setdefault(stored.name, stored.field)
-    return fields

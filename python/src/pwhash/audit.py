@@ -2,21 +2,28 @@
 
 from __future__ import annotations
 
+import re
 from collections import Counter
+from typing import Optional
 
 import mkpasswd
+from mkpasswd import Description, State
 
 from pwhash import findings, library
 from pwhash.console import Console
 from pwhash.errors import UsageError
+from pwhash.field import Field, field_of
 from pwhash.findings import Finding, Judgement
-from pwhash.lines import NO_PASSWORD, Line, field_to_audit, name_of, refused_name
+from pwhash.lines import NO_PASSWORD, Line, refused_name
 from pwhash.options import AuditOptions
 from pwhash.progress import Progress
 from pwhash.report import JsonReport, Report, TableReport, WorstFirstReport
 from pwhash.session import Session
+from pwhash.shown_names import could_be_name, shown_name
 from pwhash.source import Source
-from pwhash.text import printable
+
+# The third field of shadow(5) and passwd(5): a number, or nothing.
+NUMBER_FIELD = re.compile(rb"[0-9]*")
 
 
 def run(options: AuditOptions, session: Session) -> bool:
@@ -32,13 +39,14 @@ def run(options: AuditOptions, session: Session) -> bool:
     counts: Counter[Finding] = Counter()
     has_problem = False
     for group in source.lines():
-        judgements = [judge(policy, line) for line in group]
+        lines = [line for line in group if not is_comment_or_blank(line.data)]
+        judgements = [judge(line, policy, options.judges_locked) for line in lines]
         counts.update([each.finding for each in judgements])
         problems = [each for each in judgements if each.problem]
         has_problem = has_problem or bool(problems)
-        if group:
+        if judgements:
             report.add(problems if options.only_problems else judgements)
-            progress.reached(group[-1].number)
+            progress.reached(judgements[-1].line)
     progress.end()
     if not counts:
         raise UsageError(f"{source.name} has no lines.")
@@ -53,12 +61,45 @@ def make_report(options: AuditOptions, console: Console) -> Report:
     return WorstFirstReport(console) if options.only_problems else TableReport(console)
 
 
-def judge(policy: mkpasswd.Policy, line: Line) -> Judgement:
+def is_comment_or_blank(data: bytes) -> bool:
+    """Whether a line is a comment of a service's password file, or blank."""
+    return data.startswith(b"#") or not data.strip()
+
+
+def judge(line: Line, policy: mkpasswd.Policy, judges_locked: bool) -> Judgement:
     """Judges a line."""
     refusal = refused_name(line.data)
     if refusal is not None:
         return findings.judge_refused_line(line.number, refusal.message)
-    field = field_to_audit(line.data)
-    if field is None:
+    name, colon, rest = line.data.partition(b":")
+    if not colon:
         return findings.judge_refused_line(line.number, NO_PASSWORD.message)
-    return findings.judge(line.number, printable(name_of(line)), policy.describe(field))
+    stored, colon, further = rest.partition(b":")
+    is_of_account = bool(colon) and has_number_first(further)
+    is_swapped = could_be_name(stored) and not is_of_account
+    shown = shown_name(b"" if is_swapped else name, line.number)
+    field = field_of(stored)
+    if judges_locked and field.stored.startswith(b"$"):
+        field = field.unlocked()
+    return findings.judge(line.number, shown, describe(policy, field), known_prefix(field))
+
+
+def has_number_first(fields: bytes) -> bool:
+    """Whether the first of these fields is a number or empty, as in shadow and passwd."""
+    return NUMBER_FIELD.fullmatch(fields.partition(b":")[0]) is not None
+
+
+def describe(policy: mkpasswd.Policy, field: Field) -> Description:
+    """Describes a stored field. A mark locks it, and a prefix is no part of the hash."""
+    if field.is_surely_locked:
+        return Description(State.LOCKED)
+    if field.is_for_crypt:
+        return policy.describe(field.stored)
+    if field.is_of_other_scheme and field.stored:
+        return Description(State.UNKNOWN)
+    return Description(State.NO_SCHEME)
+
+
+def known_prefix(field: Field) -> Optional[str]:
+    """Returns the prefix of a field if it is one of a scheme. Any other may be a password's."""
+    return field.prefix.decode("ascii") if field.has_known_prefix else None

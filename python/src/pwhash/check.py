@@ -6,7 +6,7 @@ from collections.abc import Sequence
 from typing import List, NamedTuple, Optional, Set, Union
 
 from pwhash import library
-from pwhash.accounts import Accounts
+from pwhash.accounts import MAX_NAMED, Accounts
 from pwhash.answers import Answer, Writer, refusal_answer, refused_row_answer
 from pwhash.library import OVER_BUDGET, PASSWORD_TOO_LONG, PASSWORD_ZERO_BYTE, Refusal, Verdict
 from pwhash.lines import (
@@ -16,13 +16,14 @@ from pwhash.lines import (
     Line,
     LineGroups,
     fields_to_check,
-    name_of,
     refused_name,
 )
+from pwhash.names import FirstFields
 from pwhash.options import CheckOptions
 from pwhash.part import Part, opened
 from pwhash.progress import Progress
 from pwhash.session import Session
+from pwhash.shown_names import could_be_name, may_be_shown
 from pwhash.source import Source
 from pwhash.table import lines_of
 from pwhash.text import display_name, printable
@@ -68,13 +69,17 @@ class Checking:
         self._accounts = Accounts(options.shadow, session.console) if options.shadow else None
         self._memory = Memory()
         self._new_table = library.memory_of_new_hash(options.policy) if options.rehash else 0
+        self._first_fields = FirstFields()
+        self._with_another_field: List[int] = []  # numbers of lines
         self._printed: Set[str] = set()
         self._has_bad_line = False
 
     def has_problem(self) -> bool:
         """Whether a password was wrong, or a line had a problem."""
         accounts = self._accounts
-        return self._has_bad_line or bool(accounts and (accounts.absent or accounts.marked))
+        if self._has_bad_line or accounts is None:
+            return self._has_bad_line
+        return bool(accounts.absent or accounts.marked or accounts.repeated)
 
     def check_lines(self, writer: Writer, part: Optional[Part] = None) -> None:
         """Checks the lines, and writes the answers. With --rehash, a part gets only new hashes."""
@@ -91,7 +96,12 @@ class Checking:
         self._source.refuse_nothing()
 
     def report_odd_lines(self) -> None:
-        """Reports odd lines in a list of passwords."""
+        """Reports odd lines in a list of passwords, or of names and stored fields."""
+        if self._with_another_field:
+            self._console.say(
+                "lines whose name has another field in an earlier line, by which services judge "
+                f"(the first {MAX_NAMED}): {self._with_another_field}."
+            )
         accounts = self._accounts
         if accounts is None:
             return
@@ -116,6 +126,17 @@ class Checking:
     def _note(self, answers: Sequence[Answer]) -> None:
         if any(each.is_wrong_password or each.message is not None for each in answers):
             self._has_bad_line = True
+        if self._accounts is None:
+            for answer in answers:
+                self._note_field(answer.line)
+
+    def _note_field(self, line: Line) -> None:
+        """Notes a line whose name has another field in an earlier line."""
+        fields = fields_to_check(line.data)
+        if fields is None or len(self._with_another_field) == MAX_NAMED:
+            return
+        if self._first_fields.is_another(fields.name, fields.stored, line.number):
+            self._with_another_field.append(line.number)
 
     def _answer(self, line: Line) -> Answer:
         """Checks one line. Called in a worker's thread."""
@@ -190,8 +211,17 @@ class Checking:
         longest = self._options.policy.longest or 0
         if refusal == OVER_BUDGET and fields is not None and len(fields.password) > longest:
             return f"line {line.number} isn't tried for every name: {refusal.message}"
-        account = printable(name_of(line)) or "an account without a name"
-        return f"{account} isn't checked: {refusal.message}"
+        return f"{describe_account(line.data)} isn't checked: {refusal.message}"
+
+
+def describe_account(data: bytes) -> str:
+    """Returns the name in a line name:field:password for a message."""
+    name, _, rest = data.partition(b":")
+    if not name:
+        return "an account without a name"
+    if could_be_name(rest) or not may_be_shown(name):
+        return "an account whose name may be a password"
+    return printable(name)
 
 
 def only_new(answers: Sequence[Answer]) -> List[Answer]:

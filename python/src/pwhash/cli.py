@@ -373,9 +373,10 @@ def audit_options(parser: Parser, parsed: argparse.Namespace) -> Options:
         )
     return AuditOptions(
         policy=read_judging_policy(parser, parsed),
-        input=Input(read_path(parser, parsed), unlock=parsed.locked, counts_lines=not parsed.quiet),
+        input=Input(read_path(parser, parsed), counts_lines=not parsed.quiet),
         only_problems=parsed.only_problems,
         json=parsed.json,
+        judges_locked=parsed.locked,
         quiet=parsed.quiet,
     )
 

@@ -31,6 +31,8 @@ SERVICE_NAMES = {
     Service.DOVECOT: re.compile(rb"[a-z0-9_.@-]+"),
     Service.LDAP: re.compile(rb"[a-z0-9_-]+"),
 }
+ODD_QUOTES = "'`\u2018\u2019\u201a\u201b\u201c\u201d\u201e\u201f\xab\xbb"
+FULL_WIDTH = re.compile("[\uff01-\uff5e]")  # letters and signs as wide as Chinese ones
 NOT_UTF8 = (
     "not UTF-8; if FILE is all Windows-1252: "
     "umask 077; iconv -f WINDOWS-1252 -t UTF-8 FILE > NEW"
@@ -58,8 +60,8 @@ class Doubts:
         found += find_odd_fields(name, password, self._is_table)
         if not self._is_table:
             found += find_signs_of_table(line.data, name, password)
-        elif self._service_name is None and b" " in name.strip():
-            found.append("a blank in the name: is it the column of user names? See --columns")
+        else:
+            found += find_signs_of_wrong_columns(name, self._service_name is not None)
         if self._service_name and not self._service_name.fullmatch(name):
             found.append("the service takes the name for another, or skips it")
         again = self._names.check(name, line.number, bool(found))
@@ -96,6 +98,8 @@ def find_odd_text(data: bytes) -> Iterator[str]:
         yield "an invisible character"
     if not unicodedata.is_normalized("NFC", text):
         yield DECOMPOSED
+    if FULL_WIDTH.search(text):
+        yield "full-width letters or signs, which only keyboards of East Asia send"
     if exports.is_misread(text):
         yield "UTF-8 that was read as Windows-1252, and saved so"
     if not is_utf8(data):
@@ -110,6 +114,8 @@ def find_odd_fields(name: bytes, password: bytes, is_table: bool) -> Iterator[st
         yield "a heading, not a user"
     if headings.is_heading_of_passwords(name, password):
         yield "a heading, not a password"
+    if headings.ends_in_heading(password):
+        yield "a heading at the end: was a list joined without a line feed before it?"
     if exports.is_damaged(name, is_table) or exports.is_damaged(password, is_table):
         yield "an error or a changed value of a spreadsheet or another export"
     if exports.is_stored(password):
@@ -122,8 +128,16 @@ def find_signs_of_table(data: bytes, name: bytes, password: bytes) -> Iterator[s
     """Yields doubts about a line of a list that looks like a row of a table."""
     if SEPARATOR.search(name.strip()):
         yield "a separator of tables in the name: is it a table? See --csv"
-    if any(is_quoted(field) for field in (data, name, password)):
+    if any(is_quoted(field) for field in (data, name, password)) or is_in_odd_quotes(name):
         yield "quotes around it, as in a table: save that with commas, and see --csv"
+
+
+def find_signs_of_wrong_columns(name: bytes, has_service: bool) -> Iterator[str]:
+    """Yields doubts about a row whose name is that of a person, or whose quotes aren't CSV's."""
+    if b" " in name.strip() and not has_service:
+        yield "a blank in the name: is it the column of user names? See --columns"
+    if is_quoted(name) or is_in_odd_quotes(name):
+        yield "quotes around the name that aren't those of a table: save that with double quotes"
 
 
 def is_quoted(field: bytes) -> bool:
@@ -132,12 +146,7 @@ def is_quoted(field: bytes) -> bool:
     return len(field) > 1 and field.startswith(b'"') and field.endswith(b'"')
 
 
-def printable_part(line: Line, is_table: bool) -> bytes:
-    """Returns the part of a line that may be shown: the name, or nothing without a colon.
-
-    In a list, what follows a separator of tables may be a password.
-    """
-    name, colon, _ = line.data.partition(b":")
-    if not colon or line.refused_row is not None:
-        return b""
-    return (name if is_table else SEPARATOR.split(name.strip())[0])[:64]
+def is_in_odd_quotes(name: bytes) -> bool:
+    """Whether a name begins and ends with quotes that no CSV has: single or typographic ones."""
+    text = name.decode(errors="replace").strip()
+    return len(text) > 1 and text[0] in ODD_QUOTES and text[-1] in ODD_QUOTES

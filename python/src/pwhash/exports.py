@@ -33,6 +33,7 @@ TRUTHS = frozenset(
 # formulas; and what Python and pandas write for a missing value.
 CHANGED = re.compile(
     r"#{3,}|[+-]?[0-9](?:[.,][0-9]+)?E[+-]?[0-9]+|=\"[^\"]*\"|'[=+@-].*|null|None|na[nN]|NaN"
+    r"|=[A-Z][A-Z0-9.]+\(.*\)"  # a formula
 )
 # What databases export for a missing value.
 NOTHING = frozenset(["NULL", "\\N", "(null)"])

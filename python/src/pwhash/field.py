@@ -31,6 +31,19 @@ OF_OTHER_SCHEMES = re.compile(
     rb"(?i)\{(?:S?MD5|S?SHA(?:256|384|512)?|BLF-CRYPT|ARGON2(?:I|ID)?|PBKDF2(?:-SHA(?:256|512))?"
     rb"|SCRAM-SHA-(?:1|256))\}"
 )
+# Whole hashes of other methods of crypt(3) and its like, by their form: an identifier that some
+# system uses, then what belongs behind it. Any other text may be a password that begins with a $.
+OF_OTHER_METHODS = re.compile(
+    rb"\$2[abxy]?\$[0-9]{2}\$[./0-9A-Za-z]{53}"  # bcrypt
+    rb"|\$g?y\$[./0-9A-Za-z]+\$[./0-9A-Za-z]*\$[./0-9A-Za-z]{43}"  # yescrypt, gost-yescrypt
+    rb"|\$apr1\$[./0-9A-Za-z]{0,8}\$[./0-9A-Za-z]{22}"  # Apache's
+    rb"|\$argon2(?:i|d|id)\$(?:v=[0-9]+\$)?m=[0-9]+,t=[0-9]+,p=[0-9]+(?:\$[+/0-9A-Za-z]+){2}"
+    rb"|\$sha1\$[0-9]+\$[./0-9A-Za-z]*\$[./0-9A-Za-z]{28}"  # of NetBSD
+    rb"|\$md5[$,][^:]*\$[./0-9A-Za-z]{22}"  # of Solaris
+    rb"|\$3\$\$[0-9a-f]{32}"  # NTLM, of FreeBSD
+    rb"|\$[PH]\$[./0-9A-Za-z]{31}"  # phpass
+    rb"|\$pbkdf2(?:-sha(?:256|512))?\$[0-9]+\$[./0-9A-Za-z]+\$[./0-9A-Za-z]+"  # passlib's
+)
 # The states of whole hashes: neither a plain password nor a damaged hash.
 HASHES = (
     mkpasswd.State.CURRENT,
@@ -70,6 +83,16 @@ class Field(NamedTuple):
     def is_of_other_scheme(self) -> bool:
         """Whether the prefix is that of a hash that isn't crypt's."""
         return OF_OTHER_SCHEMES.fullmatch(self.prefix) is not None
+
+    @property
+    def is_of_other_method(self) -> bool:
+        """Whether it has a whole hash of another method, judging by its form."""
+        return OF_OTHER_METHODS.fullmatch(self.stored) is not None
+
+    @property
+    def has_known_prefix(self) -> bool:
+        """Whether it has the prefix of a scheme whose hashes pwhash knows by it."""
+        return FOR_CRYPT.fullmatch(self.prefix) is not None or self.is_of_other_scheme
 
     def data(self) -> bytes:
         """Returns the field as it is in the file."""

@@ -72,6 +72,7 @@ class Judgement(NamedTuple):
     finding: Finding
     message: Optional[str]
     problem: bool
+    prefix: Optional[str] = None  # in front of the hash, such as {SHA512-CRYPT}
 
 
 # The rank of each finding; 0 is the worst.
@@ -89,7 +90,9 @@ BY_STATE: Dict[mkpasswd.State, Finding] = {
 }
 
 
-def judge(number: int, name: str, description: mkpasswd.Description) -> Judgement:
+def judge(
+    number: int, name: str, description: mkpasswd.Description, prefix: Optional[str]
+) -> Judgement:
     """Returns the judgement on the stored field of an account."""
     finding = BY_STATE[description.state]
     rounds: Union[int, str, None] = description.rounds
@@ -107,6 +110,7 @@ def judge(number: int, name: str, description: mkpasswd.Description) -> Judgemen
         finding=finding,
         message=message,
         problem=not is_fine,
+        prefix=prefix,
     )
 
 

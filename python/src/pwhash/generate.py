@@ -21,8 +21,9 @@ from pwhash.options import FileOptions, Generate
 from pwhash.part import Part, refuse_changed
 from pwhash.session import Session
 from pwhash.single import random_letter_or_digit
+from pwhash.shown_names import list_names
 from pwhash.source import Source
-from pwhash.text import display_name, is_utf8, is_visible, printable
+from pwhash.text import display_name, is_utf8, is_visible
 
 PLACEHOLDER = b"x"
 # What begins a formula in a spreadsheet. Some also accept the fullwidth forms of East Asia.
@@ -156,14 +157,13 @@ def report_useless_passwords(
 ) -> None:
     """Reports names in a list whose password gets no hash, such as accounts locked since then."""
     hashed_names = {name_of(line) for group in groups for line in group}
-    useless = [printable(name) for name in passwords if name not in hashed_names]
-    if useless:
-        shown = ", ".join(useless[:MAX_SHOWN])
-        others = f" and {len(useless) - MAX_SHOWN:,} more" if len(useless) > MAX_SHOWN else ""
-        console.say(
-            f"{display_name(generate.passwords)} has passwords that get no hash, since their lines "
-            f"are left out now: {shown}{others}."
-        )
+    useless = [name for name in passwords if name not in hashed_names]
+    if not useless:
+        return
+    console.say(
+        f"{display_name(generate.passwords)} has passwords that get no hash, since their lines "
+        f"are left out now: {list_names(useless, MAX_SHOWN)}."
+    )
 
 
 def leftover_list_error(path: str, part: Part) -> UsageError:

@@ -18,7 +18,8 @@ from pwhash.field import ANY_METHOD, PREFIXES, Field, field_of, method_of_prefix
 from pwhash.lines import refused_name
 from pwhash.options import InstallOptions, Service
 from pwhash.password_file import read_all
-from pwhash.text import display_name, is_visible, printable
+from pwhash.shown_names import could_be_name, shown_line
+from pwhash.text import display_name, is_visible
 
 MAX_SHOWN = 20  # of each kind
 FINE = (mkpasswd.State.CURRENT, mkpasswd.State.OUTDATED, mkpasswd.State.LOCKED)
@@ -142,6 +143,8 @@ class HashesFile:
         """Says what is wrong with a hash of another scheme, or returns None."""
         if not field.stored:
             return REASONS[mkpasswd.State.NONE]
+        if not field.is_of_other_scheme and not field.is_of_other_method:
+            return "no hash that pwhash knows by its form: cut, or perhaps a password as it is"
         if not self._accepts_others:
             self._has_others = True
             return "another scheme, which pwhash can't judge"
@@ -153,9 +156,10 @@ class HashesFile:
         kind = re.sub("[0-9]+", "", reason)
         self._kind_counts[kind] += 1
         if self._kind_counts[kind] <= MAX_SHOWN:
-            name, colon, _ = line[:64].partition(b":")
-            whose = f" ({printable(name)})" if colon and name else ""  # it may be a password
-            self._console.say(f"{self._file_name}, line {number}{whose}: {reason}")
+            name, colon, field = line.partition(b":")
+            is_named = bool(colon) and not could_be_name(field)
+            where = shown_line(self._file_name, number, name if is_named else b"")
+            self._console.say(f"{where}: {reason}")
 
 
 def read(path: str) -> "tuple[os.stat_result, bytes]":

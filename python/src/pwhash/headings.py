@@ -20,14 +20,22 @@ PASSWORDS = frozenset(
     [
         *("password", "passwd", "passwort", "kennwort", "contraseña", "clave", "senha"),
         *("motdepasse", "wachtwoord", "hasło", "пароль", "mot de passe", "mot_de_passe"),
+        *("passphrase", "new password", "initial password"),
     ]
 )
+# Headings that are passwords or names too often to be doubtful by themselves.
+SHORT_PASSWORDS = frozenset(["pass", "pwd", "pw"])
 LOGIN_NAME = re.compile(rb"[a-z_\x80-\xff][a-z0-9_.\x80-\xff-]*")
 
 
 def fold(field: bytes) -> str:
     """Returns a field as headings are compared: in small letters, and without blanks around it."""
     return field.decode("utf-8", "surrogateescape").strip().casefold()
+
+
+def is_of_passwords(heading: str) -> bool:
+    """Whether a heading, in front of one of names, is that of passwords."""
+    return heading in PASSWORDS or heading in SHORT_PASSWORDS
 
 
 def is_heading_of_names(field: bytes) -> bool:
@@ -40,3 +48,11 @@ def is_heading_of_passwords(name: bytes, password: bytes) -> bool:
     if password == b"password" and LOGIN_NAME.fullmatch(name):
         return False
     return fold(password) in PASSWORDS
+
+
+def ends_in_heading(password: bytes) -> bool:
+    """Whether a password ends as in pw1name:password: a list was joined without a line feed."""
+    if b":" not in password:
+        return False
+    before, _, last = fold(password).rpartition(":")
+    return last in PASSWORDS and before.endswith(tuple(NAMES))

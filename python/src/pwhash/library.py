@@ -207,11 +207,6 @@ def describe(field: bytes) -> mkpasswd.Description:
     return without_budget().describe(field)
 
 
-def is_locked(field: bytes) -> bool:
-    """Whether a stored field begins with a mark that locks it."""
-    return describe(field).state is mkpasswd.State.LOCKED
-
-
 @functools.lru_cache(maxsize=None)
 def without_budget() -> mkpasswd.Policy:
     """Returns a policy by which no field is over budget."""

@@ -72,9 +72,3 @@ def fields_to_check(data: bytes) -> Optional[FieldsToCheck]:
     """Returns the fields of a line name:field:password, or None if one is missing."""
     fields = data.split(b":", 2)
     return FieldsToCheck(*fields) if len(fields) == 3 else None
-
-
-def field_to_audit(data: bytes) -> Optional[bytes]:
-    """Returns the stored field of a line, or None if it has none."""
-    fields = data.split(b":", 2)
-    return fields[1] if len(fields) > 1 else None

@@ -9,10 +9,9 @@ from __future__ import annotations
 import os
 from typing import Optional, Set
 
-from pwhash import library
 from pwhash.console import Console
 from pwhash.errors import UsageError
-from pwhash.field import without_prefix
+from pwhash.field import field_of
 from pwhash.lines import Line, name_of
 from pwhash.skipping import Skipping
 from pwhash.source import Source
@@ -58,7 +57,7 @@ class Locked(Skipping):
         names: Set[bytes] = set()
         for stored in stored_in(self.path, self.console):
             has_fields = has_fields or stored.field != IN_SHADOW
-            is_locked = library.is_locked(without_prefix(stored.field))
+            is_locked = field_of(stored.field).is_surely_locked
             if is_locked and stored.field not in NO_PASSWORD_YET:
                 names.add(stored.name)
         if not has_fields:

@@ -8,14 +8,14 @@ from typing import List, Set
 
 from pwhash import library
 from pwhash.console import Console
-from pwhash.doubts import Doubts, printable_part
+from pwhash.doubts import Doubts
 from pwhash.errors import ProblemsFound
 from pwhash.library import OVER_BUDGET
-from pwhash.lines import Line, LineGroups, refused_to_hash
+from pwhash.lines import Line, LineGroups, name_of, refused_to_hash
 from pwhash.options import Doubtful, FileOptions
 from pwhash.progress import Progress
+from pwhash.shown_names import shown_line
 from pwhash.source import Source
-from pwhash.text import printable
 
 MAX_SHOWN = 20  # of each kind
 
@@ -27,8 +27,8 @@ class Look:
         self._source = source
         self._options = options
         self._console = console
-        self._is_table = options.input.columns is not None
-        self._doubts = Doubts(options.service, self._is_table, options.input.windows)
+        is_table = options.input.columns is not None
+        self._doubts = Doubts(options.service, is_table, options.input.windows)
         self._counts: Counter[str] = Counter()
         self._has_lines = False  # after --skip-locked and --skip-unknown
         self._refused: Set[int] = set()
@@ -75,15 +75,17 @@ class Look:
             self._show(line, [f"{OVER_BUDGET.message}: {limit}"])
 
     def _show(self, line: Line, reasons: List[str]) -> None:
-        name = printable(printable_part(line, self._is_table))
-        whose = f" ({name})" if name else ""
+        # Without a colon, or in a refused row, what stands first may be a password.
+        is_named = b":" in line.data and line.refused_row is None
+        name = name_of(line) if is_named else b""
+        where = shown_line(self._source.name, line.number, name)
         for reason in reasons:
             kind = re.sub("[0-9]+", "", reason)
             self._counts[kind] += 1
             if self._counts[kind] > 1:  # the first message of a kind says what to do
                 reason = reason.partition(";")[0]
             if self._counts[kind] <= MAX_SHOWN:
-                self._console.say(f"{self._source.name}, line {line.number}{whose}: {reason}")
+                self._console.say(f"{where}: {reason}")
 
     def _stop_unless_decided(self) -> None:
         refused, doubtful = len(self._refused), len(self._doubtful)

@@ -52,16 +52,28 @@ class Table:
                 self._keys[slot], self._numbers[slot] = key, number
 
 
+class FirstNumbers:
+    """The number of the line in which each name came first."""
+
+    def __init__(self) -> None:
+        self._tables = [Table() for _ in range(TABLES)]
+
+    def first(self, name: bytes, number: int) -> int:
+        """Returns the first number that came with this name. Stores this one if it's new."""
+        key = hash(name) & HASH_MASK or 1
+        return self._tables[key % TABLES].first(key, number)
+
+
 class FirstLines:
     """The first line of each name, and whether that is doubtful or refused."""
 
     def __init__(self) -> None:
-        self._tables = [Table() for _ in range(TABLES)]
+        self._numbers = FirstNumbers()
         self._unsure: Dict[int, str] = {}
 
     def check(self, name: bytes, number: int, is_doubtful: bool) -> Optional[str]:
         """Returns a doubt about a name that an earlier line has, or None."""
-        first = self._first(name, number)
+        first = self._numbers.first(name, number)
         if first == number:
             if is_doubtful:
                 self._unsure[number] = "doubtful too"
@@ -72,9 +84,18 @@ class FirstLines:
 
     def note_refused(self, name: bytes, number: int) -> None:
         """Notes that a line is refused."""
-        if self._first(name, number) == number:
+        if self._numbers.first(name, number) == number:
             self._unsure[number] = "refused"
 
-    def _first(self, name: bytes, number: int) -> int:
-        key = hash(name) & HASH_MASK or 1
-        return self._tables[key % TABLES].first(key, number)
+
+class FirstFields:
+    """The first stored field of each name, to find a name that has two."""
+
+    def __init__(self) -> None:
+        self._names = FirstNumbers()
+        self._names_and_fields = FirstNumbers()
+
+    def is_another(self, name: bytes, field: bytes, number: int) -> bool:
+        """Whether the first line of this name has another field."""
+        first_with_field = self._names_and_fields.first(name + b":" + field, number)
+        return first_with_field != self._names.first(name, number)

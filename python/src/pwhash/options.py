@@ -61,7 +61,6 @@ class Input(NamedTuple):
     path: Optional[str]  # None stands for standard input
     windows: bool = False  # lines may end with a carriage return, and begin with a byte order mark
     columns: Optional[str] = None  # those of a table that have the name and the password
-    unlock: bool = False  # leave out the marks in front of a locked hash
     counts_lines: bool = True  # for the progress line
     names_only: bool = False  # lines and rows have no password
     list_columns: Optional[str] = None  # those of a table of names to copy to the password lists
@@ -120,6 +119,7 @@ class AuditOptions(NamedTuple):
     input: Input
     only_problems: bool
     json: bool
+    judges_locked: bool  # whether a locked hash is judged as if it weren't locked
     quiet: bool
 
 

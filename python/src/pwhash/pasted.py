@@ -1,10 +1,12 @@
-"""Reads a hash pasted from an e-mail, say: with blanks, line breaks or the rest of its line.
+"""Finds the hash in what somebody pastes: a bare hash, or the line of a file that it stands in.
 
-No hash contains any of these, so they can be left out.
+No hash has blanks in it, so those that an e-mail puts between its parts can be left out. What isn't
+plain to tell stays as it was pasted, and is refused then: pwhash never guesses which hash is meant.
 """
 
 from __future__ import annotations
 
+import re
 from typing import NamedTuple
 
 from mkpasswd import State
@@ -18,8 +20,37 @@ from pwhash.prompt import Ask
 
 PASSWORD_PROMPT, HASH_PROMPT = b"Password: ", b"Hash (not shown either): "
 REST_PROMPT = b"It isn't whole. The rest, or just Return: "
+SECONDS_FOR_REST = 5  # that a pipe may take to bring the rest of a hash
 SHOWS_NOTHING = {ord(each): None for each in "\u00ad\u200b\u200c\u200d\u2060\ufeff"}
+# The quotes of word processors, as shells and configurations write them.
+AS_ASCII = {
+    **dict.fromkeys(map(ord, "\u201c\u201d\u201e\u201f\xab\xbb"), '"'),
+    **dict.fromkeys(map(ord, "\u2018\u2019\u201a\u201b"), "'"),
+}
 QUOTES = b"'\"`"
+MARKS = b"!*"  # that lock a hash
+REPLY_MARKS = re.compile(rb"(?:\s*>)+")  # in front of each line of a quoted e-mail
+# The beginning of a hash, with the marks and prefixes in front of it. A letter there, as in x$6$,
+# would be a part of the stored field, and make it one that no password matches.
+BEGINNING = re.compile(
+    rb"(?:^|(?<=[\s:=>'\"`]))[!*]*(?:\{[A-Za-z0-9.-]+\})*[!*]*\$[A-Za-z0-9-]{1,16}[$,]"
+)
+# What may stand in front of a hash.
+BEFORE_HASH = re.compile(
+    rb"[^:]*:\s*"  # a user's name, as in shadow(5), or a key, as in YAML and JSON
+    rb"|[^:]*=>?\s*"  # a variable, or an option with its value
+    rb"|(?:[^:]*\s)?-[\w-]*\s+"  # an option of a command, or the hyphen of a list
+    rb"|(?:[\w-]+\s+)?passwd/[\w-]+-crypted\s+password\s+"  # Debian's installer
+    rb"|<[\w:-]+>\s*"  # AutoYaST
+)
+# What ends a hash without quotes, by the character in front of it: the next field of a line, the
+# end of an element of XML. After anything else an option or a comment may follow a blank.
+ENDS = {b":": re.compile(rb":"), b">": re.compile(rb"<")}
+OTHER_END = re.compile(rb":|\s+[-#]")
+# What may follow the quote behind a hash, as in JSON.
+AFTER_QUOTE = re.compile(rb"$|[\s:,;)}\]]")
+# The beginning of a hash that isn't a setting yet: the rest may follow.
+CUT_EARLY = re.compile(rb"\$[1567]?|\$[56]\$rounds=[0-9]*|\$7\$[./0-9A-Za-z]{0,11}")
 
 
 class Pasted(NamedTuple):
@@ -37,10 +68,10 @@ def ask_for_both(ask: Ask) -> Pasted:
     password = ask(PASSWORD_PROMPT)
     pasted = b""
     while not pasted:
-        pasted = without_blanks(ask(HASH_PROMPT))
+        pasted = cleaned(ask(HASH_PROMPT))
     rest = pasted
     while rest and is_cut(pasted):
-        rest = without_blanks(ask(REST_PROMPT))
+        rest = cleaned(ask(REST_PROMPT))
         pasted += rest
     return Pasted(password, field_of_pasted(pasted))
 
@@ -49,39 +80,99 @@ def piped_both(console: Console) -> Pasted:
     """Reads a password and a hash from standard input, the hash perhaps in several lines."""
     lines = PipedLines(console)
     password = lines.password()
-    first = lines.next()
-    if first is None:
-        raise UsageError(
-            "standard input has one line, the password. The hash has to be the second, or type "
-            "pwhash verify FILE NAME."
-        )
-    pasted = without_blanks(first)
-    while not pasted and first is not None:  # after blank lines, a hash may take a while to come
-        first = lines.next()
-        pasted = without_blanks(first or b"")
+    line = lines.next()
+    if line is None:
+        raise no_hash_error()
+    pasted = cleaned(line)
+    while not pasted and line is not None:  # after blank lines, a hash may take a while to come
+        line = lines.next()
+        pasted = cleaned(line or b"")
     while is_cut(pasted):
-        more = lines.next_at_once()
+        more = lines.next_within(SECONDS_FOR_REST)
         if more is None:
             break
-        pasted += without_blanks(more)
-    lines.warn_about_extra_lines("the hash")
+        pasted += cleaned(more)
+    extra = lines.next_at_once()
+    if extra and has_hash(extra):
+        raise several_hashes_error()
+    if extra:
+        console.say("lines of standard input after the hash are ignored.")
     return Pasted(password, field_of_pasted(pasted))
 
 
-def without_blanks(pasted: bytes) -> bytes:
-    """Removes blanks and invisible characters from a pasted text."""
-    text = "".join(pasted.decode("utf-8", "surrogateescape").split())
-    return text.translate(SHOWS_NOTHING).encode("utf-8", "surrogateescape")
+def no_hash_error() -> UsageError:
+    """Returns the error for an input that ends before a hash."""
+    return UsageError(
+        "standard input has one line, the password. The hash has to be the second, or type "
+        "pwhash verify FILE NAME."
+    )
+
+
+def several_hashes_error() -> UsageError:
+    """Returns the error for two hashes where there should be one."""
+    return UsageError("there is more than one hash. Give only the one to compare with.")
+
+
+def cleaned(line: bytes) -> bytes:
+    """Returns a pasted line without an e-mail's marks, invisible characters and blanks around."""
+    text = line.decode("utf-8", "surrogateescape").translate(SHOWS_NOTHING).translate(AS_ASCII)
+    words = " ".join(text.split()).encode("utf-8", "surrogateescape")
+    marks = REPLY_MARKS.match(words)
+    return words[marks.end() :].strip() if marks else words
 
 
 def field_of_pasted(pasted: bytes) -> bytes:
-    """Returns the field with the hash from a pasted hash or line, perhaps in quotes."""
-    line = without_blanks(pasted).strip(QUOTES)
-    name, colon, rest = line.partition(b":")
-    # After a hash without a name there may be further fields, or the next name's line.
+    """Returns the field with the hash from a pasted hash or line. Refuses two hashes."""
+    line = cleaned(pasted)
+    found = BEGINNING.search(line)
+    if found is None or not is_plain_before(line[: found.start()]):
+        return second_field(line)
+    begin = found.start()
+    end = end_of_hash(line, begin)
+    field = without_blanks(line[begin:end]).strip(QUOTES)
+    if is_whole(field) and BEGINNING.search(line, end):
+        raise several_hashes_error()
+    return field
+
+
+def is_plain_before(text: bytes) -> bool:
+    """Whether it is plain that a hash begins after this text, with or without a quote."""
+    without_quote = text[:-1] if text[-1:] in (b"'", b'"', b"`") else text
+    return not without_quote or BEFORE_HASH.fullmatch(without_quote) is not None
+
+
+def end_of_hash(line: bytes, begin: int) -> int:
+    """Returns where a hash ends that begins here: at the quote that it begins with, if it does."""
+    before = line[begin - 1 : begin]
+    if before and before in QUOTES:
+        end = line.find(before, begin)
+        if end >= 0 and AFTER_QUOTE.match(line, end + 1):
+            return end
+    found = ENDS.get(before, OTHER_END).search(line, begin)
+    return found.start() if found else len(line)
+
+
+def second_field(line: bytes) -> bytes:
+    """Returns what follows the first colon of a line, up to the next; or all without a colon."""
+    bare = without_blanks(line).strip(QUOTES)
+    name, colon, rest = bare.partition(b":")
     if not colon or begins_like_hash(without_prefix(name)):
         return name
     return rest.partition(b":")[0].strip(QUOTES)
+
+
+def without_blanks(text: bytes) -> bytes:
+    """Removes all blanks."""
+    return b"".join(text.split())
+
+
+def has_hash(pasted: bytes) -> bool:
+    """Whether a hash of a known scheme begins in a pasted line, perhaps a locked or cut one."""
+    line = cleaned(pasted)
+    found = BEGINNING.search(line)
+    if found is None:
+        return False
+    return begins_like_hash(without_prefix(line[found.start() :].lstrip(MARKS)).lstrip(MARKS))
 
 
 def begins_like_hash(field: bytes) -> bool:
@@ -89,6 +180,12 @@ def begins_like_hash(field: bytes) -> bool:
     return field.startswith(b"$") and library.describe(field).scheme is not None
 
 
+def is_whole(field: bytes) -> bool:
+    """Whether a field has a whole hash of a method that pwhash knows."""
+    return library.describe(without_prefix(field)).state in (State.CURRENT, State.OUTDATED)
+
+
 def is_cut(pasted: bytes) -> bool:
     """Whether only the beginning of a hash was pasted, so that the rest may follow."""
-    return library.describe(without_prefix(field_of_pasted(pasted))).state is State.DEAD
+    field = without_prefix(field_of_pasted(pasted))
+    return CUT_EARLY.fullmatch(field) is not None or library.describe(field).state is State.DEAD

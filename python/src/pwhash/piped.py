@@ -2,6 +2,7 @@
 
 from __future__ import annotations
 
+import time
 from typing import List, Optional
 
 from pwhash.console import Console
@@ -33,6 +34,16 @@ class PipedLines:
                 return None
             self._waiting += [line.data for line in group]
         return self._waiting.pop(0)
+
+    def next_within(self, seconds: float) -> Optional[bytes]:
+        """Waits so long for the next line, and returns it, or None."""
+        end = time.monotonic() + seconds
+        while not self._waiting and time.monotonic() < end:
+            group = next(self._groups, None)
+            if group is None:
+                return None
+            self._waiting += [line.data for line in group]
+        return self._waiting.pop(0) if self._waiting else None
 
     def next_at_once(self) -> Optional[bytes]:
         """Returns the next line if it is there already, or None."""

@@ -8,7 +8,8 @@ import select
 import signal
 import termios
 import time
-from typing import Any, Callable, List, NamedTuple, Set, TypeVar
+from collections.abc import Iterable
+from typing import Any, Callable, List, NamedTuple, Optional, Set, TypeVar
 
 from pwhash.console import STDERR, STDIN, open_terminal
 from pwhash.errors import Stop, UsageError
@@ -42,11 +43,11 @@ Answers = TypeVar("Answers")
 
 
 class Terminal(NamedTuple):
-    """A terminal, its settings before the prompt, and the signals that are blocked meanwhile."""
+    """A terminal, its settings before the prompt, and the signals that end the run there."""
 
     fd: int
     before: List[Any]
-    waiting: Set[int]
+    ending: Set[int]  # blocked during the prompt, as SIGTSTP is, so that they wait
 
 
 def ask_password() -> bytes:
@@ -67,7 +68,6 @@ def with_hidden_input(conversation: Callable[[Ask], Answers]) -> Answers:
 
     Standard input has to be a terminal. It is used if there is no /dev/tty.
     """
-    signal.signal(signal.SIGTSTP, signal.SIG_IGN)  # the shell would show what is typed after Ctrl-Z
     fd = open_terminal()
     if fd is None:
         return ask_on_terminal(STDIN, conversation)
@@ -84,9 +84,9 @@ def ask_on_terminal(fd: int, conversation: Callable[[Ask], Answers]) -> Answers:
         before = termios.tcgetattr(fd)
     except termios.error:
         raise cant_hide_error() from None
-    waiting = {int(each) for each in FATAL if signal.getsignal(each) != signal.SIG_IGN}
-    terminal = Terminal(fd, before, waiting)
-    signal.pthread_sigmask(signal.SIG_BLOCK, waiting)
+    blocked = without_ignored({*FATAL, signal.SIGTSTP})
+    terminal = Terminal(fd, before, without_ignored(FATAL))
+    signal.pthread_sigmask(signal.SIG_BLOCK, blocked)
     try:
         hide(terminal)
         # While the program is stopped, a shell makes the terminal show keys again.
@@ -95,7 +95,13 @@ def ask_on_terminal(fd: int, conversation: Callable[[Ask], Answers]) -> Answers:
     finally:
         signal.signal(signal.SIGCONT, signal.SIG_DFL)
         restore(terminal)
-        signal.pthread_sigmask(signal.SIG_UNBLOCK, waiting)  # a pending one ends the run here
+        # A pending one ends the run here, or stops it.
+        signal.pthread_sigmask(signal.SIG_UNBLOCK, blocked)
+
+
+def without_ignored(signals: Iterable[int]) -> Set[int]:
+    """Returns those of these signals that the caller doesn't ignore, as nohup does with SIGHUP."""
+    return {int(each) for each in signals if signal.getsignal(each) != signal.SIG_IGN}
 
 
 def is_in_background(fd: int) -> bool:
@@ -128,7 +134,7 @@ def hide_again(terminal: Terminal) -> None:
     So it waits until it is in the foreground.
     """
     while is_in_background(terminal.fd):
-        if signal.sigpending().intersection(terminal.waiting):
+        if signal.sigpending().intersection(terminal.ending):
             return  # read_line ends the run
         time.sleep(0.01)
     hide(terminal)
@@ -174,7 +180,11 @@ def ask(terminal: Terminal, prompt: bytes) -> bytes:
     """Shows a prompt, and returns what is typed there."""
     write_to_terminal(terminal.fd, prompt)
     try:
-        return read_line(terminal)
+        line = read_line(terminal)
+        while line is None:  # Ctrl-Z stopped the process, and fg continued it
+            write_to_terminal(terminal.fd, prompt)
+            line = read_line(terminal)
+        return line
     finally:
         write_to_terminal(terminal.fd, b"\n")  # Return isn't shown
 
@@ -187,15 +197,34 @@ def write_to_terminal(fd: int, text: bytes) -> None:
         os.write(STDERR, text)
 
 
-def read_line(terminal: Terminal) -> bytes:
-    """Returns what is typed before Return. Stops if a blocked signal is pending."""
+def read_line(terminal: Terminal) -> Optional[bytes]:
+    """Returns what is typed before Return, or None if Ctrl-Z came first.
+
+    Stops the run if a signal that ends it is pending.
+    """
     line = b""
     while not line.endswith(b"\n"):
         while not select.select([terminal.fd], [], [], POLL_SECONDS)[0]:
-            if signal.sigpending().intersection(terminal.waiting):
+            pending = signal.sigpending()
+            if pending.intersection(terminal.ending):
                 raise Stop("a signal ended the run.")
+            if signal.SIGTSTP in pending:
+                stop(terminal)
+                return None
         piece = os.read(terminal.fd, PIECE)
         if not piece:
             raise UsageError("Ctrl-D came before Return, so nothing is done. Start again.")
         line += piece
     return line[:-1]
+
+
+def stop(terminal: Terminal) -> None:
+    """Stops the process, as Ctrl-Z asks. Until it continues, the terminal is as it was before.
+
+    What was typed at the prompt is discarded. If no shell could continue the process, the system
+    doesn't stop it.
+    """
+    restore(terminal)
+    signal.pthread_sigmask(signal.SIG_UNBLOCK, [signal.SIGTSTP])  # the process stops here
+    signal.pthread_sigmask(signal.SIG_BLOCK, [signal.SIGTSTP])
+    hide_again(terminal)

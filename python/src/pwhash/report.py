@@ -74,6 +74,8 @@ class TableReport(Report):
     def row(self, judgement: Judgement) -> str:
         """Returns the row of a judgement."""
         finding = f"{judgement.finding.word} {judgement.message or ''}".rstrip()
+        if judgement.prefix is not None:
+            finding += f", after {judgement.prefix}"
         text = self._laid_out(
             judgement.name, judgement.method or "", str(judgement.rounds or ""), finding
         )

@@ -6,8 +6,9 @@ import abc
 
 from pwhash.console import Console
 from pwhash.lines import Line, LineGroups, name_of
+from pwhash.shown_names import shown_line
 from pwhash.source import Source
-from pwhash.text import display_name, printable
+from pwhash.text import display_name
 
 MAX_SHOWN = 20  # lines that are reported, unless a run only looks for problems
 
@@ -37,6 +38,10 @@ class Skipping(abc.ABC):
     def skips(self, line: Line) -> bool:
         """Whether a line that may have a name is left out."""
 
+    def name_to_show(self, line: Line) -> bytes:
+        """Returns the name of a line for a message."""
+        return name_of(line)
+
     @property
     def file(self) -> str:
         """The name of the other file for a message."""
@@ -64,5 +69,5 @@ class Skipping(abc.ABC):
     def _show(self, line: Line) -> None:
         self._left_out += 1
         if self._shows_all or self._left_out <= MAX_SHOWN:
-            where = f"{self._source_name}, line {line.number} ({printable(name_of(line))})"
+            where = shown_line(self._source_name, line.number, self.name_to_show(line))
             self.console.say(f"{where}: {self.reason}")

@@ -3,7 +3,6 @@
 from __future__ import annotations
 
 import os
-import re
 import select
 import signal
 import stat
@@ -22,7 +21,6 @@ PIECE = 1 << 18
 LONGEST_KEPT = (1 << 17) + 1
 IDLE_MILLISECONDS = 20
 SECONDS_UNTIL_WRITER = 3  # that a named pipe may take to get a writer
-IN_FRONT_OF_LOCKED = re.compile(rb"^([^:]*:)[!*]+(?=\$)")
 READ_TWICE = "-o and --look need a file, which can be read twice. Give its name, or leave them out."
 
 
@@ -111,8 +109,6 @@ class Source:
     def _numbered(self, data: List[bytes], first: int) -> List[Line]:
         if self.input.windows or self.input.columns is not None:  # Excel is a program of Windows
             data = [without_signs_of_windows(line) for line in data]
-        if self.input.unlock:
-            data = [IN_FRONT_OF_LOCKED.sub(rb"\1", line) for line in data]
         return [Line(number, line) for number, line in enumerate(data, first)]
 
     def _count(self) -> int:

@@ -12,6 +12,7 @@ from pwhash.source import open_in_time, refuse_as_output
 from pwhash.text import display_name
 
 LONGEST_LINE = 1 << 17
+COMMENT = b"#"  # in the files of services; glibc skips such lines of /etc/shadow, too
 
 
 class Stored(NamedTuple):
@@ -23,7 +24,7 @@ class Stored(NamedTuple):
 
 
 def stored_in(path: str, console: Console) -> Iterator[Stored]:
-    """Yields all lines of a file that have a colon."""
+    """Yields all lines of a file that have a colon, except comments."""
     name_of_file = display_name(path)
     has_fields = False
     with errors_named(name_of_file), open(open_fields(path), "rb") as file:
@@ -36,7 +37,7 @@ def stored_in(path: str, console: Console) -> Iterator[Stored]:
                     "which no line name:field is."
                 )
             name, colon, rest = line.rstrip(b"\n").partition(b":")
-            if colon:
+            if colon and not name.startswith(COMMENT):
                 has_fields = True
                 yield Stored(number, name, rest.partition(b":")[0])
             number, line = number + 1, file.readline(LONGEST_LINE)

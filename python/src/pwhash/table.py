@@ -231,6 +231,8 @@ class Table:
     def _refused(self, row: Row, columns: Columns) -> Optional[str]:
         if self._is_heading(row, columns):
             return "the heading again"
+        if ends_in_heading(fold_row(row), columns):
+            return "a heading at its end: was a table joined without a line feed before it?"
         if len(row) > columns.width:
             return (
                 f"{len(row)} fields, where the first row has {columns.width}: "
@@ -277,13 +279,35 @@ class Table:
 def is_heading_of_others(fields: Row, columns: Columns) -> bool:
     """Whether a row is the heading of a table with names or passwords in other columns."""
     wanted = columns.wanted_in(fields)
-    if wanted[0] in headings.PASSWORDS and wanted[-1] in headings.NAMES:
+    if headings.is_of_passwords(wanted[0]) and wanted[-1] in headings.NAMES:
         return True
     if not columns.headings:
         return False
     has_all_headings = set(columns.wanted_in(columns.headings)) <= set(fields)
     are_headings = set(wanted) <= set(columns.headings) - {""}
     return has_all_headings or are_headings
+
+
+def ends_in_heading(fields: Row, columns: Columns) -> bool:
+    """Whether a row ends in the heading of another table, as in ann,pw1name,password.
+
+    `cat` joins tables so if the last line of the first one has no line feed.
+    """
+    own = columns.headings
+    if len(fields) > 1 and fields[1:] == own[1:] and fields[0].endswith(own[0]):
+        return True
+    joined = len(fields) - 1  # the field that has a value and a heading in it
+    while joined > 0 and is_heading(fields[joined], own):
+        joined -= 1
+    others = fields[joined + 1 :]
+    if joined == 0 or not any(each in headings.PASSWORDS or each in own[-1:] for each in others):
+        return False
+    return fields[joined].endswith((*headings.NAMES, *headings.PASSWORDS, *own[:1]))
+
+
+def is_heading(field: str, own: Row) -> bool:
+    """Whether a field is a heading of this table, or one that many tables have."""
+    return field in headings.NAMES or field in headings.PASSWORDS or (field in own and field != "")
 
 
 class Texts(Iterator[str]):

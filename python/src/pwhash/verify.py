@@ -22,19 +22,20 @@ from pwhash.options import VerifyOptions
 from pwhash.pasted import (
     PASSWORD_PROMPT,
     ask_for_both,
-    begins_like_hash,
-    field_of_pasted,
+    has_hash,
     piped_both,
 )
 from pwhash.piped import PipedLines
 from pwhash.prompt import ask_each, with_hidden_input
 from pwhash.session import Session
+from pwhash.shown_names import shown_line
 from pwhash.stored import Stored, stored_in
-from pwhash.text import DECOMPOSED, display_name, is_utf8, is_visible, printable
+from pwhash.text import DECOMPOSED, display_name, is_utf8, is_visible
 from pwhash.workers import run_in_thread
 
 MATCHES = b"yes, the password matches"
 DIFFERS = b"no, the password doesn't match"
+GIVE_IT_ALONE = " Give the hash alone, or its line in a password file, as it is there."
 STATE_PROBLEMS = {
     State.DEAD: "cut or changed, so no password matches",
     State.LOCKED: "locked, so no password logs in",
@@ -75,7 +76,7 @@ def run(options: VerifyOptions, session: Session) -> bool:
 def ask_for_password(options: VerifyOptions, console: Console) -> Attempt:
     """Finds the hash of a name in a file, and asks for the password if one can match."""
     line = find_only_line(options, console)
-    whose = f"{display_name(options.path)}, line {line.number} ({printable(line.name)})"
+    whose = shown_line(display_name(options.path), line.number, line.name)
     stored = whole_hash(line.field, whose)
     if os.isatty(STDIN):
         [password] = ask_each(PASSWORD_PROMPT)
@@ -89,14 +90,13 @@ def ask_for_password(options: VerifyOptions, console: Console) -> Attempt:
 def ask_for_password_and_hash(console: Console) -> Attempt:
     """Asks for a password and a hash."""
     both = with_hidden_input(ask_for_both) if os.isatty(STDIN) else piped_both(console)
-    has_hash = begins_like_hash(without_prefix(both.field))
-    if begins_like_hash(field_of_pasted(both.password)) and not has_hash:
+    if has_hash(both.password) and not has_hash(both.field):
         raise UsageError(
             "there is a hash in the place of the password, and none in its own. Give the password "
             "first, then the hash."
         )
     whose = "the hash"
-    return Attempt(both.password, whole_hash(both.field, whose), whose)
+    return Attempt(both.password, whole_hash(both.field, whose, GIVE_IT_ALONE), whose)
 
 
 def find_only_line(options: VerifyOptions, console: Console) -> Stored:
@@ -115,10 +115,15 @@ def find_only_line(options: VerifyOptions, console: Console) -> Stored:
     return found[0]
 
 
-def whole_hash(field: bytes, whose: str) -> bytes:
-    """Returns the hash in a field, without a prefix. Refuses what no password can match."""
+def whole_hash(field: bytes, whose: str, advice: str = "") -> bytes:
+    """Returns the hash in a field, without a prefix. Refuses what no password can match.
+
+    The advice is for a field that has no hash.
+    """
     stored = without_prefix(field)
     about = describe_problem(stored)
+    if about == STATE_PROBLEMS[State.NO_SCHEME]:
+        raise UsageError(f"{whose}: {about}.{advice}")
     if about is not None:
         raise UsageError(f"{whose}: {about}.")
     return stored
@@ -157,6 +162,11 @@ def warn_about_bytes(password: bytes, console: Console) -> None:
     elif not is_visible(text):
         console.say("the password has a control character or an invisible one in it.")
     elif not is_utf8(password):
-        console.say("the password isn't UTF-8.")
+        console.say("the password isn't UTF-8, as most programs send it.")
     elif not unicodedata.is_normalized("NFC", text):
         console.say(f"the password has {DECOMPOSED}.")
+    elif not text.isascii():
+        console.say(
+            "the password has letters outside ASCII, here in UTF-8. Programs that use another "
+            "encoding, such as Windows-1252, make another hash of it."
+        )

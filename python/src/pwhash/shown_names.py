@@ -1,0 +1,64 @@
+"""How messages show the name of a line: not at all if it may be a password or a hash.
+
+A line of another form than the command reads, such as hash:name or a row of a table, has something
+else in the place of the name. So a message shows a name only if it looks like one, and else names
+the line by its number.
+"""
+
+from __future__ import annotations
+
+import re
+from collections.abc import Sequence
+
+from pwhash.exports import is_stored
+from pwhash.text import printable
+
+LONGEST_SHOWN = 64  # bytes; no name that mkpasswd accepts is longer
+# Blanks, quotes and the separators of tables, also full-width ones: the line may be a row.
+IN_NO_NAME = re.compile("[\\s,;|\"'`\u2018-\u201f\xab\xbb\uff0c\uff1a\uff1b\uff5c]")
+# The beginning of a hash or of a cut one, as $6$ and {SSHA}.
+BEGINS_LIKE_HASH = re.compile(rb"[!*]*(?:\$|\{[A-Za-z0-9.-]+\})")
+# A digest in hexadecimal, as MD5, NTLM and SHA have it, or a longer one in Base64.
+DIGEST = re.compile(rb"(?:0x)?[0-9A-Fa-f]{32,}|[A-Za-z0-9+/]{27,}={1,2}")
+# What may be a hash of DES: 13 characters of all kinds.
+DES = re.compile(rb"(?=.*[A-Z])(?=.*[a-z])(?=.*[./0-9])[./0-9A-Za-z]{13}")
+
+
+def may_be_shown(name: bytes) -> bool:
+    """Whether this looks like a name, and not like a password, a hash or a row of a table.
+
+    Blanks around it don't matter.
+    """
+    name = name.strip()
+    if not name or len(name) > LONGEST_SHOWN:
+        return False
+    if IN_NO_NAME.search(name.decode(errors="replace")):
+        return False
+    if BEGINS_LIKE_HASH.match(name) or DIGEST.fullmatch(name) or DES.fullmatch(name):
+        return False
+    return not is_stored(name)
+
+
+def could_be_name(field: bytes) -> bool:
+    """Whether a stored field could be a name, so that its line may be password:name."""
+    return field[:1] not in (b"", b"$", b"{", b"!", b"*")
+
+
+def shown_name(name: bytes, number: int) -> str:
+    """Returns a name for a message, or as "line 12" if it may be a password or a hash."""
+    return printable(name.strip()) if may_be_shown(name) else f"line {number}"
+
+
+def shown_line(file_name: str, number: int, name: bytes) -> str:
+    """Returns where a line is, as "list, line 12 (ann)", without what may be no name."""
+    where = f"{file_name}, line {number}"
+    return f"{where} ({printable(name.strip())})" if may_be_shown(name) else where
+
+
+def list_names(names: Sequence[bytes], most: int) -> str:
+    """Returns names for a message, as "ann, bob and 5 more"; at most so many are shown."""
+    shown = [printable(name) for name in names if may_be_shown(name)][:most]
+    hidden = len(names) - len(shown)
+    if not hidden:
+        return ", ".join(shown)
+    return f"{', '.join(shown)} and {hidden:,} more" if shown else f"{hidden:,} names"
