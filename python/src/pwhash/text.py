@@ -5,6 +5,7 @@ from __future__ import annotations
 import os
 import re
 import shlex
+from typing import List
 
 # Characters that Python calls printable, but that show nothing: fillers, variation selectors, the
 # empty Braille pattern.
@@ -13,6 +14,7 @@ SHOWS_NOTHING = re.compile(
     "\U000e0100-\U000e01ef]"
 )
 DECOMPOSED = "letters and accents apart (not Unicode NFC), as few keyboards send them"
+MAX_NAMED = 20  # names in a message
 NEEDS_NUMBER = re.compile(rb"[^\x20-\x7e]|['\\]")
 
 
@@ -41,6 +43,12 @@ def printable(data: bytes) -> str:
 def printable_text(text: str) -> str:
     """Does what printable() does, for text that may contain the bytes of a file's name."""
     return printable(text.encode("utf-8", "surrogateescape"))
+
+
+def some_names(names: List[bytes]) -> str:
+    """Returns the first names for a message, and how many others there are."""
+    some = ", ".join(printable(name) for name in names[:MAX_NAMED])
+    return f"{some} and {len(names) - MAX_NAMED:,} others" if len(names) > MAX_NAMED else some
 
 
 def display_name(path: str) -> str:
