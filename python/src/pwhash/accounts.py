@@ -2,8 +2,9 @@
 
 from __future__ import annotations
 
+import os
 from collections.abc import Iterable
-from typing import Dict, List
+from typing import Dict, List, Set
 
 from pwhash.console import Console
 from pwhash.lines import BYTE_ORDER_MARK, Line, LineGroups
@@ -18,6 +19,9 @@ class Accounts:
     """The stored field of each account, and the odd lines among those to try."""
 
     def __init__(self, path: str, console: Console) -> None:
+        self._path = path
+        self._console = console
+        self._can_be_read_again = os.path.isfile(path)
         self._fields = read_fields(path, console)
         self.absent: List[int] = []  # lines whose name has no account
         self.marked: List[int] = []  # lines with a carriage return or a byte order mark
@@ -40,6 +44,13 @@ class Accounts:
                     tries.append(line)
             if tries:
                 yield tries
+
+    def changed_names(self) -> Set[bytes]:
+        """Reads FIELDS again, and returns the names whose field isn't there as it was."""
+        if not self._can_be_read_again:
+            return set()
+        now = read_fields(self._path, self._console)
+        return {name for name, field in self._fields.items() if now.get(name) != field}
 
     def _names_for(self, line: Line) -> Iterable[tuple[bytes, bytes]]:
         """Returns the accounts for which a line's password is tried, each with that password."""

@@ -25,7 +25,7 @@ from pwhash.progress import Progress
 from pwhash.session import Session
 from pwhash.source import Source
 from pwhash.table import lines_of
-from pwhash.text import display_name, printable
+from pwhash.text import display_name, printable, some_names
 from pwhash.workers import Memory, Workers
 
 # Refusals that apply to a password whatever the account.
@@ -41,11 +41,13 @@ def run(options: CheckOptions, session: Session) -> bool:
     checking = Checking(options, source, session)
     if options.out is None:
         checking.check_lines(Writer(session.console))
+        checking.leave_out_changed(None)
         checking.report_odd_lines()
         return checking.has_problem()
     with opened(options.out, source, None) as part:
         session.part = part
         checking.check_lines(Writer(session.console, part.fd, part.name), part)
+        checking.leave_out_changed(part)
         session.finish(part, checking.has_problem())
     checking.report_odd_lines()
     return checking.has_problem()
@@ -69,6 +71,7 @@ class Checking:
         self._memory = Memory()
         self._new_table = library.memory_of_new_hash(options.policy) if options.rehash else 0
         self._printed: Set[str] = set()
+        self._renewed: Set[bytes] = set()  # the names that have got a new hash
         self._has_bad_line = False
 
     def has_problem(self) -> bool:
@@ -89,6 +92,25 @@ class Checking:
             progress.reached(answers[-1].line.number)
         progress.end()
         self._source.refuse_nothing()
+
+    def leave_out_changed(self, part: Optional[Part]) -> None:
+        """Leaves out new hashes of names whose field was changed or locked during the run.
+
+        Such a hash would undo the change. Hashes that are already printed are only named.
+        """
+        if not self._renewed or self._accounts is None:
+            return
+        outdated = self._renewed & self._accounts.changed_names()
+        if not outdated:
+            return
+        self._has_bad_line = True
+        if part is not None:
+            part.remove_lines(outdated)
+        what = "were left out" if part is not None else "mustn't be stored"
+        self._console.say(
+            f"{display_name(self._options.shadow or '')} was changed during the run, so the new "
+            f"hashes of these names {what}: {some_names(sorted(outdated))}."
+        )
 
     def report_odd_lines(self) -> None:
         """Reports odd lines in a list of passwords."""
@@ -116,6 +138,7 @@ class Checking:
     def _note(self, answers: Sequence[Answer]) -> None:
         if any(each.is_wrong_password or each.message is not None for each in answers):
             self._has_bad_line = True
+        self._renewed.update(name_of(each.line) for each in answers if each.renewed is not None)
 
     def _answer(self, line: Line) -> Answer:
         """Checks one line. Called in a worker's thread."""
