@@ -155,7 +155,7 @@ RESTS_OF_OPTIONS = {
     "pwhash audit --o": ["--only-problems"],
     "pwhash set --del": ["--delete"],
     "pwhash file --list": ["--list-columns"],
-    "pwhash install --acc": ["--accept-other-schemes"],
+    "pwhash install --acc": ["--accept-other-schemes", "--accept-removals"],
 }
 
 

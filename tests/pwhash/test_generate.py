@@ -335,7 +335,7 @@ def test_no_list_is_written_where_anybody_could_remove_it() -> None:
     os.mkdir("open")
     os.chmod("open", 0o777)
     done = pwhash(*WORDS, "names", "--passwords", "open/list")
-    assert_refused(done, b"everybody can write", "names", "open")
+    assert_refused(done, b"others can write its folder", "names", "open")
     done = pwhash(*WORDS, "names", "--passwords", "nowhere/list")
     assert done.status == 3 and b"nowhere: No such" in done.err, done
     assert sorted(os.listdir()) == ["names", "open"], done

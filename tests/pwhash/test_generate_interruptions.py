@@ -191,11 +191,25 @@ class TestResuming:
         save("lists/c0.csv", read("lists/c0.csv").replace(lines[place], name + b";AAAAAAAAAAAAA\n"))
         assert_does_not_resume(*WORDS, reason=b"c0.csv isn't as the earlier run left it")
 
-    def test_another_first_password_is_noticed_whatever_the_time_of_the_list(self) -> None:
+    @pytest.mark.parametrize("time", [0, 2**32], ids=["older", "newer"])
+    def test_another_password_is_noticed_whatever_the_time_of_the_list(self, time: int) -> None:
         lines = read("lists/c0.csv").splitlines(keepends=True)
-        save("lists/c0.csv", b"".join([lines[0], b"user0;AAAAAAAAAAAAAAAAAAAA\n", *lines[2:]]))
-        os.utime("lists/c0.csv", (0, 0))
-        assert_does_not_resume(*WORDS, reason=b"line 1: not of line 2")
+        name = lines[2].partition(b";")[0]
+        lines[2] = name + b";AAAAAAAAAAAAAAAAAAAA\n"
+        save("lists/c0.csv", b"".join(lines))
+        os.utime("lists/c0.csv", (time, time))
+        assert_does_not_resume(*WORDS, reason=b"c0.csv isn't as the earlier run left it")
+
+    def test_a_list_of_another_run_in_its_place_is_noticed(self) -> None:
+        """A backup that cp -p puts back has the size and the time of the list."""
+        status = os.stat("lists/c0.csv")
+        lines = read("lists/c0.csv").splitlines(keepends=True)
+        name = lines[2].partition(b";")[0]
+        lines[2] = name + b";AAAAAAAAAAAAAAAAAAAA\n"
+        save_part("backup", b"".join(lines))
+        os.utime("backup", ns=(status.st_atime_ns, status.st_mtime_ns))
+        os.rename("backup", "lists/c0.csv")
+        assert_does_not_resume(*WORDS, reason=b"c0.csv isn't as the earlier run left it")
 
     def test_a_list_of_another_run_beside_them_is_noticed(self) -> None:
         last = read("lists/c0.csv").splitlines()[-1].partition(b";")[0]
@@ -235,8 +249,8 @@ class TestResuming:
 @pytest.mark.parametrize(
     "file",
     [
-        pytest.param("lists/c0.csv", id="before the first list"),
-        pytest.param("lists/c3.csv", id="before the last list"),
+        pytest.param("c0.csv", id="before the first list"),
+        pytest.param("c3.csv", id="before the last list"),
         pytest.param("hashes.part.options", id="after the last list"),
     ],
 )
@@ -260,6 +274,17 @@ def test_without_resume_nobody_is_advised_to_remove_only_the_passwords() -> None
         process.kill()
     done = pwhash(*WORDS)
     assert done.status == 2 and b"add --resume, or remove both" in done.err, done
+
+
+def test_a_run_whose_lists_are_in_a_folder_of_a_group_goes_on_too() -> None:
+    """In such a folder, new folders get the set-group-ID bit."""
+    os.chmod(".", 0o2755)
+    with started(*WORDS) as process:
+        wait_for(lambda: has_begun(PART))
+        process.kill()
+    before = passwords_in()
+    assert_whole(pwhash(*WORDS, "--resume"))
+    assert passwords_in() == before
 
 
 def test_a_run_with_one_list_goes_on_too() -> None:

@@ -31,6 +31,7 @@ BCRYPT = crypt(b"password", b"$2b$04$abcdefghijklmnopqrstuu")
 YESCRYPT = crypt(b"password", b"$y$j75$abcdefghijklmnopqrstu.")
 HASHES = b"ann:" + ONE + b"\nbob:" + SIX + b":1000:1000::/home/bob\neve:!" + ONE + b"\n"
 OLD = b"ann:" + SIX + b"\n"
+REMOVALS = "--accept-removals"
 OTHERS = "--accept-other-schemes"
 BASE64 = b"7ynoyL9XN1Ol2E6qOpoGbBvdFsGTFwmO"
 OWNER, GROUP, MODE = 65534, 4242, 0o640
@@ -68,8 +69,8 @@ def test_an_existing_target_gets_the_lines_and_keeps_owner_and_mode() -> None:
 @pytest.mark.parametrize("mark", [b"!", b"!!", b"*"])
 def test_names_that_are_locked_in_target_stay_locked(mark: bytes) -> None:
     save("hashes", HASHES)
-    save("target", b"cid:x\nbob:" + mark + b"old:7\n")
-    done = pwhash(*INSTALL)
+    save("target", b"cid:" + SIX + b"\nbob:" + mark + b"old:7\n")
+    done = pwhash(*INSTALL, REMOVALS)
     expected = HASHES.replace(b"bob:", b"bob:!")
     assert (done.status, read("target")) == (0, expected), done
     assert b"stay locked, as they were: bob." in done.err, done
@@ -78,7 +79,7 @@ def test_names_that_are_locked_in_target_stay_locked(mark: bytes) -> None:
 @pytest.mark.parametrize("line", [b"#bob:old\n", b"# bob:old\n", b"##bob:!\n"])
 def test_names_that_are_commented_out_in_target_stay_out(line: bytes) -> None:
     save("hashes", HASHES)
-    save("target", b"# our users: see the wiki\ncid:x\n" + line)
+    save("target", b"# our users: see the wiki\n" + OLD + line)
     done = pwhash(*INSTALL)
     assert (done.status, read("target")) == (0, HASHES.replace(b"bob:", b"bob:!")), done
     assert b"stay locked, as they were: bob." in done.err, done
@@ -87,16 +88,61 @@ def test_names_that_are_commented_out_in_target_stay_out(line: bytes) -> None:
 
 def test_a_comment_beside_a_line_of_the_same_name_locks_nobody() -> None:
     save("hashes", HASHES)
-    save("target", b"#bob:old\nbob:new\n")
+    save("target", b"#bob:old\nbob:" + ONE + b"\n")
     assert (pwhash(*INSTALL).status, read("target")) == (0, HASHES)
 
 
-def test_names_that_disappear_are_reported() -> None:
+def test_names_that_would_disappear_are_named_and_removed_only_on_demand() -> None:
     save("hashes", HASHES)
-    save("target", b"".join(b"old%d:x\n" % number for number in range(25)) + OLD)
+    content = b"".join(b"old%d:%b\n" % (number, ONE) for number in range(25)) + OLD
+    save("target", content)
+    done = pwhash(*INSTALL)
+    assert (done.status, read("target"), beside()) == (1, content, ["hashes", "target"]), done
+    assert b"old0, old1" in done.err and b"and 5 more" in done.err, done
+    assert REMOVALS.encode() in done.err, done
+    done = pwhash(*INSTALL, REMOVALS)
+    assert (done.status, read("target")) == (0, HASHES), done
+    assert b"old0, old1" in done.err and b"and 5 more" in done.err, done
+
+
+@pytest.mark.parametrize(
+    "field",
+    [
+        pytest.param(b"x", id="a letter"),
+        pytest.param(b"disabled", id="a word"),
+        pytest.param(b"LOCKED" + SIX, id="a word before the hash"),
+        pytest.param(SIX[:-1], id="a truncated hash"),
+        pytest.param(b"", id="nothing"),
+        pytest.param(b"{CRYPT}x", id="a letter after a prefix"),
+    ],
+)
+def test_nobody_is_let_in_whom_target_may_keep_out(field: bytes) -> None:
+    save("hashes", HASHES)
+    content = OLD + b"bob:" + field + b":7\n"
+    save("target", content)
+    done = pwhash(*INSTALL)
+    assert (done.status, read("target"), beside()) == (1, content, ["hashes", "target"]), done
+    assert b"bob" in done.err and b"ann" not in done.err and b"--delete" in done.err, done
+    assert not field or field not in done.err.replace(b"fix", b""), done
+    assert pwhash("set", "--delete", "target", "bob").status == 0
     done = pwhash(*INSTALL)
     assert (done.status, read("target")) == (0, HASHES), done
-    assert b"old0, old1" in done.err and b"and 5 others" in done.err, done
+
+
+def test_a_name_that_is_locked_in_hashes_too_is_let_in_by_nothing() -> None:
+    save("hashes", HASHES.replace(b"bob:", b"bob:!"))
+    save("target", OLD + b"bob:disabled\n")
+    done = pwhash(*INSTALL)
+    assert (done.status, read("target")) == (0, HASHES.replace(b"bob:", b"bob:!")), done
+
+
+def test_further_fields_of_a_line_stay_unless_hashes_has_others() -> None:
+    save("hashes", b"ann:" + ONE + b"\nbob:" + SIX + b":1:1\neve:" + ONE + b"\n")
+    fields = b":1000:1000::/home/ann::userdb_mail=maildir:~/Maildir"
+    save("target", b"ann:" + SIX + fields + b"\nbob:!" + SIX + b":7:7\n")
+    done = pwhash(*INSTALL)
+    expected = b"ann:" + ONE + fields + b"\nbob:!" + SIX + b":1:1\neve:" + ONE + b"\n"
+    assert (done.status, read("target")) == (0, expected), done
 
 
 @pytest.mark.parametrize(
@@ -156,6 +202,9 @@ def test_a_last_line_without_a_line_feed_gets_one() -> None:
         pytest.param(("--owner", "nobody-of-this-name"), id="an unknown user"),
         pytest.param(("--group", "nobody-of-this-name"), id="an unknown group"),
         pytest.param(("--owner", "99999999999"), id="a number that is too large"),
+        pytest.param(("--owner", "4294967295"), id="the number by which chown changes nothing"),
+        pytest.param(("--group", "4294967295"), id="the same for the group"),
+        pytest.param(("--owner", "-1"), id="a negative number"),
         pytest.param(("--mode", "666"), id="a mode by which others can write"),
         pytest.param(("--mode", "755"), id="a program"),
         pytest.param(("--mode", "u=rw"), id="a mode in letters"),
@@ -333,22 +382,28 @@ def test_a_folder_that_others_can_write_is_refused(has_target: bool) -> None:
 
 
 @pytest.mark.parametrize(
-    "content",
+    ("content", "reason"),
     [
-        pytest.param(b"auth_basic Members;\n", id="a configuration"),
-        pytest.param(b"# list: of\n\nann:x\nbob\n", id="a line without a colon"),
-        pytest.param(b"\x7fELF\0\0\n\xff", id="a program"),
+        pytest.param(b"auth_basic Members;\n", b"no colon", id="a configuration"),
+        pytest.param(
+            b"# list: of\n\nann:" + SIX + b"\nbob\n", b"no colon", id="a line without a colon"
+        ),
+        pytest.param(b"\x7fELF\0\0\n\xff", b"no colon", id="a program"),
+        pytest.param(b"ann: " + SIX + b"\n", b"blank", id="YAML"),
+        pytest.param(b"users:\n  ann:" + SIX + b"\n", b"blank", id="indented YAML"),
+        pytest.param(b"users:x:100:ann,bob\n", b"no line with a hash", id="a file of groups"),
+        pytest.param(b"color:red\nann:\n", b"no line with a hash", id="another configuration"),
     ],
 )
-def test_a_file_that_holds_no_passwords_is_not_replaced(content: bytes) -> None:
+def test_a_file_that_holds_no_passwords_is_not_replaced(content: bytes, reason: bytes) -> None:
     save("hashes", HASHES)
     save("target", content)
-    done = pwhash(*INSTALL)
-    assert (done.status, done.out) == (2, b"") and b"no colon" in done.err, done
-    assert read("target") == content, done
+    done = pwhash(*INSTALL, REMOVALS)
+    assert (done.status, done.out) == (2, b"") and reason in done.err, done
+    assert read("target") == content and beside() == ["hashes", "target"], done
 
 
-@pytest.mark.parametrize("content", [b"", b"\n", b"# none yet\n", b"ann:x\n \n"])
+@pytest.mark.parametrize("content", [b"", b"\n", b"# none yet\n", OLD + b" \n"])
 def test_a_password_file_of_few_lines_is_replaced(content: bytes) -> None:
     save("hashes", HASHES)
     save("target", content)
@@ -397,7 +452,10 @@ def test_after_simultaneous_runs_one_whole_file_remains() -> None:
         contents.append(b"".join(b"user%d:%b\n" % (each + number, ONE) for each in range(5000)))
         save(f"hashes{number}", contents[-1])
     with ThreadPoolExecutor(4) as pool:
-        runs = [pool.submit(pwhash, "install", f"hashes{number}", "target") for number in range(8)]
+        runs = [
+            pool.submit(pwhash, "install", REMOVALS, f"hashes{number}", "target")
+            for number in range(8)
+        ]
     ends = [run.result() for run in runs]
     # If several runs find no file, one of them creates it and the others fail.
     assert all(done.status in (0, 3) for done in ends), "\n".join(map(str, ends))

@@ -88,7 +88,7 @@ def test_no_file_with_the_name_of_standard_output_is_written() -> None:
 
 def test_a_missing_folder_leaves_nothing_to_resume() -> None:
     done = pwhash("file", *MD5CRYPT, save("lines", b"ann:x\n"), "-o", "nowhere/out")
-    assert done.status == 3 and b"nowhere/out.part" in done.err, done
+    assert done.status == 3 and b"nowhere: No such file" in done.err, done
     assert b"--resume" not in done.err, done
 
 

@@ -27,8 +27,8 @@ from support.pwhash_runs import (
 
 
 def run_in_the_open_folder(*words: str) -> Ended:
-    """Runs pwhash in a folder that everybody can write."""
-    os.chmod(".", 0o777)
+    """Runs pwhash in a folder where everybody can make files, as in /tmp."""
+    os.chmod(".", 0o1777)
     return pwhash("file", *MD5CRYPT, "passwords", "-o", "hashes", *words)
 
 

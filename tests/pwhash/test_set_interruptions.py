@@ -157,6 +157,25 @@ def test_a_full_disk_leaves_the_old_file() -> None:
     assert done.out.split() == [b"passwords", b"passwords.mkpasswd.lock", b"zeros"], done
 
 
+def test_a_file_that_is_mounted_by_itself_stays() -> None:
+    save("passwords", BEFORE)
+    save("outside", BEFORE)
+    script = 'mount --bind outside passwords; "$@" || { s=$?; ls; exit $s; }'
+    done = in_namespace(script, *SET, stdin=b"password\n")
+    assert done.status == 3 and b"mounted by itself" in done.err, done
+    assert done.out.split() == [b"outside", b"passwords", b"passwords.mkpasswd.lock"], done
+    assert read("passwords") == read("outside") == BEFORE, done
+
+
+@pytest.mark.needs("strace")
+def test_an_immutable_file_is_named_before_the_password_is_read() -> None:
+    """The kernel answers EPERM if anybody wants to write such a file."""
+    save("passwords", BEFORE)
+    done = traced("?faccessat2,?faccessat:error=EPERM")
+    assert done.status == 2 and b"immutable" in done.err, done
+    assert (read("passwords"), beside()) == (BEFORE, ["passwords"]), done
+
+
 def test_a_limit_on_file_size_leaves_the_old_file() -> None:
     save("passwords", BEFORE)
     done = shell('ulimit -f 0; exec "$@"', *SET, stdin=b"password\n")

@@ -2,16 +2,16 @@
 
 from __future__ import annotations
 
+import os
 from collections.abc import Iterable
-from typing import Dict, List
+from typing import Dict, List, Set
 
 from pwhash.console import Console
 from pwhash.lines import BYTE_ORDER_MARK, Line, LineGroups
-from pwhash.shown_names import shown_line
+from pwhash.shown_names import MAX_NAMED, shown_line
 from pwhash.stored import Stored, stored_in
 from pwhash.text import display_name, is_utf8
 
-MAX_NAMED = 20  # numbers of lines, or names, in messages
 MAX_GROUP = 1 << 10  # lines in a group
 
 
@@ -19,23 +19,26 @@ class Accounts:
     """The stored field of each account, and the odd lines among those to try."""
 
     def __init__(self, path: str, console: Console) -> None:
+        self._path = path
+        self._console = console
+        self._can_be_read_again = os.path.isfile(path)
         self.repeated = 0  # how many lines of FIELDS have the name of an earlier one
-        self._fields = self._read(path, console)
+        self._fields = self._read()
         self.absent: List[int] = []  # lines whose name has no account
         self.marked: List[int] = []  # lines with a carriage return or a byte order mark
         self.odd = 0  # how many lines aren't UTF-8, or have a zero byte
 
-    def _read(self, path: str, console: Console) -> Dict[bytes, bytes]:
+    def _read(self) -> Dict[bytes, bytes]:
         """Returns the field of each name, in its first line. Reports its further lines."""
         first_lines: Dict[bytes, Stored] = {}
-        for stored in stored_in(path, console):
+        for stored in stored_in(self._path, self._console):
             first = first_lines.setdefault(stored.name, stored)
             if first is stored:
                 continue
             self.repeated += 1
             if self.repeated <= MAX_NAMED:
-                where = shown_line(display_name(path), stored.number, stored.name)
-                console.say(f"{where}: the name again, after line {first.number}: not tried")
+                where = shown_line(display_name(self._path), stored.number, stored.name)
+                self._console.say(f"{where}: the name again, after line {first.number}: not tried")
         return {name: stored.field for name, stored in first_lines.items()}
 
     def lines_to_check(self, groups: LineGroups) -> LineGroups:
@@ -55,6 +58,15 @@ class Accounts:
                     tries.append(line)
             if tries:
                 yield tries
+
+    def changed_names(self) -> Set[bytes]:
+        """Reads FIELDS again, and returns the names whose field isn't there as it was."""
+        if not self._can_be_read_again:
+            return set()
+        now: Dict[bytes, bytes] = {}
+        for stored in stored_in(self._path, self._console):
+            now.setdefault(stored.name, stored.field)
+        return {name for name, field in self._fields.items() if now.get(name) != field}
 
     def _names_for(self, line: Line) -> Iterable[tuple[bytes, bytes]]:
         """Returns the accounts for which a line's password is tried, each with that password."""

@@ -6,7 +6,7 @@ from collections.abc import Sequence
 from typing import List, NamedTuple, Optional, Set, Union
 
 from pwhash import library
-from pwhash.accounts import MAX_NAMED, Accounts
+from pwhash.accounts import Accounts
 from pwhash.answers import Answer, Writer, refusal_answer, refused_row_answer
 from pwhash.library import OVER_BUDGET, PASSWORD_TOO_LONG, PASSWORD_ZERO_BYTE, Refusal, Verdict
 from pwhash.lines import (
@@ -23,7 +23,7 @@ from pwhash.options import CheckOptions
 from pwhash.part import Part, opened
 from pwhash.progress import Progress
 from pwhash.session import Session
-from pwhash.shown_names import could_be_name, may_be_shown
+from pwhash.shown_names import MAX_NAMED, could_be_name, list_names, may_be_shown
 from pwhash.source import Source
 from pwhash.table import lines_of
 from pwhash.text import display_name, printable
@@ -42,11 +42,13 @@ def run(options: CheckOptions, session: Session) -> bool:
     checking = Checking(options, source, session)
     if options.out is None:
         checking.check_lines(Writer(session.console))
+        checking.leave_out_changed(None)
         checking.report_odd_lines()
         return checking.has_problem()
     with opened(options.out, source, None) as part:
         session.part = part
         checking.check_lines(Writer(session.console, part.fd, part.name), part)
+        checking.leave_out_changed(part)
         session.finish(part, checking.has_problem())
     checking.report_odd_lines()
     return checking.has_problem()
@@ -72,6 +74,7 @@ class Checking:
         self._first_fields = FirstFields()
         self._with_another_field: List[int] = []  # numbers of lines
         self._printed: Set[str] = set()
+        self._renewed: Set[bytes] = set()  # the names that have got a new hash
         self._has_bad_line = False
 
     def has_problem(self) -> bool:
@@ -94,6 +97,25 @@ class Checking:
             progress.reached(answers[-1].line.number)
         progress.end()
         self._source.refuse_nothing()
+
+    def leave_out_changed(self, part: Optional[Part]) -> None:
+        """Leaves out new hashes of names whose field was changed or locked during the run.
+
+        Such a hash would undo the change. Hashes that are already printed are only named.
+        """
+        if not self._renewed or self._accounts is None:
+            return
+        outdated = self._renewed & self._accounts.changed_names()
+        if not outdated:
+            return
+        self._has_bad_line = True
+        if part is not None:
+            part.remove_lines(outdated)
+        what = "were left out" if part is not None else "mustn't be stored"
+        self._console.say(
+            f"{display_name(self._options.shadow or '')} was changed during the run, so the new "
+            f"hashes of these names {what}: {list_names(sorted(outdated))}."
+        )
 
     def report_odd_lines(self) -> None:
         """Reports odd lines in a list of passwords, or of names and stored fields."""
@@ -126,6 +148,7 @@ class Checking:
     def _note(self, answers: Sequence[Answer]) -> None:
         if any(each.is_wrong_password or each.message is not None for each in answers):
             self._has_bad_line = True
+        self._renewed.update(name_of(each.line) for each in answers if each.renewed is not None)
         if self._accounts is None:
             for answer in answers:
                 self._note_field(answer.line)

@@ -446,6 +446,7 @@ def install_parser() -> Parser:
     parser.value("--group", metavar="GROUP", help="of a new TARGET, by default that user's")
     parser.value("--mode", metavar="MODE", help="of a new TARGET, by default 600")
     parser.flag("--accept-other-schemes", "accept hashes of bcrypt and other schemes")
+    parser.flag("--accept-removals", "remove names of TARGET that HASHES lacks")
     add_common(parser)
     return parser
 
@@ -463,6 +464,7 @@ def install_options(parser: Parser, parsed: argparse.Namespace) -> Options:
         group=parsed.group,
         mode=read_mode(parser, parsed),
         accepts_other_schemes=parsed.accept_other_schemes,
+        accepts_removals=parsed.accept_removals,
         quiet=parsed.quiet,
     )
 

@@ -105,6 +105,11 @@ def swap(place: Place) -> None:
                 f"the file system of {place.display_name} can't exchange two files, as NFS can't. "
                 "The file stays as it was. Move it to a disk of this machine."
             ) from None
+        if error.errno == errno.EBUSY:
+            raise Stop(
+                f"{place.display_name} is mounted by itself, as a container's volume can be, so no "
+                "other file can take its place. The file stays as it was. Mount its folder instead."
+            ) from None
         raise
 
 

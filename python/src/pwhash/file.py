@@ -11,7 +11,7 @@ from pwhash.doubts import Doubts
 from pwhash.generate import store_passwords, with_passwords, with_placeholders
 from pwhash.library import OVER_BUDGET, Refusal
 from pwhash.lines import Line, LineGroups, name_of, refused_to_hash
-from pwhash.lists import refuse_open_folder
+from pwhash.lists import refuse_folder
 from pwhash.locked import Locked
 from pwhash.look import Look
 from pwhash.options import Doubtful, FileOptions
@@ -40,7 +40,7 @@ def run(options: FileOptions, session: Session) -> bool:
     if options.only_look:
         return bool(selection.left_out)
     if options.generate is not None:
-        refuse_open_folder(options.generate.passwords)
+        refuse_folder(options.generate.passwords)
     hashing = Hashing(options, source, selection.locked, session)
     if options.out is None:
         session.console.end_last_line(STDOUT)

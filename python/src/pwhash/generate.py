@@ -15,6 +15,7 @@ from pwhash.console import Console
 from pwhash.doubts import NOT_UTF8
 from pwhash.errors import UsageError
 from pwhash.exports import is_damaged
+from pwhash.folders import FileInFolder
 from pwhash.lines import Line, LineGroups, name_of
 from pwhash.lists import ListWriter, Row
 from pwhash.options import FileOptions, Generate
@@ -31,8 +32,6 @@ FORMULA = re.compile("[\\s\ufeff\u200b]*[-=+@\uff1d\uff0b\uff0d\uff20]")
 BEFORE_FORMULA = re.compile('[,;|"]')
 IN_NO_LIST = re.compile(rb"[,;|\"\0-\x1f\x7f]")
 LONGEST_FILE_NAME = 255
-MAX_SHOWN = 20  # names in a message
-MOST_SHOWN = 20  # names in a message
 
 
 class Names(NamedTuple):
@@ -131,25 +130,29 @@ def store_passwords(
     """Returns the password of each name, once all lists are on disk."""
     generate = options.generate
     assert generate is not None
-    has_hashes = os.fstat(part.fd).st_size > 0
-    has_lists = resume_state.read(part.path) is not None and os.path.lexists(generate.passwords)
-    if options.resume and has_lists:
-        saved = os.lstat(resume_state.path_of(part.path))
-        passwords = lists.read(generate.passwords, generate.has_groups, saved)
-        report_useless_passwords(passwords, groups, generate, session.console)
-        return passwords
-    if has_hashes:
-        raise UsageError(
-            f"{part.name} has hashes of passwords that were in {display_name(generate.passwords)}, "
-            f"which is gone. Remove {part.name}, and start again."
-        )
-    if options.resume and os.path.lexists(generate.passwords):
-        raise leftover_list_error(generate.passwords, part)
-    names = new_passwords(groups, generate)
-    refuse_changed(source, part)
-    with session.signals.postponed():
-        write_lists(names, generate, source.separator, part, options)
-    return names.passwords
+    with lists.opened_target(generate.passwords) as target:
+        if options.resume and target.status() is not None:
+            passwords = saved_passwords(target, generate, part)
+            report_useless_passwords(passwords, groups, generate, session.console)
+            return passwords
+        if os.fstat(part.fd).st_size:
+            raise UsageError(
+                f"{part.name} has hashes of passwords that were in {target.display_name}, "
+                f"which is gone. Remove {part.name}, and start again."
+            )
+        names = new_passwords(groups, generate)
+        refuse_changed(source, part)
+        with session.signals.postponed():
+            write_lists(names, target, source.separator, part, options)
+        return names.passwords
+
+
+def saved_passwords(target: FileInFolder, generate: Generate, part: Part) -> Dict[bytes, bytes]:
+    """Returns the passwords in the lists of the run that --resume continues."""
+    state = resume_state.read(part.file)
+    if state is None or not state.lists:
+        raise leftover_list_error(target, part)
+    return lists.read(target, generate.has_groups, set(state.lists.split()))
 
 
 def report_useless_passwords(
@@ -162,13 +165,13 @@ def report_useless_passwords(
         return
     console.say(
         f"{display_name(generate.passwords)} has passwords that get no hash, since their lines "
-        f"are left out now: {list_names(useless, MAX_SHOWN)}."
+        f"are left out now: {list_names(useless)}."
     )
 
 
-def leftover_list_error(path: str, part: Part) -> UsageError:
+def leftover_list_error(target: FileInFolder, part: Part) -> UsageError:
     """Returns the error for a list that may be incomplete, since its run ended too early."""
-    name = display_name(path)
+    name = target.display_name
     return UsageError(
         f"{name} already exists, and {part.name} has no hash yet. If a run that ended early left "
         f"{name}, remove it, and type the command again; else name another after --passwords."
@@ -196,24 +199,24 @@ def new_password(length: int) -> bytes:
 
 
 def write_lists(
-    names: Names, generate: Generate, separator: str, part: Part, options: FileOptions
+    names: Names, target: FileInFolder, separator: str, part: Part, options: FileOptions
 ) -> None:
     """Writes all lists, and what --resume needs. After an error none of these files remains."""
-    writer = ListWriter()
+    assert options.generate is not None
+    writer = ListWriter(target)
     heading = list_heading(options)
     try:
-        if generate.has_groups:
-            writer.make_folder(generate.passwords)
+        if options.generate.has_groups:
+            writer.make_folder()
         for group, members in names.groups.items():
-            path = generate.passwords
-            if generate.has_groups:
-                path = os.path.join(path, os.fsdecode(group) + lists.SUFFIX)
             rows = [(*member, names.passwords[member[-1]]) for member in members]
-            writer.write(path, separator, [heading, *rows])
-        part.save_state(options)
+            writer.write(group, separator, [heading, *rows])
+        part.save_state(options, writer.identities)
     except BaseException:
         writer.remove()
         raise
+    finally:
+        writer.close()
 
 
 def list_heading(options: FileOptions) -> Row:

@@ -7,13 +7,13 @@ import grp
 import os
 import pwd
 import stat
-from typing import Dict, List, Optional, Set
+from typing import List, Optional
 
 from pwhash import field, password_file, replacing, system, system_files
 from pwhash.errors import Stop, UsageError, errors_named
 from pwhash.exchange import end_earlier_exchange
-from pwhash.field import Field
-from pwhash.hashes_file import HashesFile
+from pwhash.folders import ACL
+from pwhash.hashes_file import Hash, HashesFile
 from pwhash.lock import Owner, hold_lock
 from pwhash.new_file import NewFile, attributes, opened_new
 from pwhash.options import InstallOptions
@@ -26,11 +26,12 @@ from pwhash.place import (
     refuse_unwritable,
 )
 from pwhash.session import Session
-from pwhash.text import display_name, printable
+from pwhash.shown_names import list_names
+from pwhash.target import Target
+from pwhash.text import display_name
 
 OWN_MODE = 0o600
-ACL = "system.posix_acl_access"
-MAX_NAMED = 20
+MAX_NUMBER = (1 << 32) - 2  # one more means "no change" to chown(2)
 
 
 def run(options: InstallOptions, session: Session) -> bool:
@@ -45,7 +46,8 @@ def run(options: InstallOptions, session: Session) -> bool:
             sentences = [f"{place.display_name} was made, with {len(hashes.lines):,} names."]
         else:
             refuse_unfit(place, found, requested, hashes)
-            content = Content(place.display_name, hashes)
+            content = Content(place.display_name, hashes, options.accepts_removals)
+            content.check(place)
             replacing.replace(place, content.changed, session)
             sentences = content.sentences
     for sentence in sentences if not options.quiet else []:
@@ -80,7 +82,7 @@ def find_user(name: str) -> int:
     """Returns the number of a user, given by name or number."""
     with contextlib.suppress(KeyError):
         return pwd.getpwnam(name).pw_uid
-    if name.isascii() and name.isdecimal() and int(name) < 1 << 32:
+    if name.isascii() and name.isdecimal() and int(name) <= MAX_NUMBER:
         return int(name)
     raise UsageError(f"--owner: there is no user {display_name(name)}.")
 
@@ -89,7 +91,7 @@ def find_group(name: str) -> int:
     """Returns the number of a group, given by name or number."""
     with contextlib.suppress(KeyError):
         return grp.getgrnam(name).gr_gid
-    if name.isascii() and name.isdecimal() and int(name) < 1 << 32:
+    if name.isascii() and name.isdecimal() and int(name) <= MAX_NUMBER:
         return int(name)
     raise UsageError(f"--group: there is no group {display_name(name)}.")
 
@@ -110,67 +112,48 @@ def refuse_unfit(
 class Content:
     """The new content of TARGET. Names that are locked in it stay locked."""
 
-    def __init__(self, file_name: str, hashes: HashesFile) -> None:
+    def __init__(self, file_name: str, hashes: HashesFile, accepts_removals: bool) -> None:
         self.sentences: List[str] = []
         self._file_name = file_name
         self._hashes = hashes
+        self._accepts_removals = accepts_removals
+
+    def check(self, place: Place) -> None:
+        """Refuses a TARGET that shouldn't be replaced, before anything is created."""
+        with errors_named(self._file_name), password_file.opened(place) as file:
+            self.changed(file.content)
 
     def changed(self, content: bytes) -> bytes:
         """Returns the content that replaces the present one."""
-        system_files.refuse_shape(content, self._file_name)
-        refuse_other_file(content, self._file_name)
-        before = read_fields(content)
-        commented_out = read_commented_names(content) - before.keys()
-        lines: List[bytes] = []
-        locked: List[bytes] = []
-        for line in self._hashes.lines:
-            old = before.pop(line.name, None)
-            was_locked = line.name in commented_out or (old is not None and old.is_locked)
-            if was_locked and not line.field.is_locked:
-                locked.append(line.name)
-                line = line._replace(field=line.field._replace(mark=field.LOCK))
-            lines.append(line.data())
-        self.sentences = [f"{self._file_name} has {len(lines):,} names now."]
-        if any(line.startswith(b"#") for line in content.split(b"\n")):
+        target = Target(content, self._file_name)
+        target.refuse_entrances(self._hashes.lines)
+        if not self._accepts_removals:
+            target.refuse_removals(self._hashes.lines)
+        locked = [line.name for line in self._hashes.lines if stays_locked(line, target)]
+        self.sentences = [f"{self._file_name} has {len(self._hashes.lines):,} names now."]
+        if target.has_comments:
             self.sentences.append("its comments were removed.")
         self._note("stay locked, as they were", locked)
-        self._note("aren't in HASHES, and were removed", list(before))
-        return b"\n".join(lines) + b"\n"
+        self._note("aren't in HASHES, and were removed", target.removed(self._hashes.lines))
+        return b"".join(line_for(line, target) + b"\n" for line in self._hashes.lines)
 
     def _note(self, what: str, names: List[bytes]) -> None:
         if names:
-            some = ", ".join(printable(name) for name in names[:MAX_NAMED])
-            more = f" and {len(names) - MAX_NAMED:,} others" if len(names) > MAX_NAMED else ""
-            self.sentences.append(f"these {what}: {some}{more}.")
+            self.sentences.append(f"these {what}: {list_names(names)}.")
 
 
-def refuse_other_file(content: bytes, file_name: str) -> None:
-    """Refuses to replace a file that isn't a password file, such as a service's configuration."""
-    number = password_file.first_odd_line(content)
-    if number is not None:
-        raise UsageError(
-            f"{file_name}, line {number}: no colon, as each line of a password file has one. Is it "
-            "another file? Nothing was installed. If it isn't needed, remove it first."
-        )
+def stays_locked(line: Hash, target: Target) -> bool:
+    """Whether TARGET keeps a name out that HASHES would let in."""
+    return target.locks(line.name) and not line.field.is_locked
 
 
-def read_commented_names(content: bytes) -> Set[bytes]:
-    """Returns the names in commented-out lines: somebody may keep a user out that way."""
-    lines = content.split(b"\n")
-    return {line.lstrip(b"# ").partition(b":")[0] for line in lines if line.startswith(b"#")}
-
-
-def read_fields(content: bytes) -> Dict[bytes, Field]:
-    """Returns the field of each name. If a name has several lines, a locked one counts."""
-    found: Dict[bytes, Field] = {}
-    for line in content.split(b"\n"):
-        name, colon, rest = line.partition(b":")
-        if not colon or not name or name.startswith(b"#"):
-            continue
-        new = field.field_of(rest.partition(b":")[0])
-        if name not in found or new.is_locked:
-            found[name] = new
-    return found
+def line_for(line: Hash, target: Target) -> bytes:
+    """Returns the new line of a name. It keeps further fields, unless HASHES has others."""
+    if stays_locked(line, target):
+        line = line._replace(field=line.field._replace(mark=field.LOCK))
+    if not line.rest:
+        line = line._replace(rest=target.rest_of(line.name))
+    return line.data()
 
 
 # ---- A new TARGET
@@ -209,7 +192,7 @@ def give_name(place: Place, new: NewFile) -> None:
     """Gives the new file its name, unless somebody has created another file of that name."""
     try:
         if new.has_name:
-            system.rename(place.folder, place.new, place.name, system.RENAME_NOREPLACE)
+            system.rename_to_new(place.folder, place.new, place.name)
         else:
             new.link(place.name)
     except FileExistsError:

@@ -13,10 +13,11 @@ import os
 import re
 import stat
 from collections.abc import Iterable
-from typing import Dict, List, Tuple
+from typing import ContextManager, Dict, List, Optional, Set, Tuple
 
 from pwhash import own_file
 from pwhash.errors import Stop, UsageError, errors_named, reason_of
+from pwhash.folders import FileInFolder, opened_for_new_file, sync_folder
 from pwhash.lines import BYTE_ORDER_MARK
 from pwhash.text import display_name, is_utf8
 
@@ -32,50 +33,96 @@ Row = Tuple[bytes, ...]  # the columns of --list-columns, then a name and its pa
 class ListWriter:
     """The lists that this run has written, to remove them if the run fails before it hashes."""
 
-    def __init__(self) -> None:
-        self._files: List[str] = []
-        self._folders: List[str] = []
+    def __init__(self, target: FileInFolder) -> None:
+        self.identities: List[bytes] = []
+        self._target = target
+        self._files: List[FileInFolder] = []
+        self._folder: Optional[int] = None  # that of several lists, once it is made
 
-    def make_folder(self, path: str) -> None:
+    def make_folder(self) -> None:
         """Creates the folder for several lists."""
-        refuse_open_folder(path)
         before = os.umask(0o777 & ~FOLDER_MODE)
         try:
-            os.mkdir(path, FOLDER_MODE)
+            os.mkdir(self._target.name, FOLDER_MODE, dir_fd=self._target.folder)
         except FileExistsError:
-            raise exists_error(path) from None
+            raise exists_error(self._target) from None
         except OSError as error:
-            raise Stop(f"{display_name(path)}: {reason_of(error)}.") from None
+            raise Stop(f"{self._target.display_name}: {reason_of(error)}.") from None
         finally:
             os.umask(before)
-        self._folders.append(path)
-        sync_folder_of(path)
+        self._folder = open_own_folder(self._target)
+        sync_folder_of(self._target)
 
-    def write(self, path: str, separator: str, rows: Iterable[Row]) -> None:
-        """Writes a list, whose first row is the heading."""
-        if not self._folders:
-            refuse_open_folder(path)
+    def write(self, group: bytes, separator: str, rows: Iterable[Row]) -> None:
+        """Writes the list of a group, or the only one. The first row is the heading."""
+        file = self._target
+        if self._folder is not None:
+            file = file_in(self._target, self._folder, os.fsdecode(group) + SUFFIX)
         content = content_of(separator, rows)
-        with errors_named(display_name(path)):
+        with errors_named(file.display_name):
             try:
-                fd = own_file.create(path)
+                fd = own_file.create(file)
             except FileExistsError:
-                raise exists_error(path) from None
-            self._files.append(path)
-            with open(fd, "wb") as file:
-                file.write(content)
-                file.flush()
+                raise exists_error(file) from None
+            self._files.append(file)
+            with open(fd, "wb") as opened:
+                opened.write(content)
+                opened.flush()
                 os.fsync(fd)
-        sync_folder_of(path)
+                self.identities.append(identity(os.fstat(fd)))
+        sync_folder_of(file)
 
     def remove(self) -> None:
         """Removes all lists of this run, and their folder."""
-        for path in self._files:
+        for file in self._files:
             with contextlib.suppress(OSError):
-                os.unlink(path)
-        for path in self._folders:
+                file.remove()
+        if self._folder is not None:
             with contextlib.suppress(OSError):
-                os.rmdir(path)
+                os.rmdir(self._target.name, dir_fd=self._target.folder)
+
+    def close(self) -> None:
+        """Closes the folder of several lists."""
+        if self._folder is not None:
+            os.close(self._folder)
+
+
+def opened_target(path: str) -> ContextManager[FileInFolder]:
+    """Opens the folder of LIST for a block. Refuses one in which others could exchange LIST."""
+    return opened_for_new_file(path.rstrip("/"))
+
+
+def refuse_folder(path: str) -> None:
+    """Refuses the folder of LIST before anything is created."""
+    with opened_target(path):
+        pass
+
+
+def open_own_folder(target: FileInFolder) -> int:
+    """Opens the folder of several lists. Refuses one that no run of this user has created."""
+    with errors_named(target.display_name):
+        status = target.status()
+        if status is None or not is_own_folder(status):
+            raise UsageError(f"{target.display_name} isn't a folder that a run of yours has made.")
+        return target.open(os.O_RDONLY | os.O_DIRECTORY | os.O_NOFOLLOW)
+
+
+def is_own_folder(status: os.stat_result) -> bool:
+    """Whether this is a folder of this user that nobody else can read."""
+    if not stat.S_ISDIR(status.st_mode) or status.st_uid != os.geteuid():
+        return False
+    # A new folder inherits the set-group-ID bit of the folder that it is in.
+    return stat.S_IMODE(status.st_mode) & ~stat.S_ISGID == FOLDER_MODE
+
+
+def file_in(target: FileInFolder, folder: int, name: str) -> FileInFolder:
+    """Returns a file in the folder of several lists."""
+    return FileInFolder(os.path.join(target.path, name), folder, name)
+
+
+def identity(status: os.stat_result) -> bytes:
+    """Returns what is different for a list that was edited, and for another file."""
+    return b"%d,%d,%d" % (status.st_size, status.st_mtime_ns, status.st_ino)
 
 
 def content_of(separator: str, rows: Iterable[Row]) -> bytes:
@@ -88,59 +135,67 @@ def content_of(separator: str, rows: Iterable[Row]) -> bytes:
     return BYTE_ORDER_MARK + content if needs_mark else content
 
 
-def read(path: str, is_folder: bool, saved: os.stat_result) -> Dict[bytes, bytes]:
+def read(target: FileInFolder, is_folder: bool, written: Set[bytes]) -> Dict[bytes, bytes]:
     """Returns the passwords of all names in the lists of an earlier run.
 
-    `saved` is the status of what the run wrote when its lists were whole.
+    `written` has the identities of the lists that the run wrote.
     """
+    if not is_folder:
+        return read_files([target], written)
+    folder = open_own_folder(target)
+    try:
+        names = [name for name in sorted(os.listdir(folder)) if name.endswith(SUFFIX)]
+        return read_files([file_in(target, folder, name) for name in names], written)
+    finally:
+        os.close(folder)
+
+
+def read_files(files: List[FileInFolder], written: Set[bytes]) -> Dict[bytes, bytes]:
+    """Returns the passwords of all names in these lists."""
+    refuse_changed(files, written)
     passwords: Dict[bytes, bytes] = {}
-    with errors_named(display_name(path)):
-        files = files_in(path) if is_folder else [path]
     for file in files:
-        refuse_later(file, saved)
         for name, password in read_list(file):
             if passwords.setdefault(name, password) != password:
                 raise changed_list_error(file, "a name has two passwords")
     return passwords
 
 
-def refuse_later(path: str, saved: os.stat_result) -> None:
-    """Refuses a list that was written after the run saved its state, such as an edited one.
+def refuse_changed(files: List[FileInFolder], written: Set[bytes]) -> None:
+    """Refuses a list that was edited, or that another one has replaced, whatever its time.
 
-    It accepts a list on another file system, whose clock may differ.
+    A copy beside the lists changes nothing.
     """
-    with errors_named(display_name(path)):
-        status = os.lstat(path)
-    if status.st_dev == saved.st_dev and status.st_mtime_ns > saved.st_mtime_ns:
-        raise changed_list_error(path, "it was changed later")
+    others: List[FileInFolder] = []
+    missing = set(written)
+    for file in files:
+        with errors_named(file.display_name):
+            status = file.status()
+        found = b"" if status is None else identity(status)
+        missing.discard(found)
+        if found not in written:
+            others.append(file)
+    if missing and others:
+        raise changed_list_error(others[0], "it was changed, or is another file")
 
 
-def files_in(folder: str) -> List[str]:
-    """Returns the paths of the lists in a folder that a run of this user has created."""
-    status = os.lstat(folder)
-    is_own = stat.S_ISDIR(status.st_mode) and status.st_uid == os.geteuid()
-    if not is_own or stat.S_IMODE(status.st_mode) != FOLDER_MODE:
-        raise UsageError(f"{display_name(folder)} isn't a folder that a run of yours has made.")
-    return [os.path.join(folder, name) for name in os.listdir(folder) if name.endswith(SUFFIX)]
-
-
-def read_list(path: str) -> List[Tuple[bytes, bytes]]:
+def read_list(file: FileInFolder) -> List[Tuple[bytes, bytes]]:
     """Returns the names in one list, with their passwords."""
-    with errors_named(display_name(path)):
-        with open(os.open(path, own_file.FLAGS), "rb") as file:
-            problem = own_file.find_problem(os.fstat(file.fileno()))
-            content = b"" if problem else file.read()
+    with errors_named(file.display_name):
+        with open(file.open(own_file.FLAGS), "rb") as opened:
+            problem = own_file.find_problem(os.fstat(opened.fileno()))
+            content = b"" if problem else opened.read()
     if content.startswith(BYTE_ORDER_MARK):
         content = content[len(BYTE_ORDER_MARK) :]
     found = HEADING.match(content)
     if problem or not found or not content.endswith(b"\n"):
-        raise changed_list_error(path, problem or "it was changed")
+        raise changed_list_error(file, problem or "it was changed")
     try:
         heading, *rows = rows_of(content, found[1].decode(BYTES))
     except csv.Error:
-        raise changed_list_error(path, "it was changed") from None
+        raise changed_list_error(file, "it was changed") from None
     if any(len(row) != len(heading) or not all(row[-2:]) for row in rows):
-        raise changed_list_error(path, "it was changed")
+        raise changed_list_error(file, "it was changed")
     return [(row[-2], row[-1]) for row in rows]
 
 
@@ -151,43 +206,22 @@ def rows_of(content: bytes, separator: str) -> List[Row]:
     return [tuple(field.encode(BYTES) for field in row) for row in rows]
 
 
-def changed_list_error(path: str, problem: str) -> UsageError:
+def changed_list_error(file: FileInFolder, problem: str) -> UsageError:
     """Returns the error for a list that has changed since a run wrote it."""
     return UsageError(
-        f"{display_name(path)} isn't as the earlier run left it ({problem}), so --resume "
+        f"{file.display_name} isn't as the earlier run left it ({problem}), so --resume "
         "doesn't know the passwords. Remove the lists and OUT.part, and start again."
     )
 
 
-def exists_error(path: str) -> UsageError:
+def exists_error(file: FileInFolder) -> UsageError:
     """Returns the error for a file or folder that already exists."""
     return UsageError(
-        f"{display_name(path)} already exists: name another after --passwords, or remove it."
+        f"{file.display_name} already exists: name another after --passwords, or remove it."
     )
 
 
-def refuse_open_folder(path: str) -> None:
-    """Refuses a folder in which anybody could remove a list, and so lose its passwords."""
-    folder = folder_of(path)
-    with errors_named(display_name(folder)):
-        mode = os.stat(folder).st_mode
-    if mode & stat.S_IWOTH and not mode & stat.S_ISVTX:
-        raise UsageError(
-            f"{display_name(folder)} is a folder in which everybody can write: name another place "
-            "after --passwords."
-        )
-
-
-def sync_folder_of(path: str) -> None:
+def sync_folder_of(file: FileInFolder) -> None:
     """Flushes the folder of a file to disk, and with it the file's name."""
-    with errors_named(display_name(folder_of(path))):
-        fd = os.open(folder_of(path), os.O_RDONLY | os.O_DIRECTORY)
-        try:
-            os.fsync(fd)
-        finally:
-            os.close(fd)
-
-
-def folder_of(path: str) -> str:
-    """Returns the folder of a file."""
-    return os.path.dirname(path.rstrip("/")) or "."
+    with errors_named(display_name(os.path.dirname(file.path) or ".")):
+        sync_folder(file.folder)

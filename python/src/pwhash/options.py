@@ -156,6 +156,7 @@ class InstallOptions(NamedTuple):
     group: Optional[str]
     mode: Optional[int]
     accepts_other_schemes: bool
+    accepts_removals: bool
     quiet: bool
 
 

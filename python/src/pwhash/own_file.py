@@ -11,7 +11,7 @@ import stat
 from typing import Optional
 
 from pwhash.errors import errors_named
-from pwhash.text import display_name
+from pwhash.folders import FileInFolder
 
 # O_NONBLOCK is for a pipe that somebody put there: opening it doesn't wait for a writer.
 FLAGS = os.O_RDWR | os.O_NOFOLLOW | os.O_NONBLOCK
@@ -31,17 +31,15 @@ def find_problem(status: os.stat_result) -> Optional[str]:
     return "it has another name too" if status.st_nlink != 1 else None
 
 
-def create(path: str) -> int:
+def create(file: FileInFolder) -> int:
     """Creates a file. Raises FileExistsError if there is a file or a link of that name."""
-    fd = os.open(path, FLAGS | os.O_CREAT | os.O_EXCL, OWN_MODE)
-    with errors_named(display_name(path)):
+    fd = file.open(FLAGS | os.O_CREAT | os.O_EXCL, OWN_MODE)
+    with errors_named(file.display_name):
         os.fchmod(fd, OWN_MODE)
     return fd
 
 
-def has_name(fd: int, path: str) -> bool:
+def has_name(fd: int, file: FileInFolder) -> bool:
     """Whether an open file has this name."""
-    try:
-        return os.path.samestat(os.fstat(fd), os.lstat(path))
-    except FileNotFoundError:
-        return False
+    named_now = file.status()
+    return named_now is not None and os.path.samestat(os.fstat(fd), named_now)

@@ -11,16 +11,17 @@ import errno
 import fcntl
 import os
 from collections.abc import Iterator
-from typing import Optional
+from typing import List, Optional, Set
 
 from pwhash import own_file, resume_state, system
 from pwhash.console import Console
 from pwhash.errors import Stop, UsageError, errors_named, reason_of
-from pwhash.options import FileOptions, part_of
+from pwhash.folders import FileInFolder, opened_for_new_file
+from pwhash.options import PART_SUFFIX, FileOptions
 from pwhash.resume_state import ResumeState
 from pwhash.signals import Signals
 from pwhash.source import Source
-from pwhash.text import display_name, shell_quoted
+from pwhash.text import shell_quoted
 
 # The errors of a file system without links, or a machine without /proc.
 NO_LINKS = (errno.EPERM, errno.EOPNOTSUPP, errno.ENOSYS, errno.EMLINK, errno.EXDEV, errno.ENOENT)
@@ -30,11 +31,11 @@ NO_SUCH_RENAME = (errno.EINVAL, errno.ENOSYS)
 class Part:
     """The OUT.part of this run."""
 
-    def __init__(self, out: str, fd: int, source: Source, is_resumable: bool) -> None:
+    def __init__(self, out: FileInFolder, fd: int, source: Source, is_resumable: bool) -> None:
         self.fd = fd
-        self.path = part_of(out)
-        self.name = display_name(self.path)
-        self.out_name = display_name(out)
+        self.file = out.beside(PART_SUFFIX)
+        self.name = self.file.display_name
+        self.out_name = out.display_name
         self.is_resumable = is_resumable
         self.is_whole = False  # and has become OUT
         self._out = out
@@ -44,22 +45,38 @@ class Part:
         """Ends the run if FILE has changed since it was opened."""
         refuse_changed(self._source, self)
 
-    def save_state(self, options: FileOptions) -> None:
-        """Saves what --resume needs, once the lines of the part are known to be right."""
-        before = resume_state.read(self.path)
-        now = resume_state.current_state(options, self._source)
+    def save_state(self, options: FileOptions, lists: Optional[List[bytes]] = None) -> None:
+        """Saves what --resume needs, once the lines of the part are known to be right.
+
+        `lists` identifies the lists of passwords that this run has written. Without it, those of an
+        earlier run stay.
+        """
+        before = resume_state.read(self.file)
+        saved_lists = b" ".join(lists or [])
+        if lists is None and options.generate is not None and before is not None:
+            saved_lists = before.lists
+        now = resume_state.current_state(options, self._source, saved_lists)
         if before is not None and (os.fstat(self.fd).st_size or before == now):
             return
         if before is not None:  # it is from a run whose part was removed
-            resume_state.remove(self.path)
-        resume_state.write(self.path, now)
+            resume_state.remove(self.file)
+        resume_state.write(self.file, now)
+
+    def remove_lines(self, names: Set[bytes]) -> None:
+        """Removes the lines of these names."""
+        with errors_named(self.name), open(self.fd, "r+b", closefd=False) as file:
+            file.seek(0)
+            kept = [line for line in file if line.partition(b":")[0] not in names]
+            file.seek(0)
+            file.writelines(kept)
+            file.truncate()
 
     def finish(self, signals: Signals, console: Console) -> None:
         """Renames the part to OUT, unless another file has that name by now."""
         with errors_named(self.name):
             os.fsync(self.fd)
         self.refuse_changed()
-        if not own_file.has_name(self.fd, self.path):
+        if not own_file.has_name(self.fd, self.file):
             raise UsageError(f"{self.name} was removed or replaced during the run. Start again.")
         with signals.postponed():
             self._become_out()
@@ -73,10 +90,7 @@ class Part:
         if self._source.change():
             os.utime(self.fd, (0, 0))  # FILE is newer then, so --resume refuses
         elif is_wrong_use and os.fstat(self.fd).st_size == 0:
-            if self.is_resumable:
-                resume_state.remove(self.path)
-            if own_file.has_name(self.fd, self.path):
-                os.unlink(self.path)
+            self._remove_state_and_part()
 
     def advice(self) -> str:
         """Says what to do if FILE has changed during the run."""
@@ -86,20 +100,19 @@ class Part:
         """Links the open file as OUT, not what now has its name. If it can't, renames the part."""
         try:
             link = f"/proc/self/fd/{self.fd}"
-            # Only linkat follows the link, and Python calls it only if a folder is given. The path
-            # is absolute, so any folder will do.
-            os.link(link, self._out, src_dir_fd=self.fd, follow_symlinks=True)
+            # Only linkat follows the link, and Python calls it only if a folder is given.
+            os.link(link, self._out.name, dst_dir_fd=self._out.folder, follow_symlinks=True)
         except FileExistsError:
             raise self._out_exists_error() from None
         except OSError as error:
-            if error.errno not in NO_LINKS or not own_file.has_name(self.fd, self.path):
+            if error.errno not in NO_LINKS or not own_file.has_name(self.fd, self.file):
                 raise Stop(f"{self.out_name}: {reason_of(error)}.") from None
             self._rename()
 
     def _rename(self) -> None:
         """Renames the part without replacing another file."""
         try:
-            system.rename_to_new(self.path, self._out)
+            system.rename_to_new(self._out.folder, self.file.name, self._out.name)
         except FileExistsError:
             raise self._out_exists_error() from None
         except OSError as error:
@@ -125,18 +138,21 @@ class Part:
         return Stop(
             f"all lines are done, but this file system can't rename {self.name} without the risk "
             "of replacing another file.",
-            advice=f"Type mv -n {shell_quoted(self.path)} {shell_quoted(self._out)}",
+            advice=f"Type mv -n {shell_quoted(self.file.path)} {shell_quoted(self._out.path)}",
         )
 
     def _remove_names(self, console: Console) -> None:
         """Removes the saved options while the part is locked, and then the part's name."""
         try:
-            if self.is_resumable:
-                resume_state.remove(self.path)
-            if own_file.has_name(self.fd, self.path):
-                os.unlink(self.path)
+            self._remove_state_and_part()
         except OSError as error:
             console.say(f"{self.name} remains: {reason_of(error)}.")
+
+    def _remove_state_and_part(self) -> None:
+        if self.is_resumable:
+            resume_state.remove(self.file)
+        if own_file.has_name(self.fd, self.file):
+            self.file.remove()
 
 
 def describe_change(source: Source, part: Optional[Part]) -> Optional[str]:
@@ -158,38 +174,48 @@ def refuse_changed(source: Source, part: Optional[Part]) -> None:
 @contextlib.contextmanager
 def opened(out: str, source: Source, options: Optional[FileOptions]) -> Iterator[Part]:
     """Opens OUT.part for this run alone. Only pwhash file, which can resume, gives options."""
-    path = part_of(out)
+    with opened_for_new_file(out) as file, opened_part(file, source, options) as part:
+        try:
+            yield part
+        except UsageError:
+            part.leave(is_wrong_use=True)
+            raise
+        except BaseException:
+            part.leave(is_wrong_use=False)
+            raise
+
+
+@contextlib.contextmanager
+def opened_part(
+    out: FileInFolder, source: Source, options: Optional[FileOptions]
+) -> Iterator[Part]:
+    """Opens OUT.part in an open folder."""
+    file = out.beside(PART_SUFFIX)
     if options is not None:
-        resume_state.read(path)  # this refuses another file of that name before a part is made
-    part = Part(out, open_part(path, source, options), source, options is not None)
+        resume_state.read(file)  # this refuses another file of that name before a part is made
+    fd = open_part(file, source, options)
     try:
-        yield part
-    except UsageError:
-        part.leave(is_wrong_use=True)
-        raise
-    except BaseException:
-        part.leave(is_wrong_use=False)
-        raise
+        yield Part(out, fd, source, options is not None)
     finally:
-        os.close(part.fd)
+        os.close(fd)
 
 
-def open_part(path: str, source: Source, options: Optional[FileOptions]) -> int:
+def open_part(file: FileInFolder, source: Source, options: Optional[FileOptions]) -> int:
     """Opens a new part, or the one that this run continues."""
     is_resumed = options is not None and options.resume
-    try:
-        with contextlib.suppress(FileNotFoundError):
-            found = os.lstat(path)
-            refuse_strange(path, found, source, is_resumed)
-            return open_existing(path, found, source, options)
-        return create_part(path)
-    except OSError as error:
-        raise Stop(f"{display_name(path)}: {reason_of(error)}.") from None
+    with errors_named(file.display_name):
+        found = file.status()
+        if found is None:
+            return create_part(file)
+        refuse_strange(file, found, source, is_resumed)
+        return open_existing(file, found, source, options)
 
 
-def refuse_strange(path: str, found: os.stat_result, source: Source, is_resumed: bool) -> None:
+def refuse_strange(
+    file: FileInFolder, found: os.stat_result, source: Source, is_resumed: bool
+) -> None:
     """Refuses a part that can't be from a run of this user."""
-    name = display_name(path)
+    name = file.display_name
     if os.path.samestat(found, source.initial_status):
         raise UsageError(f"{name} is the file to read: name another file after -o.")
     problem = own_file.find_problem(found)
@@ -202,68 +228,65 @@ def refuse_strange(path: str, found: os.stat_result, source: Source, is_resumed:
 
 
 def open_existing(
-    path: str, found: os.stat_result, source: Source, options: Optional[FileOptions]
+    file: FileInFolder, found: os.stat_result, source: Source, options: Optional[FileOptions]
 ) -> int:
     """Opens the part of an earlier run."""
-    fd = os.open(path, own_file.FLAGS)
-    lock(fd, path)
+    fd = file.open(own_file.FLAGS)
+    lock(fd, file)
     now = os.fstat(fd)
     is_other = own_file.find_problem(now) or not os.path.samestat(now, found)
     # A run that held the lock until now may have made the part its OUT, and removed the name.
-    if is_other or not own_file.has_name(fd, path):
-        raise UsageError(f"{display_name(path)} was just replaced. Start again.")
-    refuse_to_go_on(path, now, source, options)
+    if is_other or not own_file.has_name(fd, file):
+        raise UsageError(f"{file.display_name} was just replaced. Start again.")
+    refuse_to_go_on(file, now, source, options)
     return fd
 
 
-def create_part(path: str) -> int:
+def create_part(file: FileInFolder) -> int:
     """Creates a part."""
     try:
-        fd = own_file.create(path)
+        fd = own_file.create(file)
     except FileExistsError:
         raise UsageError(
-            f"{display_name(path)} was just made by another process. Start again."
+            f"{file.display_name} was just made by another process. Start again."
         ) from None
-    lock(fd, path)
+    lock(fd, file)
     return fd
 
 
-def lock(fd: int, path: str) -> None:
+def lock(fd: int, file: FileInFolder) -> None:
     """Keeps other runs from the part as long as it is open."""
     try:
         fcntl.flock(fd, fcntl.LOCK_EX | fcntl.LOCK_NB)
     except BlockingIOError:
-        raise UsageError(f"another run is writing {display_name(path)}: wait for it.") from None
+        raise UsageError(f"another run is writing {file.display_name}: wait for it.") from None
 
 
 def refuse_to_go_on(
-    path: str, status: os.stat_result, source: Source, options: Optional[FileOptions]
+    file: FileInFolder, status: os.stat_result, source: Source, options: Optional[FileOptions]
 ) -> None:
     """Refuses a part of an earlier run, unless --resume is given and FILE is the same."""
-    exists = f"{display_name(path)} already exists"
+    exists = f"{file.display_name} already exists"
     if options is None:
         raise UsageError(f"{exists}: remove it, or name another file after -o.")
     if status.st_size:
-        refuse_another_file(path, status, source, options)
+        refuse_another_file(file, status, source, options)
     if not options.resume:
         raise UsageError(f"{exists}: add --resume, else remove it.")
 
 
 def refuse_another_file(
-    path: str, status: os.stat_result, source: Source, options: FileOptions
+    file: FileInFolder, status: os.stat_result, source: Source, options: FileOptions
 ) -> None:
     """Refuses a part whose lines may be hashes of other passwords than FILE's."""
-    before, now = resume_state.read(path), resume_state.current_state(options, source)
-    name = display_name(path)
-    both = f"{name} and {display_name(resume_state.path_of(path))}"
+    before, now = resume_state.read(file), resume_state.current_state(options, source)
+    name, name_of_state = file.display_name, resume_state.state_file(file).display_name
+    both = f"{name} and {name_of_state}"
     if before is None:  # it is GNU parallel's, for example: only the times can be compared
-        refuse_newer(path, status, source)
-        before = ResumeState(now.file, now.choice, b"")
+        refuse_newer(file, status, source)
+        before = ResumeState(now.file, b"", now.choice, b"")
     if before == resume_state.INCOMPLETE:
-        raise UsageError(
-            f"{display_name(resume_state.path_of(path))} is incomplete. "
-            f"Remove {both}, and start again."
-        )
+        raise UsageError(f"{name_of_state} is incomplete. Remove {both}, and start again.")
     if before.file != now.file:
         raise UsageError(
             f"{name} isn't from {source.name} as it is now: that is another file, or was "
@@ -288,11 +311,11 @@ def refuse_other_options(before: ResumeState, now: ResumeState, name: str, both:
         )
 
 
-def refuse_newer(path: str, status: os.stat_result, source: Source) -> None:
+def refuse_newer(file: FileInFolder, status: os.stat_result, source: Source) -> None:
     """Refuses a FILE that is newer than the part, if nothing else is known about the part."""
     if source.initial_status.st_mtime_ns > status.st_mtime_ns:
-        touch = f"touch -r {source.path_for_shell()} {shell_quoted(path)} and add --resume"
-        remedy = f"if no line changed: {touch}; else remove {display_name(path)}"
+        touch = f"touch -r {source.path_for_shell()} {shell_quoted(file.path)} and add --resume"
+        remedy = f"if no line changed: {touch}; else remove {file.display_name}"
         raise UsageError(
-            f"{display_name(path)} already exists, and {source.name} is newer; {remedy}."
+            f"{file.display_name} already exists, and {source.name} is newer; {remedy}."
         )

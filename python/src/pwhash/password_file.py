@@ -28,6 +28,13 @@ class Entry(NamedTuple):
     field: Field
 
 
+class OddLine(NamedTuple):
+    """The number of a line that a password file doesn't have, and what is wrong with it."""
+
+    number: int
+    reason: str
+
+
 class Opened(NamedTuple):
     """An open file, its status before it was read, and its content."""
 
@@ -99,9 +106,21 @@ def common_prefix(content: bytes) -> bytes:
     return prefixes.pop() if len(prefixes) == 1 else b""
 
 
-def first_odd_line(content: bytes) -> Optional[int]:
-    """Returns the number of the first line that has no colon and isn't a comment, or None."""
+def first_odd_line(content: bytes) -> Optional[OddLine]:
+    """Returns the first line that isn't name:field, a comment or blank, or None."""
     for number, line in enumerate(content.split(b"\n"), 1):
-        if line.strip() and not line.startswith(b"#") and b":" not in line:
-            return number
+        if line.strip() and not line.startswith(b"#"):
+            reason = describe_odd_line(line)
+            if reason is not None:
+                return OddLine(number, reason)
+    return None
+
+
+def describe_odd_line(line: bytes) -> Optional[str]:
+    """Says why a line isn't name:field, or returns None."""
+    name, colon, field = line.partition(b":")
+    if not colon:
+        return "no colon, as each line of a password file has one"
+    if name[:1].isspace() or field[:1].isspace():
+        return "a blank before the name or after the colon, as no line of a password file has one"
     return None

@@ -1,8 +1,4 @@
-"""Where a password file is: its folder, and the names of the files that a replacement needs there.
-
-The folder is opened once, and everything in it is reached through that descriptor. So it makes no
-difference if somebody renames the folder meanwhile, or puts a link in its place.
-"""
+"""Where a password file is: its folder, and the names of the files that replace it there."""
 
 from __future__ import annotations
 
@@ -10,31 +6,27 @@ import contextlib
 import os
 import stat
 from collections.abc import Iterator
-from typing import NamedTuple, Optional, Set
+from typing import Optional, Set
 
 from pwhash.errors import UsageError, errors_named
+from pwhash.folders import (
+    SUPERUSER,
+    FileInFolder,
+    Rule,
+    open_folder,
+    refuse_untrusted,
+    sync_folder,
+)
 from pwhash.text import display_name, shell_quoted
 
-# In a folder that others can write, they can replace a file at any moment.
-WRITABLE_BY_OTHERS = stat.S_IWGRP | stat.S_IWOTH
-SUPERUSER = 0
 AS_SUPERUSER = "Run pwhash as its owner or as the superuser, with sudo for example."
 EVEN_FOR_SUPERUSER = (
     "Not even the superuser is: perhaps its file system is read-only, or it is immutable (lsattr)."
 )
 
 
-class Place(NamedTuple):
-    """A password file: its open folder, its name, and the names of the files beside it."""
-
-    path: str  # as the user typed it
-    folder: int
-    name: str
-
-    @property
-    def display_name(self) -> str:
-        """The file's name for a message."""
-        return display_name(self.path)
+class Place(FileInFolder):
+    """A password file, and the names of the files beside it."""
 
     @property
     def lock(self) -> str:
@@ -61,7 +53,7 @@ class Place(NamedTuple):
     def sync(self) -> None:
         """Flushes the names in the folder to disk, if the file system supports that."""
         with contextlib.suppress(OSError):
-            os.fsync(self.folder)
+            sync_folder(self.folder)
 
 
 @contextlib.contextmanager
@@ -72,8 +64,8 @@ def open_place(path: str) -> Iterator[Place]:
     if name in ("", ".", ".."):
         raise UsageError(f"{display_name(path)} is a folder. Name a password file.")
     with errors_named(display_name(path)):
-        # The kernel follows links here. It refuses those of strangers in /tmp, for example.
-        descriptor = os.open(folder or ".", os.O_RDONLY | os.O_DIRECTORY | os.O_CLOEXEC)
+        # The file's owner isn't known yet, so a link of theirs isn't followed.
+        descriptor = open_folder(folder, rule_of(path, {SUPERUSER, os.geteuid()}))
     try:
         yield Place(path, descriptor, name)
     finally:
@@ -149,43 +141,16 @@ def has_access(place: Place, name: str, mode: int) -> bool:
 def refuse_open_folder(place: Place, owner: int) -> None:
     """Refuses a folder that others can write, or that they can replace.
 
-    The file's owner may write it, since they can change the file anyway. Above the folder, a sticky
-    one such as /tmp is fine: there nobody can rename what isn't theirs.
+    The file's owner may write it, since they can change the file anyway.
     """
-    trusted = {SUPERUSER, os.geteuid(), owner}
-    with errors_named(f"{place.display_name}, a folder above it"):
-        for number, status in enumerate(folders_upwards(place.folder)):
-            refuse_untrusted(place, status, trusted, is_first=number == 0)
+    refuse_untrusted(place.folder, rule_of(place.path, {SUPERUSER, os.geteuid(), owner}))
 
 
-def folders_upwards(folder: int) -> Iterator[os.stat_result]:
-    """Yields the status of an open folder, and of each folder above it."""
-    descriptor = os.dup(folder)
-    try:
-        status, below = os.fstat(descriptor), None
-        while below is None or not os.path.samestat(status, below):
-            yield status
-            parent = os.open("..", os.O_PATH | os.O_DIRECTORY | os.O_CLOEXEC, dir_fd=descriptor)
-            os.close(descriptor)
-            descriptor, below = parent, status
-            status = os.fstat(descriptor)
-    finally:
-        os.close(descriptor)
-
-
-def refuse_untrusted(
-    place: Place, status: os.stat_result, trusted: Set[int], is_first: bool
-) -> None:
-    """Refuses a folder that belongs to somebody else, or that others can write."""
-    which = "its folder" if is_first else "a folder above it"
-    if status.st_uid not in trusted:
-        raise UsageError(
-            f"{place.display_name}: {which} belongs to another user, who could put another file in "
-            "its place. Move it to a folder of its owner or of the superuser."
-        )
-    is_sticky = bool(status.st_mode & stat.S_ISVTX) and not is_first
-    if status.st_mode & WRITABLE_BY_OTHERS and not is_sticky:
-        raise UsageError(
-            f"{place.display_name}: others can write {which}, and put another file in its place. "
-            f"Let only its owner write it (chmod go-w), or move {place.display_name}."
-        )
+def rule_of(path: str, trusted: Set[int]) -> Rule:
+    """Returns who may change the folder of a password file."""
+    name = display_name(path)
+    advice = (
+        "Let only its owner write it (chmod go-w), or move the file to a folder that only its "
+        "owner or the superuser can write."
+    )
+    return Rule(name, frozenset(trusted), advice, is_for_new_file=False)

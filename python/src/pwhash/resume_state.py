@@ -11,17 +11,18 @@ import re
 from typing import NamedTuple, Optional
 
 from pwhash import own_file
-from pwhash.errors import Stop, UsageError, reason_of
+from pwhash.errors import Stop, UsageError, errors_named, reason_of
+from pwhash.folders import FileInFolder
 from pwhash.options import Doubtful, FileOptions
 from pwhash.source import Source
-from pwhash.text import display_name
 
 SUFFIX = ".options"
-MAX_BYTES = 1 << 18
+MAX_BYTES = 1 << 23
 BEGIN = b"pwhash file --resume needs this.\n"
 FORM = re.compile(
     re.escape(BEGIN)
     + rb"FILE has ([0-9]+ bytes, time -?[0-9]+, inode [0-9]+)\n"
+    + rb"lists ([-0-9, ]*)\n"
     + rb"lines by (--budget=[0-9]+[a-z =-]*)\n"
     + rb"(?s:options ((?:--generate )?(?:|--windows|--csv --columns=.*))\n)"
 )
@@ -32,24 +33,25 @@ class ResumeState(NamedTuple):
     """What OUT.part.options says."""
 
     file: bytes  # FILE's size, time and inode
+    lists: bytes  # those of each list of passwords that the run has written
     choice: bytes  # the options that decide which lines are left out
     options: bytes  # the options that change a line before it is hashed
 
 
 # Stands for a file that is incomplete, since its run ended while writing it.
-INCOMPLETE = ResumeState(b"", b"", b"")
+INCOMPLETE = ResumeState(b"", b"", b"", b"")
 
 
-def path_of(part: str) -> str:
-    """Returns the name of the file beside a part."""
-    return part + SUFFIX
+def state_file(part: FileInFolder) -> FileInFolder:
+    """Returns the file beside a part."""
+    return part.beside(SUFFIX)
 
 
-def current_state(options: FileOptions, source: Source) -> ResumeState:
+def current_state(options: FileOptions, source: Source, lists: bytes = b"") -> ResumeState:
     """Returns what this run saves. That isn't the ctime, which reading and chmod change."""
     status = source.initial_status
     file = f"{status.st_size} bytes, time {status.st_mtime_ns}, inode {status.st_ino}"
-    return ResumeState(file.encode(), choice_options(options), line_options(options))
+    return ResumeState(file.encode(), lists, choice_options(options), line_options(options))
 
 
 def line_options(options: FileOptions) -> bytes:
@@ -77,18 +79,17 @@ def choice_options(options: FileOptions) -> bytes:
     return " ".join(words).encode()
 
 
-def read(part: str) -> Optional[ResumeState]:
+def read(part: FileInFolder) -> Optional[ResumeState]:
     """Returns what a run of this user has saved, or None. Refuses any other file of that name."""
-    path = path_of(part)
-    try:
-        problem = own_file.find_problem(os.lstat(path))
-    except (FileNotFoundError, NotADirectoryError):
+    saved = state_file(part)
+    with errors_named(saved.display_name):  # such as a name that is too long to save anything
+        status = saved.status()
+    if status is None:
         return None
-    except OSError as error:  # the name is too long, for example, so nothing could be saved
-        raise Stop(f"{display_name(path)}: {reason_of(error)}.") from None
     data = b""
+    problem = own_file.find_problem(status)
     if not problem:
-        with open(os.open(path, own_file.FLAGS), "rb") as file:
+        with open(saved.open(own_file.FLAGS), "rb") as file:
             data = file.read(MAX_BYTES)
             problem = own_file.find_problem(os.fstat(file.fileno()))
     found = FORM.fullmatch(data)
@@ -97,29 +98,27 @@ def read(part: str) -> Optional[ResumeState]:
     if not problem and (not data or data.startswith(BEGIN)):
         return INCOMPLETE
     raise UsageError(
-        f"{display_name(path)} is in the way: {problem or 'it is not from a run'}. "
+        f"{saved.display_name} is in the way: {problem or 'it is not from a run'}. "
         "Remove it, or name another file after -o."
     )
 
 
-def write(part: str, state: ResumeState) -> None:
+def write(part: FileInFolder, state: ResumeState) -> None:
     """Writes the file. After an error, nothing of it remains."""
-    path = path_of(part)
-    try:
-        fd = own_file.create(path)
-    except OSError as error:
-        raise Stop(f"{display_name(path)}: {reason_of(error)}.") from None
+    saved = state_file(part)
+    with errors_named(saved.display_name):
+        fd = own_file.create(saved)
     try:
         with open(fd, "wb") as file:
-            file.write(BEGIN + b"FILE has %b\nlines by %b\noptions %b\n" % state)
+            file.write(BEGIN + b"FILE has %b\nlists %b\nlines by %b\noptions %b\n" % state)
             file.flush()
             os.fsync(fd)
     except OSError as error:
-        os.unlink(path)
-        raise Stop(f"{display_name(path)}: {reason_of(error)}.") from None
+        saved.remove()
+        raise Stop(f"{saved.display_name}: {reason_of(error)}.") from None
 
 
-def remove(part: str) -> None:
+def remove(part: FileInFolder) -> None:
     """Removes the file, if it exists."""
     with contextlib.suppress(FileNotFoundError):
-        os.unlink(path_of(part))
+        state_file(part).remove()

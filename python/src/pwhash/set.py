@@ -116,11 +116,11 @@ class Line:
         if self._options.action is not Action.PASSWORD:
             raise ProblemsFound(f"{self._file} has no {self._user}.")
         refuse_new_name(self._name, self._options.service)
-        number = password_file.first_odd_line(content)
-        if number is not None:
+        odd = password_file.first_odd_line(content)
+        if odd is not None:
             raise UsageError(
-                f"{self._file}, line {number}: no colon, as each line of a password file has one. "
-                "Is it another file? Nothing was added."
+                f"{self._file}, line {odd.number}: {odd.reason}. Is it another file? Nothing was "
+                "added."
             )
         self._sentence = f"{self._user} was added to {self._file}."
         prefix = password_file.common_prefix(content)

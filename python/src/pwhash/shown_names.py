@@ -13,6 +13,7 @@ from collections.abc import Sequence
 from pwhash.exports import is_stored
 from pwhash.text import printable
 
+MAX_NAMED = 20  # names, or numbers of lines, in a message
 LONGEST_SHOWN = 64  # bytes; no name that mkpasswd accepts is longer
 # Blanks, quotes and the separators of tables, also full-width ones: the line may be a row.
 IN_NO_NAME = re.compile("[\\s,;|\"'`\u2018-\u201f\xab\xbb\uff0c\uff1a\uff1b\uff5c]")
@@ -55,9 +56,9 @@ def shown_line(file_name: str, number: int, name: bytes) -> str:
     return f"{where} ({printable(name.strip())})" if may_be_shown(name) else where
 
 
-def list_names(names: Sequence[bytes], most: int) -> str:
-    """Returns names for a message, as "ann, bob and 5 more"; at most so many are shown."""
-    shown = [printable(name) for name in names if may_be_shown(name)][:most]
+def list_names(names: Sequence[bytes]) -> str:
+    """Returns names for a message, as "ann, bob and 5 more"; at most MAX_NAMED are shown."""
+    shown = [printable(name) for name in names if may_be_shown(name)][:MAX_NAMED]
     hidden = len(names) - len(shown)
     if not hidden:
         return ", ".join(shown)

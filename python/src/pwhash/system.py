@@ -7,7 +7,7 @@ import errno
 import os
 
 PR_SET_DUMPABLE = 4
-AT_FDCWD, RENAME_NOREPLACE, RENAME_EXCHANGE = -100, 1, 2
+RENAME_NOREPLACE, RENAME_EXCHANGE = 1, 2
 
 
 def forbid_dumps() -> None:
@@ -17,12 +17,12 @@ def forbid_dumps() -> None:
         control(PR_SET_DUMPABLE, 0, 0, 0, 0)
 
 
-def rename_to_new(old: str, new: str) -> None:
-    """Renames a file without replacing another one.
+def rename_to_new(folder: int, old: str, new: str) -> None:
+    """Renames a file of an open folder without replacing another one.
 
     Raises OSError with ENOSYS or EINVAL if the kernel or the file system can't do that.
     """
-    rename(AT_FDCWD, old, new, RENAME_NOREPLACE)
+    rename(folder, old, new, RENAME_NOREPLACE)
 
 
 def exchange(folder: int, first: str, second: str) -> None:
