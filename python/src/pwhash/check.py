@@ -16,6 +16,7 @@ from pwhash.lines import (
     Line,
     LineGroups,
     fields_to_check,
+    name_of,
     refused_name,
 )
 from pwhash.names import FirstFields
