@@ -131,12 +131,12 @@ class Checking:
         if accounts.absent:
             shadow = display_name(self._options.shadow or "")
             self._console.say(
-                f"lines without an account in {shadow} (the first 20): {accounts.absent}."
+                f"lines without an account in {shadow} (the first {MAX_NAMED}): {accounts.absent}."
             )
         if accounts.marked:
             self._console.say(
-                "lines with a carriage return or a byte order mark in them (the first 20), of "
-                "which --windows leaves out those that end or begin a line: "
+                "lines with a carriage return or a byte order mark in them (the first "
+                f"{MAX_NAMED}), of which --windows leaves out those that end or begin a line: "
                 f"{accounts.marked}."
             )
         if accounts.odd:

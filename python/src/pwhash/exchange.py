@@ -161,7 +161,7 @@ def read_note(place: Place, note: str) -> Pair:
 
 def put_back(place: Place, pair: Pair) -> None:
     """Puts back a file that was exchanged by mistake, if the new file is still in its place."""
-    left, now = place.read_status(place.new), place.read_status(place.name)
+    left, now = place.status_of(place.new), place.status()
     if left is None or now is None:
         return
     if left.st_ino not in pair and now.st_ino == pair.new:
@@ -170,7 +170,7 @@ def put_back(place: Place, pair: Pair) -> None:
 
 def remove_own_file(place: Place, pair: Pair) -> None:
     """Removes the old file after an exchange, or the new one if there was none, but no other."""
-    left = place.read_status(place.new)
+    left = place.status_of(place.new)
     if left is None:
         return
     if left.st_ino not in pair:

@@ -51,6 +51,8 @@ HASHES = (
     mkpasswd.State.OVER_BUDGET,
     mkpasswd.State.UNKNOWN,
 )
+# Those of damaged hashes, which services treat as hashes.
+DAMAGED = (mkpasswd.State.DEAD, mkpasswd.State.MALFORMED)
 
 
 class Field(NamedTuple):
@@ -112,9 +114,7 @@ class Field(NamedTuple):
         """Whether a mark would lock the field, and not just become part of a plain password."""
         if self.prefix.upper() in IN_BASE64 or not self.data():
             return True
-        # Services treat a damaged hash as a hash.
-        states = (*HASHES, mkpasswd.State.DEAD, mkpasswd.State.MALFORMED)
-        return self.is_for_crypt and mkpasswd.describe(self.stored).state in states
+        return self.is_for_crypt and mkpasswd.describe(self.stored).state in (*HASHES, *DAMAGED)
 
 
 NONE = Field(b"", b"", b"", b"")

@@ -21,8 +21,8 @@ from pwhash.lists import ListWriter, Row
 from pwhash.options import FileOptions, Generate
 from pwhash.part import Part, refuse_changed
 from pwhash.session import Session
-from pwhash.single import random_letter_or_digit
 from pwhash.shown_names import list_names
+from pwhash.single import random_letter_or_digit
 from pwhash.source import Source
 from pwhash.text import display_name, is_utf8, is_visible
 

@@ -14,7 +14,7 @@ from pwhash import library, system_files
 from pwhash.console import Console
 from pwhash.doubts import SERVICE_NAMES
 from pwhash.errors import ProblemsFound, UsageError, errors_named
-from pwhash.field import ANY_METHOD, PREFIXES, Field, field_of, method_of_prefix
+from pwhash.field import Field, field_of, method_of_prefix
 from pwhash.lines import refused_name
 from pwhash.options import InstallOptions, Service
 from pwhash.password_file import read_all
@@ -121,8 +121,7 @@ class HashesFile:
         known = PREFIXES_OF_SERVICES.get(self._service) if self._service else None
         if known is not None and field.prefix not in known:
             return "a prefix that the service doesn't know"
-        is_of_crypt = field.prefix.upper() in (ANY_METHOD, *PREFIXES.values())
-        if is_of_crypt or field.is_of_other_scheme:
+        if field.has_known_prefix:
             return None
         return "a prefix that pwhash doesn't know, perhaps of a password as it is"
 

@@ -40,7 +40,7 @@ def run(options: InstallOptions, session: Session) -> bool:
     hashes = HashesFile(options, session.console)
     with open_place(options.target) as place:
         system_files.refuse_name(place)
-        found = place.read_status(place.name)
+        found = place.status()
         if found is None:
             create(place, requested, hashes, session)
             sentences = [f"{place.display_name} was made, with {len(hashes.lines):,} names."]

@@ -63,7 +63,7 @@ def try_once(place: Place, owner: Owner) -> Optional[int]:
     lock = open_lock(place, owner)
     try:
         fcntl.flock(lock, fcntl.LOCK_EX | fcntl.LOCK_NB)
-        named_now = place.read_status(place.lock)
+        named_now = place.status_of(place.lock)
         # If somebody has removed the file, another process may hold a new one.
         if named_now is not None and os.path.samestat(os.fstat(lock), named_now):
             return lock

@@ -43,12 +43,9 @@ class Place(FileInFolder):
         """The name of the link that says which files are exchanged."""
         return f"{self.name}.mkpasswd.exchange"
 
-    def read_status(self, name: str) -> Optional[os.stat_result]:
-        """Returns the status of a file in the folder, by its name, or None if there is none."""
-        try:
-            return os.stat(name, dir_fd=self.folder, follow_symlinks=False)
-        except FileNotFoundError:
-            return None
+    def status_of(self, name: str) -> Optional[os.stat_result]:
+        """Returns the status of another file in the folder, or None if there is none."""
+        return FileInFolder(self.path, self.folder, name).status()
 
     def sync(self) -> None:
         """Flushes the names in the folder to disk, if the file system supports that."""
@@ -83,7 +80,7 @@ def refuse_set_id() -> None:
 
 def find_file(place: Place) -> os.stat_result:
     """Returns the status of the file. Refuses a link, and anything but a regular file."""
-    found = place.read_status(place.name)
+    found = place.status()
     if found is None:
         raise UsageError(
             f"there is no {place.display_name}. If the name is right, make an empty one first, "

@@ -51,8 +51,8 @@ def refuse_shape(content: bytes, file_name: str) -> None:
 def is_called(place: Place, folder: str) -> bool:
     """Whether the open folder has this name."""
     with contextlib.suppress(OSError):
-        display_name = os.stat(f"../{folder}", dir_fd=place.folder)
-        return os.path.samestat(display_name, os.fstat(place.folder))
+        called_so = os.stat(f"../{folder}", dir_fd=place.folder)
+        return os.path.samestat(called_so, os.fstat(place.folder))
     return False
 
 

@@ -231,7 +231,7 @@ class Table:
     def _refused(self, row: Row, columns: Columns) -> Optional[str]:
         if self._is_heading(row, columns):
             return "the heading again"
-        if ends_in_heading(fold_row(row), columns):
+        if is_joined_with_heading(fold_row(row), columns):
             return "a heading at its end: was a table joined without a line feed before it?"
         if len(row) > columns.width:
             return (
@@ -288,7 +288,7 @@ def is_heading_of_others(fields: Row, columns: Columns) -> bool:
     return has_all_headings or are_headings
 
 
-def ends_in_heading(fields: Row, columns: Columns) -> bool:
+def is_joined_with_heading(fields: Row, columns: Columns) -> bool:
     """Whether a row ends in the heading of another table, as in ann,pw1name,password.
 
     `cat` joins tables so if the last line of the first one has no line feed.

@@ -13,20 +13,11 @@ import mkpasswd
 
 from pwhash import field, password_file, system_files
 from pwhash.errors import ProblemsFound, UsageError
-from pwhash.field import Field
+from pwhash.field import DAMAGED, HASHES, Field
 from pwhash.hashes_file import Hash
 from pwhash.shown_names import list_names
 
 REMOVE_FIRST = "Nothing was installed. If the file isn't needed, remove it first."
-# The states of a field to which a password may belong.
-LETS_IN = (
-    mkpasswd.State.CURRENT,
-    mkpasswd.State.OUTDATED,
-    mkpasswd.State.OVER_BUDGET,
-    mkpasswd.State.UNKNOWN,
-)
-# The states of a field that was a hash once.
-DAMAGED = (mkpasswd.State.DEAD, mkpasswd.State.MALFORMED)
 
 
 class OldLine(NamedTuple):
@@ -64,9 +55,9 @@ class Target:
         removed = self.removed(hashes)
         if removed:
             raise ProblemsFound(
-                f"nothing was installed: {self._file_name} has names that HASHES lacks, and that "
-                f"could log in no more: {list_names(removed)}. Add them to HASHES, or remove them "
-                "with --accept-removals."
+                f"nothing was installed: HASHES lacks names of {self._file_name}, which couldn't "
+                f"log in any more: {list_names(removed)}. Add them to HASHES, or remove them with "
+                "--accept-removals."
             )
 
     def removed(self, hashes: Iterable[Hash]) -> List[bytes]:
@@ -90,11 +81,12 @@ class Target:
         old = self.lines.get(name)
         if old is None or old.field.is_locked or not old.field.is_for_crypt:
             return False
-        return mkpasswd.describe(old.field.stored).state not in LETS_IN
+        return mkpasswd.describe(old.field.stored).state not in HASHES
 
     def _refuse_other_file(self) -> None:
         """Refuses a file in which no line has a hash, a prefix of one, or a mark."""
-        if self.lines and not any(is_stored(line.field) for line in self.lines.values()):
+        fields = [line.field for line in self.lines.values()]
+        if fields and not any(is_of_password_file(each) for each in fields):
             raise UsageError(
                 f"{self._file_name} has no line with a hash. Is it another file? {REMOVE_FIRST}"
             )
@@ -128,8 +120,8 @@ def read_commented_names(lines: Iterable[bytes]) -> Set[bytes]:
     return {line.lstrip(b"# ").partition(b":")[0] for line in lines if line.startswith(b"#")}
 
 
-def is_stored(stored: Field) -> bool:
-    """Whether a field is one of a password file: a hash, whole or damaged, a prefix, or a mark."""
-    if stored.is_locked or stored.prefix:
+def is_of_password_file(found: Field) -> bool:
+    """Whether a field has a hash, whole or damaged, a prefix of one, or a mark."""
+    if found.is_locked or found.prefix:
         return True
-    return mkpasswd.describe(stored.stored).state in (*LETS_IN, *DAMAGED)
+    return mkpasswd.describe(found.stored).state in (*HASHES, *DAMAGED)

@@ -19,12 +19,7 @@ from pwhash.field import without_prefix
 from pwhash.library import OVER_BUDGET, Refusal, Verdict
 from pwhash.lines import BYTE_ORDER_MARK
 from pwhash.options import VerifyOptions
-from pwhash.pasted import (
-    PASSWORD_PROMPT,
-    ask_for_both,
-    has_hash,
-    piped_both,
-)
+from pwhash.pasted import PASSWORD_PROMPT, ask_for_both, has_hash, piped_both
 from pwhash.piped import PipedLines
 from pwhash.prompt import ask_each, with_hidden_input
 from pwhash.session import Session
