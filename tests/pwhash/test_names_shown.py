@@ -4,7 +4,7 @@ from __future__ import annotations
 import os
 
 import pytest
-from support.pwhash_runs import ESCAPE, MD5, lines_named_in, pwhash, save
+from support.pwhash_runs import ESCAPE, MD5, hashed, lines_named_in, pwhash, save
 
 
 def name_commands() -> list[tuple[str, ...]]:
@@ -81,6 +81,17 @@ def test_what_may_be_a_password_is_not_shown_as_a_name(
     done = pwhash(*words)
     assert 2 in lines_named_in(done.err) and name not in done.err, done
     assert b"Secret" not in done.err, done
+
+
+@pytest.mark.parametrize("name", SECRETS)
+def test_names_of_an_installed_file_are_not_shown_if_they_may_be_passwords(name: bytes) -> None:
+    field = hashed(b"password")
+    save("hashes", b"ann:" + field + b"\n")
+    save("target", b"ann:" + field + b"\n" + name + b":" + field + b"\n")
+    for words, status in ((), 1), (("--accept-removals",), 0):
+        done = pwhash("install", *words, "hashes", "target")
+        assert done.status == status and b": 1, not shown" in done.err, done
+        assert name not in done.err and b"Secret" not in done.err, done
 
 
 def test_a_password_in_front_of_a_known_name_is_not_shown() -> None:

@@ -62,4 +62,8 @@ def list_names(names: Sequence[bytes]) -> str:
     hidden = len(names) - len(shown)
     if not hidden:
         return ", ".join(shown)
-    return f"{', '.join(shown)} and {hidden:,} more" if shown else f"{hidden:,} names"
+    if shown:
+        return f"{', '.join(shown)} and {hidden:,} more"
+    if hidden == 1:
+        return "1, not shown since it may be a password"
+    return f"{hidden:,}, not shown since they may be passwords"
