@@ -15,7 +15,6 @@ from typing import NamedTuple, Optional
 
 from pwhash.errors import Stop, errors_named
 from pwhash.place import Place
-from pwhash.text import display_name
 
 SECONDS = 10.0
 PAUSE_SECONDS = 0.02
@@ -50,7 +49,7 @@ def wait_for_lock(place: Place, owner: Owner) -> int:
     while lock is None:
         if time.monotonic() > end:
             raise Stop(
-                f"another process holds the lock {display_name(place.path)}.mkpasswd.lock. "
+                f"another process holds the lock {place.display_name}.mkpasswd.lock. "
                 "Nothing was changed: try again."
             )
         time.sleep(PAUSE_SECONDS)
