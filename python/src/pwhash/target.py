@@ -64,8 +64,8 @@ class Target:
         removed = self.removed(hashes)
         if removed:
             raise ProblemsFound(
-                f"nothing was installed: {self._file_name} has names that HASHES lacks, and that "
-                f"could log in no more: {list_names(removed)}. Add them to HASHES, or remove them "
+                f"nothing was installed: {self._file_name} has names that HASHES lacks, which "
+                f"could no longer log in: {list_names(removed)}. Add them to HASHES, or remove them "
                 "with --accept-removals."
             )
 
