@@ -55,9 +55,9 @@ class Target:
         removed = self.removed(hashes)
         if removed:
             raise ProblemsFound(
-                f"nothing was installed: HASHES lacks names of {self._file_name}, which couldn't "
-                f"log in any more: {list_names(removed)}. Add them to HASHES, or remove them with "
-                "--accept-removals."
+                f"nothing was installed: {self._file_name} has names that HASHES lacks, which "
+                f"could no longer log in: {list_names(removed)}. Add them to HASHES, or remove them "
+                "with --accept-removals."
             )
 
     def removed(self, hashes: Iterable[Hash]) -> List[bytes]:
