@@ -110,3 +110,8 @@ def test_a_password_that_ends_like_a_heading_is_hashed() -> None:
     done = pwhash("file", "--csv", *MD5CRYPT, "--accept-doubtful", stdin=table)
     expected = b"user:" + hashed(b"myname") + b"\ndbuser:" + MD5.encode() + b"\n"
     assert (done.status, done.out, done.err) == (0, expected, b""), done
+
+
+def test_a_password_like_its_heading_is_hashed_if_the_first_column_has_no_heading() -> None:
+    done = pwhash("file", "--csv", *MD5CRYPT, stdin=b",name,password\n0,ann,password\n")
+    assert (done.status, done.out, done.err) == (0, b"ann:" + MD5.encode() + b"\n", b""), done

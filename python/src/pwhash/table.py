@@ -302,7 +302,8 @@ def is_joined_with_heading(fields: Row, columns: Columns) -> bool:
     others = fields[joined + 1 :]
     if joined == 0 or not any(each in headings.PASSWORDS or each in own[-1:] for each in others):
         return False
-    return fields[joined].endswith((*headings.NAMES, *headings.PASSWORDS, *own[:1]))
+    first_headings = {*headings.NAMES, *headings.PASSWORDS, *own[:1]} - {""}
+    return fields[joined].endswith(tuple(first_headings))
 
 
 def is_heading(field: str, own: Row) -> bool:

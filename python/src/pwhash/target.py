@@ -51,7 +51,7 @@ class Target:
         return b"" if old is None else old.rest
 
     def refuse_removals(self, hashes: Iterable[Hash]) -> None:
-        """Refuses HASHES that lack names of TARGET, which couldn't log in any more."""
+        """Refuses HASHES that lacks names of TARGET, which couldn't log in any more."""
         removed = self.removed(hashes)
         if removed:
             raise ProblemsFound(
@@ -61,7 +61,7 @@ class Target:
             )
 
     def removed(self, hashes: Iterable[Hash]) -> List[bytes]:
-        """Returns the names of TARGET that HASHES lack."""
+        """Returns the names of TARGET that HASHES lacks."""
         kept = {line.name for line in hashes}
         return [name for name in self.lines if name not in kept]
 
