@@ -56,8 +56,8 @@ class Target:
         if removed:
             raise ProblemsFound(
                 f"nothing was installed: {self._file_name} has names that HASHES lacks, which "
-                f"could no longer log in: {list_names(removed)}. Add them to HASHES, or remove them "
-                "with --accept-removals."
+                f"could no longer log in: {list_names(removed)}. Add them to HASHES, or remove "
+                "them with --accept-removals."
             )
 
     def removed(self, hashes: Iterable[Hash]) -> List[bytes]:
