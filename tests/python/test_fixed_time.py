@@ -23,7 +23,7 @@ with package_under_test():
 # These tests measure times, so they don't run in parallel.
 pytestmark = pytest.mark.xdist_group("fixed time")
 
-ATTEMPTS = 20
+ATTEMPTS = 100
 QUICK = Policy(rounds=1000)
 LONGEST_WAIT = 60  # seconds to wait for what should come at once
 
