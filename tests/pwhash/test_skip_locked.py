@@ -14,6 +14,7 @@ from support.pwhash_runs import (
     SLOW,
     ended,
     has_begun,
+    kill_halfway,
     pwhash,
     read,
     save,
@@ -196,10 +197,7 @@ def test_other_changes_of_the_file_end_no_run() -> None:
 def interrupted() -> None:
     save("shadow", b"user0:!x\nuser1:$1$x$y\n")
     save("list", users(600))
-    with started("file", *SLOW, "--skip-locked", "shadow", "list", "-o", "hashes") as process:
-        wait_for(has_begun)
-        process.kill()
-    assert os.path.exists("hashes.part")
+    kill_halfway("file", *SLOW, "--skip-locked", "shadow", "list", "-o", "hashes")
 
 
 RESUMED = ("file", *SLOW, "list", "-o", "hashes", "--resume")
