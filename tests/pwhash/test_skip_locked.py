@@ -19,7 +19,7 @@ from support.pwhash_runs import (
     read,
     save,
     shell,
-    started,
+    started_slowly,
     users,
     wait_for,
 )
@@ -175,7 +175,7 @@ def test_a_name_that_is_locked_during_a_run_ends_it() -> None:
     save("shadow", b"user1:" + MD5.encode() + b"\nuser2:!x\n")
     save("passwords", users(600))
     words = ("file", *SLOW, "--skip-locked", "shadow", "passwords", "-o", "hashes")
-    with started(*words) as process:
+    with started_slowly(*words) as process:
         wait_for(has_begun)
         save("shadow", b"user1:!" + MD5.encode() + b"\nuser2:!x\n")
         done = ended(process)
@@ -187,7 +187,7 @@ def test_other_changes_of_the_file_end_no_run() -> None:
     save("shadow", b"user1:" + MD5.encode() + b"\nuser2:!x\n")
     save("passwords", users(300))
     words = ("file", *SLOW, "--skip-locked", "shadow", "passwords", "-o", "hashes")
-    with started(*words) as process:
+    with started_slowly(*words) as process:
         wait_for(has_begun)
         save("shadow", b"user1:$1$x$y\nuser2:" + MD5.encode() + b"\n")
         done = ended(process)

@@ -11,6 +11,7 @@ import dataclasses
 import math
 import os
 import pathlib
+import random
 import re
 import shlex
 import shutil
@@ -66,6 +67,17 @@ def ended(process: subprocess.Popen[bytes], data: bytes = b"") -> Ended:
 def started(*words: str | bytes, **options: Any) -> subprocess.Popen[bytes]:
     """Starts pwhash in a process group of its own."""
     return started_program(PWHASH, *words, **options)
+
+
+def started_slowly(*words: str, **options: Any) -> subprocess.Popen[bytes]:
+    """Starts pwhash on at most four processors. With more, the run might end before the test acts.
+
+    They are chosen at random, since other tests run at the same time.
+    """
+    available = sorted(os.sched_getaffinity(0))
+    chosen = random.sample(available, min(4, len(available)))
+    taskset = ("taskset", "--cpu-list", ",".join(map(str, chosen)))
+    return started_program(*taskset, PWHASH, *words, **options)
 
 
 def started_program(*words: str | bytes, **options: Any) -> subprocess.Popen[bytes]:
@@ -143,14 +155,19 @@ def kill_halfway(*words: str, part: str = "hashes.part") -> None:
     """Kills a run of pwhash whose part has lines. Starts again if the run ends before the kill."""
     before = set(os.listdir())
     for _ in range(MOST_TRIES):
-        with started(*words) as process:
-            wait_for(lambda: process.poll() is not None or has_begun(part))
-            process.kill()
-        if os.path.exists(part) and not os.path.exists(part.removesuffix(".part")):
+        if is_killed_halfway(words, part):
             return
         for name in set(os.listdir()) - before:
             remove(name)
     raise AssertionError(f"{words} ended {MOST_TRIES} times before it could be killed")
+
+
+def is_killed_halfway(words: Sequence[str], part: str) -> bool:
+    """Kills a run of pwhash whose part has lines. Returns whether the run hadn't ended before."""
+    with started_slowly(*words) as process:
+        wait_for(lambda: process.poll() is not None or has_begun(part))
+        process.kill()
+    return os.path.exists(part) and not os.path.exists(part.removesuffix(".part"))
 
 
 def remove(name: str) -> None:
@@ -192,7 +209,7 @@ def slow_run(*words: str) -> Iterator[subprocess.Popen[bytes]]:
     """Starts a run of a few seconds, and runs the block once the run's part file has lines."""
     save("passwords", users(1500))
     os.utime("passwords", (1e9, 1e9))
-    with started("file", *SLOW, "passwords", "-o", "hashes", *words) as process:
+    with started_slowly("file", *SLOW, "passwords", "-o", "hashes", *words) as process:
         try:
             wait_for(has_begun)
             yield process
