@@ -69,15 +69,20 @@ def started(*words: str | bytes, **options: Any) -> subprocess.Popen[bytes]:
     return started_program(PWHASH, *words, **options)
 
 
-def started_slowly(*words: str, **options: Any) -> subprocess.Popen[bytes]:
-    """Starts pwhash on at most four processors. With more, the run might end before the test acts.
+def on_few_processors() -> tuple[str, ...]:
+    """Returns the words before a command that let it use at most four processors.
 
-    They are chosen at random, since other tests run at the same time.
+    With more, a run might end before the test acts. They are chosen at random, since other tests
+    run at the same time.
     """
     available = sorted(os.sched_getaffinity(0))
     chosen = random.sample(available, min(4, len(available)))
-    taskset = ("taskset", "--cpu-list", ",".join(map(str, chosen)))
-    return started_program(*taskset, PWHASH, *words, **options)
+    return ("taskset", "--cpu-list", ",".join(map(str, chosen)))
+
+
+def started_slowly(*words: str, **options: Any) -> subprocess.Popen[bytes]:
+    """Starts pwhash on few processors."""
+    return started_program(*on_few_processors(), PWHASH, *words, **options)
 
 
 def started_program(*words: str | bytes, **options: Any) -> subprocess.Popen[bytes]:
