@@ -272,9 +272,7 @@ def test_without_resume_nobody_is_advised_to_remove_only_the_passwords() -> None
 def test_a_run_whose_lists_are_in_a_folder_of_a_group_goes_on_too() -> None:
     """In such a folder, new folders get the set-group-ID bit."""
     os.chmod(".", 0o2755)
-    with started(*WORDS) as process:
-        wait_for(lambda: has_begun(PART))
-        process.kill()
+    kill_halfway(*WORDS)
     before = passwords_in()
     assert_whole(pwhash(*WORDS, "--resume"))
     assert passwords_in() == before
