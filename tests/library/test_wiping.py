@@ -14,6 +14,7 @@ from pathlib import Path
 import pytest
 from support.library import SOURCES, Builder
 from support.process import Changes, printable_command, started
+from support.pwhash_runs import state_of, wait_for
 from support.stored_fields import MD5CRYPT, SCRYPT_OF_PASSWORD
 
 LEAST_FOUND = 8  # bytes in a row
@@ -103,6 +104,7 @@ def assert_nothing_left(residue: Path, words: list[str | bytes], env: Changes | 
         for number in range(CALLS):
             stop = process.stdout.read(1)
             assert stop == b".", f"call {number + 1} failed: {printable_command(command)}"
+            wait_for(lambda: state_of(process.pid) == "S")  # it waits for input
             memories.append(memory_of(process) if number > 0 else {})
             process.stdin.write(b"\n")
             process.stdin.flush()

@@ -15,7 +15,7 @@ syncBuiltinESMExports();
 const { Policy, TooCostly, hashAsync, loginAsync } = await import('mkpasswd');
 
 const cores = os.availableParallelism();
-const policy = new Policy({ rounds: 100000 });
+const policy = new Policy({ rounds: 656000 }); // so many that the first hash lasts until the kill
 const stored = await policy.hashAsync('password');
 const calls = Array.from({ length: 3 * cores }, () => policy.loginAsync('password', stored));
 setImmediate(() => workers[0].terminate());

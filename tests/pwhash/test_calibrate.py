@@ -8,7 +8,6 @@ from __future__ import annotations
 import ast
 import re
 import signal
-import time
 from pathlib import Path
 
 import pytest
@@ -19,7 +18,16 @@ from support.package import package_under_test
 from support.policy_limits import SCRYPT, SHA256CRYPT, SHA512CRYPT, Policy, new_cost
 from support.process import Result, run
 from support.pwhash_copies import Copy
-from support.pwhash_runs import PWHASH, ended, pwhash, shell, started, wait_for, working_threads
+from support.pwhash_runs import (
+    PWHASH,
+    least_seconds,
+    pwhash,
+    seconds_to_end,
+    shell,
+    started,
+    wait_for,
+    working_threads,
+)
 
 with package_under_test():
     import mkpasswd
@@ -317,13 +325,16 @@ def test_a_machine_is_measured() -> None:
 
 
 def test_a_signal_ends_a_calibration_at_once() -> None:
-    with started("calibrate", "300ms") as process:
-        wait_for(lambda: working_threads(process.pid, process.pid) > 0)
-        begun = time.monotonic()
-        process.send_signal(signal.SIGINT)
-        done = ended(process)
+    """A calibration measures for two seconds."""
+
+    def attempt() -> float:
+        with started("calibrate", "300ms") as process:
+            wait_for(lambda: working_threads(process.pid, process.pid) > 0)
+            seconds, done = seconds_to_end(process, signal.SIGINT)
         assert done.status == -signal.SIGINT and done.out == b"", done
-        assert time.monotonic() - begun < 5, done
+        return seconds
+
+    assert least_seconds(attempt, 1) <= 1
 
 
 def test_a_result_that_cannot_be_written_is_a_failure() -> None:

@@ -19,8 +19,8 @@ from support.pwhash_runs import (
     read,
     save,
     slow_run,
-    started,
     started_program,
+    started_slowly,
     users,
     wait_for,
 )
@@ -126,7 +126,7 @@ def test_a_changed_file_is_named_even_without_out(redirected: bool) -> None:
         if redirected:
             words["stdin"] = stack.enter_context(open("list", "rb"))
         process = stack.enter_context(
-            started("file", *SLOW, *([] if redirected else ["list"]), **words)
+            started_slowly("file", *SLOW, *([] if redirected else ["list"]), **words)
         )
         wait_for(lambda: os.path.getsize("out") > 0)
         save("list", users(1500).replace(b"password", b"pass"))

@@ -1,9 +1,13 @@
 """How pwhash ends: its status is right even if nobody reads its messages."""
 from __future__ import annotations
 
+import fcntl
 import os
 import shutil
 import signal
+import subprocess
+import sys
+import termios
 import time
 from pathlib import Path
 
@@ -13,15 +17,18 @@ from support.pwhash_copies import Copy
 from support.pwhash_runs import (
     MD5CRYPT,
     PWHASH,
+    continued,
     ended,
     hashed,
     in_namespace,
+    least_seconds,
     read,
     save,
     shell,
     started,
     started_program,
     state_of,
+    stopped_by_strace,
     tree,
     users,
     wait_for,
@@ -30,6 +37,8 @@ from support.pwhash_runs import (
 with needed("python3-pexpect"):
     import pexpect
 
+STOPPED_AFTER_LINK = ("-e", "trace=linkat", "-e", "inject=linkat:signal=STOP")
+MOST_SECONDS = 1.0  # from a signal to the end
 EACH_SIGNAL = pytest.mark.parametrize(
     "number",
     [
@@ -49,46 +58,56 @@ def is_asleep(process: int) -> bool:
     return True
 
 
+def waits_for_reader(process: subprocess.Popen[bytes]) -> bool:
+    """Returns whether a process has filled its standard error, which nobody reads, and sleeps."""
+    assert process.stderr is not None
+    size = fcntl.fcntl(process.stderr, fcntl.F_GETPIPE_SZ)
+    unread = fcntl.ioctl(process.stderr, termios.FIONREAD, bytes(4))
+    return int.from_bytes(unread, sys.byteorder) > size / 2 and is_asleep(process.pid)
+
+
 @EACH_SIGNAL
 def test_a_signal_ends_a_run_whose_messages_nobody_reads(number: signal.Signals) -> None:
     save("lines", b"no colon\n" * 100_000)
-    with started("check", "lines", "--quiet") as process:
-        wait_for(lambda: is_asleep(process.pid))
-        process.send_signal(number)
-        begun = time.monotonic()
-        status = process.wait(timeout=60)
-        seconds = time.monotonic() - begun
-        process.kill()
-    assert status == -number and seconds < 1 + os.getloadavg()[0], (status, seconds)
+
+    def attempt() -> float:
+        with started("check", "lines", "--quiet") as process:
+            wait_for(lambda: waits_for_reader(process))
+            begun = time.monotonic()
+            process.send_signal(number)
+            status = process.wait(timeout=60)
+            seconds = time.monotonic() - begun
+            process.kill()
+        assert status == -number, status
+        return seconds
+
+    assert least_seconds(attempt, MOST_SECONDS) <= MOST_SECONDS
 
 
 @pytest.mark.needs("strace")
 @EACH_SIGNAL
 def test_a_signal_after_out_has_its_name_does_not_change_the_status(number: signal.Signals) -> None:
-    """strace delays the removal of the file's other names by three seconds."""
+    """strace stops pwhash before it removes the file's other names."""
     save("list", users(3) + b"no colon\n")
-    inject = "inject=unlink,unlinkat:delay_enter=3000000"
-    command = ["strace", "-f", "-qq", "-o", "/dev/null", "-e", inject, PWHASH, "file", *MD5CRYPT]
-    words = ["list", "-o", "hashes", "--skip-refused"]
-    with started_program(*command, *words) as process:
-        wait_for(lambda: os.path.exists("hashes"))
+    words = ("file", *MD5CRYPT, "list", "-o", "hashes", "--skip-refused")
+    with stopped_by_strace(STOPPED_AFTER_LINK, *words) as process:
+        assert os.path.exists("hashes")
         os.kill(tree(process.pid)[1], number)
-        done = ended(process)
-    assert done.status == 1 and sorted(os.listdir()) == ["hashes", "list"], done
+        done = continued(process)
+    assert done.status == 1 and sorted(os.listdir()) == ["hashes", "list", "log"], done
     assert read("hashes").count(b"\n") == 3 and b"hashes" in done.err, done
 
 
 @pytest.mark.needs("strace")
 def test_a_full_standard_error_does_not_change_the_status_either() -> None:
     save("list", users(3))
-    inject = "inject=unlink,unlinkat:delay_enter=3000000"
-    command = ["strace", "-f", "-qq", "-o", "/dev/null", "-e", inject, PWHASH, "file", *MD5CRYPT]
+    words = ("file", *MD5CRYPT, "list", "-o", "hashes")
     with open("/dev/full", "wb") as full:
-        with started_program(*command, "list", "-o", "hashes", stderr=full) as process:
-            wait_for(lambda: os.path.exists("hashes"))
+        with stopped_by_strace(STOPPED_AFTER_LINK, *words, stderr=full) as process:
+            assert os.path.exists("hashes")
             os.kill(tree(process.pid)[1], signal.SIGTERM)
-            done = ended(process)
-    assert done.status == 0 and sorted(os.listdir()) == ["hashes", "list"], done
+            done = continued(process)
+    assert done.status == 0 and sorted(os.listdir()) == ["hashes", "list", "log"], done
 
 
 def test_a_generated_password_over_the_budget_is_not_shown() -> None:

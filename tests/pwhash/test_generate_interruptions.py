@@ -16,16 +16,16 @@ from support.package import LIBRARY, PACKAGE
 from support.pwhash_runs import (
     Ended,
     ended,
-    has_begun,
     hashed,
     in_namespace,
+    kill_halfway,
     pwhash,
     read,
+    remove,
     save,
     save_part,
     started,
     started_program,
-    wait_for,
 )
 
 COUNT = 120
@@ -86,10 +86,7 @@ def assert_whole(done: Ended) -> None:
 
 def remove_all() -> None:
     for name in set(os.listdir()) - {"table"}:
-        if os.path.isdir(name):
-            shutil.rmtree(name)
-        else:
-            os.remove(name)
+        remove(name)
 
 
 def seconds_of_run() -> float:
@@ -130,10 +127,8 @@ def test_a_kill_at_any_moment_leaves_no_hash_without_its_password(number: signal
 def fixture_interrupted(table: None) -> None:
     """Starts a run and kills it halfway."""
     del table
-    with started(*WORDS) as process:
-        wait_for(lambda: has_begun(PART))
-        process.kill()
-    assert os.path.exists(PART) and len(passwords_in()) == COUNT
+    kill_halfway(*WORDS)
+    assert len(passwords_in()) == COUNT
 
 
 def assert_does_not_resume(*words: str, reason: bytes) -> None:
@@ -269,9 +264,7 @@ def test_the_run_after_one_killed_while_writing_lists_says_what_to_do(file: str)
 
 
 def test_without_resume_nobody_is_advised_to_remove_only_the_passwords() -> None:
-    with started(*WORDS) as process:
-        wait_for(lambda: has_begun(PART))
-        process.kill()
+    kill_halfway(*WORDS)
     done = pwhash(*WORDS)
     assert done.status == 2 and b"add --resume, or remove both" in done.err, done
 
@@ -279,18 +272,14 @@ def test_without_resume_nobody_is_advised_to_remove_only_the_passwords() -> None
 def test_a_run_whose_lists_are_in_a_folder_of_a_group_goes_on_too() -> None:
     """In such a folder, new folders get the set-group-ID bit."""
     os.chmod(".", 0o2755)
-    with started(*WORDS) as process:
-        wait_for(lambda: has_begun(PART))
-        process.kill()
+    kill_halfway(*WORDS)
     before = passwords_in()
     assert_whole(pwhash(*WORDS, "--resume"))
     assert passwords_in() == before
 
 
 def test_a_run_with_one_list_goes_on_too() -> None:
-    with started(*ONE) as process:
-        wait_for(lambda: has_begun(PART))
-        process.kill()
+    kill_halfway(*ONE)
     before = read("lists")
     done = pwhash(*ONE, "--resume")
     assert_whole(done)
@@ -302,9 +291,7 @@ def test_a_name_locked_between_the_runs_is_reported_and_gets_no_hash() -> None:
     fields = {b"user%d" % n: b"$1$ab$x" for n in range(COUNT)}
     save("shadow", b"".join(b"%s:%s:::::::\n" % line for line in fields.items()))
     words = (*WORDS, "--skip-locked", "shadow")
-    with started(*words) as process:
-        wait_for(lambda: has_begun(PART))
-        process.kill()
+    kill_halfway(*words)
     assert last not in hashes_in(PART)
     fields[last] = b"!" + fields[last]
     save("shadow", b"".join(b"%s:%s:::::::\n" % line for line in fields.items()))

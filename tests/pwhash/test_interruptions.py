@@ -1,6 +1,7 @@
 """Runs interrupted at any moment: they write only correct lines, and can be resumed."""
 from __future__ import annotations
 
+import contextlib
 import glob
 import os
 import random
@@ -31,7 +32,10 @@ PART = "out.part"
 
 
 def size_of_part() -> int:
-    return os.path.getsize(PART) if os.path.exists(PART) else 0
+    """Returns the size of the part, or -1 if there is none."""
+    with contextlib.suppress(FileNotFoundError):
+        return os.path.getsize(PART)
+    return -1
 
 
 @dataclass
@@ -47,10 +51,10 @@ class Interrupted:
     def run_once(self) -> None:
         """Runs the command to its end, or until it gets a signal at a random moment."""
         number = self.source.choice(NUMBERS)
-        goal = size_of_part() + self.source.randrange(6000)
+        goal = max(0, size_of_part()) + self.source.randrange(6000)
         with started_program("/bin/sh", "-c", f"exec {self.command}") as process:
             while process.poll() is None and self.sent < SIGNALS:
-                if os.path.exists(PART) and size_of_part() >= goal:
+                if size_of_part() >= goal:
                     process.send_signal(number)
                     self.sent += 1
                     break

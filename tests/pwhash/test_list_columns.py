@@ -11,14 +11,12 @@ import os
 import pytest
 from support.pwhash_runs import (
     BOM,
-    has_begun,
     hashed,
+    kill_halfway,
     lines_named_in,
     pwhash,
     read,
     save,
-    started,
-    wait_for,
 )
 
 MAKE = ("file", "--generate", "-R", "1000", "--csv", "table", "-o", "hashes", "--columns", "login")
@@ -169,9 +167,7 @@ def fixture_interrupted() -> None:
     rows = [b'"Xu; %d";F;user%d;c%d\n' % (number, number, number % 3) for number in range(120)]
     save("table", b"last;first;login;class\n" + b"".join(rows))
     os.utime("table", (1e9, 1e9))
-    with started(*COSTLY) as process:
-        wait_for(has_begun)
-        process.kill()
+    kill_halfway(*COSTLY)
 
 
 @pytest.mark.usefixtures("interrupted")

@@ -21,8 +21,8 @@ from support.pwhash_runs import (
     save,
     save_part,
     shell,
-    started,
     started_program,
+    started_slowly,
     users,
     wait_for,
 )
@@ -91,7 +91,7 @@ def test_options_that_change_lines_do_not_resume_a_part(
     save("list", text)
     os.utime("list", (1e9, 1e9))
     words = ("file", *SLOW, "list", "-o", "hashes")
-    with started(*words, *first) as process:
+    with started_slowly(*words, *first) as process:
         wait_for(has_begun)
         process.send_signal(signal.SIGTERM)
         ended(process)
@@ -129,7 +129,7 @@ def test_the_command_for_going_on_is_readable_and_works() -> None:
     name = f"pass{ESCAPE}'\nwörds\\"
     save(name, users(1500))
     out = f"o{ESCAPE}ut"
-    with started("file", *SLOW, name, "-o", out) as process:
+    with started_slowly("file", *SLOW, name, "-o", out) as process:
         wait_for(lambda: has_begun(f"{out}.part"))
         process.send_signal(signal.SIGTERM)
         first = ended(process)

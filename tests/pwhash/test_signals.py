@@ -7,14 +7,14 @@ import pathlib
 import shlex
 import signal
 import subprocess
-import time
 
 import pytest
-from support.needs import needed
+from support.needs import needed, not_applicable
 from support.pwhash_runs import (
     MD5CRYPT,
     PWHASH,
-    ended,
+    least_seconds,
+    seconds_to_end,
     shell,
     shows_keys,
     started,
@@ -41,6 +41,8 @@ def at_again(script: str = "", words: tuple[str, ...] = MD5CRYPT) -> pexpect.spa
     ids=lambda number: signal.Signals(number).name,
 )
 def test_no_signal_writes_a_typed_password_to_a_file(number: int) -> None:
+    if shell("ulimit -c unlimited").status != 0:
+        not_applicable("this process may write no core files")
     child = at_again("ulimit -c unlimited || exit")
     child.kill(number)
     child.expect(pexpect.EOF)
@@ -76,7 +78,7 @@ def test_the_terminal_shows_keys_after_any_signal(number: int) -> None:
 
 
 LONG_HASH = ("-m", "sha512crypt", "-R", "300M", "--budget", "1000000M")
-SECONDS_TO_END = 1.0
+MOST_SECONDS = 1.0  # from a signal to the end
 
 
 def give(process: subprocess.Popen[bytes], data: bytes) -> None:
@@ -117,17 +119,12 @@ def is_hashing(process: int) -> bool:
 def test_a_signal_ends_a_run_during_a_costly_hash(
     words: tuple[str, ...], data: bytes, number: int
 ) -> None:
-    with started(*words) as process:
-        give(process, data)
-        wait_for(lambda: is_hashing(process.pid))
-        process.send_signal(number)
-        begun = time.monotonic()
-        done = ended(process)
-        seconds = time.monotonic() - begun
-    assert done.status == -number and done.out == b"", done
-    assert seconds < SECONDS_TO_END + load_of_machine(), (seconds, done)
+    def attempt() -> float:
+        with started(*words) as process:
+            give(process, data)
+            wait_for(lambda: is_hashing(process.pid))
+            seconds, done = seconds_to_end(process, number)
+        assert done.status == -number and done.out == b"", done
+        return seconds
 
-
-def load_of_machine() -> float:
-    """Returns by how many seconds a busy machine may be late."""
-    return os.getloadavg()[0]
+    assert least_seconds(attempt, MOST_SECONDS) <= MOST_SECONDS

@@ -14,11 +14,12 @@ from support.pwhash_runs import (
     SLOW,
     ended,
     has_begun,
+    kill_halfway,
     pwhash,
     read,
     save,
     shell,
-    started,
+    started_slowly,
     users,
     wait_for,
 )
@@ -174,7 +175,7 @@ def test_a_name_that_is_locked_during_a_run_ends_it() -> None:
     save("shadow", b"user1:" + MD5.encode() + b"\nuser2:!x\n")
     save("passwords", users(600))
     words = ("file", *SLOW, "--skip-locked", "shadow", "passwords", "-o", "hashes")
-    with started(*words) as process:
+    with started_slowly(*words) as process:
         wait_for(has_begun)
         save("shadow", b"user1:!" + MD5.encode() + b"\nuser2:!x\n")
         done = ended(process)
@@ -186,7 +187,7 @@ def test_other_changes_of_the_file_end_no_run() -> None:
     save("shadow", b"user1:" + MD5.encode() + b"\nuser2:!x\n")
     save("passwords", users(300))
     words = ("file", *SLOW, "--skip-locked", "shadow", "passwords", "-o", "hashes")
-    with started(*words) as process:
+    with started_slowly(*words) as process:
         wait_for(has_begun)
         save("shadow", b"user1:$1$x$y\nuser2:" + MD5.encode() + b"\n")
         done = ended(process)
@@ -196,10 +197,7 @@ def test_other_changes_of_the_file_end_no_run() -> None:
 def interrupted() -> None:
     save("shadow", b"user0:!x\nuser1:$1$x$y\n")
     save("list", users(600))
-    with started("file", *SLOW, "--skip-locked", "shadow", "list", "-o", "hashes") as process:
-        wait_for(has_begun)
-        process.kill()
-    assert os.path.exists("hashes.part")
+    kill_halfway("file", *SLOW, "--skip-locked", "shadow", "list", "-o", "hashes")
 
 
 RESUMED = ("file", *SLOW, "list", "-o", "hashes", "--resume")

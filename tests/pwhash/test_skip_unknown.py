@@ -10,14 +10,12 @@ from support.pwhash_runs import (
     BOB,
     MD5CRYPT,
     SLOW,
-    has_begun,
+    kill_halfway,
     pwhash,
     read,
     save,
     shell,
-    started,
     users,
-    wait_for,
 )
 
 WORDS = ("file", *MD5CRYPT, "--skip-unknown", "passwd")
@@ -149,9 +147,7 @@ def test_a_run_does_not_resume_without_the_option() -> None:
     save("passwd", b"".join(b"user%d:x\n" % number for number in range(1, 600)))
     save("list", users(600))
     words = ("file", *SLOW, "list", "-o", "hashes")
-    with started(*words, "--skip-unknown", "passwd") as process:
-        wait_for(has_begun)
-        process.kill()
+    kill_halfway(*words, "--skip-unknown", "passwd")
     part = read("hashes.part")
     done = pwhash(*words, "--resume")
     assert done.status == 2 and b"--skip-unknown" in done.err, done

@@ -13,14 +13,13 @@ from support.process import run
 
 HOME = "203.0.113.7"
 ELSEWHERE = "198.51.100.1"
+SECRET = b"secret"
 
 
 @pytest.fixture(name="names")
-def fixture_names(cook: Cook, tmp_path: Path, monkeypatch: pytest.MonkeyPatch) -> dict[str, Any]:
+def fixture_names(cook: Cook) -> dict[str, Any]:
     """The names that the section's code defines."""
-    monkeypatch.chdir(tmp_path)
-    Path("secret_key").write_text("secret", encoding="ascii")
-    return cook.follow("limit attempts")
+    return cook.follow("limit attempts", SECRET=SECRET)
 
 
 @pytest.fixture(name="database")
@@ -128,10 +127,10 @@ for _ in range(5):
 """
 
 
-@pytest.mark.usefixtures("names", "database")
+@pytest.mark.usefixtures("database")
 def test_processes_share_the_limit(tmp_path: Path) -> None:
     """Four processes begin twenty attempts at once, and ten of these may go on."""
-    code = recipe("limit attempts") + PROCESS
+    code = f"SECRET = {SECRET!r}\n" + recipe("limit attempts") + PROCESS
     with ThreadPoolExecutor(4) as threads:
         results = list(threads.map(lambda _: run_python(code, cwd=tmp_path).required(), range(4)))
     lines = b"".join(result.stdout for result in results).split()

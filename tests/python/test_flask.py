@@ -1,4 +1,4 @@
-"""The pages in Flask of docs/PYTHON.md: logins, sessions, changes of passwords, and attempts.
+"""The pages in Flask of docs/PYTHON.md: registrations, logins, sessions, changes and attempts.
 
 test_flask_service.py tries them in a service with old hashes and a fixed time for failures.
 """
@@ -73,6 +73,10 @@ class Client:
         """Posts a form, and returns the status."""
         return int(self.browser.post(path, data=form).status_code)
 
+    def register(self, name: str, password: str = "password") -> int:
+        """Registers a user, and returns the status."""
+        return self.post("/register", name=name, password=password)
+
     def log_in(self, name: str, password: str = "password") -> int:
         """Logs in, and returns the status."""
         return self.post("/login", name=name, password=password)
@@ -106,14 +110,49 @@ def fixture_service(cook: Cook, tmp_path: Path, monkeypatch: pytest.MonkeyPatch)
     Path("secret_key").write_text("secret", encoding="ascii")
     code = [
         whole_login(),
+        recipe("Flask"),
         recipe("limit attempts"),
         replace_lines(recipe("failures after a fixed time"), {"seconds=9": "seconds=0"}),
-        recipe("Flask"),
         PAGE_WITH_THE_NAME,
     ]
     names = cook.run("\n\n".join(code))
     names["app"].config["PREFERRED_URL_SCHEME"] = "https"  # for cookies that need it
     return Service(names)
+
+
+# ---- Registrations
+
+
+def test_a_registered_user_logs_in(service: Service) -> None:
+    assert service.client().register("kim", "pässword") == 200
+    stored = service.fields()["kim"]
+    assert stored.startswith(RECOMMENDED) and stored == crypt("pässword", stored)
+    client = service.client()
+    assert client.log_in("kim", "passw0rd") == 403
+    assert client.log_in("kim", "pässword") == 200
+    assert client.name() == "kim"
+
+
+@pytest.mark.parametrize("name", USERS)
+def test_a_name_that_is_taken_keeps_its_hash(service: Service, name: str) -> None:
+    assert service.client().register(name, "pässword") == 403
+    assert service.fields() == USERS
+
+
+@pytest.mark.parametrize("password", CANNOT_BE_USED, ids=title)
+def test_nobody_registers_with_a_password_that_cannot_be_used(
+    service: Service, password: str
+) -> None:
+    assert service.client().register("kim", password) == 400
+    assert service.fields() == USERS
+
+
+@pytest.mark.parametrize(
+    "form", [{}, {"name": "kim"}, {"password": "password"}], ids=["nothing", "a name", "a password"]
+)
+def test_an_incomplete_registration_is_refused(service: Service, form: dict[str, str]) -> None:
+    assert service.client().post("/register", **form) == 400
+    assert service.fields() == USERS
 
 
 # ---- Logins
@@ -321,6 +360,11 @@ def test_wrong_old_passwords_count_as_attempts(strict: Service) -> None:
     client = strict.client()
     assert client.log_in("ann") == 200
     assert [client.change(old="passw0rd") for _ in range(3)] == [403, 403, 429]
+
+
+def test_names_that_are_taken_count_as_attempts(strict: Service) -> None:
+    assert [strict.client().register("ann") for _ in range(3)] == [403, 403, 429]
+    assert strict.fields() == USERS
 
 
 def test_a_login_for_which_there_is_no_thread_does_not_count(

@@ -79,9 +79,9 @@ def code_of_service() -> str:
     fixed_time = recipe("failures after a fixed time")
     sections = [
         whole_login_of_a_moving_service(),
+        recipe("Flask"),
         recipe("limit attempts"),
         replace_lines(fixed_time, {"seconds=9": f"seconds={SECONDS}"}),
-        recipe("Flask"),
     ]
     return "\n\n".join(sections)
 

@@ -13,6 +13,7 @@ from pathlib import Path
 import pytest
 from support.measured_tree import GATE, PLANT, SOAK, MeasuredTree, measured_tree, wait_for
 from support.process import started
+from support.pwhash_runs import state_of
 
 pytestmark = pytest.mark.needs("git")
 
@@ -124,9 +125,12 @@ WAITS_ITSELF = f"touch half-built; {NAMED.format('$$')}; exec sleep 300\n"
 
 
 def sleeps(tree: MeasuredTree) -> bool:
-    """Returns whether the waiting process still exists."""
+    """Returns whether the waiting process still runs.
+
+    In a container, the first process may leave dead ones as zombies.
+    """
     number = (tree.fakes / "sleeper").read_text(encoding="ascii").strip()
-    return Path(f"/proc/{number}").exists()
+    return state_of(int(number)) not in ("", "Z")
 
 
 def interrupt(tree: MeasuredTree, number: int) -> int:

@@ -349,7 +349,8 @@ def test_as_many_checks_run_at_once_as_the_machine_allows(
     count = 3 if script else 2
     limit = f"taskset -cp {','.join(map(str, processors[:count]))} $$ > mask"
     tree.rt_is("echo $RT_JOBS > $0.got")
-    script = f'set -e\n{limit}\n{script}\nexec "$0"'
+    # Other tests may be using this machine's memory.
+    script = f'set -e\n{limit}\n{script or available(20_000)}\nexec "$0"'
     command = ("unshare", "--mount", "/bin/sh", "-c", script, tree.path("tools/gate"))
     run(*command, env=tree.environment(), cwd=tmp_path).required()
     assert tree.path("rt.got").read_text(encoding="ascii") == f"{expected}\n"
@@ -382,7 +383,9 @@ def test_the_times_of_a_run_are_shown_by_crate(tree: ToolTree) -> None:
     first, second = PROVED.split(b"== kdf_core\n")
     tree.path("first").write_bytes(first)
     tree.path("second").write_bytes(second + b"rt: kdf_core: its tests are proved\n" + TRIED)
-    tree.rt_is('cd "$(dirname "$0")"; cat first; sleep 1.2; cat second')
+    # The gate has read the first lines once they are in the log.
+    until_read = f"until [ -s {LOG} ]; do sleep 0.05; done"
+    tree.rt_is(f'cd "$(dirname "$0")"; cat first; {until_read}; sleep 1.2; cat second')
     tree.run("gate").required()
     times = shown_times(tree)
     assert list(times) == ["prims_core", "kdf_core", "program"]

@@ -14,6 +14,7 @@ import json
 import re
 import subprocess
 import time
+import warnings
 from pathlib import Path
 from typing import Any, Callable, ContextManager, Iterator, Protocol
 
@@ -149,8 +150,10 @@ def first_started(start: Start, folder: Path, running: contextlib.ExitStack) -> 
     *others, last = [folder / str(number) for number in range(STARTS)]
     for place in others:
         place.mkdir()
-        with contextlib.suppress(NotStarted):
+        try:
             return running.enter_context(start(place))
+        except NotStarted as error:
+            warnings.warn(f"started again: {error}")
     last.mkdir()
     return running.enter_context(start(last))
 
@@ -178,13 +181,14 @@ def screen() -> Iterator[str]:
     with started(*command, stdout=subprocess.PIPE, timeout=SECONDS_TO_LIVE) as process:
         assert process.stdout is not None
         number = process.stdout.readline().decode().strip()
-        assert number, "Xvfb doesn't start"
+        if not number:
+            raise NotStarted("Xvfb doesn't start")
         try:
             yield f":{number}"
         finally:
             process.terminate()  # SIGKILL would leave its files in /tmp
             with contextlib.suppress(subprocess.TimeoutExpired):
-                process.wait(timeout=10)
+                process.wait(timeout=60)
 
 
 # ---- Programs that print when they are ready
@@ -219,9 +223,18 @@ def wait_for_output(process: subprocess.Popen[bytes], folder: Path, pattern: str
     return str(match[1])
 
 
+def links_of_descriptors(process: subprocess.Popen[bytes]) -> set[str]:
+    """Returns what a process has open, such as socket:[1234]."""
+    links = set()
+    for descriptor in Path(f"/proc/{process.pid}/fd").iterdir():
+        with contextlib.suppress(FileNotFoundError):  # the process has closed it meanwhile
+            links.add(str(descriptor.readlink()))
+    return links
+
+
 def listening_port(process: subprocess.Popen[bytes]) -> int | None:
     """Returns the local port that a process listens on, if any. WebKitWebDriver prints none."""
-    sockets = {str(link.readlink()) for link in Path(f"/proc/{process.pid}/fd").iterdir()}
+    sockets = links_of_descriptors(process)
     for line in Path("/proc/net/tcp").read_text(encoding="ascii").splitlines()[1:]:
         fields = line.split()
         address, state, inode = fields[1], fields[3], fields[9]

@@ -8,10 +8,13 @@ from __future__ import annotations
 
 import contextlib
 import dataclasses
+import math
 import os
 import pathlib
+import random
 import re
 import shlex
+import shutil
 import signal
 import statistics
 import subprocess
@@ -23,6 +26,7 @@ from typing import Any
 from . import ROOT
 from .libxcrypt import crypt
 from .needs import need, not_applicable
+from .process import kill_group
 
 PWHASH = os.environ.get("PWHASH", str(ROOT / "bin/pwhash"))
 MD5 = "$1$xxxxxxxx$UYCIxa628.9qXjpQCjM4a."  # libxcrypt's hash of "password" with MD5CRYPT's salt
@@ -31,6 +35,8 @@ BOM = b"\xef\xbb\xbf"  # Windows programs put it before UTF-8 text
 ESCAPE = "\x1b[2J"  # clears the screen of a terminal
 BY_NUMBER = ("--columns", "1,2")
 SECONDS_OF_A_RUN = 900  # a run that takes longer hangs
+SECONDS_TO_END = 300  # for a run without a load to watch
+MOST_TRIES = 10  # of what a busy machine can spoil
 SLOW = ("-m", "sha512crypt", "-R", "20000", "-S", "saltsalt")
 
 
@@ -50,7 +56,7 @@ class Ended:
 def ended(process: subprocess.Popen[bytes], data: bytes = b"") -> Ended:
     """Feeds data to a command, and waits for its end."""
     try:
-        out, err = process.communicate(data, timeout=120)
+        out, err = process.communicate(data, timeout=SECONDS_TO_END)
     except subprocess.TimeoutExpired:
         os.killpg(process.pid, signal.SIGKILL)
         raise
@@ -61,6 +67,22 @@ def ended(process: subprocess.Popen[bytes], data: bytes = b"") -> Ended:
 def started(*words: str | bytes, **options: Any) -> subprocess.Popen[bytes]:
     """Starts pwhash in a process group of its own."""
     return started_program(PWHASH, *words, **options)
+
+
+def on_few_processors() -> tuple[str, ...]:
+    """Returns the words before a command that let it use at most four processors.
+
+    With more, a run might end before the test acts. They are chosen at random, since other tests
+    run at the same time.
+    """
+    available = sorted(os.sched_getaffinity(0))
+    chosen = random.sample(available, min(4, len(available)))
+    return ("taskset", "--cpu-list", ",".join(map(str, chosen)))
+
+
+def started_slowly(*words: str, **options: Any) -> subprocess.Popen[bytes]:
+    """Starts pwhash on few processors."""
+    return started_program(*on_few_processors(), PWHASH, *words, **options)
 
 
 def started_program(*words: str | bytes, **options: Any) -> subprocess.Popen[bytes]:
@@ -129,7 +151,58 @@ def wait_for(condition: Callable[[], bool]) -> None:
 
 
 def has_begun(part: str = "hashes.part") -> bool:
-    return os.path.exists(part) and os.path.getsize(part) > 0
+    with contextlib.suppress(FileNotFoundError):
+        return os.path.getsize(part) > 0
+    return False
+
+
+def kill_halfway(*words: str, part: str = "hashes.part") -> None:
+    """Kills a run of pwhash whose part has lines. Starts again if the run ends before the kill."""
+    before = set(os.listdir())
+    for _ in range(MOST_TRIES):
+        if is_killed_halfway(words, part):
+            return
+        for name in set(os.listdir()) - before:
+            remove(name)
+    raise AssertionError(f"{words} ended {MOST_TRIES} times before it could be killed")
+
+
+def is_killed_halfway(words: Sequence[str], part: str) -> bool:
+    """Kills a run of pwhash whose part has lines. Returns whether the run hadn't ended before."""
+    with started_slowly(*words) as process:
+        wait_for(lambda: process.poll() is not None or has_begun(part))
+        process.kill()
+    return os.path.exists(part) and not os.path.exists(part.removesuffix(".part"))
+
+
+def remove(name: str) -> None:
+    """Removes a file, or a folder with all that is in it."""
+    if os.path.isdir(name) and not os.path.islink(name):
+        shutil.rmtree(name)
+    else:
+        os.remove(name)
+
+
+def least_seconds(attempt: Callable[[], float], enough: float) -> float:
+    """Repeats an attempt until it takes at most `enough` seconds, and returns the least time.
+
+    The attempt returns its time. The machine may be busy, or stand still for a moment, but a fault
+    of the product shows in every attempt.
+    """
+    least = math.inf
+    for _ in range(MOST_TRIES):
+        least = min(least, attempt())
+        if least <= enough:
+            break
+    return least
+
+
+def seconds_to_end(process: subprocess.Popen[bytes], number: int) -> tuple[float, Ended]:
+    """Sends a signal to a command. Returns how long its end takes, and how it ended."""
+    begun = time.monotonic()
+    process.send_signal(number)
+    done = ended(process)
+    return time.monotonic() - begun, done
 
 
 def users(count: int) -> bytes:
@@ -141,12 +214,36 @@ def slow_run(*words: str) -> Iterator[subprocess.Popen[bytes]]:
     """Starts a run of a few seconds, and runs the block once the run's part file has lines."""
     save("passwords", users(1500))
     os.utime("passwords", (1e9, 1e9))
-    with started("file", *SLOW, "passwords", "-o", "hashes", *words) as process:
+    with started_slowly("file", *SLOW, "passwords", "-o", "hashes", *words) as process:
         try:
             wait_for(has_begun)
             yield process
         finally:
             process.kill()
+
+
+@contextlib.contextmanager
+def stopped_by_strace(
+    trace: Sequence[str], *words: str, **options: Any
+) -> Iterator[subprocess.Popen[bytes]]:
+    """Runs pwhash under strace, and runs the block once pwhash is stopped.
+
+    The words `trace` are strace's options, which inject SIGSTOP at a system call. pwhash stops when
+    it has made that call, and the block can call continued().
+    """
+    command = ("strace", "-f", "-qq", "-o", "log", *trace, PWHASH, *words)
+    with started_program(*command, **options) as process:
+        try:
+            wait_for(lambda: os.path.exists("log") and b"stopped by SIGSTOP" in read("log"))
+            yield process
+        finally:
+            kill_group(process)
+
+
+def continued(process: subprocess.Popen[bytes]) -> Ended:
+    """Continues a command that strace has stopped, and waits for its end."""
+    os.killpg(process.pid, signal.SIGCONT)
+    return ended(process)
 
 
 def command_to_go_on(done: Ended) -> str:
@@ -168,6 +265,14 @@ def shows_keys(terminal: int) -> bool:
     return bool(termios.tcgetattr(terminal)[3] & termios.ECHO)
 
 
+def erase_whole_characters(utf8: bool) -> None:
+    """Makes the terminal on standard input erase a character of UTF-8 whole, or byte by byte."""
+    flags = termios.tcgetattr(0)
+    iutf8 = getattr(termios, "IUTF8", 0o40000)
+    flags[0] = flags[0] | iutf8 if utf8 else flags[0] & ~iutf8
+    termios.tcsetattr(0, termios.TCSANOW, flags)
+
+
 def at_terminal(
     words: Sequence[str], keys: Sequence[bytes], kill: int | None = None, utf8: bool = False
 ) -> Terminal:
@@ -178,11 +283,12 @@ def at_terminal(
     need("python3-pexpect")
     import pexpect
 
-    child = pexpect.spawn(PWHASH, list(words), timeout=60, echo=True)
-    flags = termios.tcgetattr(child.child_fd)
-    iutf8 = getattr(termios, "IUTF8", 0o40000)
-    flags[0] = flags[0] | iutf8 if utf8 else flags[0] & ~iutf8
-    termios.tcsetattr(child.child_fd, termios.TCSANOW, flags)
+    child = pexpect.spawn(
+        *(PWHASH, list(words)),
+        timeout=60,
+        echo=True,
+        preexec_fn=lambda: erase_whole_characters(utf8),  # later it would undo what pwhash sets
+    )
     screen = b""
     shows_at_prompt = False
     for key in keys:

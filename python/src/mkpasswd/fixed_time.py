@@ -1,6 +1,6 @@
 """Answers failed logins a fixed time after they began, so that timing doesn't reveal names.
 
-    logins = FixedTime(seconds=6, threads=4, queued=4, failed=1000)
+    logins = FixedTime(seconds=9, threads=4, queued=4, failed=1000)
     future = logins.submit(login, database, name, password)
 
 `login` is a function of yours that returns True or False. submit() returns a future of
