@@ -80,13 +80,13 @@ static const char *find_character(const char *start, const char *end, char chara
     return place != NULL ? place : end;
 }
 
-/* Whether a line begins with this name and a colon. */
+/* Whether a line begins with this name and a colon. A line that begins with # is a comment. */
 static bool has_name(const char *line, const char *line_end, const char *name, size_t name_len)
 {
     const char *colon = find_character(line, line_end, ':');
 
-    return colon < line_end && name_len > 0 && (size_t)(colon - line) == name_len
-        && memcmp(line, name, name_len) == 0;
+    return colon < line_end && name_len > 0 && name[0] != '#'
+        && (size_t)(colon - line) == name_len && memcmp(line, name, name_len) == 0;
 }
 
 /* Returns the field from `start` up to the next colon. */

@@ -19,6 +19,7 @@ from support.pwhash_runs import (
     Ended,
     ended,
     has_begun,
+    in_namespace,
     pwhash,
     read,
     save,
@@ -130,6 +131,20 @@ def test_only_the_group_of_one_user_may_write_the_folder(
     assert_refused(write("shared/file"), b"others can write its folder", "shared")
     done = write("alone/file")
     assert done.status == 0 and os.listdir("alone") == ["file"], done
+
+
+@pytest.mark.needs("root")
+def test_a_group_that_is_another_users_first_one_isnt_of_one_user() -> None:
+    make_folder("shared", 0o775, DAEMON, DAEMON)
+    script = """
+        cp /etc/passwd users
+        echo "carl:x:4242:1::/:/bin/sh" >> users
+        mount --bind users /etc/passwd
+        export SUDO_UID=1
+        exec "$@"
+    """
+    done = in_namespace(script, "file", *MD5CRYPT, "passwords", "-o", "shared/file")
+    assert_refused(done, b"others can write its folder", "shared")
 
 
 @pytest.mark.needs("root", "setfacl")

@@ -76,7 +76,10 @@ def test_names_that_are_locked_in_target_stay_locked(mark: bytes) -> None:
     assert b"stay locked, as they were: bob." in done.err, done
 
 
-@pytest.mark.parametrize("line", [b"#bob:old\n", b"# bob:old\n", b"##bob:!\n"])
+@pytest.mark.parametrize(
+    "line",
+    [b"#bob:old\n", b"# bob:old\n", b"##bob:!\n", b"#\tbob:old\n", b"# left in May bob :old\n"],
+)
 def test_names_that_are_commented_out_in_target_stay_out(line: bytes) -> None:
     save("hashes", HASHES)
     save("target", b"# our users: see the wiki\n" + OLD + line)
@@ -114,6 +117,9 @@ def test_names_that_would_disappear_are_named_and_removed_only_on_demand() -> No
         pytest.param(SIX[:-1], id="a truncated hash"),
         pytest.param(b"", id="nothing"),
         pytest.param(b"{CRYPT}x", id="a letter after a prefix"),
+        pytest.param(b"{SSHA}x", id="a letter after a prefix of another scheme"),
+        pytest.param(b"{SSHA}", id="a prefix of another scheme"),
+        pytest.param(b"{DISABLED}", id="an unknown prefix"),
     ],
 )
 def test_nobody_is_let_in_whom_target_may_keep_out(field: bytes) -> None:

@@ -315,6 +315,16 @@ def test_a_repeated_name_is_refused(words: tuple[str, ...]) -> None:
     assert b"lines 1 and 3" in done.err, done
 
 
+@pytest.mark.parametrize("line", [b" ann", b"\tann", b"ann "])
+@pytest.mark.parametrize("option", ["--lock", "--delete", "-mmd5crypt"])
+def test_a_blank_beside_the_name_is_refused(option: str, line: bytes) -> None:
+    """Apache ignores a blank in front of a name. nginx doesn't."""
+    content = line + b":" + MD5.encode() + b"\nann:" + MD5.encode() + b"\n"
+    save("file", content)
+    done = pwhash("set", option, "file", "ann", stdin=b"password\n")
+    assert (done.status, read("file")) == (2, content) and b"line 1 has a blank" in done.err, done
+
+
 def test_no_line_is_added_to_another_file() -> None:
     save("notes", b"127.0.0.1 localhost\n")
     done = pwhash("set", *MD5CRYPT, "notes", "ann", stdin=b"password\n")

@@ -288,6 +288,8 @@ def test_a_password_that_no_hash_can_have_is_refused(password: bytes, reason: by
         pytest.param(SECRET + b"\n", b"second", id="a password and a line feed"),
         pytest.param(SECRET + b"\nann::" + MD5.encode(), b"empty", id="a line without a hash"),
         pytest.param(SECRET + b"\n(" + MD5.encode() + b")", b"stored as it is", id="brackets"),
+        # To search this for a hash took more than a minute.
+        pytest.param(SECRET + b"\n" + b"!" * 131000, b"4,096 bytes", id="much too many bytes"),
     ],
 )
 def test_input_without_a_hash_is_refused(data: bytes, reason: bytes) -> None:

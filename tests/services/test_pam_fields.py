@@ -49,6 +49,7 @@ LINES = [
     Line("a name that has a hash in its second line", "twice", SHA512),
     Line("no name", "", SHA512),
     Line("a name with a colon", "a:b", SHA512),
+    Line("a comment", "#old", SHA512),
     Line("a word", "word", b"x", reason="no scheme"),
     Line("a dollar sign", "dollar", b"$", reason="unknown scheme"),
     Line("a prefix", "prefix", b"$6", reason="unknown scheme"),
@@ -86,7 +87,7 @@ def _file(pam: Pam) -> None:
 def expected_log(line: Line) -> tuple[str, ...]:
     """Returns the log entries of a failed login with this line."""
     names_before = [other.name for other in LINES[: LINES.index(line)]]
-    is_unknown = line.name == "" or ":" in line.name
+    is_unknown = line.name == "" or ":" in line.name or line.name.startswith("#")
     failure = failure_of(None if is_unknown else line.name.replace(" ", "?"))
     if line.reason is None or line.name in names_before:
         return (failure,)

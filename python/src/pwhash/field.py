@@ -31,6 +31,8 @@ OF_OTHER_SCHEMES = re.compile(
     rb"(?i)\{(?:S?MD5|S?SHA(?:256|384|512)?|BLF-CRYPT|ARGON2(?:I|ID)?|PBKDF2(?:-SHA(?:256|512))?"
     rb"|SCRAM-SHA-(?:1|256))\}"
 )
+# What stands after such a prefix: no digest is shorter than 16 bytes, which are 22 in Base64.
+OF_A_DIGEST = re.compile(rb"[!-~]{22,}")
 # Whole hashes of other methods of crypt(3) and its like, by their form: an identifier that some
 # system uses, then what belongs behind it. Any other text may be a password that begins with a $.
 OF_OTHER_METHODS = re.compile(
@@ -90,6 +92,13 @@ class Field(NamedTuple):
     def is_of_other_method(self) -> bool:
         """Whether it has a whole hash of another method, judging by its form."""
         return OF_OTHER_METHODS.fullmatch(self.stored) is not None
+
+    @property
+    def looks_whole(self) -> bool:
+        """Whether it has a whole hash, judged by its length alone if the scheme isn't crypt's."""
+        if self.is_for_crypt:
+            return mkpasswd.describe(self.stored).state in HASHES
+        return self.is_of_other_scheme and OF_A_DIGEST.fullmatch(self.stored) is not None
 
     @property
     def has_known_prefix(self) -> bool:

@@ -193,7 +193,8 @@ def is_of_one_user(folder: int, status: os.stat_result) -> bool:
     except KeyError:
         return False
     is_own_group = owner.pw_gid == group.gr_gid and owner.pw_name == group.gr_name
-    return is_own_group and set(group.gr_mem) <= {owner.pw_name}
+    others = {each.pw_name for each in pwd.getpwall() if each.pw_gid == group.gr_gid}
+    return is_own_group and others.union(group.gr_mem) <= {owner.pw_name}
 
 
 def has_acl(folder: int) -> bool:

@@ -68,18 +68,29 @@ def read_all(fd: int, status: os.stat_result, file_name: str) -> bytes:
 
 
 def find(content: bytes, name: bytes, file_name: str) -> Optional[Entry]:
-    """Finds the line of a name, or returns None. Refuses a name with several lines."""
-    found = list(re.finditer(rb"(?m)^" + re.escape(name) + rb":([^:\n]*)[^\n]*\n?", content))
+    """Finds the line of a name, or returns None.
+
+    Refuses a name with several lines, or with a blank beside it, which some services ignore.
+    """
+    blanks = rb"[ \t\r\f\v]*"
+    pattern = rb"(?m)^(%b)%b(%b):([^:\n]*)[^\n]*\n?" % (blanks, re.escape(name), blanks)
+    found = list(re.finditer(pattern, content))
     if not found:
         return None
     numbers = [1 + content.count(b"\n", 0, each.start()) for each in found]
+    for number, each in zip(numbers, found):
+        if each[1] or each[2]:
+            raise UsageError(
+                f"{file_name}, line {number} has a blank beside the name, for which some services "
+                "let it in and others don't. Remove the blank with an editor."
+            )
     if len(found) > 1:
         raise UsageError(
             f"{file_name} has the name twice, in lines {numbers[0]} and {numbers[1]}, of which "
             "services take one or the other. Remove one with an editor."
         )
     first = found[0]
-    return Entry(numbers[0], *first.span(), *first.span(1), field_of(first[1]))
+    return Entry(numbers[0], *first.span(), *first.span(3), field_of(first[3]))
 
 
 def with_field(content: bytes, entry: Entry, field: Field) -> bytes:

@@ -20,6 +20,7 @@ from pwhash.prompt import Ask
 
 PASSWORD_PROMPT, HASH_PROMPT = b"Password: ", b"Hash (not shown either): "
 REST_PROMPT = b"It isn't whole. The rest, or just Return: "
+MAX_PASTED = 4096  # bytes of a line with a hash; the longest hash has 144
 SECONDS_FOR_REST = 5  # that a pipe may take to bring the rest of a hash
 SHOWS_NOTHING = {ord(each): None for each in "\u00ad\u200b\u200c\u200d\u2060\ufeff"}
 # The quotes of word processors, as shells and configurations write them.
@@ -33,7 +34,7 @@ REPLY_MARKS = re.compile(rb"(?:\s*>)+")  # in front of each line of a quoted e-m
 # The beginning of a hash, with the marks and prefixes in front of it. A letter there, as in x$6$,
 # would be a part of the stored field, and make it one that no password matches.
 BEGINNING = re.compile(
-    rb"(?:^|(?<=[\s:=>'\"`]))[!*]*(?:\{[A-Za-z0-9.-]+\})*[!*]*\$[A-Za-z0-9-]{1,16}[$,]"
+    rb"(?:^|(?<=[\s:=>'\"`]))[!*]*(?:(?:\{[A-Za-z0-9.-]+\})+[!*]*)?\$[A-Za-z0-9-]{1,16}[$,]"
 )
 # What may stand in front of a hash.
 BEFORE_HASH = re.compile(
@@ -114,7 +115,12 @@ def several_hashes_error() -> UsageError:
 
 
 def cleaned(line: bytes) -> bytes:
-    """Returns a pasted line without an e-mail's marks, invisible characters and blanks around."""
+    """Returns a pasted line without an e-mail's marks, invisible characters and blanks around.
+
+    Refuses a line that is much too long for a hash, on which a search could take hours.
+    """
+    if len(line) > MAX_PASTED:
+        raise UsageError(f"the line with the hash has more than {MAX_PASTED:,} bytes.")
     text = line.decode("utf-8", "surrogateescape").translate(SHOWS_NOTHING).translate(AS_ASCII)
     words = " ".join(text.split()).encode("utf-8", "surrogateescape")
     marks = REPLY_MARKS.match(words)

@@ -79,9 +79,7 @@ class Target:
 
     def _may_keep_out(self, name: bytes) -> bool:
         old = self.lines.get(name)
-        if old is None or old.field.is_locked or not old.field.is_for_crypt:
-            return False
-        return mkpasswd.describe(old.field.stored).state not in HASHES
+        return old is not None and not old.field.is_locked and not old.field.looks_whole
 
     def _refuse_other_file(self) -> None:
         """Refuses a file in which no line has a hash, a prefix of one, or a mark."""
@@ -116,8 +114,17 @@ def read_lines(lines: Iterable[bytes]) -> Dict[bytes, OldLine]:
 
 
 def read_commented_names(lines: Iterable[bytes]) -> Set[bytes]:
-    """Returns the names in commented-out lines: somebody may keep a user out that way."""
-    return {line.lstrip(b"# ").partition(b":")[0] for line in lines if line.startswith(b"#")}
+    """Returns the names in commented-out lines: somebody may keep a user out that way.
+
+    A name is the last word before the first colon, as in "#ann:" and "# left ann:".
+    """
+    names = set()
+    for line in lines:
+        if line.startswith(b"#"):
+            text = line.decode(errors="surrogateescape").lstrip("#")
+            words = text.partition(":")[0].split()
+            names.update(word.encode(errors="surrogateescape") for word in words[-1:])
+    return names
 
 
 def is_of_password_file(found: Field) -> bool:
