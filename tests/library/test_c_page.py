@@ -4,13 +4,14 @@ from __future__ import annotations
 from pathlib import Path
 
 import pytest
+from support.costly_hashes import SHA512CRYPT_AT_DEFAULT
 from support.documents import marked
 from support.library import SOURCES, Builder
 from support.libxcrypt import crypt
 from support.process import Result, Word, assert_result, run
 from support.stored_fields import MD5CRYPT
 
-CURRENT = crypt(b"password", b"$6$rounds=656000$ab")
+CURRENT = SHA512CRYPT_AT_DEFAULT
 BCRYPT = crypt(b"password", b"$2b$05$abcdefghijklmnopqrstuu")
 YESCRYPT = crypt(b"password", b"$y$j75$abcdefghijklmnopqrst.1$")
 ASKS = "mkpasswd_login(password, mkpasswd_field(is_known ? field : NULL), NULL, &report)"
