@@ -20,7 +20,7 @@ from support.pwhash_runs import (
     wait_for,
 )
 
-COUNT = 400
+COUNT = 120
 WORDS = ("file", *SLOW, "list", "-o", "hashes")
 
 

@@ -8,6 +8,7 @@ from __future__ import annotations
 
 import contextlib
 import dataclasses
+import glob
 import os
 import pathlib
 import re
@@ -31,7 +32,10 @@ BOM = b"\xef\xbb\xbf"  # Windows programs put it before UTF-8 text
 ESCAPE = "\x1b[2J"  # clears the screen of a terminal
 BY_NUMBER = ("--columns", "1,2")
 SECONDS_OF_A_RUN = 900  # a run that takes longer hangs
+# A run with these words takes a second for SLOW_COUNT lines, shared among the processors. So a test
+# can disturb it in between.
 SLOW = ("-m", "sha512crypt", "-R", "20000", "-S", "saltsalt")
+SLOW_COUNT = 120
 
 
 @dataclasses.dataclass(frozen=True)
@@ -137,16 +141,46 @@ def users(count: int) -> bytes:
 
 
 @contextlib.contextmanager
-def slow_run(*words: str) -> Iterator[subprocess.Popen[bytes]]:
-    """Starts a run of a few seconds, and runs the block once the run's part file has lines."""
-    save("passwords", users(1500))
+def halted(*command: str, part: str = "hashes.part") -> Iterator[subprocess.Popen[bytes]]:
+    """Starts a command, and stops it by SIGSTOP when its part has some of SLOW_COUNT lines.
+
+    Then it runs the block with the process, which go_on() lets go on. It repeats a run that ends
+    before it is stopped.
+    """
+    for _ in range(20):
+        with started_program(*command) as process:
+            try:
+                if is_halted_halfway(process, part):
+                    yield process
+                    return
+            finally:
+                process.kill()
+        for left in glob.glob(f"{part.removesuffix('.part')}*"):
+            os.remove(left)
+    raise AssertionError(f"{command} ended before it was stopped, each time")
+
+
+def is_halted_halfway(process: subprocess.Popen[bytes], part: str) -> bool:
+    """Stops a run when its part has a line, and returns whether it still has to write others."""
+    wait_for(lambda: process.poll() is not None or has_begun(part))
+    process.send_signal(signal.SIGSTOP)
+    wait_for(lambda: process.poll() is not None or state_of(process.pid) == "T")
+    return has_begun(part) and read(part).count(b"\n") < SLOW_COUNT
+
+
+def go_on(process: subprocess.Popen[bytes]) -> Ended:
+    """Lets a halted run go on, and waits for its end."""
+    process.send_signal(signal.SIGCONT)
+    return ended(process)
+
+
+@contextlib.contextmanager
+def halted_run() -> Iterator[subprocess.Popen[bytes]]:
+    """Runs the block while a run that hashes `passwords` is halted."""
+    save("passwords", users(SLOW_COUNT))
     os.utime("passwords", (1e9, 1e9))
-    with started("file", *SLOW, "passwords", "-o", "hashes", *words) as process:
-        try:
-            wait_for(has_begun)
-            yield process
-        finally:
-            process.kill()
+    with halted(PWHASH, "file", *SLOW, "passwords", "-o", "hashes") as process:
+        yield process
 
 
 def command_to_go_on(done: Ended) -> str:
