@@ -1,19 +1,24 @@
-// A server with logins at /login and a health check at /health. /blocked reports how long its event
-// loop was blocked, as a fraction of a hash's time: the 99th percentile, since the machine may be
-// busy.
+// A server with logins at /cheap and at /costly, and a health check at /health. /blocked reports how
+// long its event loop was blocked, as a fraction of a costly hash's time: the 99th percentile, since
+// the machine may be busy.
 import http from 'node:http';
 import { monitorEventLoopDelay } from 'node:perf_hooks';
 import { text } from 'node:stream/consumers';
-import { LoginQueue, hash } from 'mkpasswd';
+import { LoginQueue, Policy, hash } from 'mkpasswd';
 
-const queue = new LoginQueue({ failureTime: 1000 });
-const stored = hash('correct horse');
+const policy = new Policy({ rounds: 20000 });
+const cheapQueue = new LoginQueue({ failureTime: 1000, policy });
+const cheap = policy.hash('correct horse');
+const costlyQueue = new LoginQueue({ failureTime: 1000 });
+const costly = hash('correct horse');
 const begin = performance.now();
 hash('correct horse');
 const time = performance.now() - begin;
 const delays = monitorEventLoopDelay({ resolution: 1 });
+const verdict = ({ matches }) => (matches ? 'in' : 'out');
 const answers = {
-    '/login': async (password) => ((await queue.login(password, stored)).matches ? 'in' : 'out'),
+    '/cheap': async (password) => verdict(await cheapQueue.login(password, cheap)),
+    '/costly': async (password) => verdict(await costlyQueue.login(password, costly)),
     '/health': async () => 'well',
     '/blocked': async () => String(delays.percentile(99) / 1e6 / time),
 };
