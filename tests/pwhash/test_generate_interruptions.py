@@ -33,6 +33,8 @@ CLASSES = 4
 ROUNDS = ("-R", "20000")
 ONE = ("file", "--generate", *ROUNDS, "--csv", "table", "-o", "hashes", "--passwords", "lists")
 WORDS = (*ONE, "--by", "class")
+# For tests that disturb no run at a certain moment.
+QUICK = tuple("1000" if word == "20000" else word for word in WORDS)
 TABLE = b"name;class\n" + b"".join(b"user%d;c%d\n" % (n, n % CLASSES) for n in range(COUNT))
 PART = "hashes.part"
 STARTED = ("/usr/bin/python3", "-I", "-S", str(PACKAGE / "pwhash/start.py"), str(LIBRARY), "pwhash")
@@ -95,14 +97,14 @@ def remove_all() -> None:
 def seconds_of_run() -> float:
     """Returns how many seconds a run takes here."""
     begun = time.monotonic()
-    assert_whole(pwhash(*WORDS))
+    assert_whole(pwhash(*QUICK))
     remove_all()
     return time.monotonic() - begun
 
 
 def stopped(number: signal.Signals, seconds: float) -> Ended:
     """Runs pwhash, and sends it a signal after `seconds`, unless it has ended by then."""
-    with started(*WORDS) as process:
+    with started(*QUICK) as process:
         time.sleep(seconds)
         process.send_signal(number)
         return ended(process)
@@ -116,7 +118,7 @@ def test_a_kill_at_any_moment_leaves_no_hash_without_its_password(number: signal
         made = {**hashes_in(PART), **hashes_in("hashes")}
         assert_passwords_of(made, 3)
         if not os.path.exists("hashes"):
-            done = pwhash(*WORDS, "--resume")
+            done = pwhash(*QUICK, "--resume")
         if done.status == 2 and number is signal.SIGKILL:  # the run was writing the lists
             assert b"lists already exists" in done.err and not made, done
         elif done.status != -number:  # the run may have ended before the signal
@@ -324,7 +326,7 @@ cp -r . ../end
 @pytest.mark.needs("namespaces")
 @pytest.mark.parametrize("pages", [1, 3, 6, 8, 10, 12])
 def test_a_full_disk_leaves_no_hash_without_its_password(pages: int) -> None:
-    words = ["../table" if word == "table" else word for word in WORDS]
+    words = ["../table" if word == "table" else word for word in QUICK]
     done = in_namespace(SMALL_THEN_LARGE.replace("PAGES", str(4 * pages)), *words)
     os.chdir("left")
     made = {**hashes_in(PART), **hashes_in("hashes")}

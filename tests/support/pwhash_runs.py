@@ -312,7 +312,7 @@ def load_of(process: subprocess.Popen[bytes]) -> Load:
         if count:
             working.append(count)
         memory = max(memory, sum(map(resident, processes)))
-        time.sleep(0.01)
+        time.sleep(0.02)
     return Load(statistics.median(working) if working else 0, memory)
 
 
