@@ -4,15 +4,20 @@ from __future__ import annotations
 from pathlib import Path
 
 import pytest
+from support.costly_hashes import (
+    SHA512CRYPT_AT_DEFAULT,
+    SHA512CRYPT_OF_ANOTHER_PASSWORD,
+    SHA512CRYPT_WITH_ANOTHER_SALT,
+)
 from support.documents import marked
 from support.library import SOURCES, Builder
 from support.libxcrypt import crypt
 from support.process import Result, Word, assert_result, run
 from support.stored_fields import MD5CRYPT
 
-CURRENT = crypt(b"password", b"$6$rounds=656000$ab")
-SAME_PASSWORD = crypt(b"password", b"$6$rounds=656000$cd")
-ANOTHER_PASSWORD = crypt(b"another one", b"$6$rounds=656000$ab")
+CURRENT = SHA512CRYPT_AT_DEFAULT
+SAME_PASSWORD = SHA512CRYPT_WITH_ANOTHER_SALT
+ANOTHER_PASSWORD = SHA512CRYPT_OF_ANOTHER_PASSWORD
 BCRYPT = crypt(b"password", b"$2b$05$abcdefghijklmnopqrstuu")
 YESCRYPT = crypt(b"password", b"$y$j75$abcdefghijklmnopqrst.1$")
 ASKS = "mkpasswd_login(password, mkpasswd_field(is_known ? field : NULL), NULL, &report)"

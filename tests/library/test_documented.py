@@ -6,13 +6,14 @@ from pathlib import Path
 
 import pytest
 from support import ROOT
+from support.costly_hashes import SHA512CRYPT_AT_DEFAULT
 from support.documents import marked
 from support.library import SOURCES, Builder, Installed
 from support.libxcrypt import crypt
 from support.process import assert_result, run
 from support.stored_fields import MD5CRYPT, SCRYPT_OF_NOTHING
 
-CURRENT = crypt(b"password", b"$6$rounds=656000$ab")
+CURRENT = SHA512CRYPT_AT_DEFAULT
 WITHOUT_MATCH = {
     "the hash of another password": [CURRENT],
     "an unknown name": [],

@@ -1,6 +1,6 @@
 // Lets 200 clients log in to a server at once, every fourth with a wrong password, while another
-// client asks for its health. Reports whether the answers were right, and how long the server's
-// event loop was blocked.
+// client asks for its health. Reports whether the answers were right, and during which share of the
+// time the server's event loop was busy.
 import http from 'node:http';
 import { text } from 'node:stream/consumers';
 import { setTimeout } from 'node:timers/promises';
@@ -39,5 +39,5 @@ await asked;
 console.log(JSON.stringify({
     right: answers.every((answer, number) => answer === expected[number]),
     well: healths.length > 1 && healths.every((health) => health === 'well'),
-    blocked: Number(await ask('/blocked')),
+    busy: Number(await ask('/busy')),
 }));

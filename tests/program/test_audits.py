@@ -5,16 +5,14 @@ from dataclasses import dataclass
 from pathlib import Path
 
 import pytest
+from support.costly_hashes import SCRYPT_AT_DEFAULT, SHA512CRYPT_AT_DEFAULT
 from support.libxcrypt import crypt
 from support.model.settings import ScryptCost, read_setting
 from support.model.work import LONGEST_PASSWORD, cost
 from support.process import Word, assert_result, run
 
 # libxcrypt's hashes of "password".
-SHA512 = (
-    b"$6$rounds=656000$ab$hc10aHkXN.GF5BQag9FBjeGeBnJXHj4GHeiS9SEq5r1wLkbQRKB4zP9d0pztZ6D3nYaEdp3L"
-    b"iHXS5HEc4ufoq0"
-)
+SHA512 = SHA512CRYPT_AT_DEFAULT
 SHA512_FEWER_ROUNDS = (
     b"$6$rounds=655999$ab$eKUSgJQxDIBcWivanZnfhhex9akJpYi1Ylx3ICJTEIlxuBeCUkT9vW49l9P0kg/YUtqfUXVv"
     b"MdRpiNT/Awi0b."
@@ -24,7 +22,7 @@ SHA512_NO_ROUNDS = (
 )
 SHA256 = b"$5$rounds=656000$ab$OPbOPv7dVBLpN3R.bhm45g.TZiUJo/hpodcbU1pIYG/"
 MD5 = b"$1$xxxxxxxx$UYCIxa628.9qXjpQCjM4a."
-SCRYPT = b"$7$CU..../....ab$4A55KAlzbPi/J3hBHfOo9KGY241BFLQ6dV4No23GMC8"
+SCRYPT = SCRYPT_AT_DEFAULT
 
 # Dummy hashes.
 SCRYPT_DEAR = b"$7$" + ScryptCost(15, 32, 1).text + b"ab$" + b"a" * 42 + b"."

@@ -14,6 +14,7 @@ from dataclasses import dataclass
 from pathlib import Path
 
 import pytest
+from support.costly_hashes import SCRYPT_AT_DEFAULT, SCRYPT_OF_16_MIB, SCRYPT_OF_32_MIB
 from support.libxcrypt import crypt
 from support.needs import built
 from support.preload import preload_library
@@ -98,11 +99,11 @@ TO_SCRYPT: list[Word] = ["--check", "--rehash", "-m", "scrypt", "-R", "6", "-S",
 MD5 = b"$1$xxxxxxxx$UYCIxa628.9qXjpQCjM4a."
 SCRYPT_OF_X = b"$7$CU..../....ab$TioQ/OazCAbGpb/E7e054xV/7lAamSWFPOGclTgvmt0"
 OLD_SCRYPT = crypt(b"password", b"$7$2/..../....xxxxxxxx")
-NEW_SCRYPT = crypt(b"password", b"$7$BU..../....ab")
+NEW_SCRYPT = SCRYPT_OF_32_MIB
 # The third test vector of RFC 7914, with a table of 16 MiB.
-THIRD_VECTOR = crypt(b"pleaseletmein", b"$7$C6..../....SodiumChloride")
-LINE_OF_16_MIB = b"ann:%b:password\n" % crypt(b"password", b"$7$C6..../....xxxxxxxx")
-LINE_OF_64_MIB = b"ann:%b:password\n" % crypt(b"password", b"$7$CU..../....ab")
+THIRD_VECTOR = b"$7$C6..../....SodiumChloride$kBGj9fHznVYFQMEn/qDCfrDevf9YDtcDdKvEqHJLV8D"
+LINE_OF_16_MIB = b"ann:%b:password\n" % SCRYPT_OF_16_MIB
+LINE_OF_64_MIB = b"ann:%b:password\n" % SCRYPT_AT_DEFAULT
 METHODS = b"Available methods:\nmd5crypt\nsha256crypt\nsha512crypt\nscrypt\n"
 FORM_OF_MD5 = r"\$1\$[./0-9A-Za-z]{8}\$[./0-9A-Za-z]{22}\n"
 FORM_OF_SHA512 = r"\$6\$[./0-9A-Za-z]{16}\$[./0-9A-Za-z]{86}\n"

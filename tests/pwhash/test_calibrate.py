@@ -8,6 +8,7 @@ from __future__ import annotations
 import ast
 import re
 import signal
+from collections.abc import Iterator
 from pathlib import Path
 
 import pytest
@@ -17,13 +18,11 @@ from support.needs import built, needed
 from support.package import package_under_test
 from support.policy_limits import SCRYPT, SHA256CRYPT, SHA512CRYPT, Policy, new_cost
 from support.process import Result, run
-from support.pwhash_copies import Copy
+from support.pwhash_copies import Copy, copied
 from support.pwhash_runs import (
-    PWHASH,
     least_seconds,
     pwhash,
     seconds_to_end,
-    shell,
     started,
     wait_for,
     working_threads,
@@ -49,11 +48,21 @@ FLOOR = 150_000_000  # the library's lowest default limit
 EVER = "999999s"
 
 
-@pytest.fixture(name="calibrate")
-def fixture_calibrate(copy: Copy) -> Copy:
+@pytest.fixture(scope="module", name="calibrate")
+def fixture_calibrate(program: Path) -> Iterator[Copy]:
     """A copy of pwhash that takes the machine's speed from SPEED."""
-    (copy.modules / "pwhash/speed.py").write_text(SPEED, encoding="ascii")
-    return copy
+    with copied(program) as copy:
+        (copy.modules / "pwhash/speed.py").write_text(SPEED, encoding="ascii")
+        yield copy
+
+
+@pytest.fixture(scope="module", name="hasty")
+def fixture_hasty(program: Path) -> Iterator[Copy]:
+    """A copy of pwhash that measures each hash as few times as it may."""
+    with copied(program) as copy:
+        with open(copy.modules / "pwhash/speed.py", "a", encoding="ascii") as module:
+            module.write("\nSECONDS = 1e-9\n")
+        yield copy
 
 
 def answer(calibrate: Copy, *words: str) -> Result:
@@ -337,20 +346,22 @@ def test_a_signal_ends_a_calibration_at_once() -> None:
     assert least_seconds(attempt, 1) <= 1
 
 
-def test_a_result_that_cannot_be_written_is_a_failure() -> None:
-    assert shell('exec "$@" > /dev/full', "calibrate", EVER).status == 3
+def test_a_result_that_cannot_be_written_is_a_failure(hasty: Copy) -> None:
+    to_full_device = ("/bin/sh", "-c", 'exec "$@" > /dev/full', "sh")
+    assert hasty.run("calibrate", EVER, before=to_full_device).status == 3
 
 
 @pytest.mark.parametrize("kibibytes", range(4000, 60000, 8000))
-def test_with_little_memory_there_is_a_result_or_a_message(kibibytes: int) -> None:
-    done = shell(f'ulimit -v {kibibytes}; exec "$@"', "calibrate", "300ms")
-    has_message = done.status == 3 and done.out == b"" and b"pwhash: " in done.err
-    assert has_message or done.status in (0, 1) and b"Error" not in done.err, done
+def test_with_little_memory_there_is_a_result_or_a_message(hasty: Copy, kibibytes: int) -> None:
+    limited = ("/bin/sh", "-c", f'ulimit -v {kibibytes}; exec "$@"', "sh")
+    done = hasty.run("calibrate", "300ms", before=limited)
+    has_message = done.status == 3 and done.stdout == b"" and b"pwhash: " in done.stderr
+    assert has_message or done.status in (0, 1) and b"Error" not in done.stderr, done
 
 
 @pytest.mark.parametrize("words", [["300ms"], ["300ms", "--quiet"]])
-def test_the_terminal_shows_progress_unless_quiet_is_given(words: list[str]) -> None:
-    child = pexpect.spawn(PWHASH, ["calibrate", *words], timeout=60)
+def test_the_terminal_shows_progress_unless_quiet_is_given(hasty: Copy, words: list[str]) -> None:
+    child = pexpect.spawn(str(hasty.pwhash), ["calibrate", *words], timeout=60)
     child.expect(pexpect.EOF)
     child.close()
     shows_progress = re.search(rb"measuring: \d+ %", child.before) is not None

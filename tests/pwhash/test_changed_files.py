@@ -1,7 +1,6 @@
 """A list that changes during a run: no user gets an old password, or another user's."""
 from __future__ import annotations
 
-import contextlib
 import os
 import re
 import signal
@@ -11,16 +10,19 @@ from collections.abc import Callable
 
 import pytest
 from support.pwhash_runs import (
+    PWHASH,
     SLOW,
+    SLOW_COUNT,
     command_to_go_on,
     ended,
+    go_on,
+    halted,
+    halted_run,
     hashed,
     pwhash,
     read,
     save,
-    slow_run,
     started_program,
-    started_slowly,
     users,
     wait_for,
 )
@@ -44,23 +46,23 @@ def link_file() -> None:
     ],
 )
 def test_a_file_whose_lines_stay_the_same_is_hashed(change: Callable[[], object]) -> None:
-    with slow_run() as process:
+    with halted_run() as process:
         change()
-        done = ended(process)
-    assert done.status == 0 and read("hashes").count(b"\n") == 1500, done
+        done = go_on(process)
+    assert done.status == 0 and read("hashes").count(b"\n") == SLOW_COUNT, done
 
 
 @pytest.mark.parametrize(
     "change", [touch_access, lambda: os.chmod("passwords", 0o600)], ids=["touch -a", "chmod"]
 )
 def test_a_run_resumes_after_the_file_was_touched(change: Callable[[], object]) -> None:
-    with slow_run() as process:
+    with halted_run() as process:
         process.send_signal(signal.SIGTERM)
-        first = ended(process)
+        first = go_on(process)
     change()
     command = command_to_go_on(first)
     second = ended(started_program("/bin/sh", "-c", command))
-    assert second.status == 0 and read("hashes").count(b"\n") == 1500, second
+    assert second.status == 0 and read("hashes").count(b"\n") == SLOW_COUNT, second
 
 
 def add_a_line() -> None:
@@ -75,7 +77,7 @@ def change_a_line() -> None:
 
 
 def replace_by_an_old_file() -> None:
-    save("new", users(1500).replace(b"password1\n", b"PASSWORD1\n"))
+    save("new", users(SLOW_COUNT).replace(b"password1\n", b"PASSWORD1\n"))
     os.utime("new", (1e9, 1e9))
     os.rename("new", "passwords")
 
@@ -90,9 +92,9 @@ def replace_by_an_old_file() -> None:
     ],
 )
 def test_a_changed_file_makes_no_out(change: Callable[[], None]) -> None:
-    with slow_run() as process:
+    with halted_run() as process:
         change()
-        done = ended(process)
+        done = go_on(process)
     assert done.status == 2 and not os.path.exists("hashes"), done
     assert b"passwords was changed" in done.err and b"remove hashes.part" in done.err, done
     if b"--resume" in done.err:  # the advice must work
@@ -106,9 +108,10 @@ def test_a_changed_file_makes_no_out(change: Callable[[], None]) -> None:
 @pytest.mark.parametrize("number", [signal.SIGINT, signal.SIGTERM], ids=["Ctrl-C", "SIGTERM"])
 def test_a_run_does_not_resume_with_old_passwords(number: int) -> None:
     """A line changes after it was hashed, and then the run is interrupted."""
-    with slow_run() as process:
+    with halted_run() as process:
         size = os.path.getsize("hashes.part")
         change_a_line()
+        process.send_signal(signal.SIGCONT)
         wait_for(lambda: process.poll() is not None or os.path.getsize("hashes.part") > size)
         process.send_signal(number)
         ended(process)
@@ -119,22 +122,16 @@ def test_a_run_does_not_resume_with_old_passwords(number: int) -> None:
 @pytest.mark.parametrize("redirected", [False, True], ids=["named", "redirected"])
 def test_a_changed_file_is_named_even_without_out(redirected: bool) -> None:
     """pwhash once read lines that no version of the file had."""
-    save("list", users(1500))
+    save("list", users(SLOW_COUNT))
     before = os.stat("list").st_mtime
-    with contextlib.ExitStack() as stack:
-        words: dict[str, object] = {"stdout": stack.enter_context(open("out", "wb"))}
-        if redirected:
-            words["stdin"] = stack.enter_context(open("list", "rb"))
-        process = stack.enter_context(
-            started_slowly("file", *SLOW, *([] if redirected else ["list"]), **words)
-        )
-        wait_for(lambda: os.path.getsize("out") > 0)
-        save("list", users(1500).replace(b"password", b"pass"))
-        done = ended(process)
+    script = 'exec "$@" < list > out' if redirected else 'exec "$@" list > out'
+    with halted("/bin/sh", "-c", script, "sh", PWHASH, "file", *SLOW, part="out") as process:
+        save("list", users(SLOW_COUNT).replace(b"password", b"pass"))
+        done = go_on(process)
     assert os.stat("list").st_mtime > before
     assert done.status == 2 and b"changed" in done.err and b"out.part" not in done.err, done
     lines = read("out").splitlines()
-    assert 0 < len(lines) < 1500
+    assert 0 < len(lines) < SLOW_COUNT
     for number in 0, len(lines) - 1:
         expected = hashed(b"password%d" % number, "$6$rounds=20000$saltsalt")
         assert lines[number] == b"user%d:%b" % (number, expected)
@@ -150,7 +147,7 @@ def test_a_changed_file_is_named_even_without_out(redirected: bool) -> None:
 )
 def test_a_replaced_part_or_list_makes_no_out(change: Callable[[], None]) -> None:
     """Otherwise OUT would have only some of the users."""
-    with slow_run() as process:
+    with halted_run() as process:
         change()
-        done = ended(process)
+        done = go_on(process)
     assert done.status in (2, 3) and not os.path.exists("hashes"), done

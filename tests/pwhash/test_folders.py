@@ -15,18 +15,19 @@ from support.pwhash_runs import (
     ANN,
     BOB,
     MD5CRYPT,
+    PWHASH,
     SLOW,
+    SLOW_COUNT,
     Ended,
     ended,
-    has_begun,
+    go_on,
+    halted,
     in_namespace,
     pwhash,
     read,
     save,
-    started,
     started_program,
     users,
-    wait_for,
 )
 
 # The user daemon has a group of its own, of the same name.
@@ -233,12 +234,12 @@ def test_links_that_lead_nowhere_are_named(write: Writer) -> None:
 def test_a_run_stays_in_its_folder_if_that_is_exchanged() -> None:
     os.mkdir("elsewhere")
     save("elsewhere/hashes.part", b"somebody's\n")
-    save("passwords", users(1500))
-    with started("file", *SLOW, "passwords", "-o", "own/hashes") as process:
-        wait_for(lambda: has_begun("own/hashes.part"))
+    save("passwords", users(SLOW_COUNT))
+    words = ("file", *SLOW, "passwords", "-o", "own/hashes")
+    with halted(PWHASH, *words, part="own/hashes.part") as process:
         os.rename("own", "renamed")
         os.symlink("elsewhere", "own")
-        done = ended(process)
-    assert done.status == 0 and read("renamed/hashes").count(b"\n") == 1500, done
+        done = go_on(process)
+    assert done.status == 0 and read("renamed/hashes").count(b"\n") == SLOW_COUNT, done
     assert os.listdir("renamed") == ["hashes"], done
     assert os.listdir("elsewhere") == ["hashes.part"], done

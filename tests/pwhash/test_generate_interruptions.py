@@ -14,11 +14,13 @@ import time
 import pytest
 from support.package import LIBRARY, PACKAGE
 from support.pwhash_runs import (
+    PWHASH,
+    SLOW_COUNT,
     Ended,
     ended,
+    halted,
     hashed,
     in_namespace,
-    kill_halfway,
     pwhash,
     read,
     remove,
@@ -28,11 +30,13 @@ from support.pwhash_runs import (
     started_program,
 )
 
-COUNT = 120
+COUNT = SLOW_COUNT
 CLASSES = 4
 ROUNDS = ("-R", "20000")
 ONE = ("file", "--generate", *ROUNDS, "--csv", "table", "-o", "hashes", "--passwords", "lists")
 WORDS = (*ONE, "--by", "class")
+# For tests that disturb no run at a certain moment.
+QUICK = tuple("1000" if word == "20000" else word for word in WORDS)
 TABLE = b"name;class\n" + b"".join(b"user%d;c%d\n" % (n, n % CLASSES) for n in range(COUNT))
 PART = "hashes.part"
 STARTED = ("/usr/bin/python3", "-I", "-S", str(PACKAGE / "pwhash/start.py"), str(LIBRARY), "pwhash")
@@ -92,14 +96,14 @@ def remove_all() -> None:
 def seconds_of_run() -> float:
     """Returns how many seconds a run takes here."""
     begun = time.monotonic()
-    assert_whole(pwhash(*WORDS))
+    assert_whole(pwhash(*QUICK))
     remove_all()
     return time.monotonic() - begun
 
 
 def stopped(number: signal.Signals, seconds: float) -> Ended:
     """Runs pwhash, and sends it a signal after `seconds`, unless it has ended by then."""
-    with started(*WORDS) as process:
+    with started(*QUICK) as process:
         time.sleep(seconds)
         process.send_signal(number)
         return ended(process)
@@ -113,7 +117,7 @@ def test_a_kill_at_any_moment_leaves_no_hash_without_its_password(number: signal
         made = {**hashes_in(PART), **hashes_in("hashes")}
         assert_passwords_of(made, 3)
         if not os.path.exists("hashes"):
-            done = pwhash(*WORDS, "--resume")
+            done = pwhash(*QUICK, "--resume")
         if done.status == 2 and number is signal.SIGKILL:  # the run was writing the lists
             assert b"lists already exists" in done.err and not made, done
         elif done.status != -number:  # the run may have ended before the signal
@@ -127,7 +131,8 @@ def test_a_kill_at_any_moment_leaves_no_hash_without_its_password(number: signal
 def fixture_interrupted(table: None) -> None:
     """Starts a run and kills it halfway."""
     del table
-    kill_halfway(*WORDS)
+    with halted(PWHASH, *WORDS) as process:
+        process.kill()
     assert len(passwords_in()) == COUNT
 
 
@@ -264,7 +269,8 @@ def test_the_run_after_one_killed_while_writing_lists_says_what_to_do(file: str)
 
 
 def test_without_resume_nobody_is_advised_to_remove_only_the_passwords() -> None:
-    kill_halfway(*WORDS)
+    with halted(PWHASH, *WORDS) as process:
+        process.kill()
     done = pwhash(*WORDS)
     assert done.status == 2 and b"add --resume, or remove both" in done.err, done
 
@@ -272,14 +278,16 @@ def test_without_resume_nobody_is_advised_to_remove_only_the_passwords() -> None
 def test_a_run_whose_lists_are_in_a_folder_of_a_group_goes_on_too() -> None:
     """In such a folder, new folders get the set-group-ID bit."""
     os.chmod(".", 0o2755)
-    kill_halfway(*WORDS)
+    with halted(PWHASH, *WORDS) as process:
+        process.kill()
     before = passwords_in()
     assert_whole(pwhash(*WORDS, "--resume"))
     assert passwords_in() == before
 
 
 def test_a_run_with_one_list_goes_on_too() -> None:
-    kill_halfway(*ONE)
+    with halted(PWHASH, *ONE) as process:
+        process.kill()
     before = read("lists")
     done = pwhash(*ONE, "--resume")
     assert_whole(done)
@@ -291,7 +299,8 @@ def test_a_name_locked_between_the_runs_is_reported_and_gets_no_hash() -> None:
     fields = {b"user%d" % n: b"$1$ab$x" for n in range(COUNT)}
     save("shadow", b"".join(b"%s:%s:::::::\n" % line for line in fields.items()))
     words = (*WORDS, "--skip-locked", "shadow")
-    kill_halfway(*words)
+    with halted(PWHASH, *words) as process:
+        process.kill()
     assert last not in hashes_in(PART)
     fields[last] = b"!" + fields[last]
     save("shadow", b"".join(b"%s:%s:::::::\n" % line for line in fields.items()))
@@ -336,7 +345,7 @@ cp -r . ../end
 @pytest.mark.needs("namespaces")
 @pytest.mark.parametrize("pages", [1, 3, 6, 8, 10, 12])
 def test_a_full_disk_leaves_no_hash_without_its_password(pages: int) -> None:
-    words = ["../table" if word == "table" else word for word in WORDS]
+    words = ["../table" if word == "table" else word for word in QUICK]
     done = in_namespace(SMALL_THEN_LARGE.replace("PAGES", str(4 * pages)), *words)
     os.chdir("left")
     made = {**hashes_in(PART), **hashes_in("hashes")}

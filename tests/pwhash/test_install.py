@@ -9,6 +9,7 @@ from concurrent.futures import ThreadPoolExecutor
 from pathlib import Path
 
 import pytest
+from support.costly_hashes import SHA512CRYPT_AT_DEFAULT
 from support.libxcrypt import crypt
 from support.package import LIBRARY, PACKAGE
 from support.preload import preload_library
@@ -25,7 +26,7 @@ from support.pwhash_runs import (
 
 INSTALL = ("install", "hashes", "target")
 ONE = hashed(b"one")
-SIX = crypt(b"six", b"$6$rounds=656000$abcdefgh")
+SIX = SHA512CRYPT_AT_DEFAULT
 HOSTILE = b"$6$rounds=999999999$abcdefgh$" + b"x" * 86
 BCRYPT = crypt(b"password", b"$2b$04$abcdefghijklmnopqrstuu")
 YESCRYPT = crypt(b"password", b"$y$j75$abcdefghijklmnopqrstu.")

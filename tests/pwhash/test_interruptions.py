@@ -25,7 +25,7 @@ from support.pwhash_runs import (
 
 SIGNALS = 40
 NUMBERS = (signal.SIGINT, signal.SIGTERM, signal.SIGHUP, signal.SIGKILL)
-WORDS = ("-m", "sha512crypt", "-R", "20000", "-S", "saltsalt")
+WORDS = ("-m", "sha512crypt", "-R", "5000", "-S", "saltsalt")
 LINES = b"".join(b"user%d:password%d\n" % (n, n) if n % 17 else b"no colon\n" for n in range(300))
 FIRST = f"{PWHASH} file {' '.join(WORDS)} 'my lines' -o out --skip-refused"
 PART = "out.part"
@@ -97,7 +97,7 @@ def test_ctrl_c_while_modules_load_ends_pwhash_without_a_message(copy: Copy) -> 
 
 def test_ctrl_c_at_any_moment_of_the_start_ends_pwhash_by_the_signal() -> None:
     """Ctrl-C may come while the shell or Python starts, modules load, or pwhash asks for lines."""
-    for milliseconds in range(0, 400, 5):
+    for milliseconds in (*range(0, 200, 5), *range(200, 400, 20)):
         process = started("file")
         time.sleep(milliseconds / 1000)
         process.send_signal(signal.SIGINT)

@@ -11,8 +11,10 @@ import os
 import pytest
 from support.pwhash_runs import (
     BOM,
+    PWHASH,
+    SLOW_COUNT,
+    halted,
     hashed,
-    kill_halfway,
     lines_named_in,
     pwhash,
     read,
@@ -164,10 +166,11 @@ COSTLY = ["20000" if word == "1000" else word for word in (*BY_CLASS, *NAMES)]
 @pytest.fixture(name="interrupted")
 def fixture_interrupted() -> None:
     """Starts a run and kills it halfway."""
-    rows = [b'"Xu; %d";F;user%d;c%d\n' % (number, number, number % 3) for number in range(120)]
+    rows = [b'"Xu; %d";F;user%d;c%d\n' % (n, n, n % 3) for n in range(SLOW_COUNT)]
     save("table", b"last;first;login;class\n" + b"".join(rows))
     os.utime("table", (1e9, 1e9))
-    kill_halfway(*COSTLY)
+    with halted(PWHASH, *COSTLY) as process:
+        process.kill()
 
 
 @pytest.mark.usefixtures("interrupted")
@@ -177,7 +180,7 @@ def test_a_run_resumes_with_the_passwords_in_such_lists() -> None:
     assert done.status == 0, done
     assert {name: read(f"lists/{name}") for name in os.listdir("lists")} == before
     rows = [row for name in before for row in rows_of(f"lists/{name}")[1:]]
-    assert len(rows) == 120
+    assert len(rows) == SLOW_COUNT
     assert_passwords_fit(rows[:3])
 
 

@@ -17,9 +17,7 @@ LONG = b"x" * 140000
         pytest.param(b"", b'ann,"pass' + LONG + b'word",\n', 2, id="a long password"),
         pytest.param(b"", b"ann,password," + LONG + b"\n", 2, id="a long third field"),
         pytest.param(b"", b"ann," + LONG + b",password\n", 2, id="a long second field"),
-        pytest.param(
-            b"bob,password,\n" * 350000, b"ann,password," + LONG + b"\n", 350002, id="late"
-        ),
+        pytest.param(b"bob,password,\n" * 60000, b"ann,password," + LONG + b"\n", 60002, id="late"),
         pytest.param(b"", b"ann,password," + b"y," * 90000 + b"\n", 2, id="of many fields"),
         pytest.param(b"", b'ann,password,"\n' + b"x\n" * 90000 + b'"\n', 2, id="of many lines"),
     ],

@@ -8,19 +8,21 @@ import pytest
 from support.needs import not_applicable
 from support.pwhash_runs import (
     MD5CRYPT,
+    PWHASH,
     SLOW,
+    SLOW_COUNT,
     command_to_go_on,
     ended,
+    go_on,
+    halted,
+    halted_run,
     hashed,
     in_namespace,
     pwhash,
     read,
     save,
-    slow_run,
-    started,
     started_program,
     users,
-    wait_for,
 )
 
 
@@ -38,33 +40,33 @@ def test_only_its_owner_can_read_out(umask: int) -> None:
 
 
 def test_an_out_that_appears_during_a_run_stays() -> None:
-    with slow_run() as process:
+    with halted_run() as process:
         save("hashes", b"somebody's\n")
-        done = ended(process)
+        done = go_on(process)
     assert done.status != 0 and read("hashes") == b"somebody's\n", done
-    assert read("hashes.part").count(b"\n") == 1500 and b"hashes.part" in done.err, done
+    assert read("hashes.part").count(b"\n") == SLOW_COUNT and b"hashes.part" in done.err, done
     os.remove("hashes")
     command = command_to_go_on(done)
     again = ended(started_program("/bin/sh", "-c", command))
-    assert again.status == 0 and read("hashes").count(b"\n") == 1500, again
+    assert again.status == 0 and read("hashes").count(b"\n") == SLOW_COUNT, again
     assert not os.path.exists("hashes.part"), again
 
 
 def test_an_out_that_appears_during_a_check_stays() -> None:
-    save("shadow", b"".join(b"user%d:%b:1\n" % (n, hashed(b"password%d" % n)) for n in range(200)))
-    save("list", users(200))
+    fields = [b"user%d:%b:1\n" % (n, hashed(b"password%d" % n)) for n in range(SLOW_COUNT)]
+    save("shadow", b"".join(fields))
+    save("list", users(SLOW_COUNT))
     words = ("check", "--shadow", "shadow", "--rehash", *SLOW, "list", "-o", "hashes")
-    with started(*words) as process:
-        wait_for(lambda: os.path.exists("hashes.part"))
+    with halted(PWHASH, *words) as process:
         os.symlink("nowhere", "hashes")
-        done = ended(process)
+        done = go_on(process)
     assert done.status != 0 and os.readlink("hashes") == "nowhere", done
-    assert read("hashes.part").count(b"\n") == 200 and b"hashes.part" in done.err, done
+    assert read("hashes.part").count(b"\n") == SLOW_COUNT and b"hashes.part" in done.err, done
 
 
 @pytest.mark.needs("mkfs.vfat")
 def test_out_on_a_file_system_without_links_replaces_nothing() -> None:
-    save("passwords", users(500))
+    save("passwords", users(200))
     script = """
         mkdir fat; truncate -s 4M image; mkfs.vfat image > made
         mount -o loop,umask=077,fmask=177 image fat || exit 77
@@ -78,7 +80,7 @@ def test_out_on_a_file_system_without_links_replaces_nothing() -> None:
     if done.status == 77:
         not_applicable("no loop device can be made")
     left = b"hashes\nhashes.part\nhashes.part.options\n"
-    assert done.out == b"500\nhashes\nstatus 3\nother\n" + left, done
+    assert done.out == b"200\nhashes\nstatus 3\nother\n" + left, done
 
 
 def test_no_file_with_the_name_of_standard_output_is_written() -> None:

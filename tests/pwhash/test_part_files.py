@@ -15,13 +15,15 @@ from support.pwhash_runs import (
     MOST_TRIES,
     PWHASH,
     SLOW,
+    SLOW_COUNT,
     continued,
     ended,
+    go_on,
+    halted_run,
     pwhash,
     read,
     save,
     save_part,
-    slow_run,
     started_program,
     stopped_by_strace,
     users,
@@ -172,10 +174,10 @@ def test_a_file_with_the_name_of_the_saved_options_stays(put: Callable[[], objec
 
 
 def test_two_runs_do_not_share_a_part() -> None:
-    with slow_run() as process:
+    with halted_run() as process:
         anew = pwhash("file", *SLOW, "passwords", "-o", "hashes")
         resumed = pwhash("file", *SLOW, "passwords", "-o", "hashes", "--resume")
-        done = ended(process)
+        done = go_on(process)
     assert anew.status == 2 and b"another run" in anew.err, anew
     assert resumed.status == 2, resumed
-    assert done.status == 0 and read("hashes").count(b"\n") == 1500, done
+    assert done.status == 0 and read("hashes").count(b"\n") == SLOW_COUNT, done

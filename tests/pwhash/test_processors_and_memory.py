@@ -44,11 +44,11 @@ from support.pwhash_runs import (
 def test_no_more_threads_work_than_there_are_processors(
     folder: pathlib.Path, script: str, processors: int
 ) -> None:
-    save("passwords", users(24))
+    save("passwords", users(16))
     limit = script or some_processors(processors)
     script = f"{limit}\ncd {shlex.quote(str(folder))}"
-    done, load = watched(script, "file", "-m", "sha512crypt", "-R", "200k", "passwords")
-    assert done.status == 0 and done.out.count(b"\n") == 24, done
+    done, load = watched(script, "file", "-m", "sha512crypt", "-R", "100k", "passwords")
+    assert done.status == 0 and done.out.count(b"\n") == 16, done
     assert 0 < load.working <= processors, (load, done.command)
 
 
@@ -79,18 +79,18 @@ def test_scrypt_takes_at_most_half_of_the_free_memory(
     folder: pathlib.Path, script: str, most: int
 ) -> None:
     """With -R 8 each hash takes 128 MiB."""
-    save("passwords", users(12))
+    save("passwords", users(6))
     script = f"{script}\ncd {shlex.quote(str(folder))}"
     done, load = watched(script, "file", "-m", "scrypt", "-R", "8", "passwords")
-    assert done.status == 0 and done.out.count(b"\n") == 12, done
+    assert done.status == 0 and done.out.count(b"\n") == 6, done
     assert 100 < load.memory // MEBIBYTE <= most + OWN, (load, done.command)
 
 
 def test_scrypt_checks_take_at_most_half_of_the_free_memory(folder: pathlib.Path) -> None:
-    made = pwhash("file", "-m", "scrypt", "-R", "8", stdin=users(12))
+    made = pwhash("file", "-m", "scrypt", "-R", "8", stdin=users(6))
     lines = [line + b":password%d\n" % n for n, line in enumerate(made.out.splitlines())]
     save("stored", b"".join(lines))
     script = f"{available(600)}\ncd {shlex.quote(str(folder))}"
     done, load = watched(script, "check", "--budget", "600M", "stored")
-    assert done.status == 0 and done.out.count(b":ok\n") == 12, done
+    assert done.status == 0 and done.out.count(b":ok\n") == 6, done
     assert 100 < load.memory // MEBIBYTE <= 300 + OWN, (load, done.command)

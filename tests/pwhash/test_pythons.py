@@ -1,19 +1,29 @@
 """pwhash runs with each Python from 3.8 on, and says that older ones are too old."""
 from __future__ import annotations
 
+from collections.abc import Iterator
+from pathlib import Path
+
 import pytest
 from support.interpreters import OLDEST, Interpreter, interpreters
 from support.process import Result, Word
-from support.pwhash_copies import Copy
-from support.pwhash_runs import MD5, MD5CRYPT, save
+from support.pwhash_copies import Copy, copied
+from support.pwhash_runs import MD5, MD5CRYPT, PWHASH, save
 
 INTERPRETERS = tuple(interpreters())
 ANN = f"ann:{MD5}\n".encode()
 
 
+@pytest.fixture(scope="module", name="copy")
+def fixture_copy(program: Path) -> Iterator[Copy]:
+    """A copy of pwhash, whose modules each Python compiles once."""
+    with copied(program) as copy:
+        yield copy
+
+
 def run_with(python: Interpreter, copy: Copy, *words: Word, stdin: bytes = b"") -> Result:
     """Runs a copy of pwhash whose script names this Python instead of the system's."""
-    text = copy.pwhash.read_text(encoding="utf-8")
+    text = Path(PWHASH).read_text(encoding="utf-8")
     assert "/usr/bin/python3" in text
     copy.pwhash.write_text(text.replace("/usr/bin/python3", python.path), encoding="utf-8")
     return copy.run(*words, stdin=stdin)

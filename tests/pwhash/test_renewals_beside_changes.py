@@ -7,10 +7,23 @@ from __future__ import annotations
 import os
 
 import pytest
-from support.pwhash_runs import SLOW, Ended, ended, has_begun, hashed, read, save, started, users
-from support.pwhash_runs import wait_for
+from support.pwhash_runs import (
+    PWHASH,
+    SLOW,
+    SLOW_COUNT,
+    Ended,
+    go_on,
+    halted,
+    hashed,
+    read,
+    save,
+    users,
+)
 
-COUNT = 300
+COUNT = SLOW_COUNT
+CHECK = (PWHASH, "check", "--shadow", "shadow", "--rehash", *SLOW, "list")
+TO_OUT = (*CHECK, "-o", "hashes")
+PRINTED = ("/bin/sh", "-c", 'exec "$@" > answers', "sh", *CHECK)
 SETTING = "$6$rounds=20000$saltsalt"
 LAST = COUNT - 1
 OTHER = hashed(b"other", "$1$other")
@@ -28,21 +41,14 @@ def shadow(changed: dict[int, bytes], removed: int | None = None) -> bytes:
     )
 
 
-def renewed_while(content: bytes, out: str | None) -> Ended:
-    """Renews all hashes. After the first new hash, another shadow file takes the place of the old.
-
-    Without `out`, the answers go to the file "answers".
-    """
+def renewed_while(content: bytes, *command: str, part: str = "hashes.part") -> Ended:
+    """Renews all hashes. After the first new hash, another shadow file replaces the old one."""
     save("shadow", shadow({}))
     save("list", users(COUNT))
     save("new", content)
-    words = ["check", "--shadow", "shadow", "--rehash", *SLOW, "list"]
-    if out is not None:
-        words += ["-o", out]
-    with open("answers", "wb") as answers, started(*words, stdout=answers) as process:
-        wait_for(lambda: has_begun("answers" if out is None else f"{out}.part"))
+    with halted(*command, part=part) as process:
         os.rename("new", "shadow")
-        return ended(process)
+        return go_on(process)
 
 
 @pytest.mark.parametrize(
@@ -54,7 +60,7 @@ def renewed_while(content: bytes, out: str | None) -> Ended:
     ],
 )
 def test_a_field_that_changes_meanwhile_gets_no_new_hash(content: bytes, names: list[int]) -> None:
-    done = renewed_while(content, "hashes")
+    done = renewed_while(content, *TO_OUT)
     assert done.status == 1 and b"shadow was changed during the run" in done.err, done
     assert b", ".join(b"user%d" % number for number in names) + b"." in done.err, done
     expected = [
@@ -67,13 +73,13 @@ def test_a_field_that_changes_meanwhile_gets_no_new_hash(content: bytes, names: 
 
 
 def test_a_printed_hash_of_a_changed_field_is_named() -> None:
-    done = renewed_while(shadow({0: OTHER}), None)
+    done = renewed_while(shadow({0: OTHER}), *PRINTED, part="answers")
     assert done.status == 1 and b"mustn't be stored: user0." in done.err, done
     assert read("answers").count(b"\n") == COUNT, done
 
 
 def test_a_file_that_is_only_touched_leaves_nothing_out() -> None:
-    done = renewed_while(shadow({}), "hashes")
+    done = renewed_while(shadow({}), *TO_OUT)
     assert (done.status, done.err) == (0, b""), done
     assert read("hashes").count(b"\n") == COUNT, done
 
@@ -81,9 +87,7 @@ def test_a_file_that_is_only_touched_leaves_nothing_out() -> None:
 def test_a_file_that_disappears_meanwhile_makes_no_out() -> None:
     save("shadow", shadow({}))
     save("list", users(COUNT))
-    words = ("check", "--shadow", "shadow", "--rehash", *SLOW, "list", "-o", "hashes")
-    with started(*words) as process:
-        wait_for(lambda: has_begun("hashes.part"))
+    with halted(*TO_OUT) as process:
         os.remove("shadow")
-        done = ended(process)
+        done = go_on(process)
     assert done.status == 3 and not os.path.exists("hashes"), done

@@ -4,23 +4,10 @@ from __future__ import annotations
 import os
 from pathlib import Path
 import signal
-import subprocess
 
 import pytest
-from support.pwhash_runs import (
-    SLOW,
-    Ended,
-    ended,
-    has_begun,
-    pwhash,
-    read,
-    save,
-    started,
-    users,
-    wait_for,
-)
+from support.pwhash_runs import PWHASH, SLOW, SLOW_COUNT, go_on, halted, pwhash, read, save, users
 
-COUNT = 400
 WORDS = ("file", *SLOW, "list", "-o", "hashes")
 
 
@@ -28,23 +15,14 @@ WORDS = ("file", *SLOW, "list", "-o", "hashes")
 def fixture_saved_list(folder: Path) -> None:
     """A list in the scratch folder, with two lines to skip."""
     del folder  # it is the current folder
-    save("list", users(COUNT) + b"no colon\ndan: x\n")
-
-
-def terminated(process: subprocess.Popen[bytes]) -> Ended:
-    """Sends SIGTERM to a run once its part has lines, unless the run has ended by then."""
-    wait_for(lambda: process.poll() is not None or has_begun())
-    process.send_signal(signal.SIGTERM)
-    return ended(process)
+    save("list", users(SLOW_COUNT) + b"no colon\ndan: x\n")
 
 
 def interrupt(*choice: str) -> None:
-    """Runs pwhash until a signal ends it halfway. Repeats a run that ends before the signal."""
-    for _ in range(20):
-        done = terminated(started(*WORDS, *choice, stdin=subprocess.DEVNULL))
-        if os.path.exists("hashes.part"):
-            break
-        os.remove("hashes")
+    """Runs pwhash until a signal ends it halfway."""
+    with halted(PWHASH, *WORDS, *choice) as process:
+        process.send_signal(signal.SIGTERM)
+        done = go_on(process)
     assert done.status == -signal.SIGTERM, done
 
 
@@ -77,5 +55,5 @@ def test_forgotten_rounds_are_named() -> None:
 def test_the_same_options_resume_a_part() -> None:
     interrupt(*SKIPPED)
     done = pwhash(*WORDS, *reversed(SKIPPED), "--resume")
-    assert done.status == 1 and read("hashes").count(b"\n") == COUNT, done
+    assert done.status == 1 and read("hashes").count(b"\n") == SLOW_COUNT, done
     assert sorted(os.listdir()) == ["hashes", "list"], done

@@ -28,7 +28,7 @@ from support.pwhash_runs import (
     wait_for,
 )
 
-COUNT = 400
+COUNT = 120
 SETTING = "$6$rounds=20000$saltsalt"
 WORDS = ("file", *SLOW, "passwords", "-o", "hashes")
 OLD = (1e9, 1e9)
@@ -232,7 +232,8 @@ def test_the_printed_command_resumes_after_a_full_disk(words: tuple[str, ...], b
         ls full
     """
     save("passwords", users(200))
-    done = in_namespace(script, "file", *SLOW, "passwords", "-o", "full/hashes", *words)
+    quick = ("-m", "sha512crypt", "-R", "1000", "-S", "saltsalt")
+    done = in_namespace(script, "file", *quick, "passwords", "-o", "full/hashes", *words)
     assert done.out == b"status 3\n200\nhashes\n" and b"To go on" in done.err, done
 
 

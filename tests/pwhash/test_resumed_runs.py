@@ -12,9 +12,11 @@ from support.pwhash_runs import (
     MD5CRYPT,
     PWHASH,
     SLOW,
+    SLOW_COUNT,
     command_to_go_on,
     ended,
-    has_begun,
+    go_on,
+    halted,
     hashed,
     pwhash,
     read,
@@ -22,9 +24,7 @@ from support.pwhash_runs import (
     save_part,
     shell,
     started_program,
-    started_slowly,
     users,
-    wait_for,
 )
 
 SHA256 = "$5$rounds=1000$"
@@ -84,17 +84,16 @@ def test_options_that_change_lines_do_not_resume_a_part(
     first: tuple[str, ...], second: tuple[str, ...]
 ) -> None:
     """The first and last lines, which --resume hashes again, don't tell the options apart."""
-    text = b"".join(b"user%d:password%d%b\n" % (n, n, b"\r" * (n % 2)) for n in range(1500))
+    text = b"".join(b"user%d:password%d%b\n" % (n, n, b"\r" * (n % 2)) for n in range(SLOW_COUNT))
     if "--csv" in first:
-        rows = (b"user%d,password%d,other%d\n" % (n, n, n * (n % 2)) for n in range(1500))
+        rows = (b"user%d,password%d,other%d\n" % (n, n, n * (n % 2)) for n in range(SLOW_COUNT))
         text = b"name,password,old\n" + b"".join(rows)
     save("list", text)
     os.utime("list", (1e9, 1e9))
     words = ("file", *SLOW, "list", "-o", "hashes")
-    with started_slowly(*words, *first) as process:
-        wait_for(has_begun)
+    with halted(PWHASH, *words, *first) as process:
         process.send_signal(signal.SIGTERM)
-        ended(process)
+        go_on(process)
     part = read("hashes.part").splitlines(keepends=True)
     if len(part) % 2 == 0:
         part.pop()
@@ -102,7 +101,7 @@ def test_options_that_change_lines_do_not_resume_a_part(
     done = pwhash(*words, *second, "--resume")
     assert done.status in (1, 2) and not os.path.exists("hashes"), done
     done = pwhash(*words, *first, "--resume")
-    assert done.status == 0 and read("hashes").count(b"\n") == 1500, done
+    assert done.status == 0 and read("hashes").count(b"\n") == SLOW_COUNT, done
     assert sorted(os.listdir()) == ["hashes", "list"], done
 
 
@@ -127,17 +126,16 @@ def test_options_saved_by_another_program_are_not_used() -> None:
 
 def test_the_command_for_going_on_is_readable_and_works() -> None:
     name = f"pass{ESCAPE}'\nwörds\\"
-    save(name, users(1500))
+    save(name, users(SLOW_COUNT))
     out = f"o{ESCAPE}ut"
-    with started_slowly("file", *SLOW, name, "-o", out) as process:
-        wait_for(lambda: has_begun(f"{out}.part"))
+    with halted(PWHASH, "file", *SLOW, name, "-o", out, part=f"{out}.part") as process:
         process.send_signal(signal.SIGTERM)
-        first = ended(process)
+        first = go_on(process)
     assert b"\x1b" not in first.err, first
     command = command_to_go_on(first)
     assert "\n" not in command, command
     second = ended(started_program("/bin/bash", "-c", command))
-    assert second.status == 0 and read(out).count(b"\n") == 1500, second
+    assert second.status == 0 and read(out).count(b"\n") == SLOW_COUNT, second
 
 
 # ---- The part's lines

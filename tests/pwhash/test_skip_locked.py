@@ -11,17 +11,16 @@ from support.pwhash_runs import (
     BOB,
     MD5,
     MD5CRYPT,
+    PWHASH,
     SLOW,
-    ended,
-    has_begun,
-    kill_halfway,
+    SLOW_COUNT,
+    go_on,
+    halted,
     pwhash,
     read,
     save,
     shell,
-    started_slowly,
     users,
-    wait_for,
 )
 
 WORDS = ("file", *MD5CRYPT, "--skip-locked", "shadow")
@@ -173,31 +172,32 @@ def test_the_names_can_come_from_a_pipe() -> None:
 
 def test_a_name_that_is_locked_during_a_run_ends_it() -> None:
     save("shadow", b"user1:" + MD5.encode() + b"\nuser2:!x\n")
-    save("passwords", users(600))
+    save("passwords", users(SLOW_COUNT))
     words = ("file", *SLOW, "--skip-locked", "shadow", "passwords", "-o", "hashes")
-    with started_slowly(*words) as process:
-        wait_for(has_begun)
+    with halted(PWHASH, *words) as process:
         save("shadow", b"user1:!" + MD5.encode() + b"\nuser2:!x\n")
-        done = ended(process)
+        done = go_on(process)
     assert done.status == 2 and not os.path.exists("hashes"), done
     assert b"locked in shadow during the run: remove hashes.part" in done.err, done
 
 
 def test_other_changes_of_the_file_end_no_run() -> None:
     save("shadow", b"user1:" + MD5.encode() + b"\nuser2:!x\n")
-    save("passwords", users(300))
+    save("passwords", users(SLOW_COUNT))
     words = ("file", *SLOW, "--skip-locked", "shadow", "passwords", "-o", "hashes")
-    with started_slowly(*words) as process:
-        wait_for(has_begun)
+    with halted(PWHASH, *words) as process:
         save("shadow", b"user1:$1$x$y\nuser2:" + MD5.encode() + b"\n")
-        done = ended(process)
-    assert done.status == 0 and read("hashes").count(b"\n") == 299, done
+        done = go_on(process)
+    assert done.status == 0 and read("hashes").count(b"\n") == SLOW_COUNT - 1, done
 
 
 def interrupted() -> None:
     save("shadow", b"user0:!x\nuser1:$1$x$y\n")
-    save("list", users(600))
-    kill_halfway("file", *SLOW, "--skip-locked", "shadow", "list", "-o", "hashes")
+    save("list", users(SLOW_COUNT))
+    words = ("file", *SLOW, "--skip-locked", "shadow", "list", "-o", "hashes")
+    with halted(PWHASH, *words) as process:
+        process.kill()
+    assert os.path.exists("hashes.part")
 
 
 RESUMED = ("file", *SLOW, "list", "-o", "hashes", "--resume")
@@ -206,7 +206,7 @@ RESUMED = ("file", *SLOW, "list", "-o", "hashes", "--resume")
 def test_a_run_resumes_without_the_locked_names() -> None:
     interrupted()
     done = pwhash(*RESUMED, "--skip-locked", "shadow")
-    assert done.status == 0 and read("hashes").count(b"\n") == 599, done
+    assert done.status == 0 and read("hashes").count(b"\n") == SLOW_COUNT - 1, done
     assert not re.search(rb"(?m)^user0:", read("hashes")), done
 
 

@@ -9,8 +9,10 @@ from support.pwhash_runs import (
     ANN,
     BOB,
     MD5CRYPT,
+    PWHASH,
     SLOW,
-    kill_halfway,
+    SLOW_COUNT,
+    halted,
     pwhash,
     read,
     save,
@@ -144,13 +146,14 @@ def test_the_names_can_come_from_a_pipe() -> None:
 
 
 def test_a_run_does_not_resume_without_the_option() -> None:
-    save("passwd", b"".join(b"user%d:x\n" % number for number in range(1, 600)))
-    save("list", users(600))
+    save("passwd", b"".join(b"user%d:x\n" % number for number in range(1, SLOW_COUNT)))
+    save("list", users(SLOW_COUNT))
     words = ("file", *SLOW, "list", "-o", "hashes")
-    kill_halfway(*words, "--skip-unknown", "passwd")
+    with halted(PWHASH, *words, "--skip-unknown", "passwd") as process:
+        process.kill()
     part = read("hashes.part")
     done = pwhash(*words, "--resume")
     assert done.status == 2 and b"--skip-unknown" in done.err, done
     assert read("hashes.part") == part and not os.path.exists("hashes"), done
     done = pwhash(*words, "--resume", "--skip-unknown", "passwd")
-    assert done.status == 0 and read("hashes").count(b"\n") == 599, done
+    assert done.status == 0 and read("hashes").count(b"\n") == SLOW_COUNT - 1, done

@@ -28,7 +28,7 @@ TRY = f"""
 import doctest, mkpasswd
 from mkpasswd import _loaded, _policy, crypt
 assert mkpasswd.login("password", field="{MD5}") and not mkpasswd.login("passw0rd", field="{MD5}")
-for module in mkpasswd, _policy, crypt:
+for module in _policy, crypt:
     assert not doctest.testmod(module, extraglobs={{"mkpasswd": mkpasswd}}).failed
 print(_loaded.LIBRARY._name)
 """

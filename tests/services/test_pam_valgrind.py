@@ -69,7 +69,7 @@ def test_valgrind_finds_no_error_in_a_change_of_password(
 
 
 @pytest.mark.parametrize("operation", ["authenticate", "chauthtok"])
-@pytest.mark.parametrize("arguments", ["file=/gone", f"file={FILE} rounds=x", "debug"])
+@pytest.mark.parametrize("arguments", ["file=/gone rounds=1000", f"file={FILE} rounds=x", "debug"])
 def test_valgrind_finds_no_error_in_a_call_that_reads_no_field(
     pam: Pam, arguments: str, operation: str, tmp_path: Path
 ) -> None:

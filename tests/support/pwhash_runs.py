@@ -37,7 +37,10 @@ BY_NUMBER = ("--columns", "1,2")
 SECONDS_OF_A_RUN = 900  # a run that takes longer hangs
 SECONDS_TO_END = 300  # for a run without a load to watch
 MOST_TRIES = 10  # of what a busy machine can spoil
+# A run with these words takes a second for SLOW_COUNT lines, shared among the processors. So a test
+# can disturb it in between.
 SLOW = ("-m", "sha512crypt", "-R", "20000", "-S", "saltsalt")
+SLOW_COUNT = 120
 
 
 @dataclasses.dataclass(frozen=True)
@@ -78,11 +81,6 @@ def on_few_processors() -> tuple[str, ...]:
     available = sorted(os.sched_getaffinity(0))
     chosen = random.sample(available, min(4, len(available)))
     return ("taskset", "--cpu-list", ",".join(map(str, chosen)))
-
-
-def started_slowly(*words: str, **options: Any) -> subprocess.Popen[bytes]:
-    """Starts pwhash on few processors."""
-    return started_program(*on_few_processors(), PWHASH, *words, **options)
 
 
 def started_program(*words: str | bytes, **options: Any) -> subprocess.Popen[bytes]:
@@ -156,25 +154,6 @@ def has_begun(part: str = "hashes.part") -> bool:
     return False
 
 
-def kill_halfway(*words: str, part: str = "hashes.part") -> None:
-    """Kills a run of pwhash whose part has lines. Starts again if the run ends before the kill."""
-    before = set(os.listdir())
-    for _ in range(MOST_TRIES):
-        if is_killed_halfway(words, part):
-            return
-        for name in set(os.listdir()) - before:
-            remove(name)
-    raise AssertionError(f"{words} ended {MOST_TRIES} times before it could be killed")
-
-
-def is_killed_halfway(words: Sequence[str], part: str) -> bool:
-    """Kills a run of pwhash whose part has lines. Returns whether the run hadn't ended before."""
-    with started_slowly(*words) as process:
-        wait_for(lambda: process.poll() is not None or has_begun(part))
-        process.kill()
-    return os.path.exists(part) and not os.path.exists(part.removesuffix(".part"))
-
-
 def remove(name: str) -> None:
     """Removes a file, or a folder with all that is in it."""
     if os.path.isdir(name) and not os.path.islink(name):
@@ -210,16 +189,52 @@ def users(count: int) -> bytes:
 
 
 @contextlib.contextmanager
-def slow_run(*words: str) -> Iterator[subprocess.Popen[bytes]]:
-    """Starts a run of a few seconds, and runs the block once the run's part file has lines."""
-    save("passwords", users(1500))
+def halted(*command: str, part: str = "hashes.part") -> Iterator[subprocess.Popen[bytes]]:
+    """Starts a command, and stops it by SIGSTOP when its part has some of SLOW_COUNT lines.
+
+    Then it runs the block with the process, which go_on() lets go on, and kills the process. It
+    repeats a run that ends before it is stopped, without the files that this run has made.
+    """
+    folder = os.path.dirname(part) or "."
+    before = set(os.listdir(folder))
+    for _ in range(MOST_TRIES):
+        with started_program(*on_few_processors(), *command) as process:
+            try:
+                if is_halted_halfway(process, part):
+                    yield process
+                    return
+            finally:
+                process.kill()
+            done = ended(process)
+        for name in set(os.listdir(folder)) - before:
+            remove(os.path.join(folder, name))
+    raise AssertionError(f"{MOST_TRIES} runs ended before they were stopped, the last so:\n{done}")
+
+
+def is_halted_halfway(process: subprocess.Popen[bytes], part: str) -> bool:
+    """Stops a run when its part has a line, and returns whether it still has to write others.
+
+    One of the SLOW_COUNT lines may be a line that the run skips.
+    """
+    wait_for(lambda: process.poll() is not None or has_begun(part))
+    process.send_signal(signal.SIGSTOP)
+    wait_for(lambda: process.poll() is not None or state_of(process.pid) == "T")
+    return has_begun(part) and read(part).count(b"\n") < SLOW_COUNT - 1
+
+
+def go_on(process: subprocess.Popen[bytes]) -> Ended:
+    """Lets a halted run go on, and waits for its end."""
+    process.send_signal(signal.SIGCONT)
+    return ended(process)
+
+
+@contextlib.contextmanager
+def halted_run() -> Iterator[subprocess.Popen[bytes]]:
+    """Runs the block while a run that hashes `passwords` is halted."""
+    save("passwords", users(SLOW_COUNT))
     os.utime("passwords", (1e9, 1e9))
-    with started_slowly("file", *SLOW, "passwords", "-o", "hashes", *words) as process:
-        try:
-            wait_for(has_begun)
-            yield process
-        finally:
-            process.kill()
+    with halted(PWHASH, "file", *SLOW, "passwords", "-o", "hashes") as process:
+        yield process
 
 
 @contextlib.contextmanager
@@ -384,7 +399,7 @@ def load_of(process: subprocess.Popen[bytes]) -> Load:
         if count:
             working.append(count)
         memory = max(memory, sum(map(resident, processes)))
-        time.sleep(0.01)
+        time.sleep(0.02)
     return Load(statistics.median(working) if working else 0, memory)
 
 

@@ -97,16 +97,15 @@ async function outcomeOf(call) {
 
 // ---- The parts
 
-// Reports each call's result for a password and its hash, and for a wrong password.
-async function checked([password, stored]) {
+const isMatch = (result) => result === true || result.matches === true;
+
+// Reports the results of these calls for a password and its hash, and for a wrong password.
+async function checked([password, stored, calls]) {
     const policy = new Policy({ method: 'scrypt', rounds: 6, budget: NO_LIMIT });
-    const report = { hash: crypt(password, stored, NO_LIMIT) };
-    for (const [name, typed] of Object.entries({ right: password, wrong: `${password}.` })) {
-        report[name] = {
-            verify: policy.verify(typed, stored),
-            login: policy.login(typed, stored) !== false,
-            loginAsync: await policy.loginAsync(typed, stored) !== false,
-        };
+    const report = { hash: crypt(password, stored, NO_LIMIT), right: {}, wrong: {} };
+    for (const call of calls) {
+        report.right[call] = isMatch(await policy[call](password, stored));
+        report.wrong[call] = isMatch(await policy[call](`${password}.`, stored));
     }
     return report;
 }

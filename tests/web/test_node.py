@@ -14,6 +14,7 @@ from pathlib import Path
 
 import pytest
 from support import ROOT
+from support.costly_hashes import SHA512CRYPT_WITH_LONGEST_SALT
 from support.libxcrypt import LONGEST_PASSWORD, crypt
 from support.model.hashes import hash_of
 from support.model.settings import read_setting
@@ -96,7 +97,7 @@ REFUSALS = [
 ]
 
 OLD_HASH = crypt(b"password", b"$1$xxxxxxxx").decode()
-NEW_HASH = crypt(b"password", b"$6$rounds=656000$saltsaltsaltsalt").decode()
+NEW_HASH = SHA512CRYPT_WITH_LONGEST_SALT.decode()
 SCRYPT_HASH = "$7$CU..../....LzFEGmON4JIztNMS/Q/mbZ$jf5lUIMYwzPnralpdXTIZjbsGtiybQ9Ao3j4131xzaC"
 # Rounds whose lowest 32 bits are 5000.
 WRAPPED_ROUNDS = 2**32 + 5000

@@ -708,5 +708,5 @@ def test_health_checks_are_answered_during_logins(clients: Report) -> None:
 
 
 def test_hashing_does_not_block_the_event_loop(clients: Report) -> None:
-    """A login in the server's thread would block the loop for the time of a hash."""
-    assert clients["blocked"] < 0.9
+    """If logins hashed in the server's thread, it would be busy for most of the time."""
+    assert clients["busy"] < 0.7

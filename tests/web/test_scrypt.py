@@ -80,24 +80,26 @@ def report_of(node: str, web_build: Path) -> Callable[..., Report]:
 
 # ---- Hashes
 
+CALLS = ["verify", "login", "loginAsync"]
+
 
 @pytest.mark.parametrize(
-    ("log_n", "r", "p"),
+    ("log_n", "r", "p", "calls"),
     [
-        pytest.param(14, 32, 1, id="64 MiB, the program's default"),
-        pytest.param(18, 32, 1, id="1 GiB", marks=pytest.mark.slow),
-        pytest.param(10, 8, 3, id="three parts"),
-        pytest.param(2, 1, 1, id="four rows of 128 bytes"),
+        pytest.param(14, 32, 1, CALLS, id="64 MiB, the program's default"),
+        # With the hash itself, one call in this thread and one in a worker: each takes seconds.
+        pytest.param(18, 32, 1, ["loginAsync"], id="1 GiB", marks=pytest.mark.slow),
+        pytest.param(10, 8, 3, CALLS, id="three parts"),
+        pytest.param(2, 1, 1, CALLS, id="four rows of 128 bytes"),
     ],
 )
 def test_right_password_matches_and_wrong_one_does_not(
-    report_of: Callable[..., Report], log_n: int, r: int, p: int
+    report_of: Callable[..., Report], log_n: int, r: int, p: int, calls: list[str]
 ) -> None:
     stored = of_libxcrypt(PASSWORD, scrypt_setting(log_n, r, p))
     assert stored == of_hashlib(log_n, r, p)
-    report = report_of("checked", [PASSWORD, stored])
+    report = report_of("checked", [PASSWORD, stored, calls])
     assert report["hash"] == stored
-    calls = ("verify", "login", "loginAsync")
     assert report["right"] == dict.fromkeys(calls, True)
     assert report["wrong"] == dict.fromkeys(calls, False)
 
