@@ -4,7 +4,8 @@
  *
  * Two variables of the environment change the field during the login. FIELDS is a list, separated
  * by blanks: each time that the service has read the field, somebody stores the next one. If
- * AFTER_RENEWAL is set, somebody stores that as soon as the service has stored a new hash. */
+ * AFTER_RENEWAL is set, somebody stores that as soon as the service has stored a new hash. If
+ * READ_ONLY is set, no new hash can be stored. */
 #include <mkpasswd.h>
 #include <stdio.h>
 #include <stdlib.h>
@@ -12,15 +13,16 @@
 /* Functions of the page. */
 bool log_in(const char *name, const char *typed);
 bool hash_new_password(const char *typed, char *hash, const char **sentence);
+void copy_field(const char *stored, char field[MKPASSWD_TEXT_SIZE]);
 
 /* Functions that the page needs. */
-bool find_field(const char *name, char *field);
+bool find_field(const char *name, char field[MKPASSWD_TEXT_SIZE]);
 bool replace_field(const char *name, const char *old, const char *hash);
 void log_login(const char *name, const char *what);
 
 #define NO_USER "-"
 
-static char stored[MKPASSWD_TEXT_SIZE];
+static char stored[1000]; /* longer than any hash, as a column of a database may be */
 static const char *next_fields = "";
 
 static void store(const char *field, size_t length)
@@ -39,12 +41,12 @@ static void store_next_field(void)
     next_fields += strspn(next_fields, " ");
 }
 
-bool find_field(const char *name, char *field)
+bool find_field(const char *name, char field[MKPASSWD_TEXT_SIZE])
 {
     bool is_found = strcmp(name, "ann") == 0 && strcmp(stored, NO_USER) != 0;
 
     if (is_found)
-        (void)snprintf(field, MKPASSWD_TEXT_SIZE, "%s", stored);
+        copy_field(stored, field);
     store_next_field();
     return is_found;
 }
@@ -53,7 +55,7 @@ bool replace_field(const char *name, const char *old, const char *hash)
 {
     const char *after = getenv("AFTER_RENEWAL");
 
-    if (strcmp(name, "ann") != 0 || strcmp(old, stored) != 0)
+    if (getenv("READ_ONLY") || strcmp(name, "ann") != 0 || strcmp(old, stored) != 0)
         return false;
     if (!after)
         after = hash;

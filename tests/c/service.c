@@ -1,17 +1,38 @@
-/* A service around SECURITY's login, whose code is compiled together with this file. Its command is
- * `service PASSWORD [FIELD]`, with `null` for no password. It returns 0 if it accepts the login. */
+/* A service around the login of docs/C.md, whose code is compiled together with this file. Its
+ * command is `service PASSWORD [FIELD]`, with `null` for no password. The only user has this field;
+ * without it, the name is unknown. The status is 0 if the login is accepted. */
 #include "service.h"
 #include <string.h>
 
-void replace(const char *field, const char *hash)
+static const char *stored;
+
+bool find_field(const char *name, char field[MKPASSWD_TEXT_SIZE])
 {
-    printf("%s %s\n", field, hash);
+    (void)name;
+    if (!stored)
+        return false;
+    copy_field(stored, field);
+    return true;
+}
+
+bool replace_field(const char *name, const char *old, const char *hash)
+{
+    (void)name;
+    (void)old;
+    (void)hash;
+    return false;
+}
+
+void log_login(const char *name, const char *what)
+{
+    (void)name;
+    (void)what;
 }
 
 int main(int argc, char **argv)
 {
     const char *password = strcmp(argv[1], "null") == 0 ? NULL : argv[1];
-    const char *field = argc > 2 ? argv[2] : NULL;
 
-    return !login(password, field);
+    stored = argc > 2 ? argv[2] : NULL;
+    return !log_in("ann", password);
 }

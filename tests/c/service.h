@@ -1,5 +1,5 @@
-/* What SECURITY's login needs here: a function that stores hashes, and a call that prints how much
- * work it did. The compiler reads this first (-include), so that the login needs no change. */
+/* What counts the work of the login of docs/C.md: a call that prints how much it did. The compiler
+ * reads this first (-include), so that the login needs no change. */
 #ifndef SERVICE_H
 #define SERVICE_H
 
@@ -7,10 +7,14 @@
 #include <mkpasswd.h>
 #include <stdio.h>
 
-bool login(const char *password, const char *field);
+/* Functions of the page. */
+bool log_in(const char *name, const char *typed);
+void copy_field(const char *stored, char field[MKPASSWD_TEXT_SIZE]);
 
-/* Prints the replaced field and the new hash. */
-void replace(const char *field, const char *hash);
+/* Functions that the page needs. */
+bool find_field(const char *name, char field[MKPASSWD_TEXT_SIZE]);
+bool replace_field(const char *name, const char *old, const char *hash);
+void log_login(const char *name, const char *what);
 
 /* Prints on standard error how many digests the library computed for a login. */
 static inline bool counted_login(struct mkpasswd_password password, struct mkpasswd_field field,

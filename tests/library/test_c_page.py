@@ -19,16 +19,19 @@ CURRENT = SHA512CRYPT_AT_DEFAULT
 SAME_PASSWORD = SHA512CRYPT_WITH_ANOTHER_SALT
 ANOTHER_PASSWORD = SHA512CRYPT_OF_ANOTHER_PASSWORD
 BCRYPT = crypt(b"password", b"$2b$05$abcdefghijklmnopqrstuu")
+LONGEST = crypt(b"password", b"$7$6/..../...." + b"a" * 86)  # as long as a hash can be
 YESCRYPT = crypt(b"password", b"$y$j75$abcdefghijklmnopqrst.1$")
 ASKS = "mkpasswd_login(password, mkpasswd_field(is_known ? field : NULL), NULL, &report)"
 ASKS_BOTH = "matches(typed, is_known ? field : NULL, &report)"
+NO_POLICY = ", NULL, "
+NOT_STORED = b"ann: not renewed: the new hash isn't stored\n"
 
 
 def built(builder: Builder, folder: Path, code: str, *words: Word) -> Path:
     """Builds the service with this code of the page, without a warning."""
     page = folder / "page.c"
     page.write_text(code, encoding="ascii")
-    program = builder.build(SOURCES / "c_page.c", "-D_DEFAULT_SOURCE", page, *words)
+    program = builder.build(SOURCES / "c_page.c", page, *words)
     return program.rename(folder / "service")
 
 
@@ -47,7 +50,18 @@ def fixture_moving_service(builder: Builder, tmp_path_factory: pytest.TempPathFa
     assert ASKS in login
     names = ("users in C", "new password in C", "moving in C")
     code = "".join(marked(name, "c").code for name in names) + login.replace(ASKS, ASKS_BOTH)
-    return built(builder, tmp_path_factory.mktemp("moving"), code, "-Wl,--no-as-needed", "-lcrypt")
+    words = ("-D_DEFAULT_SOURCE", "-Wl,--no-as-needed", "-lcrypt")
+    return built(builder, tmp_path_factory.mktemp("moving"), code, *words)
+
+
+@pytest.fixture(scope="module", name="service_with_policy")
+def fixture_service_with_policy(builder: Builder, tmp_path_factory: pytest.TempPathFactory) -> Path:
+    """The service of the page, whose calls get the page's policy as the page says."""
+    names = ("users in C", "policy in C", "new password in C", "whole login in C")
+    code = "".join(marked(name, "c").code for name in names)
+    assert code.count(NO_POLICY) == len(("log_in", "renew", "hash_new_password"))
+    code = code.replace(NO_POLICY, ", &policy, ")
+    return built(builder, tmp_path_factory.mktemp("policy"), code)
 
 
 def assert_renewed(result: Result, password: bytes) -> None:
@@ -82,6 +96,22 @@ def test_nobody_else_gets_in(service: Path, field: bytes, logged: bytes) -> None
     assert_result(run(service, field, "passwort"), status=1, stdout=field + b"\n", stderr=logged)
 
 
+def test_the_longest_hash_is_read_whole(service: Path) -> None:
+    assert_renewed(run(service, LONGEST, "password"), b"password")
+
+
+def test_a_field_that_is_longer_than_a_hash_lets_nobody_in(service: Path) -> None:
+    """If it were cut, it would be a hash of this password."""
+    longer = LONGEST + b"x"
+    result = run(service, longer, "password")
+    assert_result(result, status=1, stdout=longer + b"\n", stderr=b"ann: locked\n")
+
+
+def test_a_new_hash_that_cannot_be_stored_is_logged(service: Path) -> None:
+    result = run(service, MD5CRYPT, "password", env={"READ_ONLY": "1"})
+    assert_result(result, stdout=MD5CRYPT + b"\n", stderr=NOT_STORED)
+
+
 # ---- Changes during a login
 
 NOBODY = b"-"
@@ -101,7 +131,8 @@ def test_a_change_during_the_check_lets_nobody_in_and_is_kept(
     service: Path, field: bytes, changed: bytes, logged: bytes
 ) -> None:
     result = run(service, field, "password", env={"FIELDS": changed.decode()})
-    assert_result(result, status=1, stdout=changed + b"\n", stderr=logged)
+    expected = NOT_STORED + logged if field == MD5CRYPT else logged
+    assert_result(result, status=1, stdout=changed + b"\n", stderr=expected)
 
 
 @NO_LONGER_HERS
@@ -114,7 +145,7 @@ def test_a_change_after_the_renewal_lets_nobody_in_and_is_kept(
 
 def test_another_hash_of_the_same_password_that_comes_meanwhile_is_accepted(service: Path) -> None:
     result = run(service, MD5CRYPT, "password", env={"FIELDS": SAME_PASSWORD.decode()})
-    assert_result(result, stdout=SAME_PASSWORD + b"\n")
+    assert_result(result, stdout=SAME_PASSWORD + b"\n", stderr=NOT_STORED)
 
 
 def test_a_field_that_is_never_the_same_lets_nobody_in(service: Path) -> None:
@@ -187,9 +218,20 @@ def test_a_damaged_hash_of_another_scheme_lets_nobody_in(
     assert_result(result, status=1, stdout=field + b"\n", stderr=b"ann: wrong password\n")
 
 
-def test_the_policy_compiles(builder: Builder, tmp_path: Path) -> None:
-    source = tmp_path / "policy.c"
-    code = marked("policy in C", "c").code
-    check = "int main(void) { return !mkpasswd_limit(&policy, NULL); }\n"
-    source.write_text(f"#include <mkpasswd.h>\n{code}{check}", encoding="ascii")
-    assert_result(run(builder.build(source)))
+# ---- A policy
+
+
+def test_a_service_with_the_policy_makes_all_new_hashes_by_it(service_with_policy: Path) -> None:
+    result = run(service_with_policy, MD5CRYPT, "password", "correct horse").required()
+    renewed, new = result.stdout.splitlines()
+    for password, text in ((b"password", renewed), (b"correct horse", new)):
+        assert text.startswith(b"$6$rounds=200000$"), result
+        assert crypt(password, text) == text
+
+
+def test_a_service_with_the_policy_accepts_its_hashes_and_keeps_them(
+    service_with_policy: Path,
+) -> None:
+    by_policy = crypt(b"password", b"$6$rounds=200000$ab")
+    result = run(service_with_policy, by_policy, "password")
+    assert_result(result, stdout=by_policy + b"\n")

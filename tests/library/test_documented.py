@@ -1,4 +1,4 @@
-"""The library's documents: SECURITY's login in C works, and each call has a manual."""
+"""The library's documents: each refused login takes the same work, and each call has a manual."""
 from __future__ import annotations
 
 import re
@@ -24,14 +24,15 @@ WITHOUT_MATCH = {
     "a hash above the limit": [b"$6$rounds=999999999$ab$x"],
 }
 
-# ---- SECURITY's login
+# ---- The work of C.md's login
 
 
 @pytest.fixture(scope="session", name="service")
 def fixture_service(builder: Builder, tmp_path_factory: pytest.TempPathFactory) -> Path:
-    """A service with the login that SECURITY shows."""
+    """A service with the login that C.md shows."""
     login = tmp_path_factory.mktemp("login") / "login.c"
-    login.write_text(marked("login in C", "c").code, encoding="ascii")
+    code = marked("users in C", "c").code + marked("whole login in C", "c").code
+    login.write_text(code, encoding="ascii")
     return builder.build(SOURCES / "service.c", "-include", SOURCES / "service.h", login)
 
 
@@ -45,14 +46,6 @@ def fixture_digests_of_a_login(service: Path) -> bytes:
 
 def test_a_match_is_accepted_after_the_recommended_rounds(digests_of_a_login: bytes) -> None:
     assert int(digests_of_a_login) > 656_000
-
-
-def test_an_outdated_match_is_replaced(service: Path) -> None:
-    result = run(service, b"password", MD5CRYPT).required()
-    old, new = result.stdout.removesuffix(b"\n").split(b" ")
-    assert old == MD5CRYPT
-    assert new.startswith(b"$6$rounds=656000$")
-    assert crypt(b"password", new) == new
 
 
 def test_another_password_does_not_match_the_hash_of_the_empty_one(service: Path) -> None:

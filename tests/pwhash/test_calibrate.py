@@ -254,6 +254,16 @@ def test_the_advice_says_that_renewing_a_hash_takes_longer(calibrate: Copy) -> N
     assert b"twice as long" in answer(calibrate, "300ms").stderr
 
 
+@pytest.mark.parametrize("given", ["300ms", "2s"])
+def test_the_advice_says_where_to_read_how_to_find_users_whom_a_budget_keeps_out(
+    calibrate: Copy, given: str
+) -> None:
+    section = "A time for a login"
+    assert f"### {section}\n" in (ROOT / "docs/GUIDE.md").read_text(encoding="utf-8")
+    done = answer(calibrate, given)
+    assert f'GUIDE.md says under "{section}"'.encode() in done.stderr, done
+
+
 def test_a_quiet_run_gives_no_advice(calibrate: Copy) -> None:
     done = answer(calibrate, "300ms", "--quiet", "-m", "sha256crypt")
     assert (done.stdout, done.stderr) == (b"-m sha256crypt -R 92000 --budget 29738624\n", b""), done

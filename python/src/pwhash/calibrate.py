@@ -98,6 +98,10 @@ def describe_policies(
             f"give the budget, too: without it, a login may cost {first.own_limit:,}, and takes "
             f"up to {seconds} here."
         )
+    sentences.append(
+        "users whose stored hash costs more than the budget can't log in, so it is never renewed. "
+        'Find them first, as GUIDE.md says under "A time for a login".'
+    )
     return [*sentences, *(f"{each.method} {each.code}" for each in found)]
 
 
