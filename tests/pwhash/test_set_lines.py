@@ -218,6 +218,8 @@ def test_a_name_without_a_line_is_named(option: str) -> None:
         pytest.param(b"ann:OLD:1", b"ann:!OLD:1", id="a hash"),
         pytest.param(b"ann:{CRYPT}OLD", b"ann:{CRYPT}!OLD", id="a prefix"),
         pytest.param(b"ann:{SSHA}x", b"ann:{SSHA}!x", id="an LDAP hash"),
+        pytest.param(b"ann:{ARGON2ID}$argon2id$x", b"ann:{ARGON2ID}!$argon2id$x", id="Argon2"),
+        pytest.param(b"ann:{ssha512}YWJj", b"ann:{ssha512}!YWJj", id="Dovecot's, in small letters"),
         pytest.param(b"ann:BCRYPT", b"ann:!BCRYPT", id="bcrypt"),
     ],
 )

@@ -24,9 +24,8 @@ PREFIXES = {
 FOR_CRYPT = re.compile(
     rb"(?i)\A(?:" + b"|".join(map(re.escape, (ANY_METHOD, *PREFIXES.values()))) + rb")"
 )
-# Prefixes of hashes in Base64. After others, such as {PLAIN}, a mark may be part of a password.
-IN_BASE64 = (b"{SHA}", b"{SSHA}")
-# Prefixes of hashes that aren't crypt's. After any other prefix there may be a plain password.
+# Prefixes of hashes that aren't crypt's. After any other prefix, such as {PLAIN}, there may be a
+# plain password, and a mark may be a part of it.
 OF_OTHER_SCHEMES = re.compile(
     rb"(?i)\{(?:S?MD5|S?SHA(?:256|384|512)?|BLF-CRYPT|ARGON2(?:I|ID)?|PBKDF2(?:-SHA(?:256|512))?"
     rb"|SCRAM-SHA-(?:1|256))\}"
@@ -115,13 +114,13 @@ class Field(NamedTuple):
 
     def has_hash(self) -> bool:
         """Whether a whole hash is stored, with or without a mark."""
-        if self.prefix.upper() in IN_BASE64:
+        if self.is_of_other_scheme:
             return bool(self.stored)
         return self.is_for_crypt and mkpasswd.describe(self.stored).state in HASHES
 
     def can_be_locked(self) -> bool:
         """Whether a mark would lock the field, and not just become part of a plain password."""
-        if self.prefix.upper() in IN_BASE64 or not self.data():
+        if self.is_of_other_scheme or not self.data():
             return True
         return self.is_for_crypt and mkpasswd.describe(self.stored).state in (*HASHES, *DAMAGED)
 
