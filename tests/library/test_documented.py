@@ -9,7 +9,6 @@ from support import ROOT
 from support.costly_hashes import SHA512CRYPT_AT_DEFAULT
 from support.documents import marked
 from support.library import SOURCES, Builder, Installed
-from support.libxcrypt import crypt
 from support.process import assert_result, run
 from support.stored_fields import MD5CRYPT, SCRYPT_OF_NOTHING
 
