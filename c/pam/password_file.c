@@ -85,8 +85,8 @@ static bool has_name(const char *line, const char *line_end, const char *name, s
 {
     const char *colon = find_character(line, line_end, ':');
 
-    return colon < line_end && name_len > 0 && name[0] != '#'
-        && (size_t)(colon - line) == name_len && memcmp(line, name, name_len) == 0;
+    return colon < line_end && name_len > 0 && name[0] != '#' && (size_t)(colon - line) == name_len
+        && memcmp(line, name, name_len) == 0;
 }
 
 /* Returns the field from `start` up to the next colon. */

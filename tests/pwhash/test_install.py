@@ -1,7 +1,9 @@
 """pwhash install: which files of hashes it installs, and what it keeps of the replaced file."""
 from __future__ import annotations
 
+import base64
 import grp
+import hashlib
 import os
 import pwd
 import stat
@@ -35,6 +37,8 @@ OLD = b"ann:" + SIX + b"\n"
 REMOVALS = "--accept-removals"
 OTHERS = "--accept-other-schemes"
 BASE64 = b"7ynoyL9XN1Ol2E6qOpoGbBvdFsGTFwmO"
+SALTED_SHA512 = base64.b64encode(hashlib.sha512(b"passwordsalt").digest() + b"salt")
+ARGON2 = b"$argon2id$v=19$m=65536,t=3,p=4$c2FsdHNhbHQ$" + b"x" * 43
 OWNER, GROUP, MODE = 65534, 4242, 0o640
 LEFT = ["hashes", "target", "target.mkpasswd.lock"]
 STARTED = ("/usr/bin/python3", "-I", "-S", str(PACKAGE / "pwhash/start.py"), str(LIBRARY), "pwhash")
@@ -241,6 +245,13 @@ def test_an_invalid_owner_group_or_mode_is_refused(words: tuple[str, ...]) -> No
         pytest.param(b"eva:{CLEARTEXT}secret", b"prefix", OTHERS, id="LDAP's, with others"),
         pytest.param(b"eva:secret", b"no scheme", OTHERS, id="a bare one, with others"),
         pytest.param(b"eva:{SSHA}", b"empty", OTHERS, id="a prefix alone, with others"),
+        pytest.param(b"eva:{SSHA}x", b"by its form", OTHERS, id="no digest, with others"),
+        pytest.param(b"eva:{SHA}hunter2", b"by its form", OTHERS, id="a password, with others"),
+        pytest.param(b"eva:{MD5}" + BASE64, b"by its form", OTHERS, id="a digest of another length"),
+        pytest.param(b"eva:{ARGON2ID}hunter2", b"by its form", OTHERS, id="no argon2, with others"),
+        pytest.param(
+            b"eva:{BLF-CRYPT}" + BCRYPT[:-1], b"by its form", OTHERS, id="cut behind a prefix"
+        ),
         pytest.param(b"eva:$ecret$secret", b"by its form", OTHERS, id="a dollar sign, with others"),
         pytest.param(b"eva:$9$secret", b"by its form", OTHERS, id="another number, with others"),
         pytest.param(b"eva:$2b$secret", b"by its form", OTHERS, id="bcrypt's sign, with others"),
@@ -300,14 +311,14 @@ def test_a_hash_after_a_prefix_is_installed(words: str) -> None:
         pytest.param(b"$apr1$saltsalt$" + b"x" * 22, "--for apache", id="Apache's"),
         pytest.param(YESCRYPT, "", id="yescrypt"),
         pytest.param(YESCRYPT.replace(b"$y$", b"$gy$"), "", id="gost-yescrypt"),
-        pytest.param(b"$argon2id$v=19$m=65536,t=3,p=4$c2FsdHNhbHQ$" + b"x" * 43, "", id="argon2"),
+        pytest.param(ARGON2, "", id="argon2"),
         pytest.param(crypt(b"password", b"$sha1$1000$saltsalt"), "", id="NetBSD's"),
         pytest.param(b"{CRYPT}" + BCRYPT, "--for dovecot", id="bcrypt after a prefix"),
         pytest.param(b"{SHA}fEqNCco3Yq9h5ZUglD3CZJT4lBs=", "--for apache", id="{SHA} for Apache"),
         pytest.param(b"{SSHA}" + BASE64, "--for nginx", id="{SSHA} for nginx"),
-        pytest.param(b"{ssha512}" + BASE64, "--for dovecot", id="{ssha512} for Dovecot"),
+        pytest.param(b"{ssha512}" + SALTED_SHA512, "--for dovecot", id="{ssha512} for Dovecot"),
         pytest.param(b"{BLF-CRYPT}" + BCRYPT, "--for dovecot", id="Dovecot's prefix for bcrypt"),
-        pytest.param(b"{ARGON2ID}$argon2id$v=19$x", "--for dovecot", id="argon2 for Dovecot"),
+        pytest.param(b"{ARGON2ID}" + ARGON2, "--for dovecot", id="argon2 for Dovecot"),
     ],
 )
 def test_a_hash_of_another_scheme_is_installed_if_others_are_accepted(

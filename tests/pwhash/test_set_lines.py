@@ -327,6 +327,14 @@ def test_a_blank_beside_the_name_is_refused(option: str, line: bytes) -> None:
     assert (done.status, read("file")) == (2, content) and b"line 1 has a blank" in done.err, done
 
 
+@pytest.mark.parametrize("words", [(), ("--delete",), ("--lock",)], ids=["set", "delete", "lock"])
+def test_a_line_that_ends_with_a_carriage_return_is_refused(words: tuple[str, ...]) -> None:
+    content = b"ann:" + MD5.encode() + b"\r\n"
+    save("file", content)
+    done = pwhash("set", *words, *MD5CRYPT, "file", "ann", stdin=b"password\n")
+    assert (done.status, read("file")) == (2, content) and b"carriage return" in done.err, done
+
+
 def test_no_line_is_added_to_another_file() -> None:
     save("notes", b"127.0.0.1 localhost\n")
     done = pwhash("set", *MD5CRYPT, "notes", "ann", stdin=b"password\n")

@@ -347,7 +347,7 @@ def test_a_password_may_be_a_hash() -> None:
         pytest.param(["file", "an"], b"cut or changed", id="the beginning of a name"),
         pytest.param(["file", "bob"], b"(lines 3, 5)", id="a repeated name"),
         pytest.param(["file", "dan"], b"no line of this name", id="a line without a colon"),
-        pytest.param(["file", "cr"], b"bad character", id="a line from Windows"),
+        pytest.param(["file", "cr"], b"carriage return", id="a line from Windows"),
         pytest.param(["file", "TopSecret"], b"no line of this name", id="the password"),
         pytest.param(["file"], b"FILE and NAME", id="no name"),
         pytest.param([MD5], b"FILE and NAME", id="the hash"),

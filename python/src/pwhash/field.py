@@ -30,8 +30,13 @@ OF_OTHER_SCHEMES = re.compile(
     rb"(?i)\{(?:S?MD5|S?SHA(?:256|384|512)?|BLF-CRYPT|ARGON2(?:I|ID)?|PBKDF2(?:-SHA(?:256|512))?"
     rb"|SCRAM-SHA-(?:1|256))\}"
 )
-# What stands after such a prefix: no digest is shorter than 16 bytes, which are 22 in Base64.
-OF_A_DIGEST = re.compile(rb"[!-~]{22,}")
+# The prefixes of digests in Base64, most of them with a salt behind the digest, and their bytes.
+OF_DIGESTS = re.compile(rb"(?i)\{(S?)(MD5|SHA|SHA256|SHA384|SHA512)\}")
+DIGEST_BYTES = {b"MD5": 16, b"SHA": 20, b"SHA256": 32, b"SHA384": 48, b"SHA512": 64}
+BASE64 = re.compile(rb"([A-Za-z0-9+/]*)={0,2}")
+# Prefixes of digests in other forms, none of which is shorter than a digest of 16 bytes in Base64.
+OF_OTHER_DIGESTS = re.compile(rb"(?i)\{(?:PBKDF2(?:-SHA(?:256|512))?|SCRAM-SHA-(?:1|256))\}")
+LONG_ENOUGH = re.compile(rb"[!-~]{22,}")
 # Whole hashes of other methods of crypt(3) and its like, by their form: an identifier that some
 # system uses, then what belongs behind it. Any other text may be a password that begins with a $.
 OF_OTHER_METHODS = re.compile(
@@ -93,11 +98,21 @@ class Field(NamedTuple):
         return OF_OTHER_METHODS.fullmatch(self.stored) is not None
 
     @property
+    def is_whole_of_others(self) -> bool:
+        """Whether it has a whole hash that isn't one of ours, judging by its form."""
+        if self.is_of_other_method:
+            return True
+        if OF_DIGESTS.fullmatch(self.prefix):
+            return is_digest(self.prefix, self.stored)
+        is_other = OF_OTHER_DIGESTS.fullmatch(self.prefix) is not None
+        return is_other and LONG_ENOUGH.fullmatch(self.stored) is not None
+
+    @property
     def looks_whole(self) -> bool:
-        """Whether it has a whole hash, judged by its length alone if the scheme isn't crypt's."""
+        """Whether it has a whole hash, judging by its form if that isn't one of ours."""
         if self.is_for_crypt:
             return mkpasswd.describe(self.stored).state in HASHES
-        return self.is_of_other_scheme and OF_A_DIGEST.fullmatch(self.stored) is not None
+        return self.is_of_other_scheme and self.is_whole_of_others
 
     @property
     def has_known_prefix(self) -> bool:
@@ -126,6 +141,15 @@ class Field(NamedTuple):
 
 
 NONE = Field(b"", b"", b"", b"")
+
+
+def is_digest(prefix: bytes, stored: bytes) -> bool:
+    """Whether what is stored has the length of the digest that a prefix such as {SSHA} names."""
+    named, found = OF_DIGESTS.fullmatch(prefix), BASE64.fullmatch(stored)
+    if named is None or found is None:
+        return False
+    size, digest_size = len(found[1]) * 3 // 4, DIGEST_BYTES[named[2].upper()]
+    return size > digest_size if named[1] else size == digest_size
 
 
 def field_of(data: bytes) -> Field:

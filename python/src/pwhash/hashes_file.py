@@ -142,7 +142,7 @@ class HashesFile:
         """Says what is wrong with a hash of another scheme, or returns None."""
         if not field.stored:
             return REASONS[mkpasswd.State.NONE]
-        if not field.is_of_other_scheme and not field.is_of_other_method:
+        if not field.is_whole_of_others:
             return "no hash that pwhash knows by its form: cut, or perhaps a password as it is"
         if not self._accepts_others:
             self._has_others = True

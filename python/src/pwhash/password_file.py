@@ -15,6 +15,7 @@ from pwhash.place import Place, refuse_strange_file
 READ_FLAGS = os.O_RDONLY | os.O_CLOEXEC | os.O_NOCTTY | os.O_NONBLOCK | os.O_NOFOLLOW
 PIECE = 1 << 20
 MAX_BYTES = 1 << 30
+CARRIAGE_RETURN = "a carriage return at its end, which some services ignore (tr -d '\\r')"
 
 
 class Entry(NamedTuple):
@@ -70,7 +71,8 @@ def read_all(fd: int, status: os.stat_result, file_name: str) -> bytes:
 def find(content: bytes, name: bytes, file_name: str) -> Optional[Entry]:
     """Finds the line of a name, or returns None.
 
-    Refuses a name with several lines, or with a blank beside it, which some services ignore.
+    Refuses a name with several lines, one with a blank beside it, and a line that ends with a
+    carriage return: some services ignore these, and others don't.
     """
     blanks = rb"[ \t\r\f\v]*"
     pattern = rb"(?m)^(%b)%b(%b):([^:\n]*)[^\n]*\n?" % (blanks, re.escape(name), blanks)
@@ -84,6 +86,8 @@ def find(content: bytes, name: bytes, file_name: str) -> Optional[Entry]:
                 f"{file_name}, line {number} has a blank beside the name, for which some services "
                 "let it in and others don't. Remove the blank with an editor."
             )
+        if each[0].rstrip(b"\n").endswith(b"\r"):
+            raise UsageError(f"{file_name}, line {number}: {CARRIAGE_RETURN}.")
     if len(found) > 1:
         raise UsageError(
             f"{file_name} has the name twice, in lines {numbers[0]} and {numbers[1]}, of which "
@@ -134,4 +138,6 @@ def describe_odd_line(line: bytes) -> Optional[str]:
         return "no colon, as each line of a password file has one"
     if name[:1].isspace() or field[:1].isspace():
         return "a blank before the name or after the colon, as no line of a password file has one"
+    if line.endswith(b"\r"):
+        return CARRIAGE_RETURN
     return None

@@ -118,7 +118,7 @@ def read_commented_names(lines: Iterable[bytes]) -> Set[bytes]:
 
     A name is the last word before the first colon, as in "#ann:" and "# left ann:".
     """
-    names = set()
+    names: Set[bytes] = set()
     for line in lines:
         if line.startswith(b"#"):
             text = line.decode(errors="surrogateescape").lstrip("#")

@@ -19,6 +19,7 @@ from pwhash.field import without_prefix
 from pwhash.library import OVER_BUDGET, Refusal, Verdict
 from pwhash.lines import BYTE_ORDER_MARK
 from pwhash.options import VerifyOptions
+from pwhash.password_file import CARRIAGE_RETURN
 from pwhash.pasted import PASSWORD_PROMPT, ask_for_both, has_hash, piped_both
 from pwhash.piped import PipedLines
 from pwhash.prompt import ask_each, with_hidden_input
@@ -107,6 +108,8 @@ def find_only_line(options: VerifyOptions, console: Console) -> Stored:
             f"{file} has this name more than once (lines {numbers}), and programs differ in "
             "which they take. Remove the wrong ones."
         )
+    if found[0].field.endswith(b"\r"):
+        raise UsageError(f"{file}, line {found[0].number}: {CARRIAGE_RETURN}.")
     return found[0]
 
 
