@@ -340,10 +340,36 @@ def test_a_hash_is_checked_by_the_systems_crypt(
 
 
 @pytest.mark.needs("perl")
-@pytest.mark.parametrize("field", ["", "*0", "*1", "!", "$apr1$xxxxxxxx$dxHfLAsjHkDRmG83UXe8K0"])
-def test_what_is_no_hash_of_the_system_matches_no_password(machine: Machine, field: str) -> None:
-    followed = machine.follow("check by crypt", stdin=f"{field}\npassword\n".encode())
-    assert followed.result.stdout == b"no\n", followed.lacks("no")
+@pytest.mark.parametrize(
+    "pasted",
+    [
+        pytest.param("", id="nothing"),
+        pytest.param("*0", id="a failure of crypt"),
+        pytest.param("*1", id="another failure of crypt"),
+        pytest.param("!", id="a mark of locking"),
+        pytest.param("$apr1$xxxxxxxx$dxHfLAsjHkDRmG83UXe8K0", id="a hash of Apache's own method"),
+        pytest.param(f"root:{CURRENT}{AGED}", id="a whole line"),
+        pytest.param(f"{CURRENT}{AGED}", id="the rest of a line"),
+        pytest.param(f"root:{CURRENT}", id="a name before the hash"),
+        pytest.param(f" {CURRENT}", id="a blank before the hash"),
+        pytest.param(f"{CURRENT} ", id="a blank after the hash"),
+        pytest.param(f"'{CURRENT}'", id="quotes"),
+        pytest.param(f"{CURRENT}'", id="a quote after the hash"),
+        pytest.param(CURRENT[:-1], id="a hash that was cut short"),
+        pytest.param(f"!{CURRENT}", id="a locked hash"),
+    ],
+)
+def test_what_is_no_hash_of_the_system_is_named(machine: Machine, pasted: str) -> None:
+    followed = machine.follow("check by crypt", stdin=f"{pasted}\npassword\n".encode())
+    printed = b"this system knows no such hash\n"
+    assert followed.result.stdout == printed, followed.lacks(f"{printed!r} is printed")
+
+
+@pytest.mark.needs("perl")
+def test_the_methods_of_this_debian_are_those_of_the_document(machine: Machine) -> None:
+    followed = machine.follow("methods of a system")
+    expected = marked("methods of Debian", "text").code.split("\n")
+    assert followed.lines == [line for line in expected if line], followed.lacks("these lines")
 
 
 # ---- A job every night
