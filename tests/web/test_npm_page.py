@@ -10,6 +10,7 @@ import json
 import re
 from dataclasses import dataclass
 from pathlib import Path
+from typing import Sequence
 
 import pytest
 from support.libxcrypt import crypt
@@ -21,10 +22,14 @@ from support.reports import Report
 pytestmark = [pytest.mark.needs("npm"), pytest.mark.xdist_group("npm"), pytest.mark.slow]
 
 
+def read_readme(web_build: Path) -> str:
+    """Returns the package's README."""
+    return (web_build / "npm/README.md").read_text(encoding="utf-8")
+
+
 def program_of_readme(web_build: Path, heading: str, language: str = "js") -> str:
     """Returns the first program below a heading, of any level, in the package's README."""
-    readme = (web_build / "npm/README.md").read_text(encoding="utf-8")
-    sections = re.split(r"^##+ ", readme, flags=re.MULTILINE)
+    sections = re.split(r"^##+ ", read_readme(web_build), flags=re.MULTILINE)
     (section,) = [part for part in sections if part.startswith(f"{heading}\n")]
     return section.split(f"```{language}\n")[1].split("```\n")[0]
 
@@ -119,27 +124,63 @@ def test_program_of_readme_lets_nobody_in_without_its_await(user: Site, login_pr
     assert report["entered"] == [], report
 
 
-@pytest.fixture(scope="module")
-def reason_program(web_build: Path) -> str:
-    """The program that tells why a login failed, with the hash of `password`."""
-    field = crypt(b"password", b"$6$rounds=1000$saltsaltsaltsalt").decode()
-    given = f"const [password, field] = [process.argv[2], '{field}'];\n"
-    printed = "console.log(JSON.stringify({ reason }));\n"
-    return given + program_of_readme(web_build, "Why a login failed") + printed
+# Reports why a login with this field and password failed. A policy of one's own is made before.
+REASON_OF_FAILURE = """
+const [field, password] = process.argv.slice(2);
+console.log(JSON.stringify({ reason: reasonOfFailure(password, field) }));
+"""
+OWN_POLICY = """
+const policy = new Policy({ rounds: 77000, budget: 29820992 });
+const { limit, passwordProblem } = policy;
+"""
+OF_OWN_POLICY = crypt(b"password", b"$6$rounds=77000$saltsaltsaltsalt").decode()
+RECOMMENDED = crypt(b"password", b"$6$rounds=656000$saltsaltsaltsalt").decode()
+CHECKED = crypt(b"password", b"$6$rounds=1000$saltsaltsaltsalt").decode()
+TOO_COSTLY = "$6$rounds=2000000$saltsaltsaltsalt$" + "." * 86  # for passwords of 64 bytes
+TOO_COSTLY_FOR_ALL = "$6$rounds=999999999$saltsaltsaltsalt$" + "." * 86
+OF_BCRYPT = "$2b$05$abcdefghijklmnopqrstuuqDsKnOFqPaNCEhHd5ZzD0Y1nJ1xN0cG"
 
 
 @pytest.mark.parametrize(
-    ("password", "reason"),
+    ("field", "password", "reason"),
     [
-        pytest.param("x" * 169, "too long", id="a password that is too long"),
-        pytest.param("wrong", "outdated", id="a wrong password"),
+        pytest.param(CHECKED, "x" * 169, "too long", id="a password that is too long"),
+        pytest.param(CHECKED, "wrong", "wrong password", id="an outdated hash"),
+        pytest.param(RECOMMENDED, "wrong", "wrong password", id="a current hash"),
+        pytest.param(TOO_COSTLY_FOR_ALL, "wrong", "over budget", id="a costly hash"),
+        pytest.param(TOO_COSTLY, "x" * 64, "over budget", id="a long password"),
+        pytest.param(f"!{CHECKED}", "password", "locked", id="a locked account"),
+        pytest.param(CHECKED[:40], "password", "dead", id="a cut hash"),
+        pytest.param(OF_BCRYPT, "wrong", "unknown", id="another scheme"),
     ],
 )
 def test_program_of_readme_tells_why_a_login_failed(
-    user: Site, reason_program: str, password: str, reason: str
+    user: Site, web_build: Path, field: str, password: str, reason: str
 ) -> None:
-    (user.folder / "reason.mjs").write_text(reason_program, encoding="utf-8")
-    report = user.report_of("reason.mjs", password)
+    program = program_of_readme(web_build, "Why a login failed")
+    (user.folder / "reason.mjs").write_text(program + REASON_OF_FAILURE, encoding="utf-8")
+    report = user.report_of("reason.mjs", field, password)
+    assert report["reason"] == reason, report
+
+
+@pytest.mark.parametrize(
+    ("field", "password", "reason"),
+    [
+        pytest.param(OF_OWN_POLICY, "wrong", "wrong password", id="a hash of the policy"),
+        pytest.param(CHECKED, "wrong", "wrong password", id="a cheaper hash"),
+        pytest.param(RECOMMENDED, "wrong", "over budget", id="a costlier hash"),
+        pytest.param(OF_OWN_POLICY, "x" * 1024, "too long", id="a password that is too long"),
+    ],
+)
+def test_program_of_readme_tells_why_a_login_failed_with_another_budget(
+    user: Site, web_build: Path, field: str, password: str, reason: str
+) -> None:
+    program = program_of_readme(web_build, "Why a login failed")
+    changed = program.replace(", limit, passwordProblem }", " }")
+    assert changed != program, "the program imports no limit"
+    text = OWN_POLICY + changed + REASON_OF_FAILURE
+    (user.folder / "reason.mjs").write_text(text, encoding="utf-8")
+    report = user.report_of("reason.mjs", field, password)
     assert report["reason"] == reason, report
 
 
@@ -204,7 +245,6 @@ const calls = Array.from({ length: count }, () => statusOfLogin('ann', 'password
 const statuses = await Promise.all(calls);
 console.log(JSON.stringify({ statuses, logins, written, stored: users.get('ann') ?? null }));
 """
-CHECKED = crypt(b"password", b"$6$rounds=1000$saltsaltsaltsalt").decode()
 OUTDATED = crypt(b"password", b"$1$saltsalt").decode()
 OF_THE_SAME_PASSWORD = crypt(b"password", b"$6$rounds=1000$another.salt").decode()
 OF_ANOTHER_PASSWORD = crypt(b"another", b"$6$rounds=1000$saltsaltsaltsalt").decode()
@@ -340,13 +380,45 @@ process.exit();
 LONGEST_FAILURE = 2**31 - 1  # milliseconds, about 25 days
 
 
+# What a change of the password answers for bob, who has an old hash, for ann, who has a new one,
+# and for a name that doesn't exist. At the end bob changes his.
+OLD_CHANGES = """
+async function statusesOfChanges(password, chosen) {
+    const statuses = [];
+    for (const name of ['bob', 'ann', 'eve']) {
+        statuses.push(await statusOfAnyChange(name, password, chosen));
+    }
+    return statuses;
+}
+const refused = {
+    empty: await statusesOfChanges('password', ''),
+    long: await statusesOfChanges('password', 'x'.repeat(1025)),
+    wrong: await statusesOfChanges('x', 'new'),
+};
+const isKept = users.get('bob') === OLD;
+const changed = await statusOfAnyChange('bob', 'password', 'new');
+console.log(JSON.stringify({ ...refused, isKept, changed, stored: users.get('bob') }));
+"""
+# The times in milliseconds of changes with a wrong password, for the same users.
+OLD_CHANGE_TIMES = """
+const late = [];
+for (const name of ['bob', 'ann', 'eve']) {
+    const begin = performance.now();
+    const status = await statusOfAnyChange(name, 'x', 'new');
+    late.push({ name, status, time: performance.now() - begin });
+}
+console.log(JSON.stringify({ late }));
+"""
+
+
 @pytest.fixture(scope="module")
 def old_service(web_build: Path) -> str:
     """The programs for logins that answer with statuses, and for users with hashes of bcrypt."""
     statuses = program_of_readme(web_build, "Too many logins")
+    changing = program_of_readme(web_build, "When a user changes the password")
     moving = program_of_readme(web_build, "Users with hashes of bcrypt")
     service = OF_A_BUSY_SERVICE.replace("size: 1", "size: 2")  # a right password takes two places
-    return service + OF_AN_OLD_SERVICE + statuses + moving
+    return service + OF_AN_OLD_SERVICE + statuses + without_imports(changing) + moving
 
 
 def test_program_of_readme_moves_users_of_bcrypt(user: Site, old_service: str) -> None:
@@ -379,6 +451,90 @@ def test_program_of_readme_answers_an_old_match_at_once(user: Site, old_service:
     text = old_service.replace("failureTime: 0", f"failureTime: {LONGEST_FAILURE}")
     (user.folder / "match.mjs").write_text(text + OLD_MATCH, encoding="utf-8")
     assert user.report_of("match.mjs")["status"] == 200
+
+
+def test_program_of_readme_changes_a_password_with_an_old_hash(
+    user: Site, old_service: str
+) -> None:
+    (user.folder / "old_change.mjs").write_text(old_service + OLD_CHANGES, encoding="utf-8")
+    report = user.report_of("old_change.mjs")
+    assert report["changed"] == 200, report
+    stored = report["stored"]
+    assert stored.startswith("$6$") and stored == crypt(b"new", stored.encode()).decode(), report
+
+
+@pytest.mark.parametrize(("refused", "status"), [("empty", 400), ("long", 400), ("wrong", 403)])
+def test_program_of_readme_refuses_a_change_alike_for_old_and_new_hashes(
+    user: Site, old_service: str, refused: str, status: int
+) -> None:
+    (user.folder / "old_change.mjs").write_text(old_service + OLD_CHANGES, encoding="utf-8")
+    report = user.report_of("old_change.mjs")
+    assert (report[refused], report["isKept"]) == ([status] * 3, True), report
+
+
+def test_program_of_readme_refuses_a_change_late_for_old_and_new_hashes(
+    user: Site, old_service: str
+) -> None:
+    text = old_service.replace("failureTime: 0", f"failureTime: {OLD_FAILURE}")
+    (user.folder / "late_change.mjs").write_text(text + OLD_CHANGE_TIMES, encoding="utf-8")
+    report = user.report_of("late_change.mjs")
+    for failure in report["late"]:
+        assert failure["status"] == 403 and failure["time"] >= OLD_FAILURE, report
+
+
+# Registrations: of a new name, of a taken one, with passwords that can't be used, of one name
+# twice at once, and while the queue is full.
+REGISTRATIONS = """
+const FIRST = users.get('ann');
+const of = {
+    fresh: await statusOfRegistration('bob', 'new'),
+    taken: await statusOfRegistration('ann', 'new'),
+    empty: await statusOfRegistration('eve', ''),
+    long: await statusOfRegistration('eve', 'x'.repeat(1025)),
+};
+const isKept = users.get('ann') === FIRST && !users.has('eve');
+const twice = await Promise.all([
+    statusOfRegistration('fay', 'one'), statusOfRegistration('fay', 'two'),
+]);
+const full = [statusOfLogin('ann', 'x'), statusOfLogin('ann', 'x')];
+const busy = await Promise.all([...full, statusOfRegistration('gus', 'new')]);
+console.log(JSON.stringify({ ...of, isKept, twice, busy, stored: users.get('bob') }));
+"""
+
+
+@pytest.fixture(scope="module")
+def registrations(user: Site, web_build: Path) -> Report:
+    """What the program does with registrations."""
+    statuses = program_of_readme(web_build, "Too many logins")
+    registering = program_of_readme(web_build, "When a user registers")
+    service = OF_A_BUSY_SERVICE.replace("size: 1", "size: 2")
+    text = service + statuses + registering + REGISTRATIONS
+    (user.folder / "register.mjs").write_text(text, encoding="utf-8")
+    return user.report_of("register.mjs")
+
+
+def test_program_of_readme_registers_a_user(registrations: Report) -> None:
+    stored = registrations["stored"]
+    assert registrations["fresh"] == 201, registrations
+    assert stored == crypt(b"new", stored.encode()).decode(), registrations
+
+
+@pytest.mark.parametrize(
+    ("registration", "status"), [("taken", 409), ("empty", 400), ("long", 400)]
+)
+def test_program_of_readme_refuses_a_registration(
+    registrations: Report, registration: str, status: int
+) -> None:
+    assert registrations[registration] == status, registrations
+    assert registrations["isKept"] is True, registrations
+
+
+def test_program_of_readme_registers_a_name_once(registrations: Report) -> None:
+    assert sorted(registrations["twice"]) == [201, 409], registrations
+
+
+def test_program_of_readme_registers_nobody_while_busy(registrations: Report) -> None:
+    assert registrations["busy"] == [403, 403, 503], registrations
 
 
 # Changes of the password. The last two meet another change of the field while they hash.
@@ -440,15 +596,19 @@ def test_program_of_readme_changes_no_password_while_busy(changes: Report) -> No
     assert changes["busy"] == [403, 503], changes
 
 
-# Requests to the whole service, whose statuses are printed. After a change of the password, the
-# last two have the old and the new one.
+# Requests to the whole service, whose statuses are printed. After a change of the password, two
+# have the old and the new one. Then come registrations, a body without a length, and no body.
 REQUESTS = """
 import { once } from 'node:events';
 if (!server.listening) await once(server, 'listening');
 const whole = { name: 'ann', password: 'correct horse' };
+const addressOf = (path) => `http://127.0.0.1:${server.address().port}${path}`;
 async function statusOfRequest(path, body) {
-    const address = `http://127.0.0.1:${server.address().port}${path}`;
-    return (await fetch(address, { method: 'POST', body })).status;
+    return (await fetch(addressOf(path), { method: 'POST', body })).status;
+}
+async function statusOfChunks() {
+    const body = new Blob([JSON.stringify(whole)]).stream();
+    return (await fetch(addressOf('/login'), { method: 'POST', body, duplex: 'half' })).status;
 }
 const post = (path, value) => statusOfRequest(path, JSON.stringify(value));
 const statuses = [
@@ -463,6 +623,12 @@ const statuses = [
     await post('/password', { ...whole, chosen: 'new' }),
     await post('/login', whole),
     await post('/login', { ...whole, password: 'new' }),
+    await post('/register', whole),
+    await post('/register', { name: 'bob', password: '' }),
+    await post('/register', { name: 'bob', password: 'of bob' }),
+    await post('/login', { name: 'bob', password: 'of bob' }),
+    await statusOfChunks(),
+    (await fetch(addressOf('/login'))).status,
 ];
 console.log(JSON.stringify({ statuses }));
 process.exit();
@@ -477,7 +643,11 @@ def without_imports(program: str) -> str:
 @pytest.fixture(scope="module")
 def whole_service(web_build: Path) -> str:
     """The program of a whole service, with the functions that it needs."""
-    headings = ("Too many logins", "When a user changes the password")
+    headings = (
+        "Too many logins",
+        "When a user registers",
+        "When a user changes the password",
+    )
     functions = [without_imports(program_of_readme(web_build, heading)) for heading in headings]
     return program_of_readme(web_build, "A whole service") + "".join(functions)
 
@@ -488,7 +658,10 @@ def test_program_of_readme_is_a_whole_service(user: Site, whole_service: str) ->
     text = changed.replace(".listen(8000,", ".listen(0,") + REQUESTS
     (user.folder / "whole.mjs").write_text(text, encoding="utf-8")
     statuses = user.report_of("whole.mjs")["statuses"]
-    assert statuses == [200, 403, 400, 400, 400, 413, 404, 400, 200, 403, 200]
+    logins = [200, 403, 400, 400, 400, 413]
+    changes_and_logins = [404, 400, 200, 403, 200]
+    registrations_and_bodies = [409, 400, 201, 200, 411, 405]
+    assert statuses == logins + changes_and_logins + registrations_and_bodies
 
 
 def test_program_of_readme_measures_the_costliest_login(user: Site, web_build: Path) -> None:
@@ -519,11 +692,10 @@ console.log(JSON.stringify({ isOfScrypt, passwordLength }));
 
 
 # Fields whose users get in or not, in the order of the README's table, and a name for each.
-TOO_COSTLY = "$6$rounds=2000000$saltsaltsaltsalt$" + "." * 86
 FIELDS_OF_USERS = {
-    "ann": crypt(b"password", b"$6$rounds=656000$saltsaltsaltsalt").decode(),
+    "ann": RECOMMENDED,
     "bob": OUTDATED,
-    "eve": "$2b$05$abcdefghijklmnopqrstuuqDsKnOFqPaNCEhHd5ZzD0Y1nJ1xN0cG",
+    "eve": OF_BCRYPT,
     "fay": "pbkdf2_sha256$1000$salt$AAAA",
     "gus": "correct horse",
     "hal": CHECKED[:40],
@@ -559,17 +731,33 @@ def test_program_of_readme_makes_hashes_by_another_policy(user: Site, web_build:
     assert made.startswith("$7$") and made == crypt(b"password", made.encode()).decode(), made
 
 
+def test_program_of_readme_takes_the_numbers_of_pwhash_calibrate(
+    user: Site, web_build: Path
+) -> None:
+    program = program_of_readme(web_build, "Numbers of pwhash calibrate")
+    assert "`-m sha512crypt -R 77000 --budget 29820992`" in read_readme(web_build)
+    printed = """
+const { bytes } = policy.limit;
+console.log(JSON.stringify({ made: await queue.hash('x'.repeat(64)), bytes }));
+"""
+    (user.folder / "calibrated.mjs").write_text(program + printed, encoding="utf-8")
+    report = user.report_of("calibrated.mjs")
+    made = report["made"]
+    assert report["bytes"] == 29820992 and made.startswith("$6$rounds=77000$"), report
+    assert made == crypt(b"x" * 64, made.encode()).decode(), report
+
+
 # The code before the README's programs, in TypeScript.
 LET_IN = "declare function letIn(name: string): void;\n"
 USERS = "declare const users: Map<string, string>;\n"
 TYPED = "declare const name: string, password: string;\n"
-FIELD = "declare const field: string, password: string;\n"
+NODENEXT = ("--module", "nodenext")
 
 
-def assert_accepted(user: Site, text: str) -> None:
-    """Fails the test unless tsc accepts a module."""
+def assert_accepted(user: Site, text: str, modules: Sequence[str] = NODENEXT) -> None:
+    """Fails the test unless tsc accepts a module, with these settings of modules."""
     (user.folder / "readme.ts").write_text(f"{text}export {{}};\n", encoding="utf-8")
-    options = ("--noEmit", "--strict", "--target", "es2022", "--module", "nodenext")
+    options = ("--noEmit", "--strict", "--target", "es2022", *modules)
     assert_result(run("tsc", *options, "readme.ts", cwd=user.folder))
 
 
@@ -580,7 +768,7 @@ def assert_accepted(user: Site, text: str) -> None:
         pytest.param("A first login", "js", USERS + TYPED + LET_IN, id="a login"),
         pytest.param("When a failure is answered", "js", "", id="a measurement"),
         pytest.param("If that is too few", "js", USERS, id="a budget"),
-        pytest.param("Why a login failed", "js", FIELD, id="a reason"),
+        pytest.param("Numbers of pwhash calibrate", "js", "", id="numbers of calibrate"),
         pytest.param("Users whom no login lets in", "js", USERS, id="a search for users"),
         pytest.param("Another policy", "js", "", id="a policy"),
         pytest.param("TypeScript", "ts", "", id="TypeScript"),
@@ -593,9 +781,24 @@ def test_typescript_accepts_programs_of_readme(
     assert_accepted(user, declared + program)
 
 
+@pytest.mark.needs("tsc")
+@pytest.mark.parametrize(
+    "modules",
+    [
+        pytest.param(("--module", "node16"), id="node16"),
+        pytest.param(("--module", "es2022", "--moduleResolution", "node"), id="es2022"),
+        pytest.param(("--module", "esnext", "--moduleResolution", "node"), id="esnext"),
+    ],
+)
+def test_typescript_finds_the_package_with_other_modules(
+    user: Site, web_build: Path, modules: Sequence[str]
+) -> None:
+    assert_accepted(user, program_of_readme(web_build, "TypeScript", "ts"), modules)
+
+
 # The code before the README's functions.
 FUNCTIONS_USE = """
-import { Busy, LoginQueue, passwordProblem } from 'mkpasswd';
+import { Busy, LoginQueue, Policy, cost, limit, passwordProblem } from 'mkpasswd';
 declare const queue: LoginQueue;
 declare const users: Map<string, string>;
 declare function oldMatches(password: string, field: string): Promise<boolean>;
@@ -622,6 +825,8 @@ def with_types(program: str) -> str:
 def test_typescript_accepts_functions_of_readme(user: Site, web_build: Path) -> None:
     headings = (
         "Too many logins",
+        "Why a login failed",
+        "When a user registers",
         "When a user changes the password",
         "Users with hashes of bcrypt",
     )
