@@ -247,7 +247,7 @@ def test_an_invalid_owner_group_or_mode_is_refused(words: tuple[str, ...]) -> No
         pytest.param(b"eva:{SSHA}", b"empty", OTHERS, id="a prefix alone, with others"),
         pytest.param(b"eva:{SSHA}x", b"by its form", OTHERS, id="no digest, with others"),
         pytest.param(b"eva:{SHA}hunter2", b"by its form", OTHERS, id="a password, with others"),
-        pytest.param(b"eva:{MD5}" + BASE64, b"by its form", OTHERS, id="a digest of another length"),
+        pytest.param(b"eva:{MD5}" + BASE64, b"by its form", OTHERS, id="another length"),
         pytest.param(b"eva:{ARGON2ID}hunter2", b"by its form", OTHERS, id="no argon2, with others"),
         pytest.param(
             b"eva:{BLF-CRYPT}" + BCRYPT[:-1], b"by its form", OTHERS, id="cut behind a prefix"
