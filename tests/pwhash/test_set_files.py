@@ -20,6 +20,7 @@ from support.pwhash_runs import (
     pwhash,
     read,
     save,
+    started,
     started_program,
 )
 
@@ -33,6 +34,21 @@ PASSWD = b"ann:x:1000:1000:Ann,,,:/home/ann:/bin/sh\n"
 # The command that bin/pwhash runs. A shell in between would drop the rights of another user.
 STARTED = ("/usr/bin/python3", "-I", "-S", str(PACKAGE / "pwhash/start.py"), str(LIBRARY), "pwhash")
 OTHER_USER = ("setpriv", "--reuid=65534", "--regid=65534", "--clear-groups")
+
+
+def test_a_folder_that_is_exchanged_during_the_run_is_noticed() -> None:
+    """A link may lead to the newest version of a site, and be switched at any moment."""
+    for folder in ("old", "new"):
+        os.mkdir(folder)
+        save(f"{folder}/passwords", b"bob:x\n")
+    os.symlink("old", "site")
+    with started("set", *MD5CRYPT, "site/passwords", "ann") as process:
+        assert process.stderr is not None and b"has no ann" in process.stderr.readline()
+        os.unlink("site")
+        os.symlink("new", "site")
+        done = ended(process, b"password\n")
+    assert done.status == 3 and b"another folder" in done.err, done
+    assert read("old/passwords") == read("new/passwords") == b"bob:x\n"
 
 
 def set_ann(*words: str) -> Ended:

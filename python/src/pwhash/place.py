@@ -47,6 +47,14 @@ class Place(FileInFolder):
         """Returns the status of another file in the folder, or None if there is none."""
         return FileInFolder(self.path, self.folder, name).status()
 
+    def is_elsewhere(self) -> bool:
+        """Whether the path leads to another folder by now, such as by a link that was switched."""
+        path = os.path.dirname(self.path) or "."
+        try:
+            return not os.path.samestat(os.stat(path), os.fstat(self.folder))
+        except OSError:
+            return True
+
     def sync(self) -> None:
         """Flushes the names in the folder to disk, if the file system supports that."""
         with contextlib.suppress(OSError):

@@ -33,10 +33,21 @@ def replace(place: Place, change: Change, session: Session) -> None:
         for _ in range(MAX_TRIES):
             # A signal that arrives meanwhile ends the run after the block.
             with session.signals.postponed():
+                refuse_elsewhere(place, "Nothing was changed")
                 if replace_once(place, change) is Outcome.DONE:
                     session.changed = place.display_name
+                    refuse_elsewhere(place, "The change is in the old folder")
                     return
     raise Stop(f"others change {place.display_name} all the time. Nothing was changed: try again.")
+
+
+def refuse_elsewhere(place: Place, what_was_done: str) -> None:
+    """Ends the run if services find another file by the path than the one that is changed."""
+    if place.is_elsewhere():
+        raise Stop(
+            f"{place.display_name} is in another folder by now than when the run began. "
+            f"{what_was_done}: try again."
+        )
 
 
 @contextlib.contextmanager
