@@ -148,11 +148,13 @@ def test_a_name_that_is_locked_in_hashes_too_is_let_in_by_nothing() -> None:
 
 
 def test_further_fields_of_a_line_stay_unless_hashes_has_others() -> None:
-    save("hashes", b"ann:" + ONE + b"\nbob:" + SIX + b":1:1\neve:" + ONE + b"\n")
+    hashes = b"ann:" + ONE + b"\nbob:" + SIX + b":1:1\ncid:" + ONE + b":\neve:" + ONE + b"\n"
+    save("hashes", hashes)
     fields = b":1000:1000::/home/ann::userdb_mail=maildir:~/Maildir"
-    save("target", b"ann:" + SIX + fields + b"\nbob:!" + SIX + b":7:7\n")
+    save("target", b"ann:" + SIX + fields + b"\nbob:!" + SIX + b":7:7\ncid:" + SIX + b"::7\n")
     done = pwhash(*INSTALL)
-    expected = b"ann:" + ONE + fields + b"\nbob:!" + SIX + b":1:1\neve:" + ONE + b"\n"
+    expected = b"ann:" + ONE + fields + b"\nbob:!" + SIX + b":1:1\n"
+    expected += b"cid:" + ONE + b"::7\neve:" + ONE + b"\n"
     assert (done.status, read("target")) == (0, expected), done
 
 

@@ -335,6 +335,14 @@ def test_a_line_that_ends_with_a_carriage_return_is_refused(words: tuple[str, ..
     assert (done.status, read("file")) == (2, content) and b"carriage return" in done.err, done
 
 
+@pytest.mark.parametrize("action", [(), ("--lock",)], ids=["set", "lock"])
+def test_the_realm_of_a_file_of_htdigest_stays(action: tuple[str, ...]) -> None:
+    content = b"ann:Members Area:5f4dcc3b5aa765d61d8327deb882cf99\n"
+    save("digests", content)
+    done = pwhash("set", *action, *MD5CRYPT, "digests", "ann", stdin=b"password\n")
+    assert (done.status, read("digests")) == (2, content) and b"another file" in done.err, done
+
+
 def test_no_line_is_added_to_another_file() -> None:
     save("notes", b"127.0.0.1 localhost\n")
     done = pwhash("set", *MD5CRYPT, "notes", "ann", stdin=b"password\n")

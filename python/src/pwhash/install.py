@@ -151,7 +151,7 @@ def line_for(line: Hash, target: Target) -> bytes:
     """Returns the new line of a name. It keeps further fields, unless HASHES has others."""
     if stays_locked(line, target):
         line = line._replace(field=line.field._replace(mark=field.LOCK))
-    if not line.rest:
+    if not line.rest.strip(b":"):
         line = line._replace(rest=target.rest_of(line.name))
     return line.data()
 

@@ -101,7 +101,19 @@ class Line:
         if self._options.action is Action.DELETE:
             self._sentence = f"{self._user} was deleted from {self._file}."
             return password_file.without_line(content, entry)
+        self._refuse_other_field(content, entry)
         return password_file.with_field(content, entry, self._change_field(entry))
+
+    def _refuse_other_field(self, content: bytes, entry: Entry) -> None:
+        """Refuses a second field that is no hash: in htdigest's files it is a realm."""
+        old, behind = entry.field, content[entry.field_end : entry.field_end + 1]
+        may_be_replaced = old.is_locked or old.prefix or old.stored in (b"", b"x")
+        if may_be_replaced or behind != b":" or old.can_be_locked():
+            return
+        raise UsageError(
+            f"{self._file}, line {entry.number}: what is behind the name is no hash, and further "
+            "fields follow. Is it another file? Nothing was changed; an editor can do it."
+        )
 
     def report(self) -> None:
         """Prints what was done."""
