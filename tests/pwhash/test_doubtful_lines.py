@@ -125,7 +125,7 @@ def test_each_doubtful_line_from_a_pipe_is_named() -> None:
 
 def test_each_doubtful_line_in_a_file_is_named() -> None:
     done = pwhash("file", *MD5CRYPT, save("lines", doubts()), "--look")
-    named = {int(number) for number in re.findall(rb"line (\d) ", done.err)}
+    named = {int(number) for number in re.findall(rb"line (\d)[: ]", done.err)}
     assert done.status == 1 and named == set(DOUBTFUL), done
 
 
@@ -134,7 +134,7 @@ def test_each_doubtful_line_in_a_file_is_named() -> None:
 )
 def test_the_reason_for_a_doubt_is_named(reason: str, numbers: list[int]) -> None:
     done = pwhash("file", *MD5CRYPT, save("lines", doubts()), "--look")
-    named = re.findall(rf"line (\d) .*{reason}".encode(), done.err)
+    named = re.findall(rf"line (\d)[: ].*{reason}".encode(), done.err)
     assert [int(number) for number in named] == numbers, done
 
 

@@ -58,6 +58,8 @@ SECRETS = [
     pytest.param(b"{SSHA}TopSecretTopSecretTopSecret", id="a hash of LDAP"),
     pytest.param(b"5f4dcc3b5aa765d61d8327deb882cf99", id="a hash in hexadecimal"),
     pytest.param(b"abJnggxhB/yWI", id="a hash of DES"),
+    pytest.param(b"topsecret!", id="a sign that names lack"),
+    pytest.param(b"Winter24", id="a capital and a digit"),
 ]
 # Commands that find the line doubtful, wrong or unknown, with the line, where NAME is its name.
 COMMANDS = [

@@ -120,6 +120,8 @@ def find_odd_fields(name: bytes, password: bytes, is_table: bool) -> Iterator[st
         yield "an error or a changed value of a spreadsheet or another export"
     if exports.is_stored(password):
         yield "a stored hash or field, not a password"
+    if exports.is_digest(password):
+        yield "a digest, as databases store it in place of a password"
     if len(password) > LONGEST_OF_CRYPT:
         yield TOO_LONG_FOR_CRYPT
 

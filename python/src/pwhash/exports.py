@@ -16,6 +16,8 @@ STORED = re.compile(
     rb"|SCRAM-SHA-256\$[0-9]+:.{16,}|md5[0-9a-f]{32}"  # of PostgreSQL
     rb"|\*[0-9A-F]{40}"  # of MySQL
 )
+# A digest in hexadecimal, as MD5, NTLM and SHA have it, or a longer one in Base64.
+DIGEST = re.compile(rb"(?:0x)?[0-9A-Fa-f]{32,}|[A-Za-z0-9+/]{27,}={1,2}")
 # Errors that spreadsheets show in place of a value, in the user's language: #NAME?, #NAAM?.
 ERROR = re.compile(r"#[\u00a1\u00bf]?([^\W\d_][\w/]+)[!?]")
 ERROR_WITHOUT_MARK = re.compile(
@@ -37,6 +39,11 @@ CHANGED = re.compile(
 )
 # What databases export for a missing value.
 NOTHING = frozenset(["NULL", "\\N", "(null)"])
+
+
+def is_digest(password: bytes) -> bool:
+    """Whether this looks like a bare digest, such as MD5's in a database."""
+    return DIGEST.fullmatch(password) is not None
 
 
 def is_stored(password: bytes) -> bool:

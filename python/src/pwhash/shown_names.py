@@ -10,19 +10,17 @@ from __future__ import annotations
 import re
 from collections.abc import Sequence
 
-from pwhash.exports import is_stored
+from pwhash.exports import is_digest, is_stored
 from pwhash.text import printable
 
 MAX_NAMED = 20  # names, or numbers of lines, in a message
 LONGEST_SHOWN = 64  # bytes; no name that mkpasswd accepts is longer
-# Blanks, quotes and the separators of tables, also full-width ones: the line may be a row.
-IN_NO_NAME = re.compile("[\\s,;|\"'`\u2018-\u201f\xab\xbb\uff0c\uff1a\uff1b\uff5c]")
+# What names of users have. Beside a blank, a quote or a separator of tables a line may be a row, and
+# with another sign, or both a capital and a digit, the name may be a password.
+OF_NAMES = re.compile(r"[\w.@+\\-]+")
+CAPITAL_AND_DIGIT = re.compile(r"(?=.*[A-Z])(?=.*[0-9])")
 # The beginning of a hash or of a cut one, as $6$ and {SSHA}.
 BEGINS_LIKE_HASH = re.compile(rb"[!*]*(?:\$|\{[A-Za-z0-9.-]+\})")
-# A digest in hexadecimal, as MD5, NTLM and SHA have it, or a longer one in Base64.
-DIGEST = re.compile(rb"(?:0x)?[0-9A-Fa-f]{32,}|[A-Za-z0-9+/]{27,}={1,2}")
-# What may be a hash of DES: 13 characters of all kinds.
-DES = re.compile(rb"(?=.*[A-Z])(?=.*[a-z])(?=.*[./0-9])[./0-9A-Za-z]{13}")
 
 
 def may_be_shown(name: bytes) -> bool:
@@ -33,11 +31,10 @@ def may_be_shown(name: bytes) -> bool:
     name = name.strip()
     if not name or len(name) > LONGEST_SHOWN:
         return False
-    if IN_NO_NAME.search(name.decode(errors="replace")):
+    text = name.decode(errors="ignore")
+    if not OF_NAMES.fullmatch(text) or CAPITAL_AND_DIGIT.match(text):
         return False
-    if BEGINS_LIKE_HASH.match(name) or DIGEST.fullmatch(name) or DES.fullmatch(name):
-        return False
-    return not is_stored(name)
+    return not (BEGINS_LIKE_HASH.match(name) or is_digest(name) or is_stored(name))
 
 
 def could_be_name(field: bytes) -> bool:
