@@ -16,6 +16,7 @@ from pwhash.source import Source
 
 LONGEST_ROW = 1 << 17  # bytes of a row or a field; csv accepts no longer fields
 SEPARATORS = {",": "a comma", ";": "a semicolon", "\t": "a tab"}
+NAME_IN_LISTS = "name"  # the heading of user names in a list of new passwords
 NUMBERS = [str(number) for number in range(1, 100)]  # that can be given instead of names
 # Maps each byte to the character of that number and back, so that the encoding doesn't matter.
 BYTES = "latin-1"
@@ -160,6 +161,7 @@ class Table:
         above = self._wanted if self._has_names() else [cell(names, name), ""]
         if self._names_only:
             self._refuse_passwords([*above, *self._others])
+            self._refuse_second_name()
         elif above[0] in headings.PASSWORDS or above[-1] in headings.NAMES:
             raise UsageError(
                 "--columns names the column of names, then that of passwords. Here the first is "
@@ -174,6 +176,18 @@ class Table:
             raise UsageError(
                 "--columns, --by or --list-columns names a column that is headed as passwords are. "
                 "Correct that."
+            )
+
+    def _refuse_second_name(self) -> None:
+        """Refuses a column of --list-columns with the heading that user names have in a list.
+
+        With two such columns, nobody could read the list as a table again.
+        """
+        if NAME_IN_LISTS in self._others:
+            raise UsageError(
+                f"--list-columns has the column {NAME_IN_LISTS}, and in a list that is the column "
+                f"of user names. In the first row of {self._name}, rename it, for example to "
+                "surname, or leave it out."
             )
 
     def _no_columns(self) -> UsageError:
