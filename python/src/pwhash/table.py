@@ -283,11 +283,19 @@ class Table:
         if columns.headings and columns.wanted_in(fields) == columns.wanted_in(columns.headings):
             return True
         if is_heading_of_others(fields, columns):
-            raise UsageError(
-                f"{self._name}, line {self._row_begin}: another table begins, with other columns. "
-                "Hash each by itself."
-            )
+            raise self._another_table(is_row_and_heading(fields, columns.headings))
         return False
+
+    def _another_table(self, is_joined: bool) -> UsageError:
+        where = f"{self._name}, line {self._row_begin}"
+        if is_joined:
+            return UsageError(
+                f"{where}: a row and then the heading again, so a line feed is missing between two "
+                "tables. Put it in front of the heading."
+            )
+        return UsageError(
+            f"{where}: another table begins, with other columns. Hash each by itself."
+        )
 
 
 def is_heading_of_others(fields: Row, columns: Columns) -> bool:
@@ -300,6 +308,18 @@ def is_heading_of_others(fields: Row, columns: Columns) -> bool:
     has_all_headings = set(columns.wanted_in(columns.headings)) <= set(fields)
     are_headings = set(wanted) <= set(columns.headings) - {""}
     return has_all_headings or are_headings
+
+
+def is_row_and_heading(fields: Row, own: Row) -> bool:
+    """Whether these are a row and then the whole heading, as in 1,ann,pw1room,name,password.
+
+    The last value of the row and the first heading are one field, since no line feed is between
+    them. The heading of another table hardly has so many fields.
+    """
+    if len(fields) != 2 * len(own) - 1:
+        return False
+    end = fields[-len(own) :]
+    return end[0].endswith(own[0]) and end[1:] == own[1:]
 
 
 def is_joined_with_heading(fields: Row, columns: Columns) -> bool:
