@@ -229,19 +229,87 @@ def test_generated_passwords_are_loaded_and_listed_by_class(
 def test_generated_passwords_of_all_lists_are_installed_for_nginx(machine: Machine) -> None:
     machine.set_accounts(THREE_LOCKED)
     follow_generated_passwords(machine)
-    block = marked("passwords of lists for nginx", "sh")
-    commands = block.code.replace("/etc/nginx/", "at.").replace("--group www-data", "")
-    followed = Followed(
-        block, run("sh", "-c", commands, env=machine.environment, cwd=machine.folder)
-    )
+    followed = follow_for_nginx(machine, "passwords of lists for nginx")
     assert followed.result.status == 0, followed.lacks("status 0")
+    assert set(fields_of_nginx(machine)) == {"ann", "bob", "eve"}, followed.lacks("all names")
+    assert_nginx_has_listed_passwords(machine, followed)
+
+
+def follow_for_nginx(machine: Machine, mark: str) -> Followed:
+    """Follows a recipe for nginx, with the file at.passwords in place of nginx's."""
+    block = marked(mark, "sh")
+    commands = block.code.replace("/etc/nginx/", "at.").replace("--group www-data", "")
+    result = run("sh", "-c", commands, env=machine.environment, cwd=machine.folder)
+    return Followed(block, result)
+
+
+def fields_of_nginx(machine: Machine) -> dict[str, str]:
+    """Returns the fields in at.passwords by name."""
     lines = (machine.folder / "at.passwords").read_text(encoding="ascii").splitlines()
-    fields = dict(line.split(":") for line in lines)
+    return dict(line.split(":") for line in lines)
+
+
+def assert_nginx_has_listed_passwords(machine: Machine, followed: Followed) -> None:
+    """Fails unless at.passwords has a hash of each password in the lists of the three pupils."""
     lists = [passwords_in(path) for path in (machine.folder / "lists").iterdir()]
     passwords = {name: password for of_class in lists for name, password in of_class.items()}
-    assert set(fields) == set(passwords) == {"ann", "bob", "eve"}, followed.lacks("all names")
+    assert set(passwords) == {"ann", "bob", "eve"}, followed.lacks("all names")
+    fields = fields_of_nginx(machine)
     for name, password in passwords.items():
         assert is_hash_of(fields[name], password), followed.lacks(f"a hash for {name}")
+
+
+def test_new_pupils_are_added_for_nginx(machine: Machine) -> None:
+    machine.set_accounts(THREE_LOCKED)
+    follow_generated_passwords(machine)
+    machine.write("at.passwords", f"dan:{CURRENT}\n".encode())
+    followed = follow_for_nginx(machine, "new pupils for nginx")
+    assert followed.result.status == 0, followed.lacks("status 0")
+    assert fields_of_nginx(machine)["dan"] == CURRENT, followed.lacks("the line of dan")
+    assert_nginx_has_listed_passwords(machine, followed)
+
+
+def test_a_new_pupil_does_not_take_the_login_of_another_one_at_nginx(machine: Machine) -> None:
+    machine.set_accounts(THREE_LOCKED)
+    follow_generated_passwords(machine)
+    machine.write("at.passwords", f"bob:{CURRENT}\ndan:{CURRENT}\n".encode())
+    followed = follow_for_nginx(machine, "new pupils for nginx")
+    assert followed.result.status == 1, followed.lacks("status 1")
+    assert "(bob): the name again" in followed.errors, followed.lacks("a message about bob")
+    before = {"bob": CURRENT, "dan": CURRENT}
+    assert fields_of_nginx(machine) == before, followed.lacks("the same file")
+
+
+def test_logins_that_are_taken_are_shown(machine: Machine) -> None:
+    """getent asks the system on which the test runs. It always has root."""
+    machine.write("hashes", f"no-such-pupil:{CURRENT}\nroot:{CURRENT}\n".encode())
+    followed = machine.follow("logins that are taken")
+    names = [line.partition(":")[0] for line in followed.lines]
+    assert names == ["root"], followed.lacks("the line of root")
+
+
+def test_forgotten_passwords_are_replaced_for_nginx(machine: Machine) -> None:
+    machine.set_accounts(THREE_LOCKED)
+    follow_generated_passwords(machine)
+    machine.write("at.passwords", f"dan:{CURRENT}\nann:{CURRENT}\n".encode())
+    followed = follow_for_nginx(machine, "forgotten passwords for nginx")
+    assert followed.result.status == 0, followed.lacks("status 0")
+    assert fields_of_nginx(machine)["dan"] == CURRENT, followed.lacks("the line of dan")
+    assert_nginx_has_listed_passwords(machine, followed)
+
+
+def test_a_table_with_some_passwords_gives_hashes_of_all_names(machine: Machine) -> None:
+    machine.set_accounts(THREE_LOCKED)
+    machine.write("given.csv", b"last;login;password\nXu;dan;password\n")
+    machine.write("missing.csv", SCHOOL)
+    followed = machine.follow("some passwords given")
+    assert followed.result.status == 0, followed.lacks("status 0")
+    lines = (machine.folder / "hashes").read_text(encoding="ascii").splitlines()
+    fields = dict(line.split(":") for line in lines)
+    assert set(fields) == {"ann", "bob", "dan", "eve"}, followed.lacks("all names")
+    assert is_hash_of(fields["dan"], "password"), followed.lacks("the hash of a given password")
+    listed = passwords_in(machine.folder / "lists/5b.csv")
+    assert is_hash_of(fields["bob"], listed["bob"]), followed.lacks("the hash of a new password")
 
 
 def test_nothing_is_installed_for_nginx_if_a_list_is_damaged(machine: Machine) -> None:

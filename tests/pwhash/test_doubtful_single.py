@@ -7,8 +7,20 @@ ones.
 """
 from __future__ import annotations
 
+import os
+
 import pytest
-from support.pwhash_runs import BOM, MD5, MD5CRYPT, at_terminal, hashed, pwhash, read, save
+from support.pwhash_runs import (
+    BOM,
+    MD5,
+    MD5CRYPT,
+    at_terminal,
+    hashed,
+    lines_named_in,
+    pwhash,
+    read,
+    save,
+)
 
 SET = ("set", *MD5CRYPT, "passwords", "ann")
 BEFORE = b"ann:x\n"
@@ -121,3 +133,34 @@ def test_the_advice_for_many_doubtful_lines_is_printed_once() -> None:
     done = pwhash("file", *MD5CRYPT, "list", "-o", "hashes")
     assert done.status == 1 and done.err.count(b"not UTF-8") == 20, done
     assert done.err.count(b"iconv") == 1, done
+
+
+# More lines of each kind than a run shows that stops.
+MANY = 30
+REFUSED_ONES = b"".join(b":pw%d\n" % number for number in range(MANY))
+DOUBTFUL_ONES = b"".join(b"user%d:\n" % number for number in range(MANY))
+SKIPS = ("--skip-refused", "--skip-doubtful")
+
+
+def test_a_run_that_stops_says_how_many_lines_it_does_not_show() -> None:
+    save("list", REFUSED_ONES + DOUBTFUL_ONES + b"ann:pw1\n")
+    done = pwhash("file", *MD5CRYPT, "list", "-o", "hashes")
+    assert (done.status, len(lines_named_in(done.err))) == (1, 40), done
+    assert b"20 more like these aren't shown" in done.err, done
+    assert b"--look --skip-refused --skip-doubtful" in done.err, done
+    assert not os.path.exists("hashes"), done
+
+
+@pytest.mark.parametrize(
+    "words",
+    [
+        pytest.param((*SKIPS, "-o", "hashes"), id="a run"),
+        pytest.param((*SKIPS, "--look"), id="a look"),
+        pytest.param((*SKIPS, "--look", "-o", "hashes"), id="a look with the options of a run"),
+    ],
+)
+def test_every_line_that_is_left_out_is_shown(words: tuple[str, ...]) -> None:
+    save("list", REFUSED_ONES + DOUBTFUL_ONES + b"ann:pw1\n")
+    done = pwhash("file", *MD5CRYPT, "list", *words)
+    assert (done.status, lines_named_in(done.err)) == (1, [*range(1, 2 * MANY + 1)]), done
+    assert b"lines left out: 60" in done.err and b"more like these" not in done.err, done

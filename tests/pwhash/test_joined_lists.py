@@ -98,6 +98,20 @@ def test_a_heading_behind_a_row_is_refused(table: bytes) -> None:
     assert b"secret" not in done.err, done
 
 
+@pytest.mark.parametrize(
+    "table",
+    [
+        pytest.param(b"room,name,password\n1,ann,pw1\n2,cid,secret", id="a password"),
+        pytest.param(b"room,name,password\n1,ann,pw1\n2,cid,", id="an empty field"),
+        pytest.param(b"ROOM;Name;Password\r\n1;ann;pw1\r\n2;cid;secret", id="capitals"),
+    ],
+)
+def test_a_table_joined_to_itself_lacks_a_line_feed(table: bytes) -> None:
+    done = pwhash("file", "--csv", *MD5CRYPT, stdin=table + table)
+    assert done.status == 2 and lines_named_in(done.err) == [3], done
+    assert b"a line feed is missing" in done.err and b"secret" not in done.err, done
+
+
 @pytest.mark.parametrize("heading", [b"name:password", b"Benutzer:Kennwort", b"E-Mail:PASSWORD"])
 def test_a_heading_behind_a_password_is_doubtful(heading: bytes) -> None:
     done = pwhash("file", *MD5CRYPT, stdin=b"ann:pw1\ncid:secret" + heading + b"\nbob:pw2\n")

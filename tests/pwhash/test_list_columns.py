@@ -23,6 +23,7 @@ from support.pwhash_runs import (
 
 MAKE = ("file", "--generate", "-R", "1000", "--csv", "table", "-o", "hashes", "--columns", "login")
 BY_CLASS = (*MAKE, "--passwords", "lists", "--by", "class")
+LOOK = ("file", "--generate", "--csv", "table", "--columns", "login", "--look")
 NAMES = ("--list-columns", "last,first")
 TABLE = "last;first;login;class\r\nMüller;Ann;ann;5a\r\nXu;Bob;bob;5b\r\n O'Neil ;;cyd;5a\r\n"
 
@@ -140,6 +141,30 @@ def test_invalid_columns_are_refused(words: list[str], reason: bytes) -> None:
     save("table", b"last;login;password\nXu;ann;x\n")
     done = pwhash(*MAKE, "--passwords", "list", *words)
     assert done.status == 2 and reason in done.err and os.listdir() == ["table"], done
+
+
+@pytest.mark.parametrize("heading", ["name", "Name", " NAME ", '"name"'])
+@pytest.mark.parametrize(
+    "words",
+    [
+        pytest.param((*BY_CLASS, "--list-columns", "name,first"), id="a run"),
+        pytest.param((*LOOK, "--list-columns", "Name"), id="a look"),
+    ],
+)
+def test_a_list_does_not_get_two_columns_with_the_heading_name(
+    heading: str, words: tuple[str, ...]
+) -> None:
+    """In such a list, pwhash couldn't tell the user names from the people's."""
+    save("table", f"{heading};first;login;class\nXu;Ann;ann;5a\n".encode())
+    done = pwhash(*words)
+    assert done.status == 2 and b"--list-columns has the column name" in done.err, done
+    assert b"rename it" in done.err and os.listdir() == ["table"], done
+
+
+def test_a_column_that_no_list_gets_can_have_the_heading_name() -> None:
+    save("table", b"Name;first;login;class\nXu;Ann;ann;5a\n")
+    done = pwhash(*BY_CLASS, "--list-columns", "first")
+    assert (done.status, rows_of("lists/5a.csv")[0]) == (0, ["first", "name", "password"]), done
 
 
 @pytest.mark.parametrize(

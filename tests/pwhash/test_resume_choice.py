@@ -30,26 +30,40 @@ SKIPPED = ("--skip-refused", "--skip-doubtful")
 
 
 @pytest.mark.parametrize(
-    "choice",
+    ("choice", "difference"),
     [
-        pytest.param(("--skip-refused", "--accept-doubtful"), id="doubtful lines accepted"),
-        pytest.param((*SKIPPED, "--budget", "1300000000"), id="another budget"),
-        pytest.param((*SKIPPED, "--for", "dovecot"), id="a service"),
+        pytest.param(
+            ("--skip-refused", "--accept-doubtful"),
+            b"with --skip-doubtful, without --accept-doubtful",
+            id="doubtful lines accepted",
+        ),
+        pytest.param(
+            (*SKIPPED, "--budget", "1300000000"),
+            b"with another -m, -R or --budget",
+            id="another budget",
+        ),
+        pytest.param((*SKIPPED, "--for", "dovecot"), b"without --for=dovecot", id="a service"),
+        pytest.param(
+            (*SKIPPED, "--skip-locked", "shadow"), b"without --skip-locked", id="locked names"
+        ),
     ],
 )
-def test_other_options_do_not_resume_a_part(choice: tuple[str, ...]) -> None:
+def test_other_options_do_not_resume_a_part(choice: tuple[str, ...], difference: bytes) -> None:
+    """The message names just the options that differ."""
+    save("shadow", b"eve:!$1$x$y:1::::::\n")
     interrupt(*SKIPPED)
     part = read("hashes.part")
     done = pwhash(*WORDS, *choice, "--resume")
     assert (done.status, read("hashes.part")) == (2, part), done
-    assert b"--skip-refused --skip-doubtful" in done.err and not os.path.exists("hashes"), done
+    assert b"started " + difference + b", so other lines" in done.err, done
+    assert not os.path.exists("hashes"), done
 
 
 def test_forgotten_rounds_are_named() -> None:
-    """The message doesn't name the budget, which follows from -m and -R."""
+    """The budget differs too, since it follows from -m and -R. Nothing else is named."""
     interrupt(*SKIPPED)
     done = pwhash("file", "-S", "saltsalt", "list", "-o", "hashes", *SKIPPED, "--resume")
-    assert done.status == 2 and b"-R" in done.err, done
+    assert done.status == 2 and b"with another -m, -R or --budget, so" in done.err, done
 
 
 def test_the_same_options_resume_a_part() -> None:

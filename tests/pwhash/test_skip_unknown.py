@@ -97,6 +97,14 @@ def test_a_look_shows_everybody_without_an_account() -> None:
     assert done.status == 0 and b"(eve): not in passwd" in done.err, done
     assert all(b"(new%d): not in passwd" % number in done.err for number in range(60)), done
     assert b"lines left out since their names aren't in passwd: 61." in done.err, done
+    assert b"--look" not in done.err, done
+
+
+def test_a_run_with_many_names_without_an_account_says_how_to_see_them_all() -> None:
+    save("list", LIST + b"".join(b"new%d:pw\n" % number for number in range(60)))
+    done = pwhash(*WORDS, "list", "-o", "hashes")
+    assert (done.status, done.err.count(b": not in passwd")) == (0, 20), done
+    assert b"aren't in passwd: 61. The first 20 are shown, and all with --look." in done.err, done
 
 
 def test_locked_names_can_be_skipped_too() -> None:

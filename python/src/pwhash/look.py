@@ -17,7 +17,7 @@ from pwhash.progress import Progress
 from pwhash.shown_names import shown_line
 from pwhash.source import Source
 
-MAX_SHOWN = 20  # of each kind
+MAX_SHOWN = 20  # of each kind, of lines that aren't left out
 
 
 class Look:
@@ -30,6 +30,7 @@ class Look:
         is_table = options.input.columns is not None
         self._doubts = Doubts(options.service, is_table, options.input.windows)
         self._counts: Counter[str] = Counter()
+        self._hidden = 0  # problems that aren't shown
         self._has_lines = False  # after --skip-locked and --skip-unknown
         self._refused: Set[int] = set()
         self._doubtful: Set[int] = set()
@@ -61,20 +62,22 @@ class Look:
         if reason is not None:
             self._doubts.note_refused(line)
             self._refused.add(line.number)
-            self._show(line, [reason])
+            self._show(line, [reason], self._options.skip_refused)
             return
         doubts = self._doubts.find(line)
         if doubts:
             self._doubtful.add(line.number)
-            self._show(line, doubts)
+            self._show(line, doubts, self._options.doubtful is Doubtful.SKIP)
         length = len(line.data) - line.data.index(b":") - 1
         if library.is_over_budget(self._options.policy, length):
             self._doubts.note_refused(line)
             self._refused.add(line.number)
             limit = library.describe_length_limit(self._options.policy)
-            self._show(line, [f"{OVER_BUDGET.message}: {limit}"])
+            reason = f"{OVER_BUDGET.message}: {limit}"
+            self._show(line, [reason], self._options.skip_refused)
 
-    def _show(self, line: Line, reasons: List[str]) -> None:
+    def _show(self, line: Line, reasons: List[str], is_left_out: bool) -> None:
+        """Shows the problems of a line, however many there are if the line is left out."""
         # Without a colon, or in a refused row, what stands first may be a password.
         is_named = b":" in line.data and line.refused_row is None
         name = name_of(line) if is_named else b""
@@ -84,16 +87,27 @@ class Look:
             self._counts[kind] += 1
             if self._counts[kind] > 1:  # the first message of a kind says what to do
                 reason = reason.partition(";")[0]
-            if self._counts[kind] <= MAX_SHOWN:
+            if is_left_out or self._counts[kind] <= MAX_SHOWN:
                 self._console.say(f"{where}: {reason}")
+            else:
+                self._hidden += 1
 
     def _stop_unless_decided(self) -> None:
         refused, doubtful = len(self._refused), len(self._doubtful)
         stops_for_refused = refused and not self._options.skip_refused
         stops_for_doubtful = doubtful and self._options.doubtful is Doubtful.STOP
         if stops_for_refused or stops_for_doubtful:
+            self._say_what_is_hidden()
             raise ProblemsFound(
                 "nothing was hashed. Correct these lines, or leave them out "
                 f"({refused:,} with --skip-refused, {doubtful:,} with --skip-doubtful), "
                 "or hash all doubtful ones (--accept-doubtful)."
+            )
+
+    def _say_what_is_hidden(self) -> None:
+        """Says how many problems aren't shown, and how to see them."""
+        if self._hidden:
+            self._console.say(
+                f"{self._hidden:,} more like these aren't shown. To see all, add --look "
+                "--skip-refused --skip-doubtful."
             )

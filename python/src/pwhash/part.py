@@ -305,10 +305,21 @@ def refuse_other_options(before: ResumeState, now: ResumeState, name: str, both:
         )
     if before.choice != now.choice:
         raise UsageError(
-            f"{name} was started with {before.choice.decode()}, so other lines were left out. "
-            "Give the same -m and -R, and just those options of their kind, or remove "
-            f"{both}, and start again."
+            f"{name} was started {describe_difference(before, now)}, so other lines may have been "
+            f"left out. Give the options of that run, or remove {both}, and start again."
         )
+
+
+def describe_difference(before: ResumeState, now: ResumeState) -> str:
+    """Says in which options that leave out lines two runs differ, as "with --skip-locked"."""
+    words_before, words_now = before.choice.decode().split(), now.choice.decode().split()
+    differences: List[str] = []
+    # The first word is the budget, which follows from -m and -R if it isn't given.
+    if words_before[0] != words_now[0]:
+        differences.append("with another -m, -R or --budget")
+    differences += [f"with {word}" for word in words_before[1:] if word not in words_now]
+    differences += [f"without {word}" for word in words_now[1:] if word not in words_before]
+    return ", ".join(differences) or "with other options"
 
 
 def refuse_newer(file: FileInFolder, status: os.stat_result, source: Source) -> None:

@@ -55,8 +55,16 @@ class Skipping(abc.ABC):
                 yield kept
         if not self._is_reported:
             self._is_reported = True
-            if self._left_out:
-                self.console.say(f"lines left out since {self.reason_of_all}: {self._left_out:,}.")
+            self._report_count()
+
+    def _report_count(self) -> None:
+        """Says how many lines are left out, and how to see those that weren't shown."""
+        if not self._left_out:
+            return
+        message = f"lines left out since {self.reason_of_all}: {self._left_out:,}."
+        if self._left_out > MAX_SHOWN and not self._shows_all:
+            message += f" The first {MAX_SHOWN} are shown, and all with --look."
+        self.console.say(message)
 
     def _is_left_out(self, line: Line) -> bool:
         if b":" not in line.data and line.refused_row is None:

@@ -16,6 +16,7 @@ from pwhash.source import Source
 
 LONGEST_ROW = 1 << 17  # bytes of a row or a field; csv accepts no longer fields
 SEPARATORS = {",": "a comma", ";": "a semicolon", "\t": "a tab"}
+NAME_IN_LISTS = "name"  # the heading of user names in a list of new passwords
 NUMBERS = [str(number) for number in range(1, 100)]  # that can be given instead of names
 # Maps each byte to the character of that number and back, so that the encoding doesn't matter.
 BYTES = "latin-1"
@@ -160,6 +161,7 @@ class Table:
         above = self._wanted if self._has_names() else [cell(names, name), ""]
         if self._names_only:
             self._refuse_passwords([*above, *self._others])
+            self._refuse_second_name()
         elif above[0] in headings.PASSWORDS or above[-1] in headings.NAMES:
             raise UsageError(
                 "--columns names the column of names, then that of passwords. Here the first is "
@@ -174,6 +176,18 @@ class Table:
             raise UsageError(
                 "--columns, --by or --list-columns names a column that is headed as passwords are. "
                 "Correct that."
+            )
+
+    def _refuse_second_name(self) -> None:
+        """Refuses a column of --list-columns with the heading that user names have in a list.
+
+        With two such columns, nobody could read the list as a table again.
+        """
+        if NAME_IN_LISTS in self._others:
+            raise UsageError(
+                f"--list-columns has the column {NAME_IN_LISTS}, and in a list that is the column "
+                f"of user names. In the first row of {self._name}, rename it, for example to "
+                "surname, or leave it out."
             )
 
     def _no_columns(self) -> UsageError:
@@ -269,11 +283,19 @@ class Table:
         if columns.headings and columns.wanted_in(fields) == columns.wanted_in(columns.headings):
             return True
         if is_heading_of_others(fields, columns):
-            raise UsageError(
-                f"{self._name}, line {self._row_begin}: another table begins, with other columns. "
-                "Hash each by itself."
-            )
+            raise self._another_table(is_row_and_heading(fields, columns.headings))
         return False
+
+    def _another_table(self, is_joined: bool) -> UsageError:
+        where = f"{self._name}, line {self._row_begin}"
+        if is_joined:
+            return UsageError(
+                f"{where}: a row and then the heading again, so a line feed is missing between two "
+                "tables. Put it in front of the heading."
+            )
+        return UsageError(
+            f"{where}: another table begins, with other columns. Hash each by itself."
+        )
 
 
 def is_heading_of_others(fields: Row, columns: Columns) -> bool:
@@ -286,6 +308,18 @@ def is_heading_of_others(fields: Row, columns: Columns) -> bool:
     has_all_headings = set(columns.wanted_in(columns.headings)) <= set(fields)
     are_headings = set(wanted) <= set(columns.headings) - {""}
     return has_all_headings or are_headings
+
+
+def is_row_and_heading(fields: Row, own: Row) -> bool:
+    """Whether these are a row and then the whole heading, as in 1,ann,pw1room,name,password.
+
+    The last value of the row and the first heading are one field, since no line feed is between
+    them. The heading of another table hardly has so many fields.
+    """
+    if len(fields) != 2 * len(own) - 1:
+        return False
+    end = fields[-len(own) :]
+    return end[0].endswith(own[0]) and end[1:] == own[1:]
 
 
 def is_joined_with_heading(fields: Row, columns: Columns) -> bool:
