@@ -45,7 +45,7 @@ def fixture_prepared(site: Site) -> Site:
     site.machine.write("/etc/pam.d/pam_unix", STACK)
     (site.folder / "inventory").write_text(INVENTORY, encoding="ascii")
     (site.folder / "users.yml").write_text(marked("Ansible", "yaml").code, encoding="ascii")
-    site.answer("pwhash > hash").required()
+    site.answer(marked("Ansible, the hash", "sh").code).required()
     return site
 
 
@@ -102,3 +102,16 @@ def test_the_account_has_the_password_after_the_play(
     prepared: Site, password: str, verdict: Verdict
 ) -> None:
     assert pam_verdict(prepared.machine, "pam_unix", ANN.name, password) is verdict
+
+
+@pytest.mark.parametrize("content", [b"", b"\n", b"$6$rounds=656000$cut\n"])
+def test_a_play_without_a_whole_hash_changes_no_password(prepared: Site, content: bytes) -> None:
+    """An empty hash would let everybody in."""
+    file = prepared.folder / "hash"
+    whole = file.read_bytes()
+    file.write_bytes(content)
+    try:
+        played = play(prepared)
+    finally:
+        file.write_bytes(whole)
+    assert played.result.status != 0 and played.after == played.before, played.result
