@@ -125,6 +125,7 @@ def test_names_that_would_disappear_are_named_and_removed_only_on_demand() -> No
         pytest.param(b"{SSHA}x", id="a letter after a prefix of another scheme"),
         pytest.param(b"{SSHA}", id="a prefix of another scheme"),
         pytest.param(b"{DISABLED}", id="an unknown prefix"),
+        pytest.param(b"{PLAIN}!Secret", id="a plain password, or a locked one"),
     ],
 )
 def test_nobody_is_let_in_whom_target_may_keep_out(field: bytes) -> None:

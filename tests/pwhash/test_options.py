@@ -116,6 +116,13 @@ def test_an_option_may_stand_between_file_and_name(words: tuple[str, ...]) -> No
     assert read("users") != b"ann:" + MD5.encode() + b"\n"
 
 
+@pytest.mark.parametrize("option", ["-R--", "--out=--", "--columns=--"])
+def test_two_dashes_are_no_value_of_an_option(option: str) -> None:
+    save("list", b"ann:password\n")
+    done = pwhash("file", option, "list")
+    assert done.status == 2 and b"--" in done.err and b"bug" not in done.err, done
+
+
 def test_a_word_after_two_dashes_is_not_an_option() -> None:
     done = pwhash("verify", "--quiet", "--", "--budget", "ann", stdin=b"x\n")
     assert done.status == 3 and b"--budget" in done.err and b"No such file" in done.err, done

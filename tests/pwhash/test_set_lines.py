@@ -335,6 +335,13 @@ def test_a_line_that_ends_with_a_carriage_return_is_refused(words: tuple[str, ..
     assert (done.status, read("file")) == (2, content) and b"carriage return" in done.err, done
 
 
+def test_a_plain_password_that_begins_with_a_mark_is_not_taken_for_a_lock() -> None:
+    content = b"ann:{PLAIN}!Secret\n"
+    save("file", content)
+    done = pwhash("set", "--for", "dovecot", *MD5CRYPT, "file", "ann", stdin=b"password\n")
+    assert (done.status, read("file")) == (2, content) and b"--delete" in done.err, done
+
+
 @pytest.mark.parametrize("action", [(), ("--lock",)], ids=["set", "lock"])
 def test_the_realm_of_a_file_of_htdigest_stays(action: tuple[str, ...]) -> None:
     content = b"ann:Members Area:5f4dcc3b5aa765d61d8327deb882cf99\n"

@@ -127,6 +127,8 @@ def mark_operands(arguments: Sequence[str]) -> List[str]:
 def unmark_operands(parsed: argparse.Namespace) -> argparse.Namespace:
     """Returns the parsed arguments without the marks."""
     for key, value in vars(parsed).items():
+        if value == []:  # what argparse makes of --out=--
+            raise UsageError("an option has -- as its value. Give it another one.")
         if isinstance(value, str) and value.startswith(OPERAND_MARK):
             setattr(parsed, key, value[len(OPERAND_MARK) :])
     return parsed

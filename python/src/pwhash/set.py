@@ -107,6 +107,11 @@ class Line:
     def _refuse_other_field(self, content: bytes, entry: Entry) -> None:
         """Refuses a second field that is no hash: in htdigest's files it is a realm."""
         old, behind = entry.field, content[entry.field_end : entry.field_end + 1]
+        if old.is_locked and not old.is_surely_locked:
+            raise UsageError(
+                f"{self._file}, line {entry.number}: perhaps a password as it is, which begins "
+                "with a mark, or a locked one. Nothing was changed: first --delete the line."
+            )
         may_be_replaced = old.is_locked or old.prefix or old.stored in (b"", b"x")
         if may_be_replaced or behind != b":" or old.can_be_locked():
             return

@@ -43,7 +43,7 @@ class Target:
     def locks(self, name: bytes) -> bool:
         """Whether a name is surely kept out."""
         old = self.lines.get(name)
-        return name in self._commented_out or (old is not None and old.field.is_locked)
+        return name in self._commented_out or (old is not None and old.field.is_surely_locked)
 
     def rest_of(self, name: bytes) -> bytes:
         """Returns the further fields of a name, with the colon that begins them."""
@@ -79,7 +79,9 @@ class Target:
 
     def _may_keep_out(self, name: bytes) -> bool:
         old = self.lines.get(name)
-        return old is not None and not old.field.is_locked and not old.field.looks_whole
+        if old is None or old.field.is_surely_locked:
+            return False
+        return not old.field.looks_whole
 
     def _refuse_other_file(self) -> None:
         """Refuses a file in which no line has a hash, a prefix of one, or a mark."""
@@ -108,7 +110,7 @@ def read_lines(lines: Iterable[bytes]) -> Dict[bytes, OldLine]:
             continue
         stored, colon, others = rest.partition(b":")
         new = OldLine(field.field_of(stored), colon + others)
-        if name not in found or new.field.is_locked:
+        if name not in found or new.field.is_surely_locked:
             found[name] = new
     return found
 
