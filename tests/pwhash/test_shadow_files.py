@@ -48,29 +48,30 @@ def test_a_file_without_fields_is_named(script: str, reason: bytes) -> None:
 
 
 @pytest.mark.parametrize(
-    "script",
+    ("script", "status"),
     [
-        pytest.param('"$@" check --shadow <(cat shadow)', id="a pipe of the shell"),
-        pytest.param('"$@" check --shadow <(sleep 5; cat shadow)', id="a slow pipe"),
+        pytest.param('"$@" check --shadow <(cat shadow)', 0, id="a pipe of the shell"),
+        pytest.param('"$@" check --shadow <(sleep 5; cat shadow)', 0, id="a slow pipe"),
         pytest.param(
-            'mkfifo pipe; cat shadow > pipe & "$@" check --shadow pipe', id="a pipe with a name"
+            'mkfifo pipe; cat shadow > pipe & "$@" check --shadow pipe', 0, id="a pipe with a name"
         ),
-        pytest.param('"$@" check --shadow /dev/stdin list < shadow', id="standard input"),
-        pytest.param('"$@" check --shadow <(cat many shadow)', id="many fields for one name"),
+        pytest.param('"$@" check --shadow /dev/stdin list < shadow', 0, id="standard input"),
+        pytest.param('"$@" check --shadow <(cat many shadow)', 1, id="many fields for one name"),
     ],
 )
-def test_fields_are_read_from_a_pipe_or_standard_input(script: str) -> None:
+def test_fields_are_read_from_a_pipe_or_standard_input(script: str, status: int) -> None:
     save("shadow", SHADOW)
     save("list", b"ann:password\n")
     save("many", b"eve:!:1:::\n" * 1000000)
     done = bash(script)
-    assert (done.status, done.out) == (0, b"ann:ok\n"), done
+    assert (done.status, done.out) == (status, b"ann:ok\n"), done
 
 
 def test_the_first_field_of_a_name_counts() -> None:
     save("shadow", b"no colon\n" + SHADOW + b"ann:!\nbob:" + MD5.encode())
     done = pwhash("check", "--shadow", "shadow", stdin=b"ann:password\nbob:password\n")
-    assert (done.status, done.out) == (0, b"ann:ok\nbob:locked\n"), done
+    assert (done.status, done.out) == (1, b"ann:ok\nbob:locked\n"), done
+    assert b"the name again, after line 2" in done.err, done
 
 
 def test_a_last_field_without_a_line_feed_counts() -> None:

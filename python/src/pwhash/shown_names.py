@@ -15,8 +15,11 @@ from pwhash.text import printable
 
 MAX_NAMED = 20  # names, or numbers of lines, in a message
 LONGEST_SHOWN = 64  # bytes; no name that mkpasswd accepts is longer
-# What names of users have. Beside a blank, a quote or a separator of tables a line may be a row, and
-# with another sign, or both a capital and a digit, the name may be a password.
+# Blanks, quotes and the separators of tables, also full-width ones: the line may be a row.
+IN_NO_NAME = re.compile("[\\s,;|\"'`\u2018-\u201f\xab\xbb\uff0c\uff1a\uff1b\uff5c]")
+# What may be a hash of DES: 13 characters of all kinds.
+DES = re.compile(rb"(?=.*[A-Z])(?=.*[a-z])(?=.*[./0-9])[./0-9A-Za-z]{13}")
+# What names of users have. With another sign, or both a capital and a digit, it may be a password.
 OF_NAMES = re.compile(r"[\w.@+\\-]+")
 CAPITAL_AND_DIGIT = re.compile(r"(?=.*[A-Z])(?=.*[0-9])")
 # The beginning of a hash or of a cut one, as $6$ and {SSHA}.
@@ -24,17 +27,26 @@ BEGINS_LIKE_HASH = re.compile(rb"[!*]*(?:\$|\{[A-Za-z0-9.-]+\})")
 
 
 def may_be_shown(name: bytes) -> bool:
-    """Whether this looks like a name, and not like a password, a hash or a row of a table.
+    """Whether this looks like a name, and not like a hash or a row of a table.
 
     Blanks around it don't matter.
     """
     name = name.strip()
     if not name or len(name) > LONGEST_SHOWN:
         return False
-    text = name.decode(errors="ignore")
+    if IN_NO_NAME.search(name.decode(errors="replace")):
+        return False
+    if BEGINS_LIKE_HASH.match(name) or is_digest(name) or DES.fullmatch(name):
+        return False
+    return not is_stored(name)
+
+
+def is_no_password(name: bytes) -> bool:
+    """Whether this looks like a name, and not like a password either, whose column is another."""
+    text = name.strip().decode(errors="ignore")
     if not OF_NAMES.fullmatch(text) or CAPITAL_AND_DIGIT.match(text):
         return False
-    return not (BEGINS_LIKE_HASH.match(name) or is_digest(name) or is_stored(name))
+    return may_be_shown(name)
 
 
 def could_be_name(field: bytes) -> bool:
@@ -50,7 +62,7 @@ def shown_name(name: bytes, number: int) -> str:
 def shown_line(file_name: str, number: int, name: bytes) -> str:
     """Returns where a line is, as "list, line 12 (ann)", without what may be no name."""
     where = f"{file_name}, line {number}"
-    return f"{where} ({printable(name.strip())})" if may_be_shown(name) else where
+    return f"{where} ({printable(name.strip())})" if is_no_password(name) else where
 
 
 def list_names(names: Sequence[bytes]) -> str:
