@@ -390,8 +390,9 @@ MKPASSWD_CHECKED static inline bool mkpasswd_bound(
 MKPASSWD_WRITES(2, 3)
 static inline bool mkpasswd_message(uint32_t error, char *out, size_t out_size);
 
-/* Puts crypt(5)'s name of a scheme that mkpasswd_audit() reports into `out`, as mkpasswd_message()
- * does; for any other number it puts "unknown scheme" there and returns false. */
+/* Puts the name that crypt(5) has for a scheme into `out` and returns true. The scheme is a number
+ * that mkpasswd_audit() reports; for any other number the call puts "unknown scheme" there and
+ * returns false. If `out` is too small, it cuts the name as mkpasswd_message() cuts a message. */
 MKPASSWD_WRITES(2, 3)
 static inline bool mkpasswd_scheme_name(uint32_t scheme, char *out, size_t out_size);
 

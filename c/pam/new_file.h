@@ -16,7 +16,8 @@ struct new_file {
 bool make_new_file(const struct place *place, const struct password_file *old,
     struct mkpasswd_field field, const char *new_field, struct new_file *new);
 
-/* Gives the file the place's new_name, unless it has a name already. */
+/* Gives the file the place's new_name, unless it has a name already. If this fails, returns false,
+ * and errno says why. */
 bool name_new_file(const struct place *place, struct new_file *new);
 
 /* Removes the file's name, if it has one. */

@@ -91,7 +91,7 @@ class Machine:
         return {name: Entry(field, f":{rest}") for name, field, rest in parts}
 
     def write(self, name: str, content: bytes) -> None:
-        """Writes a file in the folder."""
+        """Writes a file for the recipes to read; they run in this folder."""
         (self.folder / name).write_bytes(content)
 
     def follow(self, mark: str, language: str = "sh", stdin: bytes = b"") -> "Followed":

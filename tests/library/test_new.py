@@ -18,7 +18,7 @@ from support.model.calls import (
     salt_of,
     in_each_form,
 )
-from support.model.work import cost
+from support.model.work import LONGEST_PASSWORD, cost
 from support.policies import CLAMPED, INVALID_POLICIES, POLICIES, InvalidPolicy, Policy
 
 LOWEST_DIGITS = System(random_bytes=b"\x81" + b"\0" * 23)
@@ -34,7 +34,7 @@ SYSTEMS = pytest.mark.parametrize(
     ],
 )
 VALID = [policy for policy in POLICIES if policy not in CLAMPED]
-PASSWORDS = (b"password", b"a" * 1025, b"pass\0")
+PASSWORDS = (b"password", b"a" * (LONGEST_PASSWORD + 1), b"pass\0")
 DEAR = 10_000_000
 
 
@@ -79,6 +79,7 @@ def test_the_first_of_several_refusals_of_a_new_hash_is_reported(
 def test_each_form_makes_a_new_hash_and_accepts_null_pointers(
     driver: Driver, policy: Policy, system: System
 ) -> None:
+    """Calls the exported function, and the inline one with a password of bytes and of a string."""
     price = cost(policy.setting, 8)
     calls = in_each_form(
         New(b"password", policy.method, policy.rounds, price),

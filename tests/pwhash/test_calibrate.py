@@ -48,8 +48,8 @@ FLOOR = 150_000_000  # the library's lowest default limit
 EVER = "999999s"
 
 
-@pytest.fixture(scope="module", name="calibrate")
-def fixture_calibrate(program: Path) -> Iterator[Copy]:
+@pytest.fixture(scope="module", name="copy_with_speed")
+def fixture_copy_with_speed(program: Path) -> Iterator[Copy]:
     """A copy of pwhash that takes the machine's speed from SPEED."""
     with copied(program) as copy:
         (copy.modules / "pwhash/speed.py").write_text(SPEED, encoding="ascii")
@@ -65,9 +65,9 @@ def fixture_hasty(program: Path) -> Iterator[Copy]:
         yield copy
 
 
-def answer(calibrate: Copy, *words: str) -> Result:
+def answer(copy_with_speed: Copy, *words: str) -> Result:
     """Runs pwhash calibrate, which must succeed."""
-    done = calibrate.run("calibrate", *words)
+    done = copy_with_speed.run("calibrate", *words)
     assert done.status == 0, done
     return done
 
@@ -131,16 +131,18 @@ def policy_in(line: str) -> Policy:
     ],
 )
 def test_the_rounds_are_the_most_that_a_login_has_time_for(
-    calibrate: Copy, given: str, expected: list[Policy]
+    copy_with_speed: Copy, given: str, expected: list[Policy]
 ) -> None:
-    assert policies_in(answer(calibrate, given).stdout) == expected
+    assert policies_in(answer(copy_with_speed, given).stdout) == expected
 
 
 @pytest.mark.parametrize("method", NUMBERS)
-def test_more_time_never_gives_fewer_rounds_or_a_lower_budget(calibrate: Copy, method: str) -> None:
+def test_more_time_never_gives_fewer_rounds_or_a_lower_budget(
+    copy_with_speed: Copy, method: str
+) -> None:
     rounds = budget = 0
     for seconds in (1.35, 1.4, 1.49, 1.5, 1.51, 1.6, 2, 2.6, 2.7, 5, 5.5, 60, 999999):
-        done = answer(calibrate, f"{seconds}s", "-m", method)
+        done = answer(copy_with_speed, f"{seconds}s", "-m", method)
         policy = policy_in(done.stdout.decode().rstrip("\n"))
         assert policy.rounds >= rounds and policy.budget >= budget, done
         assert policy.budget <= seconds * COST_OF_SECOND, done
@@ -148,9 +150,9 @@ def test_more_time_never_gives_fewer_rounds_or_a_lower_budget(calibrate: Copy, m
 
 
 @pytest.mark.parametrize("given", ["50ms", "300ms", "1.4s", "1.5s", "3s", EVER])
-def test_a_budget_is_the_librarys_limit_for_the_policy(calibrate: Copy, given: str) -> None:
+def test_a_budget_is_the_librarys_limit_for_the_policy(copy_with_speed: Copy, given: str) -> None:
     """The budget admits a new hash of a 64-byte password. From FLOOR on, it needn't be given."""
-    for policy in policies_in(answer(calibrate, given).stdout):
+    for policy in policies_in(answer(copy_with_speed, given).stdout):
         name = next(name for name, number in NUMBERS.items() if number == policy.method)
         limit = mkpasswd.Policy(name, policy.rounds, policy.budget).limit()
         assert limit.cost == policy.budget and limit.longest_password >= 64, policy
@@ -164,16 +166,16 @@ def test_a_budget_is_the_librarys_limit_for_the_policy(calibrate: Copy, given: s
     [("3ms", "sha256crypt"), ("4ms", "sha512crypt"), ("1.3s", "scrypt"), ("0ms", "scrypt")],
 )
 def test_too_little_time_for_the_fewest_rounds_is_reported(
-    calibrate: Copy, given: str, method: str
+    copy_with_speed: Copy, given: str, method: str
 ) -> None:
     """The fewest rounds need budgets of 341,280, 405,344 and 134,273,864, at 10 ns per unit."""
-    done = calibrate.run("calibrate", given, "-m", method)
+    done = copy_with_speed.run("calibrate", given, "-m", method)
     assert (done.status, done.stdout) == (1, b"") and done.stderr.count(b"\n") == 1, done
     assert method.encode() in done.stderr and b"even with -R" in done.stderr, done
 
 
-def test_methods_that_take_longer_are_named_beside_the_others(calibrate: Copy) -> None:
-    done = answer(calibrate, "300ms")
+def test_methods_that_take_longer_are_named_beside_the_others(copy_with_speed: Copy) -> None:
+    done = answer(copy_with_speed, "300ms")
     assert b"scrypt takes longer: even with -R 6" in done.stderr, done
     assert b"134,273,864" in done.stderr and b"1.4 s" in done.stderr, done
 
@@ -199,8 +201,8 @@ def test_the_slowest_hash_counts_but_a_single_slow_measurement_does_not(copy: Co
 # ---- Lines to paste
 
 
-def test_a_printed_line_works_as_options(calibrate: Copy) -> None:
-    for line in answer(calibrate, "1.4s").stdout.decode().splitlines():
+def test_a_printed_line_works_as_options(copy_with_speed: Copy) -> None:
+    for line in answer(copy_with_speed, "1.4s").stdout.decode().splitlines():
         done = pwhash(*line.split(), stdin=b"x" * 64 + b"\n")
         assert done.status == 0, done
         done = pwhash("verify", *line.split(), stdin=b"x" * 64 + b"\n" + done.out)
@@ -227,9 +229,9 @@ int main(void)
 
 @pytest.mark.parametrize("given", ["300ms", "2s"])
 def test_the_forms_for_c_and_python_have_the_same_limit(
-    calibrate: Copy, folder: Path, given: str
+    copy_with_speed: Copy, folder: Path, given: str
 ) -> None:
-    done = answer(calibrate, given)
+    done = answer(copy_with_speed, given)
     expected = policies_in(done.stdout)
     codes = CODE.findall(done.stderr.decode())
     (folder / "limits.c").write_text(LIMIT_OF % ", ".join(code[0] for code in codes), "ascii")
@@ -243,29 +245,29 @@ def test_the_forms_for_c_and_python_have_the_same_limit(
         assert (limit.rounds, limit.cost) == (policy.rounds, policy.budget), done
 
 
-def test_a_budget_below_the_floor_must_be_given(calibrate: Copy) -> None:
-    done = answer(calibrate, "300ms")
+def test_a_budget_below_the_floor_must_be_given(copy_with_speed: Copy) -> None:
+    done = answer(copy_with_speed, "300ms")
     assert b"give the budget, too" in done.stderr and b"150,000,000" in done.stderr, done
-    done = answer(calibrate, "2s")
+    done = answer(copy_with_speed, "2s")
     assert b"give the budget" not in done.stderr, done
 
 
-def test_the_advice_says_that_renewing_a_hash_takes_longer(calibrate: Copy) -> None:
-    assert b"twice as long" in answer(calibrate, "300ms").stderr
+def test_the_advice_says_that_renewing_a_hash_takes_longer(copy_with_speed: Copy) -> None:
+    assert b"twice as long" in answer(copy_with_speed, "300ms").stderr
 
 
 @pytest.mark.parametrize("given", ["300ms", "2s"])
 def test_the_advice_says_where_to_read_how_to_find_users_whom_a_budget_keeps_out(
-    calibrate: Copy, given: str
+    copy_with_speed: Copy, given: str
 ) -> None:
     section = "A time for a login"
     assert f"### {section}\n" in (ROOT / "docs/GUIDE.md").read_text(encoding="utf-8")
-    done = answer(calibrate, given)
+    done = answer(copy_with_speed, given)
     assert f'GUIDE.md says under "{section}"'.encode() in done.stderr, done
 
 
-def test_a_quiet_run_gives_no_advice(calibrate: Copy) -> None:
-    done = answer(calibrate, "300ms", "--quiet", "-m", "sha256crypt")
+def test_a_quiet_run_gives_no_advice(copy_with_speed: Copy) -> None:
+    done = answer(copy_with_speed, "300ms", "--quiet", "-m", "sha256crypt")
     assert (done.stdout, done.stderr) == (b"-m sha256crypt -R 92000 --budget 29738624\n", b""), done
 
 
@@ -273,8 +275,8 @@ def test_a_quiet_run_gives_no_advice(calibrate: Copy) -> None:
 
 
 @pytest.mark.parametrize("given", ["300ms", "0.3s", "000300ms", "0.300000s", "300.0ms"])
-def test_a_time_has_several_forms(calibrate: Copy, given: str) -> None:
-    done = answer(calibrate, "-m", "sha512crypt", given)
+def test_a_time_has_several_forms(copy_with_speed: Copy, given: str) -> None:
+    done = answer(copy_with_speed, "-m", "sha512crypt", given)
     assert done.stdout == b"-m sha512crypt -R 77000 --budget 29820992\n", done
 
 

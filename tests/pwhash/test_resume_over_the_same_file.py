@@ -93,7 +93,10 @@ def by_shell(command: str) -> Ended:
 
 
 def other_passwords() -> bytes:
-    """Returns a list of the same size with the same first line, which --resume hashes again."""
+    """Returns the list with another password in its second line.
+
+    The size is the same, and --resume hashes only the first and last lines of a part again.
+    """
     return users(COUNT).replace(b":password1\n", b":PASSWORD1\n")
 
 

@@ -115,8 +115,13 @@ def test_the_library_is_machine_code_with_flags_for_link_time_optimization(tmp_p
 # ---- Changed flags
 
 FIRST_FLAGS = "CFLAGS=-g -O1"
-# The C code of the files that make builds: for the program, then for the library and the module.
-COMPILED = ("heap-of-program.o", "calls.o", "heap-of-library.o", "pam_mkpasswd.so")
+# The files that make compiles from C code, and what each belongs to.
+COMPILED = (
+    "heap-of-program.o",  # the program
+    "calls.o",  # the libraries and the PAM module
+    "heap-of-library.o",  # the libraries and the PAM module
+    "pam_mkpasswd.so",  # the PAM module itself: one command compiles and links it
+)
 LINKED = ("mkpasswd", "libmkpasswd.so.3", "pam_mkpasswd.so")
 
 

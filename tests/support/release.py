@@ -64,6 +64,7 @@ def pack(
 
 def packed(processor: str, folder: Path) -> Archive:
     """Packs the archive for a processor, and unpacks it in a folder."""
+    # An archive's name has only the architecture. Other processors are kinds of x86_64.
     machine = "aarch64" if processor == "aarch64" else "x86_64"
     archive = Archive(folder / f"mkpasswd-{version()}-{machine}-linux.tar.gz", folder / "tree")
     pack(processor, archive.file).required()

@@ -60,7 +60,7 @@ def of_hashlib(log_n: int, r: int, p: int) -> str:
 DEFAULT = scrypt_setting(14, 32, 1)
 SMALL = scrypt_setting(10, 8, 1)
 LARGE = scrypt_setting(16, 32, 1)  # takes 256 MiB, more than a worker keeps
-HASH_OF_DEFAULT = of_libxcrypt(PASSWORD, DEFAULT)
+PASSWORD_HASH_AT_DEFAULT = of_libxcrypt(PASSWORD, DEFAULT)
 HASH_OF_SMALL = of_libxcrypt(PASSWORD, SMALL)
 HASH_OF_LARGE = of_libxcrypt(PASSWORD, LARGE)
 HASH_OF_SHA = of_libxcrypt(PASSWORD, "$6$rounds=656000$saltsaltsaltsalt")
@@ -110,7 +110,7 @@ def test_right_password_matches_and_wrong_one_does_not(
 @pytest.fixture(scope="module")
 def without_memory(report_of: Callable[..., Report]) -> Report:
     """The results of calls if no instance can get the memory for the default cost."""
-    rows = [PASSWORD, HASH_OF_DEFAULT, HASH_OF_SMALL, HASH_OF_SHA]
+    rows = [PASSWORD, PASSWORD_HASH_AT_DEFAULT, HASH_OF_SMALL, HASH_OF_SHA]
     return report_of("withoutMemory", rows, TOO_LITTLE_MEMORY)
 
 
@@ -161,7 +161,7 @@ def test_other_hashes_are_checked_even_without_memory_for_some(
 def logins_at_once(count: int) -> list[list[str]]:
     """Returns passwords and hashes for logins. Every fourth password is wrong."""
     typed = [PASSWORD if number % 4 else "wrong" for number in range(count)]
-    return [[password, HASH_OF_DEFAULT] for password in typed]
+    return [[password, PASSWORD_HASH_AT_DEFAULT] for password in typed]
 
 
 def matches(rows: list[list[str]]) -> list[bool]:
@@ -251,7 +251,13 @@ RIGHT = {"matches": True}
 
 def test_memory_of_a_worker_grows_to_the_largest_need(report_of: Callable[..., Report]) -> None:
     """The checks have different costs, and a new hash of 32 MiB follows some of them."""
-    stored = (HASH_OF_SMALL, HASH_OF_DEFAULT, HASH_OF_SMALL, HASH_OF_SHA, HASH_OF_DEFAULT)
+    stored = (
+        HASH_OF_SMALL,
+        PASSWORD_HASH_AT_DEFAULT,
+        HASH_OF_SMALL,
+        HASH_OF_SHA,
+        PASSWORD_HASH_AT_DEFAULT,
+    )
     report = report_of("inTurn", [[PASSWORD, field] for field in stored])
     assert report["outcomes"] == [RIGHT] * len(stored), report
     (worker,) = report["workers"]
@@ -261,7 +267,7 @@ def test_memory_of_a_worker_grows_to_the_largest_need(report_of: Callable[..., R
 
 @pytest.mark.slow
 def test_worker_does_not_keep_a_very_large_memory(report_of: Callable[..., Report]) -> None:
-    stored = (HASH_OF_LARGE, HASH_OF_DEFAULT)
+    stored = (HASH_OF_LARGE, PASSWORD_HASH_AT_DEFAULT)
     report = report_of("inTurn", [["wrong", field] for field in stored])
     assert report["outcomes"] == [False, False], report
     of_large, of_default = report["workers"]
@@ -271,7 +277,7 @@ def test_worker_does_not_keep_a_very_large_memory(report_of: Callable[..., Repor
 
 
 def test_instance_that_traps_is_wiped_and_replaced(report_of: Callable[..., Report]) -> None:
-    report = report_of("trapping", [[PASSWORD, HASH_OF_DEFAULT]] * 3)
+    report = report_of("trapping", [[PASSWORD, PASSWORD_HASH_AT_DEFAULT]] * 3)
     assert report["outcomes"] == ["Error: unreachable", RIGHT, RIGHT], report
     (worker,) = report["workers"]
     assert (worker["instances"], worker["unwiped"]) == (2, 0), report

@@ -126,7 +126,7 @@ def hashes(pairs: Sequence[Pair]) -> str:
 # Proofs and tests
 
 
-def of_gate(gate: Gate) -> str:
+def counts_of_gate(gate: Gate) -> str:
     """Returns the gate's counts."""
     return f"{gate.passed} passed, {gate.failed} failed"
 
@@ -139,7 +139,7 @@ def proofs(pairs: Sequence[Pair]) -> str:
             return (
                 "In a new clone, and with nothing that an earlier run had proved, the gate "
                 f"proved {gate.functions} functions and those of the crates' tests, and refused "
-                f"{gate.mutants} mutants: {of_gate(gate)}.\n"
+                f"{gate.mutants} mutants: {counts_of_gate(gate)}.\n"
             )
     return ""
 
@@ -160,7 +160,7 @@ def tests(pairs: Sequence[Pair]) -> str:
     rows = [
         [
             system,
-            of_gate(check.gate),
+            counts_of_gate(check.gate),
             f"{number(check.passed)} passed, {check.failed} failed",
             str(sum(skip.count for skip in check.skips)),
         ]

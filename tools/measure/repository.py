@@ -44,7 +44,10 @@ class Repository:
         return self.git("status", "--porcelain", "--", ".", f":(exclude){PAGE}*").splitlines()
 
     def hash_of(self, commit: str, files: str) -> str:
-        """Returns the hash of a file, of a folder, or of all files."""
+        """Returns git's hash of a file, a folder or ALL_FILES in a commit.
+
+        It computes each hash only once.
+        """
         known = self.hashes.get((commit, files))
         if known is None:
             known = self.hashes[commit, files] = self.computed_hash(commit, files)

@@ -132,7 +132,8 @@ def refuse_untrusted_link(folder: int, name: str, status: os.stat_result, rule: 
         raise UsageError(
             f"{link} belongs to another user, who could make it lead elsewhere. {advice}"
         )
-    # In a folder such as /tmp nobody else can remove the link.
+    # The rule for new files allows sticky folders such as /tmp:
+    # nobody else can remove the link there.
     rule_of_link = Rule(link, rule.trusted, advice, is_for_new_file=True)
     refuse_untrusted(folder, rule_of_link)
 

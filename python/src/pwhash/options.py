@@ -67,7 +67,7 @@ class Input(NamedTuple):
 
 
 class SingleOptions(NamedTuple):
-    """pwhash without a command: one password."""
+    """The options of pwhash without a command, which hashes one password."""
 
     policy: Policy
     form: Form
@@ -85,7 +85,7 @@ class Generate(NamedTuple):
 
 
 class FileOptions(NamedTuple):
-    """pwhash file."""
+    """The options of pwhash file, which hashes the passwords of a list."""
 
     policy: Policy
     input: Input
@@ -102,7 +102,7 @@ class FileOptions(NamedTuple):
 
 
 class CheckOptions(NamedTuple):
-    """pwhash check."""
+    """The options of pwhash check, which checks passwords against stored hashes."""
 
     policy: Policy
     input: Input
@@ -113,7 +113,7 @@ class CheckOptions(NamedTuple):
 
 
 class AuditOptions(NamedTuple):
-    """pwhash audit."""
+    """The options of pwhash audit, which judges stored hashes."""
 
     policy: Policy
     input: Input
@@ -133,7 +133,7 @@ class Action(enum.Enum):
 
 
 class SetOptions(NamedTuple):
-    """pwhash set."""
+    """The options of pwhash set, which changes one user's line in a password file."""
 
     policy: Policy
     path: str
@@ -146,7 +146,7 @@ class SetOptions(NamedTuple):
 
 
 class InstallOptions(NamedTuple):
-    """pwhash install."""
+    """The options of pwhash install, which puts a list of hashes into a password file."""
 
     policy: Policy
     hashes: str
@@ -161,7 +161,7 @@ class InstallOptions(NamedTuple):
 
 
 class VerifyOptions(NamedTuple):
-    """pwhash verify."""
+    """The options of pwhash verify, which checks one password against one hash."""
 
     budget: int
     path: str  # empty if pwhash asks for the hash
@@ -169,7 +169,7 @@ class VerifyOptions(NamedTuple):
 
 
 class CalibrateOptions(NamedTuple):
-    """pwhash calibrate."""
+    """The options of pwhash calibrate, which finds the rounds that fit a time."""
 
     time: str  # that a login may take, as the user typed it
     seconds: float

@@ -30,7 +30,7 @@ class Entry(NamedTuple):
 
 
 class OddLine(NamedTuple):
-    """The number of a line that a password file doesn't have, and what is wrong with it."""
+    """The number of a malformed line in a password file, and what is wrong with it."""
 
     number: int
     reason: str
