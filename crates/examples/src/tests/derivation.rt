@@ -58,7 +58,7 @@ fn want_key(rt: &impl Abort, key: &[u8], digests: u128, bytes: u128) -> HmacKey 
     hmac
 }
 
-// Asserts the tag of a text that is passed in two pieces, and the work of the tag.
+// Asserts the tag of a message that is passed in two pieces, and the work of the tag.
 fn want_tag(
     rt: &impl Abort,
     alloc: Global,
@@ -251,8 +251,8 @@ struct Row {
     wanted: &'static str,
 }
 
-// Rows 1 to 3 are from RFC 7914, section 12, whose fourth vector needs a table of 1 GiB, too much for a test. Row 4 is
-// row 1 with half of its bytes. The other rows come from Python's `hashlib`: passwords of 64 and of 65 bytes, since
+// The first three are from RFC 7914, section 12, whose fourth vector needs a table of 1 GiB, too much for a test. The
+// fourth is the first with half of its bytes. The others come from Python's `hashlib`: 64 and 65 bytes of password, as
 // HMAC digests a longer key than 64 bytes; N of 2; a result that ends in a part of a block; no bytes; many parts; and a
 // part of many blocks.
 const ROWS: &[Row] = &[
