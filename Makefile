@@ -254,9 +254,11 @@ gate:
 test: $(TESTED)
 	tools/test $(if $(ONLY),-k '$(ONLY)')
 
-## answers LINES random lines of each kind, by SEED, and compares with what the rules say
+## answers LINES random lines of each kind, or of KIND (hash or hostile), by SEED, and compares with
+## what the rules say
 soak: mkpasswd
-	tools/soak $(if $(LINES),--lines $(LINES)) $(if $(SEED),--seed $(SEED)) ./mkpasswd
+	tools/soak $(if $(KIND),--kind $(KIND)) $(if $(LINES),--lines $(LINES)) \
+		$(if $(SEED),--seed $(SEED)) ./mkpasswd
 
 FUZZERS := $(patsubst tests/c/fuzz_%.c,build/fuzz/%,$(wildcard tests/c/fuzz_*.c))
 
