@@ -5,11 +5,14 @@ Calls of make and rt are recorded.
 """
 from __future__ import annotations
 
+import json
+import re
 import shutil
 import time
 from collections.abc import Callable
 from dataclasses import dataclass
 from pathlib import Path
+from typing import Any
 
 from . import ROOT
 from .process import Changes, Result, Word, run
@@ -22,7 +25,7 @@ logic=proved tests=6 functions=100 sum=1
 rt: ok; handles allowed: none; must-fail edits: 7 refused; {share}
 9 passed, 0 failed
 """
-SOAK = "soak: seed 11, 10000000 lines of each kind\nsoak: 0 differences\n"
+DIFFERENCES = "soak: 0 differences\n"
 FUZZ = "INFO: Seed: 12\nDone 345 runs in 3 second(s)\nstat::number_of_executed_units: 345\n"
 PLANT = """\
 refused     src/lib.rt:3 one: { None }  (is_one)
@@ -55,7 +58,7 @@ SPEED = """\
 # The files beside the fake commands: their outputs.
 OUTPUTS = {
     "gate.log": GATE.format(share=FROM_NOTHING),
-    "soak": SOAK,
+    "soak": DIFFERENCES,
     "fuzz": FUZZ,
     "plant": PLANT,
     "check": CHECK,
@@ -69,7 +72,11 @@ echo "make $*" >> "$fakes/calls"
 case $1 in
 gate) mkdir -p build/log && cp "$fakes/gate.log" build/log ;;
 bench) cp "$fakes/speed.json" docs ;;
-soak | fuzz) cat "$fakes/$1" ;;
+soak)
+    echo "soak: seed ${4#SEED=}, ${3#LINES=} ${2#KIND=} lines"
+    cat "$fakes/soak"
+    ;;
+fuzz) cat "$fakes/fuzz" ;;
 dist)
     echo 'an archive' > mkpasswd-1.tar.gz
     sha256sum mkpasswd-1.tar.gz > SHA256SUMS
@@ -114,6 +121,7 @@ COMMANDS = {
 }
 FILES = {
     ".gitignore": "build/\n",
+    "CHANGELOG.md": "",
     "HANDLES": "Handles allowed: none.\n",
     "Makefile": "",
     "README.md": "",
@@ -127,10 +135,17 @@ FILES = {
     "tests/packages.txt": "gcc cc\n",
     "tests/pwhash/test_out.py": '"""Files that pwhash writes. And more."""\n',
     "tests/python/test_others.py": '"""The tests of\nsomebody else."""\n',
+    "tests/support/__init__.py": "",
+    "tests/support/libxcrypt.py": "",
+    "tests/support/model/answers.py": "",
     "tests/support/process.py": "",
+    "tests/support/random_lines/chunks.py": "",
     "tools/soak": "",
     "web/page.js": "",
 }
+
+
+BUILT = ("mkpasswd", "build/fuzz/hash")  # the targets that are built before a measurement
 
 
 @dataclass(frozen=True)
@@ -157,11 +172,13 @@ class MeasuredTree:
     def states(self) -> dict[str, str]:
         """Returns the state of each part, as --list prints it."""
         lines = self.evidence("--list").required().stdout.decode().splitlines()
-        return {line.split()[0]: line.split(maxsplit=1)[1] for line in lines}
+        of_parts = [line for line in lines if not line.startswith("evidence: ")]
+        return {line.split()[0]: line.split(maxsplit=1)[1] for line in of_parts}
 
     def not_measured(self) -> set[str]:
-        """Returns the parts whose state in --list is "not measured"."""
-        return {name for name, state in self.states().items() if state == "not measured"}
+        """Returns the parts that have no result in --list, or one that no longer counts."""
+        without = ("not measured; ", "outdated: ")
+        return {name for name, state in self.states().items() if state.startswith(without)}
 
     def page(self) -> str:
         """Returns the page that tools/evidence wrote."""
@@ -172,9 +189,27 @@ class MeasuredTree:
         path = self.fakes / "calls"
         return path.read_text(encoding="utf-8").splitlines() if path.exists() else []
 
+    def measurements(self) -> list[str]:
+        """Returns the recorded calls that measure, not those that build.
+
+        Seeds, and the numbers of checks at once, are replaced by N.
+        """
+        calls = [re.sub("(SEED=|--jobs )[0-9]+", r"\1N", call) for call in self.calls()]
+        return [call for call in calls if call.split()[1] not in BUILT]
+
     def kept(self, pattern: str) -> list[str]:
-        """Returns the names of measurements' kept files that match a pattern."""
+        """Returns the names of logs, artifacts and fuzzers' inputs that match a pattern."""
         return sorted(path.name for path in self.folder.glob(f"build/evidence/*/{pattern}"))
+
+    def results(self, pattern: str = "*") -> list[str]:
+        """Returns the names of the parts with results that match a pattern."""
+        return sorted(path.stem for path in self.folder.glob(f"docs/evidence/{pattern}.json"))
+
+    def result(self, part: str) -> dict[str, Any]:
+        """Returns the result of a part."""
+        path = self.folder / f"docs/evidence/{part}.json"
+        whole: dict[str, Any] = json.loads(path.read_text(encoding="utf-8"))
+        return whole
 
     def write(self, path: str, text: str) -> None:
         """Writes a file of the repository."""
@@ -188,9 +223,15 @@ class MeasuredTree:
         who = ("-c", "user.name=somebody", "-c", "user.email=somebody@mkpasswd.invalid")
         self.git(*who, "commit", "--quiet", "--message", "files")
 
-    def git(self, *words: str) -> None:
-        """Runs git in the repository."""
-        run("git", "-C", self.folder, *words).required()
+    def git(self, *words: str) -> str:
+        """Runs git in the repository, and returns its output without the last line feed."""
+        result = run("git", "-C", self.folder, *words).required()
+        return result.stdout.decode().removesuffix("\n")
+
+    def elsewhere(self, folder: Path) -> MeasuredTree:
+        """Returns a clone of the repository, as on another machine, with the same commands."""
+        run("git", "clone", "--quiet", self.folder, folder).required()
+        return MeasuredTree(folder, self.fakes)
 
     def prepare(self, name: str, output: str) -> None:
         """Writes a fake command's output beside it, or a script that it runs first."""

@@ -40,10 +40,10 @@ class Check:
 
 @dataclass(frozen=True)
 class Soak:
-    """Random lines that got the model's answers."""
+    """Random lines of one kind that got the model's answers."""
 
     seed: int
-    lines: int  # of each kind
+    lines: int
     differences: int
 
 

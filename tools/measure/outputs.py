@@ -111,8 +111,8 @@ def read_unused_linters(log: str) -> tuple[str, ...]:
 
 
 def read_soak(log: str) -> Soak:
-    """Reads `soak: seed 7, 1000 lines of each kind` and `soak: 0 differences`."""
-    begun = last_match(r"^soak: seed (\d+), (\d+) lines", log, "how many lines were answered")
+    """Reads `soak: seed 7, 1000 hash lines` and `soak: 0 differences`."""
+    begun = last_match(r"^soak: seed (\d+), (\d+) \w+ lines$", log, "how many lines were answered")
     ended = last_match(r"^soak: (\d+) differences$", log, "how many answers differ")
     return Soak(int(begun[1]), int(begun[2]), int(ended[1]))
 

@@ -1,29 +1,36 @@
-"""Writes docs/EVIDENCE.md from the saved results, and from nothing else."""
+"""Writes docs/EVIDENCE.md from the results in docs/evidence, and from nothing else."""
 
 from __future__ import annotations
 
+import itertools
 import re
-from collections.abc import Callable, Iterable, Iterator, Sequence
+import string
+from collections.abc import Callable, Iterator, Sequence
+from dataclasses import dataclass
+from typing import Generic, TypeVar
 
+from measure.artifacts import OTHER_ENVIRONMENT, OTHER_USER
 from measure.facts import Artifacts, Bench, Check, Fuzz, Gate, Plant, Plants, Skip, Soak
-from measure.parts import OTHER_ENVIRONMENT, OTHER_USER, Commit, Part
-from measure.repository import ALL_FILES, PAGE
+from measure.markdown import code, duration, number, ranges, table
+from measure.parts import Commit, Part
+from measure.repository import ALL_FILES, PAGE, RESULTS
 from measure.results import Machine, Result
-from measure.roots import RELEASES
 from measure_speed.results import Comparison, Count
 
-HEAD = """\
+HEAD = f"""\
 # Evidence
 
-`make evidence` measured what is below and wrote this page; nothing in it is by hand.
+`make evidence` measured what is below, and wrote this page from the results in `{RESULTS}`; \
+nothing in it is by hand. Each result is followed by its date, its commit and the letter of its \
+machine.
 """
 HASHES = f"""\
 A part counts for every commit in which the toolchain and the files that it rests on are the \
 same. `git rev-parse HEAD:crates` prints the hash of `crates`, and so on. That of {ALL_FILES} \
-(this page, which can't have its own hash) is what this prints:
+(which have the hashes, and so can't have their own) is what this prints:
 
 ```sh
-git ls-tree -r HEAD | grep -v {PAGE} | git hash-object --stdin
+git ls-tree -r HEAD | grep -v -e {PAGE} -e {RESULTS}/ | git hash-object --stdin
 ```
 """
 NOT_MEASURED = "not measured"
@@ -36,90 +43,119 @@ PLANT_COLUMNS = {  # for wrong bodies: rt plant's words, and ours
     "not-source": "not compiled",
 }
 
+Kind = TypeVar("Kind")
 Pair = tuple[Part, Result | None]
 
 
-# Formatting
+@dataclass(frozen=True)
+class Measured(Generic[Kind]):
+    """A part that has found something, with its result."""
+
+    part: Part
+    result: Result
+    found: Kind
 
 
-def table(head: Sequence[str], rows: Iterable[Sequence[str]], numbers: bool = False) -> str:
-    """Returns a table in Markdown. With `numbers`, all columns but the first are right-aligned."""
-    rule = "---:" if numbers else "---"
-    lines = [head, ["---", *[rule] * (len(head) - 1)], *rows]
-    return "".join(f"| {' | '.join(map(in_cell, line))} |\n" for line in lines)
+@dataclass(frozen=True)
+class Evidence:
+    """The parts of a commit, with the results that count for it."""
+
+    pairs: tuple[Pair, ...]
+    toolchain: str
+
+    def results(self) -> list[Result]:
+        """Returns the results, in the order of the parts."""
+        return [result for _, result in self.pairs if result is not None]
+
+    def machines(self) -> dict[Machine, str]:
+        """Returns the machines, with the letters that the page gives them."""
+        in_order = dict.fromkeys(result.machine for result in self.results())
+        return dict(zip(in_order, letters()))
+
+    def measured(self, kind: type[Kind]) -> list[Measured[Kind]]:
+        """Returns the parts that have found facts of this type."""
+        return [
+            Measured(part, result, result.found)
+            for part, result in self.pairs
+            if result is not None and isinstance(result.found, kind)
+        ]
+
+    def stamp(self, result: Result) -> str:
+        """Returns the date, the commit and the machine of a result."""
+        return f"{result.date}, {result.commit[:8]}, {self.machines()[result.machine]}"
 
 
-def in_cell(text: str) -> str:
-    """Returns a text for a cell of a table, with bars escaped."""
-    return text.replace("|", "\\|").replace("\n", " ")
-
-
-def code(text: str) -> str:
-    """Returns a text as inline code, even if it contains backticks."""
-    quotes = "``" if "`" in text else "`"
-    space = " " if "`" in text else ""
-    return f"{quotes}{space}{text}{space}{quotes}"
-
-
-def number(count: int) -> str:
-    """Returns a number with commas."""
-    return f"{count:,}"
-
-
-def duration(seconds: float) -> str:
-    """Returns a time in hours and minutes, or in seconds if it is short."""
-    minutes = round(seconds / 60)
-    if minutes < 2:
-        return f"{seconds:.0f} s"
-    if minutes < 60:
-        return f"{minutes} min"
-    return f"{minutes // 60} h {minutes % 60} min"
+def letters() -> Iterator[str]:
+    """Yields A to Z, AA to ZZ, and so on."""
+    for length in itertools.count(1):
+        for word in itertools.product(string.ascii_uppercase, repeat=length):
+            yield "".join(word)
 
 
 # All parts
 
 
-def all_parts(pairs: Sequence[Pair]) -> str:
-    """Returns the table of the parts."""
-    head = ("Part", "Command", "Took", "Measured")
-    return table(head, [row_of(part, result) for part, result in pairs])
+def all_parts(evidence: Evidence) -> str:
+    """Returns the table of the parts. The blocks of a part share a row."""
+    families: dict[str, list[Pair]] = {}
+    for part, result in evidence.pairs:
+        families.setdefault(part.family, []).append((part, result))
+    rows = [row_of(evidence, family, pairs) for family, pairs in families.items()]
+    return table(("Part", "Command", "Took", "Measured"), rows)
 
 
-def row_of(part: Part, result: Result | None) -> list[str]:
-    """Returns the row of a part."""
+def row_of(evidence: Evidence, family: str, pairs: Sequence[Pair]) -> list[str]:
+    """Returns the row of a part, or of the blocks of one."""
+    part = pairs[0][0]
+    results = [result for _, result in pairs if result is not None]
+    sizes = results[0].sizes if results else part.sizes
+    command = f"{code(part.shown_command(sizes))} {part.where}"
+    if part.block is not None:
+        command += f", {len(pairs)} times"
+    took = ""
+    if results:
+        seconds = sum(result.seconds for result in results)
+        of_processors = sum(result.processor_seconds for result in results)
+        took = f"{duration(seconds)} ({duration(of_processors)} of processors)"
+    return [family, command, took, states(evidence, pairs)]
+
+
+def states(evidence: Evidence, pairs: Sequence[Pair]) -> str:
+    """Returns when a part was measured, or which blocks were measured when."""
+    blocks: dict[str, list[int]] = {}
+    for part, result in pairs:
+        blocks.setdefault(state(evidence, result), []).append(part.block or 0)
+    if pairs[0][0].block is None or len(blocks) == 1:
+        return "; ".join(blocks)
+    return "; ".join(f"{ranges(numbers)}: {when}" for when, numbers in blocks.items())
+
+
+def state(evidence: Evidence, result: Result | None) -> str:
+    """Returns when and where a result was measured."""
     if result is None:
-        return [part.name, shown_command(part, part.sizes), "", NOT_MEASURED]
-    command = shown_command(part, result.sizes)
-    took = f"{duration(result.seconds)} ({duration(result.processor_seconds)} of processors)"
-    measured = f"{result.ended[:10]}, {result.commit[:8]}"
-    if result.failure is not None:
-        measured = f"failed on {measured}: {result.failure}"
-    return [part.name, command, took, measured]
+        return NOT_MEASURED
+    stamp = evidence.stamp(result)
+    return stamp if result.failure is None else f"failed on {stamp}: {result.failure}"
 
 
-def shown_command(part: Part, sizes: dict[str, int]) -> str:
-    """Returns the command of a part, and where it runs."""
-    return f"{code(part.shown_command(sizes))} {part.where}"
+def machines(evidence: Evidence) -> str:
+    """Returns the list of the machines."""
+    lines = [f"- {letter}: {machine}\n" for machine, letter in evidence.machines().items()]
+    return f"\nThe machines:\n\n{''.join(lines)}" if lines else ""
 
 
-def machines(pairs: Sequence[Pair]) -> str:
-    """Returns sentences about the machines and the toolchain of the parts."""
-    places: dict[Machine, list[str]] = {}
-    for part, result in pairs:
-        if result is not None:
-            places.setdefault(result.machine, []).append(part.name)
-    if len(places) == 1:
-        return "".join(f"The parts ran on {machine}.\n" for machine in places)
-    return "".join(f"- {', '.join(names)}: on {machine}\n" for machine, names in places.items())
+def toolchain(evidence: Evidence) -> str:
+    """Returns a sentence about the toolchain, which is the same for all parts that count."""
+    return f"All parts were measured with the toolchain {code(evidence.toolchain)}.\n"
 
 
-def hashes(pairs: Sequence[Pair]) -> str:
+def hashes(evidence: Evidence) -> str:
     """Returns the table of the files that the parts depend on."""
-    parts: dict[tuple[str, str], list[str]] = {}
-    for part, result in pairs:
+    families: dict[tuple[str, str], dict[str, None]] = {}  # dicts, to keep the order
+    for part, result in evidence.pairs:
         for files, value in result.rests_on.items() if result is not None else ():
-            parts.setdefault((files, value), []).append(part.name)
-    rows = [[files, code(value), ", ".join(names)] for (files, value), names in parts.items()]
+            families.setdefault((files, value), {})[part.family] = None
+    rows = [[files, code(value), ", ".join(names)] for (files, value), names in families.items()]
     return table(("Files", "Hash", "Parts"), rows)
 
 
@@ -131,40 +167,32 @@ def counts_of_gate(gate: Gate) -> str:
     return f"{gate.passed} passed, {gate.failed} failed"
 
 
-def proofs(pairs: Sequence[Pair]) -> str:
+def proofs(evidence: Evidence) -> str:
     """Returns the section about the gate."""
-    for _, result in pairs:
-        if result is not None and isinstance(result.found, Gate):
-            gate = result.found
-            return (
-                "In a new clone, and with nothing that an earlier run had proved, the gate "
-                f"proved {gate.functions} functions and those of the crates' tests, and refused "
-                f"{gate.mutants} mutants: {counts_of_gate(gate)}.\n"
-            )
+    for measured in evidence.measured(Gate):
+        gate = measured.found
+        return (
+            "In a new clone, and with nothing that an earlier run had proved, the gate "
+            f"proved {gate.functions} functions and those of the crates' tests, and refused "
+            f"{gate.mutants} mutants: {counts_of_gate(gate)} ({evidence.stamp(measured.result)}).\n"
+        )
     return ""
 
 
-def checks(pairs: Sequence[Pair]) -> dict[str, Check]:
-    """Returns the results of the checks by system."""
-    found = {part.name: result.found for part, result in pairs if result is not None}
-    systems = {f"Debian {debian.number}": f"check-{debian.number}" for debian in RELEASES}
-    all_found = {system: found.get(name) for system, name in systems.items()}
-    return {system: check for system, check in all_found.items() if isinstance(check, Check)}
-
-
-def tests(pairs: Sequence[Pair]) -> str:
+def tests(evidence: Evidence) -> str:
     """Returns the section about the tests."""
-    found = checks(pairs)
-    if not found:
+    checks = evidence.measured(Check)
+    if not checks:
         return ""
     rows = [
         [
-            system,
-            counts_of_gate(check.gate),
-            f"{number(check.passed)} passed, {check.failed} failed",
-            str(sum(skip.count for skip in check.skips)),
+            system_of(check),
+            counts_of_gate(check.found.gate),
+            f"{number(check.found.passed)} passed, {check.found.failed} failed",
+            str(sum(skip.count for skip in check.found.skips)),
+            evidence.stamp(check.result),
         ]
-        for system, check in found.items()
+        for check in checks
     ]
     text = (
         "Each ran in a new root of Debian with nothing but the packages of "
@@ -172,14 +200,20 @@ def tests(pairs: Sequence[Pair]) -> str:
         "There the gate proves everything, since no earlier run has kept anything, and a tool that "
         "is missing is a failure. Debian 12 has this machine's node, since its own is too old.\n\n"
     )
-    text += table(("System", "Gate", "Tests", "Skipped"), rows)
-    for system, check in found.items():
-        if check.unused_linters:
-            names = ", ".join(check.unused_linters)
+    text += table(("System", "Gate", "Tests", "Skipped", "Measured"), rows)
+    for check in checks:
+        if check.found.unused_linters:
+            names = ", ".join(check.found.unused_linters)
             text += (
-                f"\nOn {system}, `make lint` leaves out what finds other things there: {names}.\n"
+                f"\nOn {system_of(check)}, `make lint` leaves out what finds other things there: "
+                f"{names}.\n"
             )
-    return text + skipped(found)
+    return text + skipped({system_of(check): check.found for check in checks})
+
+
+def system_of(check: Measured[Check]) -> str:
+    """Returns the system of a check, whose part is named check-13 for Debian 13."""
+    return f"Debian {check.part.name.removeprefix('check-')}"
 
 
 def skipped(found: dict[str, Check]) -> str:
@@ -208,50 +242,99 @@ def skipped(found: dict[str, Check]) -> str:
 # Random inputs
 
 
-def random_inputs(pairs: Sequence[Pair]) -> str:
+@dataclass(frozen=True)
+class Run:
+    """A block of random inputs."""
+
+    amount: str
+    seed: int
+    stamp: str
+
+
+def random_inputs(evidence: Evidence) -> str:
     """Returns the section about soak and fuzzers."""
-    lines = []
-    for part, result in pairs:
-        if result is None:
-            continue
-        if isinstance(result.found, Soak):
-            soak = result.found
-            lines.append(
-                f"- {part.name}: the program answered {number(soak.lines)} lines of each kind as "
-                f"[FORMATS](FORMATS.md) says, with {soak.differences} differences (seed "
-                f"{soak.seed})\n"
-            )
-        elif isinstance(result.found, Fuzz):
-            fuzz = result.found
-            lines.append(
-                f"- {part.name}: {number(fuzz.calls)} calls in "
-                f"{number(result.sizes['seconds'])} s, without a fault (seed {fuzz.seed})\n"
-            )
-    return "".join(lines)
+    return "".join([*soaks(evidence), *fuzzers(evidence)])
+
+
+def soaks(evidence: Evidence) -> Iterator[str]:
+    """Yields an item for each kind of lines. Its blocks add up."""
+    for family, blocks in itertools.groupby(evidence.measured(Soak), key=family_of):
+        runs, lines, differences = [], 0, 0
+        for block in blocks:
+            soak = block.found
+            lines += soak.lines
+            differences += soak.differences
+            stamp = evidence.stamp(block.result)
+            runs.append(Run(f"{number(soak.lines)} lines", soak.seed, stamp))
+        yield (
+            f"- {family}: the program answered {number(lines)} lines as [FORMATS](FORMATS.md) "
+            f"says, with {differences} differences: {by_seed(runs)}\n"
+        )
+
+
+def fuzzers(evidence: Evidence) -> Iterator[str]:
+    """Yields an item for each fuzzer. Its blocks add up."""
+    for family, blocks in itertools.groupby(evidence.measured(Fuzz), key=family_of):
+        runs, calls, seconds = [], 0, 0
+        for block in blocks:
+            calls += block.found.calls
+            seconds += block.result.sizes["seconds"]
+            amount = f"{number(block.result.sizes['seconds'])} s"
+            runs.append(Run(amount, block.found.seed, evidence.stamp(block.result)))
+        yield (
+            f"- {family}: {number(calls)} calls in {number(seconds)} s, without a fault: "
+            f"{by_seed(runs)}\n"
+        )
+
+
+def family_of(measured: Measured[Kind]) -> str:
+    """Returns the name of a part without the number of its block."""
+    return measured.part.family
+
+
+def by_seed(runs: Sequence[Run]) -> str:
+    """Returns which seeds were used, for how much, and when."""
+    seeds: dict[tuple[str, str], list[int]] = {}
+    for run in runs:
+        seeds.setdefault((run.amount, run.stamp), []).append(run.seed)
+    return "; ".join(
+        f"{amount} with {seeds_in_words(numbers)} ({stamp})"
+        for (amount, stamp), numbers in seeds.items()
+    )
+
+
+def seeds_in_words(seeds: Sequence[int]) -> str:
+    """Returns seeds for a sentence."""
+    if len(seeds) == 1:
+        return f"the seed {seeds[0]}"
+    return f"each of the seeds {ranges(seeds)}"
 
 
 # Wrong bodies
 
 
-def plants(pairs: Sequence[Pair]) -> str:
+def plants(evidence: Evidence) -> str:
     """Returns the section about rt plant."""
-    found: dict[str, Plants] = {}
-    for part, result in pairs:
-        if result is not None and isinstance(result.found, Plants):
-            found[part.name.removeprefix("plant-")] = result.found
-    if not found:
+    crates = evidence.measured(Plants)
+    if not crates:
         return ""
     rows = [
-        [crate, number(of_crate.functions)]
-        + [number(of_crate.counts.get(kind, 0)) for kind in PLANT_COLUMNS]
-        for crate, of_crate in found.items()
+        [
+            crate_of(measured),
+            number(measured.found.functions),
+            *[number(measured.found.counts.get(kind, 0)) for kind in PLANT_COLUMNS],
+            evidence.stamp(measured.result),
+        ]
+        for measured in crates
     ]
+    found = {crate_of(measured): measured.found for measured in crates}
     text = (
         "`rt plant` puts wrong bodies into public functions, and the checker has to refuse them "
         "([PROOFS](PROOFS.md#how-to-break-it)). An equivalent body does what the right one does; "
         "one that isn't fair breaks only what a function that it calls requires.\n\n"
     )
-    text += table(("Crate", "Functions", *PLANT_COLUMNS.values()), rows, numbers=True)
+    head = ("Crate", "Functions", *PLANT_COLUMNS.values(), "Measured")
+    text += table(head, rows, numbers=True)
     text += bodies("Proved, so no clause excludes them", found, lambda it: it.proved)
     text += bodies("Not judged", found, lambda it: it.not_judged)
     text += functions("Functions without a clause", found, lambda it: it.no_clause)
@@ -259,6 +342,11 @@ def plants(pairs: Sequence[Pair]) -> str:
         "Functions of which no body that gives up was judged", found, lambda it: it.untested
     )
     return text
+
+
+def crate_of(plants_of_crate: Measured[Plants]) -> str:
+    """Returns the crate of a part, which is named plant-CRATE."""
+    return plants_of_crate.part.name.removeprefix("plant-")
 
 
 def bodies(
@@ -291,18 +379,17 @@ def functions(
 # Speed
 
 
-def speed(pairs: Sequence[Pair]) -> str:
+def speed(evidence: Evidence) -> str:
     """Returns the section about instructions and ratios."""
-    for _, result in pairs:
-        if result is not None and isinstance(result.found, Bench):
-            bench = result.found
-            return (
-                "[SPEED](SPEED.md) says how this is measured, and has the numbers of a run of its "
-                "own.\n\n"
-                + table(("Instructions for", "Programs"), rows_of_counts(bench.counts))
-                + "\nRatios of times, with intervals as in SPEED:\n\n"
-                + table(("Time of mkpasswd = 1", "Others"), rows_of_ratios(bench.comparisons))
-            )
+    for measured in evidence.measured(Bench):
+        bench = measured.found
+        return (
+            "[SPEED](SPEED.md) says how this is measured, and has the numbers of a run of its "
+            f"own. These are of {evidence.stamp(measured.result)}.\n\n"
+            + table(("Instructions for", "Programs"), rows_of_counts(bench.counts))
+            + "\nRatios of times, with intervals as in SPEED:\n\n"
+            + table(("Time of mkpasswd = 1", "Others"), rows_of_ratios(bench.comparisons))
+        )
     return ""
 
 
@@ -334,25 +421,22 @@ def ratio(comparison: Comparison) -> str:
 # Artifacts
 
 
-def artifacts(pairs: Sequence[Pair]) -> str:
+def artifacts(evidence: Evidence) -> str:
     """Returns the section about what is released."""
-    for _, result in pairs:
-        if result is not None and isinstance(result.found, Artifacts):
-            words = " ".join(f"{name}={value}" for name, value in OTHER_ENVIRONMENT.items())
-            rows = [
-                [file.name, number(file.size), code(file.sha256)] for file in result.found.files
-            ]
-            return (
-                "Two clones built the same bytes: one as root with LC_ALL=C, and one in a folder "
-                f"with another name, as {OTHER_USER} with {words}. Beside each file is its SBOM "
-                "(SPDX 2.3), and `SHA256SUMS` has these sums.\n\n"
-            ) + table(("File", "Bytes", "SHA-256"), rows)
+    for measured in evidence.measured(Artifacts):
+        words = " ".join(f"{name}={value}" for name, value in OTHER_ENVIRONMENT.items())
+        rows = [[file.name, number(file.size), code(file.sha256)] for file in measured.found.files]
+        return (
+            "Two clones built the same bytes: one as root with LC_ALL=C, and one in a folder "
+            f"with another name, as {OTHER_USER} with {words} ({evidence.stamp(measured.result)}). "
+            "Beside each file is its SBOM (SPDX 2.3), and `SHA256SUMS` has these sums.\n\n"
+        ) + table(("File", "Bytes", "SHA-256"), rows)
     return ""
 
 
 # The page
 
-SECTIONS: dict[str, Callable[[Sequence[Pair]], str]] = {
+SECTIONS: dict[str, Callable[[Evidence], str]] = {
     "Proofs": proofs,
     "Tests": tests,
     "Random inputs": random_inputs,
@@ -364,12 +448,15 @@ SECTIONS: dict[str, Callable[[Sequence[Pair]], str]] = {
 
 def page_of(commit: Commit) -> str:
     """Returns the page of a commit."""
-    pairs = [(part, commit.result_of(part)) for part in commit.parts]
-    text = f"{HEAD}\n{all_parts(pairs)}"
+    pairs = tuple((part, commit.result_of(part)) for part in commit.parts)
+    evidence = Evidence(pairs, commit.toolchain)
+    text = f"{HEAD}\n{all_parts(evidence)}{machines(evidence)}"
     for title, section in SECTIONS.items():
-        body = section(pairs)
+        body = section(evidence)
         if body:
             text += f"\n## {title}\n\n{body}"
-    if any(result is not None for _, result in pairs):
-        text += f"\n## What the parts rest on\n\n{machines(pairs)}\n{hashes(pairs)}\n{HASHES}"
+    if evidence.results():
+        text += (
+            f"\n## What the parts rest on\n\n{toolchain(evidence)}\n{hashes(evidence)}\n{HASHES}"
+        )
     return re.sub(r"\n{3,}", "\n\n", text)

@@ -11,8 +11,15 @@ from pathlib import Path
 from measure.errors import Stop
 
 PAGE = "docs/EVIDENCE.md"
-# All files but the page, which has the hashes of the others and so can't have its own.
-ALL_FILES = f"all files but {PAGE}"
+RESULTS = "docs/evidence"  # the folder of the results
+# All files but what a measurement itself writes, which has the hashes of the others and so can't
+# have its own.
+ALL_FILES = f"all files but {PAGE} and {RESULTS}"
+
+
+def is_written(path: str) -> bool:
+    """Returns whether a file is the page or a result, which measurements write."""
+    return path == PAGE or path.startswith(f"{RESULTS}/")
 
 
 class Repository:
@@ -40,8 +47,9 @@ class Repository:
         return self.git("rev-parse", "HEAD")
 
     def changes(self) -> list[str]:
-        """Returns the files with uncommitted changes, except the page of tools/evidence."""
-        return self.git("status", "--porcelain", "--", ".", f":(exclude){PAGE}*").splitlines()
+        """Returns the files with uncommitted changes, except what tools/evidence writes."""
+        excluded = (f":(exclude){PAGE}*", f":(exclude){RESULTS}")
+        return self.git("status", "--porcelain", "--", ".", *excluded).splitlines()
 
     def hash_of(self, commit: str, files: str) -> str:
         """Returns git's hash of a file, a folder or ALL_FILES in a commit.
@@ -58,8 +66,8 @@ class Repository:
         if files != ALL_FILES:
             return self.git("rev-parse", "--verify", f"{commit}:{files}")
         listed = self.git("ls-tree", "-r", "--full-tree", commit).splitlines()
-        others = "".join(f"{line}\n" for line in listed if not line.endswith(f"\t{PAGE}"))
-        return self.git("hash-object", "--stdin", stdin=others)
+        others = [line for line in listed if not is_written(line.partition("\t")[2])]
+        return self.git("hash-object", "--stdin", stdin="".join(f"{line}\n" for line in others))
 
     def text_of(self, commit: str, path: str) -> str:
         """Returns the content of a file in a commit."""

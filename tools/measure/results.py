@@ -1,17 +1,17 @@
-"""Results of parts, saved as JSON in build/evidence/COMMIT/PART.json.
+"""Results of parts, saved as JSON in docs/evidence/PART.json, one for each part.
 
-A result counts for every commit in which the files that it depends on have the same hashes. It is
-written to another file and then renamed, so that it is never incomplete.
+They are tracked, so a measurement can be continued on another machine. A result counts for every
+commit in which the toolchain and the files that it depends on are the same. It is written to
+another file and then renamed, so that it is never incomplete.
 """
 
 from __future__ import annotations
 
 import dataclasses
 import json
-import operator
 import os
 import re
-from collections.abc import Mapping
+from collections.abc import Collection, Mapping
 from dataclasses import dataclass
 from datetime import datetime, timezone
 from pathlib import Path
@@ -29,11 +29,15 @@ class Machine:
 
     processor: str
     cores: int
+    memory_gb: int
     kernel: str
     system: str
 
     def __str__(self) -> str:
-        return f"{self.cores} cores of {self.processor}, with Linux {self.kernel} and {self.system}"
+        return (
+            f"{self.cores} cores of {self.processor}, {self.memory_gb} GB of memory, "
+            f"Linux {self.kernel}, {self.system}"
+        )
 
 
 @dataclass(frozen=True)
@@ -47,11 +51,16 @@ class Result:
     seconds: float
     processor_seconds: float
     machine: Machine
+    toolchain: str
     rests_on: dict[str, str]  # the hashes of files, by name
     sizes: dict[str, int]  # the sizes of the command, by name
-    log: str  # the name of the log, beside the result
     failure: str | None
     found: Found | None
+
+    @property
+    def date(self) -> str:
+        """The day on which the part ended."""
+        return self.ended[:10]
 
     def has_sizes(self, sizes: Mapping[str, int]) -> bool:
         """Returns whether at least as much was measured as these sizes say."""
@@ -74,10 +83,12 @@ def stated(pattern: str, path: str) -> str:
 
 
 def this_machine() -> Machine:
-    """Returns the machine on which this runs."""
+    """Returns the machine on which this runs, with the processors that are left to this process."""
+    memory = os.sysconf("SC_PHYS_PAGES") * os.sysconf("SC_PAGE_SIZE")
     return Machine(
         processor=stated(r"^model name\s*: (.*)", "/proc/cpuinfo"),
         cores=len(os.sched_getaffinity(0)),
+        memory_gb=round(memory / 1e9),
         kernel=os.uname().release,
         system=stated(r'^PRETTY_NAME="(.*)"', "/etc/os-release"),
     )
@@ -109,7 +120,7 @@ def read_result(path: Path, found_type: type) -> Result:
         return dataclasses.replace(result, found=decoded(found_type, found))
     except OSError as error:
         raise Stop(f"{path}: {error.strerror}") from None
-    except (ValueError, KeyError, TypeError):
+    except (ValueError, KeyError, TypeError, AttributeError):
         raise Stop(f"{path} is no result of this tool: remove it") from None
 
 
@@ -117,6 +128,7 @@ def write_whole(path: Path, text: str) -> None:
     """Writes a file completely or not at all, even if the machine stops."""
     part = path.with_name(f"{path.name}.part")
     try:
+        path.parent.mkdir(parents=True, exist_ok=True)
         with part.open("w", encoding="utf-8") as file:
             file.write(text)
             file.flush()
@@ -129,27 +141,28 @@ def write_whole(path: Path, text: str) -> None:
 
 
 class Kept:
-    """The saved results in a folder."""
+    """The saved results in a folder, at most one for each part."""
 
     def __init__(self, folder: Path) -> None:
         self.folder = folder
 
-    def place(self, commit: str) -> Path:
-        """Returns the folder of the results at a commit."""
-        return self.folder / commit
+    def path(self, part: str) -> Path:
+        """Returns the path of a part's result."""
+        return self.folder / f"{part}.json"
 
     def keep(self, result: Result) -> None:
-        """Saves a result, in place of an earlier one at its commit."""
-        path = self.place(result.commit) / f"{result.part}.json"
+        """Saves a result, in place of an earlier one."""
         whole = dataclasses.asdict(result)
-        write_whole(path, json.dumps(whole, indent=1, ensure_ascii=False) + "\n")
-        for log in path.parent.glob(f"{result.part}.*.log"):
-            if log.name != result.log:
-                log.unlink()
+        text = json.dumps(whole, indent=1, ensure_ascii=False)
+        write_whole(self.path(result.part), f"{text}\n")
 
-    def result_for(self, part: str, found_type: type, hashes: dict[str, str]) -> Result | None:
-        """Returns the newest result of a part for files with these hashes, if there is one."""
-        paths = self.folder.glob(f"*/{part}.json")
-        results = [read_result(path, found_type) for path in paths]
-        fitting = [result for result in results if result.rests_on == hashes]
-        return max(fitting, key=operator.attrgetter("ended"), default=None)
+    def last(self, part: str, found_type: type) -> Result | None:
+        """Returns the last result of a part, whether it still counts or not, if there is one."""
+        path = self.path(part)
+        return read_result(path, found_type) if path.exists() else None
+
+    def remove_others(self, parts: Collection[str]) -> None:
+        """Removes results of parts that no longer exist, such as those of a fuzzer."""
+        for path in self.folder.glob("*.json"):
+            if path.stem not in parts:
+                path.unlink()

@@ -6,12 +6,13 @@ A command runs in its own process group, which ends with the part, however that 
 from __future__ import annotations
 
 import contextlib
+import fcntl
 import os
 import shlex
 import shutil
 import signal
 import subprocess
-from collections.abc import Iterator, Mapping
+from collections.abc import Iterator, Mapping, Sequence
 from dataclasses import dataclass
 from pathlib import Path
 from typing import BinaryIO
@@ -22,6 +23,8 @@ from measure.repository import Repository
 Word = str | Path
 # The environment variables that a command gets. Others, such as make's, could influence results.
 VARIABLES = ("HOME", "PATH", "RT", "RT_JOBS", "TMPDIR", "http_proxy", "https_proxy", "no_proxy")
+CLONE = "clone"
+MARK = "changing."  # and the name of a part: a file that is there while it changes the clone
 SECONDS_TO_END = 20  # that a command has to end before it is killed
 # With this wrapper, a command ends even if this process is killed.
 WITH_THIS_PROCESS = ("setpriv", "--pdeathsig", "TERM", "--")
@@ -31,8 +34,8 @@ WITH_THIS_PROCESS = ("setpriv", "--pdeathsig", "TERM", "--")
 class Sizes:
     """How much is measured."""
 
-    lines: int  # of each kind, for make soak
-    fuzz_seconds: int  # for each target
+    lines: int  # of each kind, for make soak, in all of its blocks
+    fuzz_seconds: int  # for each target, in all of its blocks
     plant_minutes: int  # at most, for each crate
 
 
@@ -42,7 +45,7 @@ class Options:
 
     sizes: Sizes
     mirror: str | None  # None for the first one in apt's sources
-    jobs: int  # for rt plant
+    jobs: int  # how many parts may run side by side
 
 
 def environment(changes: Mapping[str, str]) -> dict[str, str]:
@@ -78,6 +81,14 @@ def toolchain() -> str:
         raise Stop(str(error)) from None
 
 
+def read_text(path: Path) -> str:
+    """Reads a file that a command has written."""
+    try:
+        return path.read_text(encoding="utf-8", errors="replace")
+    except OSError as error:
+        raise Failed(f"{path}: {error.strerror}") from None
+
+
 def end_group(process: subprocess.Popen[bytes]) -> None:
     """Ends a process group, first with SIGTERM, and then with SIGKILL."""
     with contextlib.suppress(ProcessLookupError):
@@ -103,14 +114,21 @@ class Workplace:
 
     repository: Repository
     commit: str
+    part: str
     folder: Path  # it keeps the built clone from part to part
     options: Options
+    processors: tuple[int, ...]  # those that the part's measurement may use
     log: BinaryIO
 
     @property
-    def results(self) -> Path:
-        """The folder of the results of this commit."""
-        return self.folder / self.commit
+    def outputs(self) -> Path:
+        """The folder of logs, artifacts and fuzzers' inputs of this commit."""
+        return outputs_of(self.folder, self.commit)
+
+    @property
+    def clone(self) -> Path:
+        """The folder of the built clone."""
+        return self.folder / CLONE
 
     @contextlib.contextmanager
     def scratch(self) -> Iterator[Path]:
@@ -160,27 +178,54 @@ class Workplace:
         self.repository.clone(self.commit, folder)
         return folder
 
-    @contextlib.contextmanager
-    def built_clone(self) -> Iterator[Path]:
-        """Provides a clone of the commit that keeps its build for other parts.
+    def prepare_clone(self, targets: Sequence[str]) -> None:
+        """Makes the built clone, if there is none, and builds targets of make in it.
 
-        An interrupted part may leave something half built. So the next part then gets a new clone,
-        which begins with the proofs that rt has saved in this tree.
+        Parts that run side by side share the clone, so one of them builds, and the others wait. A
+        new clone begins with the proofs that rt has saved in this tree.
         """
-        clone, in_use = self.folder / "clone", self.folder / "clone.in-use"
-        if in_use.exists():
-            remove(clone)
-        in_use.touch()
-        if not clone.exists():
-            self.repository.clone(self.commit, clone)
-            copy_proofs(self.repository.folder, clone)
-        self.repository.give(self.commit, clone)
+        with (self.folder / f"{CLONE}.lock").open("w", encoding="ascii") as lock:
+            fcntl.flock(lock, fcntl.LOCK_EX)
+            with self.marked():
+                if not self.clone.exists():
+                    self.repository.clone(self.commit, self.clone)
+                    copy_proofs(self.repository.folder, self.clone)
+                self.repository.give(self.commit, self.clone)
+                if targets:
+                    self.run("make", *targets, cwd=self.clone)
+
+    @contextlib.contextmanager
+    def marked(self) -> Iterator[None]:
+        """Marks the built clone while the block changes it.
+
+        The mark stays if the block is interrupted, since it may leave something half built; see
+        `remove_half_built`.
+        """
+        mark = self.folder / f"{MARK}{self.part}"
+        mark.touch()
         try:
-            yield clone
+            yield
         except Failed:
-            in_use.unlink()
+            mark.unlink()
             raise
-        in_use.unlink()
+        mark.unlink()
+
+
+def outputs_of(folder: Path, commit: str) -> Path:
+    """Returns the folder of logs, artifacts and fuzzers' inputs of a commit."""
+    return folder / commit
+
+
+def remove_half_built(folder: Path) -> None:
+    """Removes the built clone if an interrupted part may have left something half built in it.
+
+    No part may run meanwhile.
+    """
+    marks = list(folder.glob(f"{MARK}*"))
+    if marks:
+        remove(folder / CLONE)
+    for mark in marks:
+        mark.unlink()
 
 
 def copy_proofs(source: Path, clone: Path) -> None:
