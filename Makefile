@@ -292,7 +292,7 @@ build/SPECIFICATION.md: tools/specification $(wildcard tools/spec_page/*.py) \
 ## writes all documents and manuals as web pages, in build/site
 site: build/site/index.html
 
-build/site/index.html: tools/site tools/version $(wildcard *.md docs/* man/* c/* web/README.md) \
+build/site/index.html: tools/site tools/version $(wildcard *.md docs/*.* man/* c/* web/README.md) \
 		$(WEB) $(SOURCES) build/SPECIFICATION.md
 	rm -rf build/site && mkdir -p build/site
 	tools/site build/site
@@ -309,8 +309,9 @@ pictures: web
 	tools/bench --page
 	tools/terminal
 
-## measures the commit and writes docs/EVIDENCE.md, as root, for hours; what is interrupted goes on
-## the next time
+## measures what has no result in docs/evidence that counts for the commit, as root, for hours, and
+## writes docs/EVIDENCE.md; what is interrupted goes on the next time, also on another machine.
+## JOBS=4 measures four parts side by side, where neither disturbs the other
 evidence:
 	tools/evidence $(if $(LINES),--lines $(LINES)) \
 		$(if $(FUZZ_SECONDS),--fuzz-seconds $(FUZZ_SECONDS)) $(if $(JOBS),--jobs $(JOBS)) \
@@ -354,7 +355,8 @@ deb:
 sums:
 	tools/sums .
 
-## removes all that was made here, but not what make evidence has measured
+## removes all that was made here, but not the logs and artifacts of make evidence, whose results
+## are in docs/evidence
 clean:
 	rm -rf mkpasswd libmkpasswd.a libmkpasswd.so.3 pam_mkpasswd.so crates/*/out $(MODULES) \
 		mkpasswd-*-linux.tar.gz mkpasswd-*-image.tar mkpasswd-*.whl mkpasswd-*.tgz *.deb \
